@@ -1,0 +1,15 @@
+pub mod Operations
+pub mod History
+pub mod Items
+pub mod Serial
+pub mod Rows
+pub mod Flat
+pub mod Locks
+pub mod Values
+pub mod Waits
+pub mod Allowed
+pub mod Legal
+pub mod Changes
+pub mod Printing
+pub mod Interleaving
+pub mod Report

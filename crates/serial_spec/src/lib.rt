@@ -1,0 +1,18 @@
+//! The plain side: what lines ask and are answered, the serial run over one table, and every definition by
+//! which histories of nested transactions are judged (`specs/`).
+#![tactic(auto)]
+
+mod entry;
+mod event;
+mod item;
+mod operation;
+
+
+pub use entry::{Answer, By, Entry, Refusal};
+pub use event::{Event, When};
+pub use item::Item;
+pub use operation::{Kind, Op, Reply, act};
+
+
+/// Want of memory: a growth was refused.
+pub type NoMemory = std::alloc::AllocError;

@@ -1,0 +1,52 @@
+-- Bytes that are written one part after another.
+use Rattle.std.proofs.Common.{◌≡◌, ℕ, List, [], ◌∷◌, ◌++◌, Option, Some, None, take, drop, append_assoc, append-nil, sym, ◌∙◌, ap, subst, refl, take-append-drop, zero, suc, ◌+◌, ◌<◌, length, arith, Result, Ok, Err, OnErr, get_or}
+use Rattle.std.specs.Io.KnownBytes.{Appends, Keeps}
+use Rattle.txn_bytes.specs.Written.{AppendsFront}
+
+pub then : (a b c : Option (List ℕ)) (x y : List ℕ) → Appends a b x → Appends b c y → Appends a c (x ++ y)
+then None b c x y h k = tt
+then (Some p) None c x y h k = absurd h
+then (Some p) (Some q) None x y h k = absurd k
+then (Some p) (Some q) (Some r) x y h k = k ∙ ap (λ z. z ++ y) h ∙ append_assoc p x y
+
+pub nothing : (a : Option (List ℕ)) → Appends a a []
+nothing None = tt
+nothing (Some p) = sym (append-nil p)
+
+-- a writer that keeps what it holds adds nothing to what was written before
+pub kept : (a b c : Option (List ℕ)) (x : List ℕ) → Appends a b x → Keeps b c → Appends a c x
+kept None b c x h k = tt
+kept (Some p) None c x h k = absurd h
+kept (Some p) (Some q) None x h k = absurd k
+kept (Some p) (Some q) (Some r) x h k = k ∙ h
+
+-- bytes that were written whole, and then a beginning of others
+pub then_front : (a b c : Option (List ℕ)) (x y : List ℕ) → Appends a b x → AppendsFront b c y → AppendsFront a c (x ++ y)
+then_front a b c x y h k = record {
+  front = x ++ k.front;
+  rest = k.rest;
+  parts = ap (λ z. x ++ z) k.parts ∙ sym (append_assoc x k.front k.rest);
+  written = then a b c x k.front h k.written;
+}
+
+-- a beginning, where more was to come
+pub front_of : (a b : Option (List ℕ)) (x y : List ℕ) → AppendsFront a b x → AppendsFront a b (x ++ y)
+front_of a b x y h = record {
+  front = h.front;
+  rest = h.rest ++ y;
+  parts = ap (λ z. z ++ y) h.parts ∙ append_assoc h.front h.rest y;
+  written = h.written;
+}
+
+pub front_taken : (a b : Option (List ℕ)) (n : ℕ) (xs : List ℕ) → Appends a b (take n xs) → AppendsFront a b xs
+front_taken a b n xs h = record { front = take n xs; rest = drop n xs; parts = sym (take-append-drop n xs); written = h }
+
+-- what holds anyway holds at an error
+pub on_err : {T E Q : Type 0} (r : Result T E) → Q → OnErr r Q
+on_err (Ok x) q = tt
+on_err (Err e) q = q
+
+-- bytes that were written whole, and then a call that may have failed
+pub then_on_err : {T E : Type 0} (a b c : Option (List ℕ)) (x y : List ℕ) (r : Result T E) → Appends a b x → OnErr r (AppendsFront b c y) → OnErr r (AppendsFront a c (x ++ y))
+then_on_err a b c x y (Ok v) h k = tt
+then_on_err a b c x y (Err e) h k = then_front a b c x y h k

@@ -1,0 +1,118 @@
+//! A few bytes, held in the value itself.
+ghost use Rattle.std.specs.Prelude.{◌≡◌, ℕ, ◌+◌, ◌-◌, ◌<◌, ◌≤◌, ◌==◌, ◌↔◌, List, [], ◌∷◌, ◌++◌, length, take, drop, replicate, Some, nat_eq, refl};
+ghost use Rattle.std.specs.Ordering.{nat_cmp};
+ghost use Rattle.std.specs.Cmp.{partial_equiv_from_equiv};
+ghost use Rattle.std.specs.Cmp.Lexicographic.{pointwise, slice_cmp, nat_list_eq_equiv, nat_list_cmp_total, texts_po, texts_ties};
+ghost use Rattle.std.specs.Cmp.Rules.{hashing};
+ghost use Rattle.std.specs.Hash as fed;
+ghost use Rattle.std.proofs.Common.{rules};
+
+use std::cmp::Ordering;
+use std::hash::{Hash, Hasher};
+use std::marker::Model;
+
+/// At most `N` bytes. It takes no memory, and is compared and ordered as its bytes are.
+#[derive(Clone, Copy, Debug)]
+pub struct Held<const N: usize> {
+    bytes: [u8; N],
+    len: usize,
+}
+
+impl<const N: usize> Model for Held<N> {
+    ghost use Rattle.std.specs.Prelude.{◌≡◌, ◌≤◌, ◌-◌, ℕ, List, length, take, drop, replicate};
+    ghost use Rattle.txn_bytes.specs.Held.{filled, filled-take, length-take};
+
+    ghost Value = { List ℕ };
+
+    ghost view = { λ s. take s.len s.bytes };
+
+    ghost invariant = { λ s. (s.len ≤ N) × (length s.bytes ≡ N) × (drop s.len s.bytes ≡ replicate (N - s.len) 0) };
+
+    ghost inverse = { λ bs. record { bytes = filled N bs; len = length bs } };
+
+    ghost inverse_ok = { λ s h i. record {
+      bytes = filled-take N s.len s.bytes h.0 h.1 h.2 i;
+      len = length-take N s.len s.bytes h.0 h.1 i;
+    } };
+}
+
+impl<const N: usize> Held<N> {
+    /// No bytes.
+    pub const fn new() -> Self
+        ensures { result ≡ [] }
+    {
+        Held {
+            bytes: [0; N],
+            len: 0,
+        }
+    }
+
+    /// A copy of `bytes`, which fit.
+    pub fn of(bytes: &[u8]) -> Self
+        requires { length bytes.now ≤ N }
+        ensures { result ≡ bytes.now }
+    {
+        let mut held = [0; N];
+        held[..bytes.len()].copy_from_slice(bytes);
+        Held {
+            bytes: held,
+            len: bytes.len(),
+        }
+    }
+
+    /// The bytes.
+    pub fn as_bytes(&self) -> &[u8]
+        ensures value { result.now ≡ self.now }
+        ensures fits { length result.now ≤ N }
+    {
+        &self.bytes[..self.len]
+    }
+}
+
+impl<const N: usize> PartialEq for Held<N> {
+    ghost eq = { pointwise nat_eq };
+
+    ghost laws = { partial_equiv_from_equiv nat_list_eq_equiv };
+
+    fn eq(&self, other: &Self) -> bool {
+        self.as_bytes() == other.as_bytes()
+    }
+}
+
+impl<const N: usize> Eq for Held<N> {
+    ghost laws = { nat_list_eq_equiv };
+}
+
+impl<const N: usize> PartialOrd for Held<N> {
+    ghost partial_cmp = { λ s t. Some (slice_cmp nat_cmp s t) };
+
+    ghost laws = { texts_po };
+
+    fn partial_cmp(&self, other: &Self) -> Option<Ordering> {
+        Some(self.cmp(other))
+    }
+}
+
+impl<const N: usize> Ord for Held<N> {
+    ghost cmp = { slice_cmp nat_cmp };
+
+    ghost total = { nat_list_cmp_total };
+
+    ghost matches_partial_cmp = { λ s t. refl };
+
+    ghost matches_eq = { λ s t. texts_ties s t };
+
+    fn cmp(&self, other: &Self) -> Ordering {
+        self.as_bytes().cmp(other.as_bytes())
+    }
+}
+
+impl<const N: usize> Hash for Held<N> {
+    ghost hash_input = { λ s. fed.slice fed.u8 s };
+
+    ghost respects_eq = { Prim.search (hashing, rules) };
+
+    fn hash<H: Hasher>(&self, state: &mut H) {
+        self.as_bytes().hash(state);
+    }
+}

@@ -1,0 +1,8 @@
+//! Bytes: a few of them held in a value, and any number handed to a writer.
+#![tactic(auto)]
+
+mod held;
+mod sink;
+
+pub use held::Held;
+pub use sink::{WriteFault, put};
