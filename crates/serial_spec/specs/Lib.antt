@@ -3,6 +3,7 @@ pub mod History
 pub mod Items
 pub mod Serial
 pub mod Rows
+pub mod Places
 pub mod Flat
 pub mod Locks
 pub mod Values

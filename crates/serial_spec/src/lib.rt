@@ -6,13 +6,13 @@ mod entry;
 mod event;
 mod item;
 mod operation;
-
+mod table;
 
 pub use entry::{Answer, By, Entry, Refusal};
 pub use event::{Event, When};
 pub use item::Item;
 pub use operation::{Kind, Op, Reply, act};
-
+pub use table::PlainTable;
 
 /// Want of memory: a growth was refused.
 pub type NoMemory = std::alloc::AllocError;

@@ -6,3 +6,6 @@ mod sink;
 
 pub use held::Held;
 pub use sink::{WriteFault, put};
+
+#[cfg(test)]
+mod tests;

@@ -47,9 +47,10 @@ all_labels : (ps : Path) → AllByRecursion Plain ps → list_any is_empty ps �
 all_labels [] h e l = tt
 all_labels (p ∷ ps) h e l =
     let some = none_first (is_empty p) (list_any is_empty ps) e in
-    let short = none_first (is_long p) (list_any is_long ps) l in
-    (record { some = grind (arith, nat_tests); short = grind (arith, nat_tests); plain = h.0 },
-     all_labels ps h.1 (none_second (is_empty p) (list_any is_empty ps) e) (none_second (is_long p) (list_any is_long ps) l))
+    let short = none_first (is_long p) (list_any is_long ps) l in (
+      record { some = grind (arith, nat_tests); short = grind (arith, nat_tests); plain = h.0 },
+      all_labels ps h.1 (none_second (is_empty p) (list_any is_empty ps) e) (none_second (is_long p) (list_any is_long ps) l),
+    )
 
 pub labels : (bs : List ℕ) → list_all is_name_byte bs ≡ true → list_any is_empty (pieces bs) ≡ false → list_any is_long (pieces bs) ≡ false → AllByRecursion IsLabel (pieces bs)
 labels bs n e l = all_labels (pieces bs) (plain_pieces bs n) e l

@@ -11,3 +11,6 @@ pub use change::Change;
 pub use key::{Key, KeyFault};
 pub use label::{Label, LabelFault};
 pub use name::{MOST_LABELS, Name, NameFault};
+
+#[cfg(test)]
+mod tests;

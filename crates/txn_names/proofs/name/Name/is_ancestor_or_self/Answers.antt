@@ -8,7 +8,7 @@ use Rattle.txn_names.proofs.name.Name.is_ancestor_or_self.Goals as goal
 pub returns : goal.returns
 returns c =
     let depth : c.self.inside.depth ≡ length c.args.self.now =
-        sym (length-take 8 c.self.inside.depth c.self.inside.labels c.self.invariant.0 c.self.invariant.1) ∙ ap (λ (p : Path). length p) c.self.view_is in
+    sym (length-take 8 c.self.inside.depth c.self.inside.labels c.self.invariant.0 c.self.invariant.1) ∙ ap (λ (p : Path). length p) c.self.view_is in
     ap (λ n. nat_eq n c.self.inside.depth) c.meet_depth.ensures
     ∙ ap (λ n. nat_eq (meet c.args.self.now c.args.other.now) n) depth
     ∙ sym (is_front-met c.args.self.now c.args.other.now)

@@ -15,8 +15,9 @@ invariant_of-result c =
     let blank : rest ≡ replicate 8 [] = ap (λ (z : List ℕ). z ∷ z ∷ z ∷ z ∷ z ∷ z ∷ z ∷ z ∷ []) c.new-held.ensures in
     let same : length held ≡ n = ap (λ (xs : Path). length xs) c.copy_from_slice.ensures.after in
     let back : take n (held ++ drop n rest) ≡ c.args.labels.now =
-        take-append-le n held (drop n rest) (omega (arith, same)) ∙ ap (λ m. take m held) (sym same) ∙ take-length held ∙ c.copy_from_slice.ensures.after in
-    (c.requires.short,
-     omega (arith, c.requires.short, same, length-append held (drop n rest), length-drop n rest),
-     drop-append-drop n rest held n (omega arith) same ∙ ap (drop n) blank ∙ drop-replicate n 8 [],
-     subst IsName (sym back) c.requires)
+    take-append-le n held (drop n rest) (omega (arith, same)) ∙ ap (λ m. take m held) (sym same) ∙ take-length held ∙ c.copy_from_slice.ensures.after in (
+      c.requires.short,
+      omega (arith, c.requires.short, same, length-append held (drop n rest), length-drop n rest),
+      drop-append-drop n rest held n (omega arith) same ∙ ap (drop n) blank ∙ drop-replicate n 8 [],
+      subst IsName (sym back) c.requires,
+    )

@@ -1,0 +1,142 @@
+//! One plain table.
+ghost use Rattle.std.specs.Prelude.{◌≡◌, ℕ, ◌≤◌, ◌↔◌, List, [], length, slice_get, Some, None, IsTrue, OnOk, OnErr, IfOk};
+ghost use Rattle.std.specs.Option.{option_map};
+ghost use Rattle.serial_spec.specs.Rows.{IsRising, value_in};
+ghost use Rattle.serial_spec.specs.Serial.{put};
+ghost use Rattle.serial_spec.specs.Places.{matching, rank};
+
+use crate::NoMemory;
+use std::alloc::Global;
+use std::marker::Model;
+use txn_names::Key;
+
+/// A table of keys and their values, in the byte order of the keys.
+#[derive(Drop)]
+pub struct PlainTable {
+    rows: Vec<(Key, i64)>,
+}
+
+impl Model for PlainTable {
+    ghost use Rattle.serial_spec.specs.Rows.{IsRising, Rows};
+
+    ghost Value = { Rows };
+
+    ghost view = { λ t. t.rows.items };
+
+    ghost invariant = { λ t. IsRising t.rows.items };
+}
+
+// How many rows have keys below this one, which is its place.
+fn place_of(rows: &[(Key, i64)], key: &Key) -> usize
+    requires { IsRising rows.now }
+    ensures place { result ≡ rank rows.now key.now }
+    ensures within { result ≤ length rows.now }
+{
+    rows.partition_point(|row| row.0 < *key)
+}
+
+fn value_at(rows: &[(Key, i64)], place: usize, key: &Key) -> Option<i64>
+    ensures { result ≡ matching (slice_get rows.now place) key.now }
+{
+    match rows.get(place) {
+        Some(row) => {
+            if row.0 == *key {
+                Some(row.1)
+            } else {
+                None
+            }
+        }
+        None => None,
+    }
+}
+
+impl PlainTable {
+    /// No rows. It takes no memory yet.
+    pub fn new(alloc: Global) -> Self
+        ensures { result ≡ [] }
+    {
+        PlainTable {
+            rows: Vec::new(alloc),
+        }
+    }
+
+    /// A table of the same rows. The only error is want of memory.
+    pub fn copy(&self) -> Result<Self, NoMemory>
+        ensures { IfOk result (λ t. t ≡ self.now) }
+    {
+        let rows = self.rows.clone()?;
+        Ok(PlainTable { rows })
+    }
+
+    /// The key's value.
+    pub fn get(&self, key: &Key) -> Option<i64>
+        ensures { result ≡ value_in self.now key.now }
+    {
+        let place = place_of(&self.rows, key);
+        value_at(&self.rows, place, key)
+    }
+
+    /// Gives the key a value, or takes its row out. At want of memory, the only error, the table is as before.
+    pub fn put(&mut self, key: &Key, value: Option<i64>) -> Result<(), NoMemory>
+        ensures ok { OnOk result (value_in self.new ≡ put (value_in self.old) key.now value) }
+        ensures err { OnErr result (self.new ≡ self.old) }
+    {
+        match value {
+            Some(value) => self.set(key, value),
+            None => {
+                self.take_out(key);
+                Ok(())
+            }
+        }
+    }
+
+    // Gives the key a value.
+    fn set(&mut self, key: &Key, value: i64) -> Result<(), NoMemory>
+        ensures ok { OnOk result (value_in self.new ≡ put (value_in self.old) key.now (Some value)) }
+        ensures err { OnErr result (self.new ≡ self.old) }
+    {
+        let place = place_of(&self.rows, key);
+        let row = (*key, value);
+        if value_at(&self.rows, place, key).is_some() {
+            self.rows[place] = row;
+            return Ok(());
+        }
+        self.rows.insert(place, row)?;
+        Ok(())
+    }
+
+    // Takes the key's row out, if there is one.
+    fn take_out(&mut self, key: &Key)
+        ensures { value_in self.new ≡ put (value_in self.old) key.now None }
+    {
+        let place = place_of(&self.rows, key);
+        if value_at(&self.rows, place, key).is_some() {
+            let _ = self.rows.remove(place);
+        }
+    }
+
+    /// The number of rows.
+    pub fn len(&self) -> usize
+        ensures len { result ≡ length self.now }
+        ensures rising { IsRising self.now }
+    {
+        self.rows.len()
+    }
+
+    /// Whether there are no rows.
+    pub fn is_empty(&self) -> bool
+        ensures { IsTrue result ↔ (self.now ≡ []) }
+    {
+        self.rows.is_empty()
+    }
+
+    /// The row at this place, from 0, in byte order of the keys.
+    pub fn at(&self, place: usize) -> Option<(&Key, i64)>
+        ensures { option_map (λ r. (r.0.now, r.1)) result ≡ slice_get self.now place }
+    {
+        match self.rows.get(place) {
+            Some(row) => Some((&row.0, row.1)),
+            None => None,
+        }
+    }
+}

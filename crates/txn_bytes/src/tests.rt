@@ -1,0 +1,83 @@
+//! What no clause says: that each call can succeed, and where a fault of the writer stops a write.
+use crate::{Held, WriteFault, put};
+use std::hash::{DefaultHasher, Hash, Hasher};
+use std::io;
+use std::io::{ErrorKind, Write};
+use std::test::Fail;
+
+/// Takes up to `step` bytes at each of `calls` calls, and then answers an error, or that it took nothing.
+#[derive(Drop)]
+struct Halting {
+    taken: Vec<u8>,
+    step: usize,
+    calls: usize,
+    fails: bool,
+}
+
+impl Write for Halting {
+    fn write(&mut self, bytes: &[u8]) -> io::Result<usize> {
+        if self.calls == 0 {
+            return if self.fails {
+                Err(io::Error::from(ErrorKind::Other))
+            } else {
+                Ok(0)
+            };
+        }
+        self.calls -= 1;
+        let count = bytes.len().min(self.step);
+        self.taken.extend_from_slice(&bytes[..count])?;
+        Ok(count)
+    }
+
+    fn flush(&mut self) -> io::Result<()> {
+        Ok(())
+    }
+}
+
+fn hash_of<T: Hash>(value: &T) -> u64 {
+    let mut state = DefaultHasher::new();
+    value.hash(&mut state);
+    state.finish()
+}
+
+fn greater<T: Ord + Copy>(a: T, b: T) -> T {
+    if a < b { b } else { a }
+}
+
+#[test]
+fn holds_bytes(rt: HostRuntime) -> Result<(), Fail> {
+    let (short, long) = (Held::<4>::of(b"b"), Held::<4>::of(b"ab"));
+    assert_eq!(rt; Held::<4>::new().as_bytes(), b"".as_slice());
+    assert_eq!(rt; long.as_bytes(), b"ab".as_slice());
+    assert!(rt; greater(short, long) == short && long != short);
+    assert_eq!(rt; hash_of(&long), hash_of(&Held::<4>::of(b"ab")));
+    assert_ne!(rt; hash_of(&long), hash_of(&short));
+    Ok(())
+}
+
+#[test]
+fn writes_all_or_a_beginning(rt: HostRuntime) -> Result<(), Fail> {
+    let mut all = Vec::new(rt.alloc());
+    assert_eq!(rt; put(&mut all, b"abcdefg"), Ok(()));
+    assert_eq!(rt; all.as_slice(), b"abcdefg".as_slice());
+    for (calls, want) in [
+        (0, "".as_bytes()),
+        (1, b"abc"),
+        (2, b"abcdef"),
+        (3, b"abcdefg"),
+    ] {
+        for fails in [false, true] {
+            let (taken, step) = (Vec::new(rt.alloc()), 3);
+            let mut out = Halting {
+                taken,
+                step,
+                calls,
+                fails,
+            };
+            let wanted = if calls == 3 { Ok(()) } else { Err(WriteFault) };
+            assert_eq!(rt; put(&mut out, b"abcdefg"), wanted, "after {calls} calls");
+            assert_eq!(rt; out.taken.as_slice(), want, "after {calls} calls");
+        }
+    }
+    Ok(())
+}

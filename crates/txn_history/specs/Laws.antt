@@ -1,0 +1,157 @@
+-- The laws of legal histories, as statements.
+use Rattle.std.specs.Prelude.{◌≡◌, ◌⊎◌, Bool, true, false, IsTrue, IsFalse, List, [], ◌∷◌, ℕ, ℤ, Option, if◌then◌else◌}
+use Rattle.txn_names.specs.Path.{is_front, parent}
+use Rattle.serial_spec.specs.declared.event.Event.{Event}
+use Rattle.serial_spec.specs.declared.event.Event.TheVariants.{Access as AccessOf}
+use Rattle.serial_spec.specs.declared.entry.Answer.{Answer}
+use Rattle.serial_spec.specs.declared.entry.Answer.TheVariants.{Done, Waits}
+use Rattle.serial_spec.specs.declared.entry.Entry.{Entry}
+use Rattle.serial_spec.specs.History.{Name, History, Effect, Commits, effect, status, is_live, is_committed, has_begun, has_committed, has_aborted, is_orphan, is_active}
+use Rattle.serial_spec.specs.Items.{Items, None, Access, Block, after, items, chain, HasBlock}
+use Rattle.serial_spec.specs.Serial.{Map, map_after, Replies, Runs, Right, home, stored}
+use Rattle.serial_spec.specs.Locks.{foot, is_exclusive}
+use Rattle.serial_spec.specs.Changes.{overlay, IsChanges}
+use Rattle.txn_names.specs.declared.change.Change.{Change}
+use Rattle.serial_spec.specs.Values.{seen}
+use Rattle.serial_spec.specs.Rows.{Rows, value_in}
+use Rattle.serial_spec.specs.Legal.{Legal}
+use Rattle.serial_spec.specs.Waits.{waits_for, Quiet}
+use Rattle.txn_history.specs.Apart.{Apart}
+
+-- every transaction that has begun and has no aborted ancestor, itself included, was replied what a serial run replies
+abbrev pub SerialCorrectness : Type 0
+SerialCorrectness =
+    (rows : Rows) (h : History) → Legal rows h
+    → (t : Name) → IsTrue (has_begun h t) → IsFalse (is_orphan h t) → Right (value_in rows) h t
+
+-- a committed one is right where its parent is, and any other where what it sees is a run
+abbrev pub HomeByParent : Type 0
+HomeByParent =
+    (h : History) (t : Name)
+    → (IsTrue (is_committed (status h t)) → home h t ≡ home h (parent t)) × (IsFalse (is_committed (status h t)) → home h t ≡ t)
+
+-- the root is right too, and its run makes the table
+abbrev pub TableCorrectness : Type 0
+TableCorrectness =
+    (rows : Rows) (h : History) → Legal rows h → Runs (value_in rows) (items h []) (stored (value_in rows) h)
+
+-- what a live one sees is itself a run
+abbrev pub LiveCorrectness : Type 0
+LiveCorrectness =
+    (rows : Rows) (h : History) → Legal rows h
+    → (t : Name) → IsTrue (is_active h t) → Replies (value_in rows) (chain h t)
+
+-- what a committed one has done stands as one block in its parent's items, and so in the run that makes the parent right
+abbrev pub BlockOfParent : Type 0
+BlockOfParent =
+    (rows : Rows) (h : History) → Legal rows h
+    → (t : Name) → IsTrue (is_committed (status h t)) → HasBlock (items h t) (items h (parent t))
+
+-- the first stands in the second as a block, or in one of its blocks
+abbrev pub Stands : Items → Items → Type 0
+Stands b None = ⊥
+Stands b (Access k o r xs) = Stands b xs
+Stands b (Block c xs) = (b ≡ c) ⊎ (Stands b c ⊎ Stands b xs)
+
+-- what one has done is what its home has done, or stands there as a block or in a block
+abbrev pub PlaceInRun : Type 0
+PlaceInRun =
+    (rows : Rows) (h : History) → Legal rows h
+    → (t : Name) → IsTrue (has_begun h t) → IsFalse (is_orphan h t)
+    → (home h t ≡ t) ⊎ Stands (items h t) (items h (home h t))
+
+-- once no top-level transaction is live, all that are no orphans have committed, and the one run of the root's items serves them all
+abbrev pub FinishedCorrectness : Type 0
+FinishedCorrectness =
+    (rows : Rows) (h : History) → Legal rows h
+    → ((l : List ℕ) → IsFalse (is_live h (l ∷ [])))
+    → (t : Name) → IsTrue (has_begun h t) → IsFalse (is_orphan h t)
+    → IsTrue (is_committed (status h t)) × Stands (items h t) (items h []) × Replies (value_in rows) (items h [])
+
+-- the value seen is the one that the run of what is seen leaves; at the root it is the table's
+abbrev pub ValueSeen : Type 0
+ValueSeen =
+    (rows : Rows) (h : History) → Legal rows h
+    → (t : Name) (k : List ℕ) → IsTrue (is_active h t)
+    → seen (value_in rows) h t k ≡ map_after (value_in rows) (chain h t) k
+
+abbrev pub ValueStored : Type 0
+ValueStored =
+    (rows : Rows) (h : History) → Legal rows h
+    → (k : List ℕ) → stored (value_in rows) h k ≡ seen (value_in rows) h [] k
+
+-- a top-level commit puts what it saw at each key that it held to write into the table, and nothing else changes the table
+abbrev pub table_next : Map → History → Effect → List ℕ → Option ℤ
+table_next opening h (Commits (l ∷ [])) k =
+    if is_exclusive (foot h (l ∷ []) k) then seen opening h (l ∷ []) k else stored opening h k
+table_next opening h x k = stored opening h k
+
+abbrev pub TableAfter : Type 0
+TableAfter =
+    (rows : Rows) (e : Entry) (h : History) → Legal rows (e ∷ h)
+    → (k : List ℕ) → stored (value_in rows) (e ∷ h) k ≡ table_next (value_in rows) h (effect e) k
+
+-- so the table after a top-level commit is the one before, with that transaction's changes made
+abbrev pub ChangesMade : Type 0
+ChangesMade =
+    (rows : Rows) (e : Entry) (h : History) → Legal rows (e ∷ h)
+    → (l : List ℕ) → effect e ≡ Commits (l ∷ []) → (cs : List Change) → IsChanges (value_in rows) h (l ∷ []) cs
+    → (k : List ℕ) → stored (value_in rows) (e ∷ h) k ≡ overlay cs (stored (value_in rows) h) k
+
+-- whoever has committed or aborted had begun, so a name that begins is live
+abbrev pub EndedBegun : Type 0
+EndedBegun =
+    (rows : Rows) (h : History) → Legal rows h
+    → (t : Name) → (IsTrue (has_committed h t) → IsTrue (has_begun h t)) × (IsTrue (has_aborted h t) → IsTrue (has_begun h t))
+
+-- the parent of whoever has begun is the root or has begun
+abbrev pub BegunDown : Type 0
+BegunDown =
+    (rows : Rows) (h : History) → Legal rows h
+    → (t : Name) → IsTrue (has_begun h t) → (parent t ≡ []) ⊎ IsTrue (has_begun h (parent t))
+
+-- no entry changes the items of one that does not act
+abbrev pub ItemsStay : Type 0
+ItemsStay =
+    (rows : Rows) (e : Entry) (h : History) → Legal rows (e ∷ h)
+    → (t : Name) → IsFalse (is_active h t) → items (e ∷ h) t ≡ items h t
+
+-- the ancestors of one that acts act
+abbrev pub AncestorsAct : Type 0
+AncestorsAct =
+    (rows : Rows) (h : History) → Legal rows h
+    → (t u : Name) → IsTrue (is_active h t) → IsTrue (is_front u t) → IsTrue (is_active h u)
+
+-- of two that act, neither above the other, no key has footprints that conflict
+abbrev pub LocksSeparate : Type 0
+LocksSeparate =
+    (rows : Rows) (h : History) → Legal rows h
+    → (t u : Name) → IsTrue (is_active h t) → IsTrue (is_active h u) → IsFalse (is_front t u) → IsFalse (is_front u t)
+    → Apart (items h t) (items h u)
+
+-- neighbours whose footprints do not conflict may change places in a run
+abbrev pub NeighboursSwap : Type 0
+NeighboursSwap =
+    (m m2 : Map) (xs ys : Items) → Apart xs ys → Runs m (after ys xs) m2 → Runs m (after xs ys) m2
+
+-- a child's items that run behind its parent's items run there as one block too, and leave the same map
+abbrev pub ChildAsBlock : Type 0
+ChildAsBlock =
+    (m m2 : Map) (child own : Items) → Runs m (after child own) m2 → Runs m (Block child own) m2
+
+-- only an answered access and a new wait may make a transaction wait for another
+abbrev pub may_add_pair : Event → Answer → Bool
+may_add_pair e Waits = true
+may_add_pair (AccessOf t k o) (Done r) = true
+may_add_pair e a = false
+
+abbrev pub PairsStay : Type 0
+PairsStay =
+    (rows : Rows) (e : Entry) (h : History) → Legal rows (e ∷ h) → IsFalse (may_add_pair e.event e.answer)
+    → (t u : Name) → IsTrue (waits_for (e ∷ h) t u) → IsTrue (waits_for h t u)
+
+-- so no other entry makes a cycle
+abbrev pub QuietStays : Type 0
+QuietStays =
+    (rows : Rows) (e : Entry) (h : History) → Legal rows (e ∷ h) → IsFalse (may_add_pair e.event e.answer)
+    → Quiet h → Quiet (e ∷ h)
