@@ -1,13 +1,16 @@
-// A library with one function.
+//! The manager of nested transactions. So far one top-level transaction runs at a time.
 #![tactic(auto)]
 
-ghost use Rattle.std.specs.Prelude.{◌≡◌};
-ghost use Rattle.manager_core.specs.Echo.{echo_of};
+mod changes;
+mod deciding;
+mod log;
+mod manager;
+mod outcome;
+mod reading;
+pub mod store;
 
-// The `ensures` clause is the contract: what `echo` returns is `echo_of` of its argument, a definition
-// in `specs/Echo.antt`, which a caller's clause can cite too.
-pub fn echo(x: usize) -> usize
-    ensures { result ≡ echo_of x }
-{
-    x
-}
+pub use manager::Manager;
+pub use outcome::{OpenFault, Outcome};
+
+#[cfg(test)]
+mod tests;

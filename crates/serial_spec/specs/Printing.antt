@@ -12,17 +12,12 @@ use Rattle.serial_spec.specs.declared.entry.Refusal.{Refusal}
 use Rattle.serial_spec.specs.declared.entry.Refusal.TheVariants.{Unknown, Used, NoParent, Done as HasCommitted, Orphan, Children, Waiting, Full, Store}
 use Rattle.serial_spec.specs.declared.entry.Answer.{Answer}
 use Rattle.serial_spec.specs.declared.entry.Answer.TheVariants.{Done, Waits, Stuck, Refused}
+use Rattle.txn_names.specs.Text.{spelled_name}
 use Rattle.serial_spec.specs.History.{Name}
 
 abbrev pub spelled_number : ℤ → List ℕ
 spelled_number (pos n) = decimal n
 spelled_number (negsuc n) = codes "-" ++ decimal (suc n)
-
--- labels joined by '/'
-abbrev pub spelled_name : Name → List ℕ
-spelled_name [] = []
-spelled_name (l ∷ []) = l
-spelled_name (l ∷ m ∷ ls) = l ++ codes "/" ++ spelled_name (m ∷ ls)
 
 abbrev pub spelled_access : Name → List ℕ → Op → List ℕ
 spelled_access t k Get = codes "get " ++ spelled_name t ++ codes " " ++ k

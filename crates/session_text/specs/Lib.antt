@@ -1,3 +1,7 @@
 pub mod Steps
 pub mod Words
 pub mod Numbers
+pub mod Commands
+pub mod Grammar
+pub mod Stage
+pub mod Texts

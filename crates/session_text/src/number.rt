@@ -39,5 +39,8 @@ pub(crate) fn number(bytes: &[u8]) -> Option<i64>
     if !is_numeral(bytes) {
         return None;
     }
-    str::from_utf8(bytes).ok()?.parse().ok()
+    match str::from_utf8(bytes) {
+        Ok(text) => text.parse().ok(),
+        Err(_) => None,
+    }
 }

@@ -1,0 +1,12 @@
+pub mod Reversed
+pub mod Keys
+pub mod Waitless
+pub mod Single
+pub mod Kept
+pub mod Facts
+pub mod Writing
+pub mod Collected
+pub mod Commits
+pub mod Opening
+pub mod Closing
+pub mod Lines

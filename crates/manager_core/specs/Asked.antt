@@ -1,0 +1,22 @@
+-- What came of the store that was asked to take changes.
+use Rattle.std.specs.Prelude.{◌≡◌, ◌≤◌, ◌+◌, List}
+use Rattle.txn_names.specs.declared.change.Change.{Change}
+use Rattle.serial_spec.specs.Changes.{overlay}
+use Rattle.manager_core.specs.declared.store.TopStore.{Ghosts}
+use Rattle.manager_core.specs.Store.{counted}
+use Rattle.manager_core.specs.Sound.{IsTrusted}
+
+-- neither doubt nor failure is ever taken back
+pub record IsLater {S : Type 0} (g : Ghosts S) (old new : S) : Type 0 where
+  pub doubt : g.doubt old ≤ g.doubt new
+  pub failures : g.failures old ≤ g.failures new
+
+-- it took them
+pub record Takes {S : Type 0} (g : Ghosts S) (old new : S) (changes : List Change) : Type 0 where
+  pub table : IsTrusted g new → g.table new ≡ overlay changes (g.table old)
+  pub faults : g.faults new ≡ g.faults old
+
+-- it refused them
+pub record Refuses {S : Type 0} (g : Ghosts S) (old new : S) : Type 0 where
+  pub table : IsTrusted g new → g.table new ≡ g.table old
+  pub faults : g.faults new ≡ counted (g.faults old + 1)

@@ -1,0 +1,41 @@
+-- What each call does to the manager.
+use Rattle.std.specs.Prelude.{◌≡◌, ℕ, ◌&&◌, IsFalse, List, [], ◌∷◌, ◌++◌, map, None}
+use Rattle.serial_spec.specs.declared.entry.By.{By}
+use Rattle.serial_spec.specs.declared.event.Event.{Event}
+use Rattle.serial_spec.specs.declared.event.Event.TheVariants.{Commit}
+use Rattle.serial_spec.specs.History.{Name, History, is_live, begun}
+use Rattle.serial_spec.specs.Allowed.{Allowed, asks_store}
+use Rattle.serial_spec.specs.Legal.{first_live}
+use Rattle.serial_spec.specs.Interleaving.{closing}
+use Rattle.manager_core.specs.declared.store.TopStore.{Ghosts}
+use Rattle.manager_core.specs.declared.outcome.Outcome.{Outcome}
+use Rattle.manager_core.specs.Outcomes.{answer_of, is_done, is_of_store}
+use Rattle.manager_core.specs.State.{State, entry}
+use Rattle.manager_core.specs.Asked.{IsLater}
+
+-- the call's entry was allowed, and nothing changed but that the history has it
+pub record Answered {S : Type 0} (old new : State S) (by : By) (event : Event) (outcome : Outcome) : Type 0 where
+  pub allowed : Allowed old.rows old.history by event (answer_of outcome)
+  pub added : new ≡ record old { history = entry by event (answer_of outcome) ∷ old.history }
+
+-- the commit's entry was allowed
+pub record Committed {S : Type 0} (g : Ghosts S) (old new : State S) (by : By) (t : Name) (outcome : Outcome) : Type 0 where
+  pub allowed : Allowed old.rows old.history by (Commit t) (answer_of outcome)
+  -- beside the history only the table and the store may have changed
+  pub added : new ≡ record old { history = entry by (Commit t) (answer_of outcome) ∷ old.history; table = new.table; store = new.store }
+  -- the table only where the commit was done
+  pub undone : IsFalse (is_done outcome) → new.table ≡ old.table
+  -- both only where the store was asked: where there are changes, and no cause refuses the commit
+  pub unasked : IsFalse (asks_store old.history (Commit t) && is_of_store outcome) → (new.table ≡ old.table) × (new.store ≡ old.store)
+  pub later : IsLater g old.store new.store
+
+-- the entries by which these transactions are closed, the last closed first
+abbrev pub closings : List Name → History
+closings names = map closing names
+
+-- only closing entries were added, and no top-level transaction is live any more
+pub record Closed {S : Type 0} (old new : State S) : Type 0 where
+  pub names : List Name
+  pub added : new ≡ record old { history = closings names ++ old.history }
+  pub none_left : first_live new.history (begun new.history) ≡ None
+  pub ended : (l : List ℕ) → IsFalse (is_live new.history (l ∷ []))

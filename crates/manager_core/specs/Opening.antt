@@ -1,0 +1,48 @@
+-- What an opening comes to.
+use Rattle.std.specs.Prelude.{◌≡◌, ◌≤◌, ◌<◌, ℕ, [], length}
+use Rattle.serial_spec.specs.Rows.{Rows, value_in, IsRising}
+use Rattle.manager_core.specs.declared.store.StoreFault.{StoreFault}
+use Rattle.manager_core.specs.declared.store.StoreFault.TheVariants.{Failed}
+use Rattle.manager_core.specs.declared.store.TopStore.{Ghosts}
+use Rattle.manager_core.specs.declared.outcome.OpenFault.{OpenFault}
+use Rattle.manager_core.specs.declared.outcome.OpenFault.TheVariants.{NoMemory, Store, TooManyRows}
+use Rattle.manager_core.specs.Store.{TellsFailure}
+use Rattle.manager_core.specs.State.{State}
+use Rattle.manager_core.specs.Asked.{IsLater}
+
+abbrev pub most_rows : ℕ
+most_rows = 4096
+
+-- the manager over this store as it was given
+pub record IsOpened {S : Type 0} (g : Ghosts S) (store : S) (m : State S) : Type 0 where
+  pub history : m.history ≡ []
+  -- the rows are those of the store, in byte order
+  pub rows : g.doubt m.store ≡ 0 → value_in m.rows ≡ g.table store
+  pub rising : IsRising m.rows
+  pub few : length m.rows ≤ most_rows
+  pub table : value_in m.table ≡ value_in m.rows
+  pub faults : m.opened ≡ g.faults store
+  pub later : IsLater g store m.store
+  pub unfailed : g.failures m.store ≡ 0
+
+-- the store had more rows than may be, as it was left after they were loaded
+pub record HasTooMany {S : Type 0} (g : Ghosts S) (store : S) : Type 0 where
+  pub left : S
+  pub later : IsLater g store left
+  pub rows : Rows
+  pub are : g.doubt left ≡ 0 → value_in rows ≡ g.table store
+  pub rising : IsRising rows
+  pub many : most_rows < length rows
+
+-- the store answered this fault in place of its rows, and was left so
+pub record FailsToLoad {S : Type 0} (g : Ghosts S) (store : S) (fault : StoreFault) : Type 0 where
+  pub left : S
+  pub later : IsLater g store left
+  pub failures : TellsFailure (g.failures store) (g.failures left) (fault ≡ Failed)
+  pub faults : g.faults left ≡ g.faults store
+
+-- why the manager was not opened
+abbrev pub HasCause : {S : Type 0} → Ghosts S → S → OpenFault → Type 0
+HasCause g store NoMemory = Unit {0}
+HasCause g store (Store fault) = FailsToLoad g store fault
+HasCause g store TooManyRows = HasTooMany g store

@@ -1,0 +1,22 @@
+-- An outcome as the history keeps it.
+use Rattle.std.specs.Prelude.{Bool, true, false}
+use Rattle.serial_spec.specs.declared.entry.Answer.{Answer}
+use Rattle.serial_spec.specs.declared.entry.Answer.TheVariants as answer
+use Rattle.serial_spec.specs.declared.entry.Refusal.TheVariants.{Store}
+use Rattle.manager_core.specs.declared.outcome.Outcome.{Outcome}
+use Rattle.manager_core.specs.declared.outcome.Outcome.TheVariants.{Done, Waits, Refused}
+
+abbrev pub answer_of : Outcome → Answer
+answer_of (Done reply) = answer.Done reply
+answer_of Waits = answer.Waits
+answer_of (Refused refusal) = answer.Refused refusal
+
+abbrev pub is_done : Outcome → Bool
+is_done (Done reply) = true
+is_done outcome = false
+
+-- whether the outcome is one that the store decides between
+abbrev pub is_of_store : Outcome → Bool
+is_of_store (Done reply) = true
+is_of_store (Refused Store) = true
+is_of_store outcome = false

@@ -1,0 +1,81 @@
+//! A store in memory.
+ghost use Rattle.std.specs.Prelude.{◌≡◌, ◌≤◌, ◌↔◌, ℕ, IfOk, OnOk, IfErr, IsErrOf, is_err};
+ghost use Rattle.serial_spec.specs.Changes.{AreRising, overlay};
+ghost use Rattle.serial_spec.specs.Rows.{IsRising, value_in};
+ghost use Rattle.manager_core.specs.Store.{plain, faults_after, TellsFailure};
+
+use crate::store::{Row, StoreFault, TopStore, table_after, table_of};
+use serial_spec::{NoMemory, PlainTable};
+use std::alloc::Global;
+use txn_names::Change;
+
+/// A table in memory, which fails for want of memory alone.
+#[derive(Drop)]
+pub struct MemStore {
+    table: PlainTable,
+    faults: u64,
+}
+
+impl MemStore {
+    /// A store of these rows, which stand in byte order of their keys, one for each. The only error is want
+    /// of memory.
+    pub fn new(alloc: Global, rows: &[Row]) -> Result<MemStore, NoMemory>
+        requires { IsRising (plain rows.now) }
+        ensures table { IfOk result (λ store. ⟦<MemStore as TopStore>⟧.table store ≡ value_in (plain rows.now)) }
+        ensures faults { IfOk result (λ store. ⟦<MemStore as TopStore>⟧.faults store ≡ 0) }
+    {
+        let table = table_of(alloc, rows)?;
+        Ok(MemStore { table, faults: 0 })
+    }
+}
+
+fn rows_of(alloc: Global, table: &PlainTable) -> Result<Vec<Row>, NoMemory>
+    ensures rows { IfOk result (λ rows. plain rows.items ≡ table.now) }
+    ensures rising { IsRising table.now }
+{
+    let mut rows = Vec::new(alloc);
+    for place in 0..table.len() {
+        if let Some((key, value)) = table.at(place) {
+            rows.push(Row { key: *key, value })?;
+        }
+    }
+    Ok(rows)
+}
+
+impl TopStore for MemStore {
+    ghost table = { λ s. value_in s.table };
+
+    ghost doubt = { λ _. 0 };
+
+    ghost failures = { λ _. 0 };
+
+    ghost faults = { λ s. s.faults };
+
+    fn load(&mut self, alloc: Global) -> Result<Vec<Row>, StoreFault> {
+        match rows_of(alloc, &self.table) {
+            Ok(rows) => Ok(rows),
+            Err(_) => Err(StoreFault::Memory),
+        }
+    }
+
+    fn commit(&mut self, changes: &[Change]) -> Result<(), StoreFault> {
+        match table_after(&self.table, changes) {
+            Ok(next) => {
+                self.table = next;
+                Ok(())
+            }
+            Err(_) => {
+                self.faults = self.faults.saturating_add(1);
+                Err(StoreFault::Memory)
+            }
+        }
+    }
+
+    fn failures(&self) -> u64 {
+        0
+    }
+
+    fn faults(&self) -> u64 {
+        self.faults
+    }
+}

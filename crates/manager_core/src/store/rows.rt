@@ -1,0 +1,36 @@
+//! Rows and changes over one plain table.
+ghost use Rattle.std.specs.Prelude.{◌≡◌, ℕ, [], IfOk};
+ghost use Rattle.serial_spec.specs.Changes.{overlay};
+ghost use Rattle.serial_spec.specs.Rows.{value_in};
+ghost use Rattle.manager_core.specs.Store.{plain};
+
+use crate::store::Row;
+use serial_spec::{NoMemory, PlainTable};
+use std::alloc::Global;
+use txn_names::Change;
+
+/// The table of these rows. Of several rows with one key the first counts. The only error is want of memory.
+pub fn table_of(alloc: Global, rows: &[Row]) -> Result<PlainTable, NoMemory>
+    ensures { IfOk result (λ table. value_in table ≡ value_in (plain rows.now)) }
+{
+    let mut table = PlainTable::new(alloc);
+    let mut left = rows.len();
+    while left > 0 {
+        left -= 1;
+        let row = &rows[left];
+        table.put(&row.key, Some(row.value))?;
+    }
+    Ok(table)
+}
+
+/// A copy of the table with the changes made, the first of them first. The only error is want of memory.
+pub fn table_after(table: &PlainTable, changes: &[Change]) -> Result<PlainTable, NoMemory>
+    ensures made { IfOk result (λ next. value_in next ≡ overlay changes.now (value_in table.now)) }
+    ensures unchanged { IfOk result (λ next. changes.now ≡ [] → next ≡ table.now) }
+{
+    let mut next = table.copy()?;
+    for change in changes {
+        next.put(&change.key, change.value)?;
+    }
+    Ok(next)
+}

@@ -1,0 +1,94 @@
+-- Numbers and their spelling.
+use Rattle.std.proofs.Common.{◌≡◌, ℕ, ◌<◌, ◌≤◌, ◌^◌, suc, List, [], ◌∷◌, ◌++◌, length, drop, get_or, true, false, Bool, cond, not, nat_eq, ◌&&◌, ◌||◌, ℤ, pos, negsuc, neg_ℤ, Option, Some, None, Result, Ok, Err, refl, sym, ap, ◌∙◌, subst, arith, rules, ⊎_elim, true≢false, zero}
+use Rattle.std.specs.Prelude.{codes, decimal, ◌==◌}
+use Rattle.std.specs.Char.{is_ascii_digit, digit_value}
+use Rattle.std.specs.Int.{w64}
+use Rattle.std.specs.Prelude.{FitsSigned}
+use Rattle.std.specs.List.{list_all}
+use Rattle.std.specs.Result.{result_ok, OkIff}
+use Rattle.std.specs.Str.{bytes_eq, IsUtf8, IsAscii}
+use Rattle.std.specs.Str.Parse.{signed_digits_value, starts_with_minus, without_leading_sign, ParsesSigned, IsNumeral, digits_value, AllDigits}
+use Rattle.std.proofs.lemmas.Bool.{and_parts, and_from, or_cases, or_left, or_right, not-true, ltb-true, lt-ltb}
+use Rattle.std.proofs.lemmas.Fmt.{IsAscii-from_digits}
+use Rattle.std.proofs.lemmas.Str.{IsUtf8-from_ascii}
+use Rattle.std.proofs.lemmas.Bool.Decides.{nat_tests}
+use Rattle.std.proofs.lemmas.Slice.Eq.{bytes_eq-Decides}
+use Rattle.std.proofs.lemmas.Str.Parse.{IsNumeralModel, numerals_by_value}
+use Rattle.serial_spec.specs.Operations.{is_i64}
+use Rattle.session_text.specs.Numbers.{is_count, is_numeral, without_minus, number_of}
+
+abbrev AreDigits : List ℕ → Type 0
+AreDigits ds = list_all is_ascii_digit ds ≡ true
+
+pub own : IsNumeralModel AreDigits (digits_value 10)
+own = numerals_by_value AreDigits (search rules)
+
+-- what a numeral has behind its sign, which is no plus
+pub record IsSpelled (bs : List ℕ) : Type 0 where
+  pub some : 0 < length (without_leading_sign bs)
+  pub digits : AreDigits (without_leading_sign bs)
+  pub unsigned : without_leading_sign bs ≡ without_minus bs
+
+-- ---- what a numeral is
+
+count_parts : (bs : List ℕ) → is_count bs ≡ true → (0 < length bs) × AreDigits bs × (nat_eq (get_or bs 0 0) 48 ≡ false)
+count_parts [] h = cc
+count_parts (b ∷ bs) h =
+    let p = and_parts (not (nat_eq b 48)) (list_all is_ascii_digit (b ∷ bs)) h in
+    (omega arith, p.1, not-true (nat_eq b 48) p.0)
+
+is_zero : (bs : List ℕ) → bytes_eq bs (codes "0") ≡ true → bs ≡ 48 ∷ []
+is_zero bs h = (bytes_eq-Decides bs (48 ∷ [])).0 h
+
+not_sign : (b : ℕ) (bs : List ℕ) → AreDigits (b ∷ bs) → (nat_eq b 43 ≡ false) × (nat_eq b 45 ≡ false)
+not_sign b bs h = let p = (and_parts (is_ascii_digit b) (list_all is_ascii_digit bs) h).0 in (grind (arith, nat_tests, p), grind (arith, nat_tests, p))
+
+unsigned : (b : ℕ) (bs : List ℕ) → AreDigits (b ∷ bs) → IsSpelled (b ∷ bs)
+unsigned b bs h =
+    let p = not_sign b bs h in
+    record { some = rw (p.1, p.0) (omega arith); digits = rw (p.1, p.0) h; unsigned = rw (p.1, p.0) refl }
+
+spelled_by : (b : ℕ) (bs : List ℕ) (t : Bool) → nat_eq b 45 ≡ t → (bytes_eq (b ∷ bs) (codes "0") || is_count (cond t bs (b ∷ bs))) ≡ true → IsSpelled (b ∷ bs)
+spelled_by b bs true e h =
+    ⊎_elim (λ (z : bytes_eq (b ∷ bs) (codes "0") ≡ true). unsigned b bs (subst AreDigits (sym (is_zero (b ∷ bs) z)) refl))
+    (λ (k : is_count bs ≡ true). let p = count_parts bs k in record { some = rw e p.0; digits = rw e p.1; unsigned = rw e refl })
+    (or_cases (bytes_eq (b ∷ bs) (codes "0")) (is_count bs) h)
+spelled_by b bs false e h =
+    ⊎_elim (λ (z : bytes_eq (b ∷ bs) (codes "0") ≡ true). unsigned b bs (subst AreDigits (sym (is_zero (b ∷ bs) z)) refl))
+    (λ (k : is_count (b ∷ bs) ≡ true). unsigned b bs (count_parts (b ∷ bs) k).1)
+    (or_cases (bytes_eq (b ∷ bs) (codes "0")) (is_count (b ∷ bs)) h)
+
+pub spelled : (bs : List ℕ) → is_numeral bs ≡ true → IsSpelled bs
+spelled [] h = cc
+spelled (b ∷ bs) h = spelled_by b bs (nat_eq b 45) refl h
+
+-- ---- reading it
+
+ascii_digits : (ds : List ℕ) → AreDigits ds → IsAscii ds
+ascii_digits ds h = IsAscii-from_digits ds (own.to ds h)
+
+ascii_by : (b : ℕ) (bs : List ℕ) (t : Bool) → nat_eq b 45 ≡ t → AreDigits (cond t bs (b ∷ bs)) → IsAscii (b ∷ bs)
+ascii_by b bs true e h zero = grind (arith, nat_tests, e)
+ascii_by b bs true e h (suc i) = ascii_digits bs h i
+ascii_by b bs false e h i = ascii_digits (b ∷ bs) h i
+
+pub utf8 : (bs : List ℕ) → is_numeral bs ≡ true → IsUtf8 bs
+utf8 [] h = cc
+utf8 (b ∷ bs) h = let p = spelled (b ∷ bs) h in IsUtf8-from_ascii (b ∷ bs) (ascii_by b bs (nat_eq b 45) refl (subst AreDigits p.unsigned p.digits))
+
+fits : (z : ℤ) → is_i64 z ≡ true → FitsSigned w64 z
+fits (pos n) h = record { sfits = ltb-true n (2 ^ 63) h }
+fits (negsuc n) h = record { sfits = ltb-true n (2 ^ 63) h }
+
+pub fits_back : (z : ℤ) → FitsSigned w64 z → is_i64 z ≡ true
+fits_back (pos n) h = lt-ltb n (2 ^ 63) h.sfits
+fits_back (negsuc n) h = lt-ltb n (2 ^ 63) h.sfits
+
+read_by : {E : Type 0} (bs : List ℕ) (r : Result ℤ E) (t : Bool) → is_numeral bs ≡ true → ParsesSigned w64 10 bs r → is_i64 (signed_digits_value 10 bs) ≡ t → result_ok r ≡ cond t (Some (signed_digits_value 10 bs)) None
+read_by bs (Ok x) true h p e = ap Some p.1
+read_by bs (Ok x) false h p e = absurd (true≢false (sym (fits_back (signed_digits_value 10 bs) p.0.1) ∙ e))
+read_by bs (Err x) true h p e = let s = spelled bs h in absurd (p ((s.some, own.to _ s.digits), fits (signed_digits_value 10 bs) e))
+read_by bs (Err x) false h p e = refl
+
+pub read : {E : Type 0} (bs : List ℕ) (r : Result ℤ E) → is_numeral bs ≡ true → ParsesSigned w64 10 bs r → result_ok r ≡ number_of bs
+read bs r h p = rw h (read_by bs r (is_i64 (signed_digits_value 10 bs)) h p refl)

@@ -1,0 +1,120 @@
+-- What the bytes of a file are read as: its sessions, or the line and the kind of the first fault.
+use Rattle.std.specs.Prelude.{◌≡◌, ℕ, ◌+◌, ◌-◌, ◌==◌, Bool, false, nat_le, if◌then◌else◌, List, [], ◌∷◌, ◌++◌, length, codes, Option, Some, None, Result, Ok, Err, slice_get, option_map}
+use Rattle.std.specs.Option.{option_or}
+use Rattle.std.specs.Str.{bytes_eq}
+use Rattle.txn_names.specs.Reading.{label_of}
+use Rattle.serial_spec.specs.Interleaving.{Session, lines_of}
+use Rattle.serial_spec.specs.declared.event.Event.{Event}
+use Rattle.session_text.specs.declared.fault.LineKind.{LineKind}
+use Rattle.session_text.specs.declared.fault.LineKind.TheVariants as kind
+use Rattle.session_text.specs.declared.fault.TextFault.{TextFault}
+use Rattle.session_text.specs.declared.fault.TextFault.TheVariants as fault
+use Rattle.session_text.specs.declared.text_line.TextLine.{TextLine}
+use Rattle.session_text.specs.declared.text_line.TextLine.TheVariants.{Header, Command}
+use Rattle.session_text.specs.Steps.{◌>>=◌, or_fault, unless}
+use Rattle.session_text.specs.Words.{cut_at}
+use Rattle.session_text.specs.Commands.{Words, one, event_of}
+use Rattle.session_text.specs.Grammar.{is_taken}
+use Rattle.session_text.specs.Stage.{header_refusal, command_refusal}
+
+-- ---- one line, by itself
+
+abbrev pub header_of : Words → Result TextLine LineKind
+header_of ws = do
+  w ← one ws
+  l ← or_fault kind.Label (label_of w)
+  Ok (Header l)
+
+abbrev pub starts_session : Words → Bool
+starts_session [] = false
+starts_session (w ∷ ws) = bytes_eq w (codes "session")
+
+abbrev pub operands : Words → Words
+operands [] = []
+operands (w ∷ ws) = ws
+
+-- a header or a command
+abbrev pub line_of : List ℕ → Result TextLine LineKind
+line_of bs =
+    if starts_session (cut_at 32 bs) then header_of (operands (cut_at 32 bs))
+    else event_of bs >>= λ e. Ok (Command e)
+
+-- ---- one line, behind the sessions so far
+
+-- the lines of the last session
+abbrev pub open_lines : List Session → List Event
+open_lines [] = []
+open_lines (s ∷ []) = s.lines
+open_lines (s ∷ t ∷ ss) = open_lines (t ∷ ss)
+
+-- the last session with one line more
+abbrev pub with_line : List Session → Event → List Session
+with_line [] e = []
+with_line (s ∷ []) e = record { label = s.label; lines = s.lines ++ e ∷ [] } ∷ []
+with_line (s ∷ t ∷ ss) e = s ∷ with_line (t ∷ ss) e
+
+-- one session more
+abbrev pub with_header : List Session → List ℕ → List Session
+with_header ss l = ss ++ record { label = l; lines = [] } ∷ []
+
+abbrev pub grown : List Session → TextLine → List Session
+grown ss (Header l) = with_header ss l
+grown ss (Command e) = with_line ss e
+
+-- whether a line may stand here: a header's label is a new one and there are fewer than 64 sessions,
+-- a command has a session before it that has fewer than 1,024 lines
+abbrev pub misplaced : List Session → TextLine → Option LineKind
+misplaced ss (Header l) =
+    if is_taken l ss then Some kind.Header
+    else if nat_le 64 (length ss) then Some kind.Limit
+    else None
+misplaced ss (Command e) =
+    if length ss == 0 then Some kind.Header
+    else if nat_le 1024 (length (open_lines ss)) then Some kind.Limit
+    else None
+
+abbrev pub refusal : List Session → TextLine → Option LineKind
+refusal ss (Header l) = header_refusal ss
+refusal ss (Command e) = command_refusal (open_lines ss) e
+
+-- the sessions with this line, or its first fault
+abbrev pub with_bytes : List Session → List ℕ → Result (List Session) LineKind
+with_bytes ss bs = do
+  l ← line_of bs
+  unless (option_or (misplaced ss l) (refusal ss l)) (grown ss l)
+
+-- ---- line by line
+
+abbrev pub Read : Type 0
+Read = Result (List Session) (ℕ × LineKind)
+
+abbrev pub at_line : ℕ → Result (List Session) LineKind → Read
+at_line n (Ok ss) = Ok ss
+at_line n (Err k) = Err (n, k)
+
+-- the parts between line feeds, from line n on: behind the last line feed nothing may stand
+abbrev pub read_from : ℕ → List Session → List (List ℕ) → Read
+read_from n ss [] = Ok ss
+read_from n ss (p ∷ []) = if length p == 0 then Ok ss else Err (n, kind.End)
+read_from n ss (p ∷ q ∷ ps) = do
+  more ← at_line n (with_bytes ss p)
+  read_from (n + 1) more (q ∷ ps)
+
+-- the sessions of a file, or the line and the kind of its first fault
+abbrev pub sessions_of : List ℕ → Read
+sessions_of bs = read_from 1 [] (cut_at 10 bs)
+
+-- what a call returned is what reading gives, unless memory was refused
+abbrev pub Reads : Result (List Session) TextFault → Read → Type 0
+Reads (Ok ss) read = read ≡ Ok ss
+Reads (Err (fault.Bad n k)) read = read ≡ Err (n, k)
+Reads (Err fault.NoMemory) read = Unit {0}
+
+-- ---- looking up
+
+-- a line's event: sessions count from 0, lines from 1
+abbrev pub line_at : List Session → ℕ → ℕ → Option Event
+line_at ss s l = if l == 0 then None else slice_get (lines_of (slice_get ss s)) (l - 1)
+
+abbrev pub label_at : List Session → ℕ → Option (List ℕ)
+label_at ss s = option_map (λ t. t.label) (slice_get ss s)
