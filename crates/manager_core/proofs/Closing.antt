@@ -11,6 +11,7 @@ use Rattle.serial_spec.specs.declared.entry.Answer.TheVariants.{Done}
 use Rattle.serial_spec.specs.declared.entry.Entry.{Entry}
 use Rattle.serial_spec.specs.History.{Name, History, Effect, Begins, Accesses, Commits, Aborts, Nothing, effect, is_begin, is_live, is_live_status, Absent, Live, Committed, Aborted, or_else, has_begun, has_aborted, has_committed, begun, begun_by}
 use Rattle.serial_spec.specs.Rows.{Rows}
+use Rattle.serial_spec.specs.Interleaving.{closing}
 use Rattle.serial_spec.specs.Legal.{is_top_level, first_live}
 use Rattle.manager_core.specs.State.{entry}
 use Rattle.manager_core.specs.Kept.{is_on, IsAlone, IsSingle, IsKept}
@@ -102,10 +103,11 @@ live_first h n a c s b f g = sym (first_of h h n (alone h n s b) b ∙ live_of h
 -- ---- once it is closed
 
 pub kept_closed : (rows : Rows) (h : History) (table : Rows) (t : Name) → IsKept rows h table → has_begun h t ≡ true → Some t ≡ first_live h (begun h)
-    → IsKept rows (entry Close (Abort t) (Done Ok) ∷ h) table
+    → IsKept rows (closing t ∷ h) table
 kept_closed rows h table t kept b first = record {
-  legal = (kept.legal, (t, (refl, refl), sym first, kept.quiet));
-  quiet = quiet (entry Close (Abort t) (Done Ok) ∷ h) kept.silent;
+  rising = kept.rising;
+  legal = (kept.legal, (sym first, kept.quiet));
+  quiet = quiet (closing t ∷ h) kept.silent;
   current = kept.current;
   single = (t, one_label h t kept.single b, and_from _ _ (path_eq_self t) (alone h t kept.single b));
   silent = kept.silent;
@@ -116,7 +118,7 @@ ended_as true true c h = refl
 ended_as true false c h = absurd (false≢true (h refl))
 ended_as false a c h = refl
 
-pub closed_ended : (h : History) (t : Name) → IsSingle h → has_begun h t ≡ true → (l : List ℕ) → is_live (entry Close (Abort t) (Done Ok) ∷ h) (l ∷ []) ≡ false
+pub closed_ended : (h : History) (t : Name) → IsSingle h → has_begun h t ≡ true → (l : List ℕ) → is_live (closing t ∷ h) (l ∷ []) ≡ false
 closed_ended h t s b l =
     ended_as (has_begun h (l ∷ [])) (path_eq t (l ∷ []) || has_aborted h (l ∷ [])) (has_committed h (l ∷ []))
     (λ f.
@@ -132,3 +134,13 @@ none_ended h s first l =
     on_test (has_begun h (l ∷ [])) (λ _. is_live h (l ∷ []) ≡ false)
     (λ b. not_live (is_live h (l ∷ [])) (l ∷ []) (first ∙ first_of h h (l ∷ []) (alone h (l ∷ []) s b) b))
     (λ b. rw b refl)
+
+-- where no top-level transaction is live there is no first one
+pub no_first : (h : History) (ts : List Name) → ((l : List ℕ) → is_live h (l ∷ []) ≡ false) → first_live h ts ≡ None
+no_first h [] none = refl
+no_first h (t ∷ ts) none = ap (λ x. or_else x (cond (is_top_level t && is_live h t) (Some t) None)) (no_first h ts none) ∙ ap (λ b. cond b (Some t) None) (not_top t)
+  where
+    not_top : (t : Name) → is_top_level t && is_live h t ≡ false
+    not_top [] = refl
+    not_top (l ∷ []) = none l
+    not_top (l ∷ m ∷ ls) = refl

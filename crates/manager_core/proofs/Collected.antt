@@ -1,5 +1,5 @@
 -- Keys collected in byte order, and the changes that are made of them.
-use Rattle.std.proofs.Common.{◌≡◌, ℕ, ℤ, Bool, true, false, cond, ◌&&◌, ◌||◌, List, [], ◌∷◌, ◌++◌, length, reverse, map, Option, Some, None, refl, sym, ap, subst, ◌∙◌}
+use Rattle.std.proofs.Common.{◌≡◌, ℕ, ℤ, Bool, true, false, cond, ◌&&◌, ◌||◌, List, [], ◌∷◌, ◌++◌, append_assoc, length, reverse, map, Option, Some, None, refl, sym, ap, subst, ◌∙◌}
 use Rattle.std.proofs.lemmas.Bool.{false≢true}
 use Rattle.std.proofs.lemmas.Cmp.{nat_list_cmp_total}
 use Rattle.std.proofs.lemmas.List.Folds.{list_any-append}
@@ -160,31 +160,19 @@ change_at-all rows h t (q ∷ ks) k =
     ∙ one_of (list_any (label_eq k) ks) (label_eq q k) (seen (value_in rows) h t k) (seen (value_in rows) h t q) (λ e. ap (seen (value_in rows) h t) (same_label q k e))
     ∙ ap (λ b. cond (b || list_any (label_eq k) ks) (Some (seen (value_in rows) h t k)) None) (nat_list_eq_equiv.symm q k)
 
+-- one more change, where rest are the keys that were left
+pub change_more : (rows : Rows) (h : History) (t : Name) (cs : List Change) (k : List ℕ) (v : Option ℤ) (rest next all : List (List ℕ))
+    → cs ++ map (change_of rows h t) rest ≡ map (change_of rows h t) all → rest ≡ k ∷ next → v ≡ seen (value_in rows) h t k
+    → (cs ++ record { key = k; value = v } ∷ []) ++ map (change_of rows h t) next ≡ map (change_of rows h t) all
+change_more rows h t cs k v rest next all so_far is sees =
+    append_assoc cs (record { key = k; value = v } ∷ []) (map (change_of rows h t) next)
+    ∙ ap (λ w. cs ++ record { key = k; value = w } ∷ map (change_of rows h t) next) sees
+    ∙ ap (λ ks. cs ++ map (change_of rows h t) ks) (sym is)
+    ∙ so_far
+
 pub are_changes : (rows : Rows) (h : History) (t : Name) (ks : List (List ℕ)) → AreRisingKeys ks → ((k : List ℕ) → list_any (label_eq k) ks ≡ wrote h t k)
     → IsChanges (value_in rows) h t (map (change_of rows h t) ks)
 are_changes rows h t ks rising each = record {
   rising = subst AreRisingKeys (keys_of_changes rows h t ks) rising;
   each = λ k. change_at-all rows h t ks k ∙ ap (λ b. cond b (Some (seen (value_in rows) h t k)) None) (each k);
 }
-
--- ---- one change after another
-
-last_change : (cs : List Change) (c : Change) (k : List ℕ) → change_at (cs ++ c ∷ []) k ≡ cond (label_eq c.key k) (Some c.value) (change_at cs k)
-last_change [] c k = refl
-last_change (d ∷ cs) c k =
-    ap (λ x. or_else x (cond (label_eq d.key k) (Some d.value) None)) (last_change cs c k)
-    ∙ apart (label_eq c.key k) c.value (change_at cs k) (cond (label_eq d.key k) (Some d.value) None)
-  where
-    apart : (b : Bool) (v : Option ℤ) (y z : Option (Option ℤ)) → or_else (cond b (Some v) y) z ≡ cond b (Some v) (or_else y z)
-    apart true v y z = refl
-    apart false v y z = refl
-
-pub overlay_push : (cs : List Change) (c : Change) (m : Map) → overlay (cs ++ c ∷ []) m ≡ put (overlay cs m) c.key c.value
-overlay_push cs c m =
-    let each : (k : List ℕ) → overlay (cs ++ c ∷ []) m k ≡ put (overlay cs m) c.key c.value k = λ k.
-        ap (λ x. value_or x (m k)) (last_change cs c k) ∙ chosen (label_eq c.key k) c.value (change_at cs k) (m k) in
-    λ i k. each k i
-  where
-    chosen : (b : Bool) (v : Option ℤ) (x : Option (Option ℤ)) (w : Option ℤ) → value_or (cond b (Some v) x) w ≡ cond b v (value_or x w)
-    chosen true v x w = refl
-    chosen false v x w = refl

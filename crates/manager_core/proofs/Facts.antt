@@ -7,7 +7,7 @@ use Rattle.serial_spec.specs.declared.entry.Answer.{Answer}
 use Rattle.serial_spec.specs.declared.entry.Entry.{Entry}
 use Rattle.serial_spec.specs.Rows.{Rows}
 use Rattle.serial_spec.specs.History.{History}
-use Rattle.txn_history.proofs.Theorems.{value_stored}
+use Rattle.txn_history.proofs.Theorems.{table_correctness, value_stored}
 use Rattle.txn_history.proofs.Theorems as theorems
 use Rattle.manager_core.specs.declared.store.TopStore.{Ghosts}
 use Rattle.manager_core.specs.State.{State, entry}
@@ -16,9 +16,11 @@ use Rattle.manager_core.specs.Sound.{is_store_refusal, IsBacked, IsSound}
 
 pub sound : {S : Type 0} (g : Ghosts S) (m : State S) → IsKept m.rows m.history m.table → IsBacked g m.history m.table m.opened m.store → IsSound g m
 sound g m kept backed = record {
+  rising = kept.rising;
   legal = kept.legal;
   quiet = kept.quiet;
   right = theorems.serial_correctness m.rows m.history kept.legal;
+  root = (table_correctness m.rows m.history kept.legal).0;
   stored = λ k. kept.current k ∙ sym (value_stored m.rows m.history kept.legal k);
   backed = backed;
 }

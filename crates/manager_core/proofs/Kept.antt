@@ -19,8 +19,6 @@ use Rattle.serial_spec.specs.Legal.{Legal, MayStand}
 use Rattle.manager_core.specs.declared.outcome.Outcome.{Outcome}
 use Rattle.manager_core.specs.declared.outcome.Outcome.TheVariants.{Done, Waits, Refused}
 use Rattle.manager_core.specs.Outcomes.{answer_of}
-use Rattle.txn_history.specs.Laws.{may_add_pair}
-use Rattle.txn_history.proofs.Pairs.{quiet_stays}
 use Rattle.manager_core.proofs.Waitless.{or_neither, quiet}
 use Rattle.manager_core.proofs.Single.{is_the_one, one_label, answered_begun}
 use Rattle.manager_core.specs.State.{entry}
@@ -43,19 +41,13 @@ pub kept_next : (rows : Rows) (h : History) (old new : Rows) (by : By) (event : 
 kept_next rows h old new by event answer kept line allowed speaks single current =
     let silent : has_waits (entry by event answer ∷ h) ≡ false = or_neither (is_waits answer) (has_waits h) speaks kept.silent in
     record {
+      rising = kept.rising;
       legal = (kept.legal, may_stand rows h by event answer line allowed kept.quiet);
       quiet = quiet (entry by event answer ∷ h) silent;
       current = current;
       single = single;
       silent = silent;
     }
-
--- An entry that adds no pair keeps quiet whoever waits: so it stays once accesses may wait
-pub quiet_next : (rows : Rows) (h : History) (by : By) (event : Event) (answer : Answer)
-    → Legal rows h → Quiet h → IsLine by → Allowed rows h by event answer → may_add_pair event answer ≡ false
-    → Quiet (entry by event answer ∷ h)
-quiet_next rows h by event answer legal q line allowed calm =
-    quiet_stays rows (entry by event answer) h (legal, may_stand rows h by event answer line allowed q) calm q
 
 -- an entry that does nothing
 pub kept_nothing : (rows : Rows) (h : History) (table : Rows) (by : By) (event : Event) (answer : Answer)

@@ -1,3 +1,4 @@
+pub mod Tables
 pub mod Reversed
 pub mod Keys
 pub mod Waitless

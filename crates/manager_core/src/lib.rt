@@ -12,5 +12,5 @@ pub mod store;
 pub use manager::Manager;
 pub use outcome::{OpenFault, Outcome};
 
-#[cfg(test)]
-mod tests;
+
+

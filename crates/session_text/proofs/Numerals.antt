@@ -1,5 +1,5 @@
 -- Numbers and their spelling.
-use Rattle.std.proofs.Common.{◌≡◌, ℕ, ◌<◌, ◌≤◌, ◌^◌, suc, List, [], ◌∷◌, ◌++◌, length, drop, get_or, true, false, Bool, cond, not, nat_eq, ◌&&◌, ◌||◌, ℤ, pos, negsuc, neg_ℤ, Option, Some, None, Result, Ok, Err, refl, sym, ap, ◌∙◌, subst, arith, rules, ⊎_elim, true≢false, zero}
+use Rattle.std.proofs.Common.{◌≡◌, ℕ, ◌<◌, ◌≤◌, ◌^◌, suc, List, [], ◌∷◌, ◌++◌, length, drop, get_or, true, false, Bool, cond, not, nat_eq, ◌&&◌, ◌||◌, ℤ, pos, negsuc, neg_ℤ, Option, Some, None, Result, Ok, Err, refl, sym, ap, ◌∙◌, subst, arith, rules, ⊎_elim, true≢false, zero, lit<}
 use Rattle.std.specs.Prelude.{codes, decimal, ◌==◌}
 use Rattle.std.specs.Char.{is_ascii_digit, digit_value}
 use Rattle.std.specs.Int.{w64}
@@ -8,8 +8,8 @@ use Rattle.std.specs.List.{list_all}
 use Rattle.std.specs.Result.{result_ok, OkIff}
 use Rattle.std.specs.Str.{bytes_eq, IsUtf8, IsAscii}
 use Rattle.std.specs.Str.Parse.{signed_digits_value, starts_with_minus, without_leading_sign, ParsesSigned, IsNumeral, digits_value, AllDigits}
-use Rattle.std.proofs.lemmas.Bool.{and_parts, and_from, or_cases, or_left, or_right, not-true, ltb-true, lt-ltb}
-use Rattle.std.proofs.lemmas.Fmt.{IsAscii-from_digits}
+use Rattle.std.proofs.lemmas.Bool.{and_parts, and_from, or_cases, or_left, or_right, not-true, ltb-true, lt-ltb, eq-eqb}
+use Rattle.std.proofs.lemmas.Fmt.{IsAscii-from_digits, decimal_digit, decimal-digits_value, digits_decimal, first_decimal, digits_value-decimal}
 use Rattle.std.proofs.lemmas.Str.{IsUtf8-from_ascii}
 use Rattle.std.proofs.lemmas.Bool.Decides.{nat_tests}
 use Rattle.std.proofs.lemmas.Slice.Eq.{bytes_eq-Decides}
@@ -92,3 +92,31 @@ read_by bs (Err x) false h p e = refl
 
 pub read : {E : Type 0} (bs : List ℕ) (r : Result ℤ E) → is_numeral bs ≡ true → ParsesSigned w64 10 bs r → result_ok r ≡ number_of bs
 read bs r h p = rw h (read_by bs r (is_i64 (signed_digits_value 10 bs)) h p refl)
+
+-- ---- spelling it
+
+decimal_zero : decimal 0 ≡ 48 ∷ []
+decimal_zero = decimal_digit 0 (lit< tt)
+
+-- the number of digits of which the first is not 0
+count_spelled : (ds : List ℕ) → is_count ds ≡ true → digits_value 10 ds < 2 ^ 64 → decimal (digits_value 10 ds) ≡ ds
+count_spelled ds h small =
+    let p = count_parts ds h in
+    decimal-digits_value own ds p.1 p.0 (λ e. absurd (true≢false (sym (eq-eqb _ _ e) ∙ p.2))) small
+
+first_is : (ds : List ℕ) → ds ≡ 48 ∷ [] → is_count ds ≡ false
+first_is ds e = rw e refl
+
+-- and it is not 0
+count_positive : (ds : List ℕ) (n : ℕ) → is_count ds ≡ true → digits_value 10 ds ≡ n → n < 2 ^ 64 → (m : ℕ) × (n ≡ suc m)
+count_positive ds zero h e small =
+    absurd (true≢false (sym h ∙ first_is ds (sym (count_spelled ds h (omega (arith, e, small))) ∙ ap decimal e ∙ decimal_zero)))
+count_positive ds (suc m) h e small = (m, refl)
+
+-- the digits of a number that is not 0
+count_of : (n : ℕ) → 0 < n → n < 2 ^ 64 → is_count (decimal n) ≡ true
+count_of n some small = by (decimal n) (digits_decimal own n small) (first_decimal n some small)
+  where
+    by : (ds : List ℕ) → AreDigits ds → 48 < get_or ds 0 0 → is_count ds ≡ true
+    by [] h k = absurd (omega (arith, k))
+    by (d ∷ ds) h k = and_from _ _ (grind (arith, nat_tests, k)) h

@@ -28,10 +28,9 @@ IsFirstPath [] = Unit {0}
 IsFirstPath (s ∷ []) = AreFirstPath s.lines
 IsFirstPath (s ∷ t ∷ ss) = ⊥
 
--- a second header
-abbrev pub header_refusal : List Session → Option LineKind
-header_refusal [] = None
-header_refusal (s ∷ ss) = Some kind.Header
+-- a header behind so many others
+abbrev pub header_refusal : ℕ → Option LineKind
+header_refusal before = if before == 0 then None else Some kind.Header
 
 -- another name than line 1's
 abbrev pub other_name : Path → Path → Option LineKind

@@ -1,8 +1,9 @@
 -- What the bytes of a file are read as: its sessions, or the line and the kind of the first fault.
-use Rattle.std.specs.Prelude.{◌≡◌, ℕ, ◌+◌, ◌-◌, ◌==◌, Bool, false, nat_le, if◌then◌else◌, List, [], ◌∷◌, ◌++◌, length, codes, Option, Some, None, Result, Ok, Err, slice_get, option_map}
+use Rattle.std.specs.Prelude.{◌≡◌, ℕ, ◌+◌, ◌-◌, ◌==◌, nat_le, if◌then◌else◌, List, [], ◌∷◌, ◌++◌, length, codes, Option, Some, None, Result, Ok, Err, slice_get, option_map}
 use Rattle.std.specs.Option.{option_or}
 use Rattle.std.specs.Str.{bytes_eq}
 use Rattle.txn_names.specs.Reading.{label_of}
+use Rattle.txn_names.specs.Text.{IsLabel}
 use Rattle.serial_spec.specs.Interleaving.{Session, lines_of}
 use Rattle.serial_spec.specs.declared.event.Event.{Event}
 use Rattle.session_text.specs.declared.fault.LineKind.{LineKind}
@@ -14,30 +15,39 @@ use Rattle.session_text.specs.declared.text_line.TextLine.TheVariants.{Header, C
 use Rattle.session_text.specs.Steps.{◌>>=◌, or_fault, unless}
 use Rattle.session_text.specs.Words.{cut_at}
 use Rattle.session_text.specs.Commands.{Words, one, event_of}
-use Rattle.session_text.specs.Grammar.{is_taken}
+use Rattle.session_text.specs.Grammar.{IsEvent, is_taken}
 use Rattle.session_text.specs.Stage.{header_refusal, command_refusal}
 
 -- ---- one line, by itself
 
+abbrev pub label_in : List ℕ → Result (List ℕ) LineKind
+label_in w = or_fault kind.Label (label_of w)
+
+abbrev pub labelled : Words → Result (List ℕ) LineKind
+labelled ws = do
+  w ← one ws
+  label_in w
+
 abbrev pub header_of : Words → Result TextLine LineKind
 header_of ws = do
-  w ← one ws
-  l ← or_fault kind.Label (label_of w)
+  l ← labelled ws
   Ok (Header l)
 
-abbrev pub starts_session : Words → Bool
-starts_session [] = false
-starts_session (w ∷ ws) = bytes_eq w (codes "session")
-
-abbrev pub operands : Words → Words
-operands [] = []
-operands (w ∷ ws) = ws
+-- by the first of the words of a line
+abbrev pub line_by : Words → List ℕ → Result TextLine LineKind
+line_by [] bs = Err kind.Word
+line_by (w ∷ ws) bs =
+    if bytes_eq w (codes "session") then header_of ws
+    else event_of bs >>= λ e. Ok (Command e)
 
 -- a header or a command
 abbrev pub line_of : List ℕ → Result TextLine LineKind
-line_of bs =
-    if starts_session (cut_at 32 bs) then header_of (operands (cut_at 32 bs))
-    else event_of bs >>= λ e. Ok (Command e)
+line_of bs = line_by (cut_at 32 bs) bs
+
+-- its label or its event is one
+abbrev pub IsTextLine : TextLine → Type 0
+IsTextLine (Header l) = IsLabel l
+IsTextLine (Command e) = IsEvent e
 
 -- ---- one line, behind the sessions so far
 
@@ -74,7 +84,7 @@ misplaced ss (Command e) =
     else None
 
 abbrev pub refusal : List Session → TextLine → Option LineKind
-refusal ss (Header l) = header_refusal ss
+refusal ss (Header l) = header_refusal (length ss)
 refusal ss (Command e) = command_refusal (open_lines ss) e
 
 -- the sessions with this line, or its first fault
@@ -104,11 +114,10 @@ read_from n ss (p ∷ q ∷ ps) = do
 abbrev pub sessions_of : List ℕ → Read
 sessions_of bs = read_from 1 [] (cut_at 10 bs)
 
--- what a call returned is what reading gives, unless memory was refused
-abbrev pub Reads : Result (List Session) TextFault → Read → Type 0
-Reads (Ok ss) read = read ≡ Ok ss
-Reads (Err (fault.Bad n k)) read = read ≡ Err (n, k)
-Reads (Err fault.NoMemory) read = Unit {0}
+-- the fault is what reading gives, unless memory was refused
+abbrev pub Tells : TextFault → Read → Type 0
+Tells (fault.Bad n k) read = read ≡ Err (n, k)
+Tells fault.NoMemory read = Unit {0}
 
 -- ---- looking up
 

@@ -1,12 +1,12 @@
--- Who has ended had begun, and what it did stays as it was.
-use Rattle.std.proofs.Common.{◌≡◌, Bool, true, false, cond, ◌&&◌, ◌||◌, List, [], ◌∷◌, Option, Some, find, refl, sym, ap, subst, ◌∙◌, ⊎_elim}
+-- Who has ended had begun, and what one that does not act has done stays as it is.
+use Rattle.std.proofs.Common.{◌≡◌, Bool, true, false, cond, ◌&&◌, ◌||◌, List, [], ◌∷◌, Option, Some, find, refl, sym, ap, ◌∙◌, ⊎_elim}
 use Rattle.std.proofs.Common.{None as Nothing}
-use Rattle.std.proofs.lemmas.Bool.{false≢true, true≢false, or_left, or_right, or_cases}
+use Rattle.std.proofs.lemmas.Bool.{false≢true, or_left, or_right, or_cases}
 use Rattle.std.specs.List.{list_any}
 use mathlib.Core.Bool.{Bool-set}
 use mathlib.Core.Logic.{∥∥₁_elim}
 use Rattle.txn_names.specs.Path.{path_eq, parent}
-use Rattle.txn_names.proofs.Names.{on_test, on_path, same_path, path_eq-from, is_front-parent}
+use Rattle.txn_names.proofs.Names.{on_test, same_path, path_eq-from, is_front-parent}
 use Rattle.serial_spec.specs.declared.entry.By.{By}
 use Rattle.serial_spec.specs.declared.entry.By.TheVariants.{Line, Victim, Close}
 use Rattle.serial_spec.specs.declared.operation.Reply.TheVariants.{Ok}
@@ -16,19 +16,23 @@ use Rattle.serial_spec.specs.declared.entry.Answer.{Answer}
 use Rattle.serial_spec.specs.declared.entry.Answer.TheVariants.{Done}
 use Rattle.serial_spec.specs.declared.entry.Entry.{Entry}
 use Rattle.serial_spec.specs.History.{Name, History, Effect, Begins, Accesses, Commits, Aborts, Nothing as NoEffect, effect, effect_of, or_else, is_live, is_active, is_begin, is_commit, is_abort, has_begun, has_committed, has_aborted, begun}
-use Rattle.serial_spec.specs.Items.{Access as Accessed, Block, items, with_item}
+use Rattle.serial_spec.specs.Items.{items, with_item}
 use Rattle.serial_spec.specs.Waits.{open_waits, wait_of, waits_by, WaitInTurn, IsVictim, Quiet}
 use Rattle.serial_spec.specs.Rows.{Rows}
 use Rattle.serial_spec.specs.Allowed.{Allowed}
 use Rattle.serial_spec.specs.Legal.{MayStand, is_top_level, first_live, IsAbortOf}
-use Rattle.txn_history.specs.Laws.{EndedBegun, BegunDown, ItemsStay}
+use Rattle.txn_history.specs.Steps.{EndedBegun, BegunDown, ItemsStay}
+use Rattle.txn_history.proofs.Tests.{clash, differ}
+use Rattle.txn_history.proofs.Lists.{any-find, found_passes}
 use Rattle.txn_history.proofs.Activity.{acts, acts-is_active}
-use Rattle.txn_history.proofs.Causes.{Sound, sound, not_refused, acts_at_end}
-use Rattle.txn_history.proofs.Kept.{KeptAt, kept}
-use Rattle.txn_history.proofs.Waiting.{waits_as, WaitsKept, waits_kept, any-find, found_passes}
-use Rattle.txn_history.proofs.Pairs.{some_begun}
+use Rattle.txn_history.proofs.Causes.{Sound, sound, not_refused, done_not_refused, acts_at_end}
+use Rattle.txn_history.proofs.Begun.{some_begun}
+use Rattle.txn_history.proofs.Added.{access_else, commit_else}
+use Rattle.txn_history.proofs.Kept.{KeptAt}
+use Rattle.txn_history.proofs.KeptByAll.{kept}
+use Rattle.txn_history.proofs.Waiting.{waits_as, WaitsKept, waits_kept}
 
--- ---- an abort is of one that has begun
+-- ---- a victim has begun, since it waits
 
 waiter_begun : (h : History) → WaitsKept (has_begun h) (open_waits h) → (t : Name) (w : Entry) → wait_of h t ≡ Some w → has_begun h t ≡ true
 waiter_begun h k t w f =
@@ -45,6 +49,8 @@ cycle_begun : (h : History) → WaitsKept (has_begun h) (open_waits h) → (t : 
 cycle_begun h k t [] c = pair_begun h k t t (wait_of h t) (wait_of h t) refl c
 cycle_begun h k t (x ∷ xs) c = pair_begun h k t x (wait_of h t) (wait_of h x) refl c.0
 
+-- ---- one that the close aborts has begun, since it is found among those
+
 last_found : (b : Bool) (u t : Name) (us : List Name) (o : Option Name) → (o ≡ Some t → list_any (path_eq t) us ≡ true) → or_else o (cond b (Some u) Nothing) ≡ Some t → (path_eq t u || list_any (path_eq t) us) ≡ true
 last_found b u t us (Some z) ih e = or_right (path_eq t u) (list_any (path_eq t) us) (ih e)
 last_found true u t us Nothing ih e = or_left (path_eq t u) (list_any (path_eq t) us) (path_eq-from t u cc)
@@ -57,41 +63,47 @@ found_live h (u ∷ us) t e = last_found (is_top_level u && is_live h u) u t us 
 first_live_begun : (h : History) (t : Name) → first_live h (begun h) ≡ Some t → has_begun h t ≡ true
 first_live_begun h t e =
     let b = some_begun (path_eq t) h (found_live h (begun h) t e) in
-    subst (λ (u : Name). has_begun h u ≡ true) (sym (same_path t b.0 b.2)) b.1
+    ap (has_begun h) (same_path t b.0 b.2) ∙ b.1
+
+-- ---- so whoever is aborted had begun
 
 abbrev pub AbortOf : History → Effect → Type 0
 AbortOf h (Aborts u) = has_begun h u ≡ true
 AbortOf h x = Unit {0}
 
-abort_line : (rows : Rows) (h : History) (by : By) (e : Event) (a : Answer) → Allowed rows h by e a → AbortOf h (effect_of e a)
-abort_line rows h by (Abort t) (Done Ok) q = (acts_at_end h t (not_refused _ _ (Done Ok) (λ r e. cc) q).0).0
-abort_line rows h by (Begin t) (Done Ok) q = tt
-abort_line rows h by (Access t k o) (Done r) q = tt
-abort_line rows h by (Commit t) (Done Ok) q = tt
-abort_line rows h by e a q = tt
+abort_by_line : (rows : Rows) (h : History) (by : By) (e : Event) (a : Answer) → Allowed rows h by e a → AbortOf h (effect_of e a)
+abort_by_line rows h by (Abort t) (Done Ok) q = (acts_at_end h t (not_refused _ _ (Done Ok) (done_not_refused Ok) q).0).0
+abort_by_line rows h by (Begin t) (Done Ok) q = tt
+abort_by_line rows h by (Access t k o) (Done r) q = tt
+abort_by_line rows h by (Commit t) (Done Ok) q = tt
+abort_by_line rows h by e a q = tt
 
-aborted_begun : (h : History) (P : Name → Type 0) → ((t : Name) → P t → has_begun h t ≡ true) → (e : Event) (a : Answer) → IsAbortOf P e a → AbortOf h (effect_of e a)
-aborted_begun h P b (Abort t) (Done Ok) p = b t p
-aborted_begun h P b e a p = absurd p
+abort_by_manager : (h : History) (P : Name → Type 0) → ((t : Name) → P t → has_begun h t ≡ true) → (e : Event) (a : Answer) → IsAbortOf P e a → AbortOf h (effect_of e a)
+abort_by_manager h P b (Abort t) (Done Ok) p = b t p
+abort_by_manager h P b e a p = absurd p
 
 pub abort_begun : (rows : Rows) (h : History) (by : By) (e : Event) (a : Answer) → WaitsKept (has_begun h) (open_waits h) → MayStand rows h by e a → AbortOf h (effect_of e a)
-abort_begun rows h (Line s l) e a k m = abort_line rows h (Line s l) e a m.0
-abort_begun rows h Victim e a k m = aborted_begun h (IsVictim h) (λ t v. ∥∥₁_elim v.0 (Bool-set (has_begun h t) true) (λ c. cycle_begun h k t c.0 c.2)) e a m
-abort_begun rows h Close e a k m = aborted_begun h (λ t. (first_live h (begun h) ≡ Some t) × Quiet h) (λ t f. first_live_begun h t f.0) e a m
+abort_begun rows h (Line s l) e a k m = abort_by_line rows h (Line s l) e a m.0
+abort_begun rows h Victim e a k m =
+    abort_by_manager h (IsVictim h) (λ t v. ∥∥₁_elim v.0 (Bool-set (has_begun h t) true) (λ c. cycle_begun h k t c.0 c.2)) e a m
+abort_begun rows h Close e a k m =
+    abort_by_manager h (λ t. (first_live h (begun h) ≡ Some t) × Quiet h) (λ t f. first_live_begun h t f.0) e a m
 
 -- ---- whoever has ended had begun
 
-abbrev pub Ended : (Name → Bool) → (Name → Bool) → (Name → Bool) → Name → Type 0
+abbrev Ended : (Name → Bool) → (Name → Bool) → (Name → Bool) → Name → Type 0
 Ended started committed aborted t = (committed t ≡ true → started t ≡ true) × (aborted t ≡ true → started t ≡ true)
+
+-- one more name that has begun is among those that end
+ended_more : (h : History) (u t : Name) (b : Bool) → has_begun h u ≡ true → (b ≡ true → has_begun h t ≡ true) → (path_eq u t || b) ≡ true → has_begun h t ≡ true
+ended_more h u t b begun before c = ⊎_elim (λ (e : path_eq u t ≡ true). ap (has_begun h) (sym (same_path u t e)) ∙ begun) before (or_cases (path_eq u t) b c)
 
 ended_after : (rows : Rows) (h : History) (x : Effect) → Sound rows h x → AbortOf h x → (t : Name) → Ended (has_begun h) (has_committed h) (has_aborted h) t
     → Ended (λ u. is_begin u x || has_begun h u) (λ u. is_commit u x || has_committed h u) (λ u. is_abort u x || has_aborted h u) t
 ended_after rows h (Begins u) s a t k = (λ c. or_right _ _ (k.0 c), λ c. or_right _ _ (k.1 c))
 ended_after rows h (Accesses u q o r) s a t k = k
-ended_after rows h (Commits u) s a t k =
-    (λ c. ⊎_elim (λ (e : path_eq u t ≡ true). ap (has_begun h) (sym (same_path u t e)) ∙ s.0) (λ (e : has_committed h t ≡ true). k.0 e) (or_cases (path_eq u t) (has_committed h t) c), k.1)
-ended_after rows h (Aborts u) s a t k =
-    (k.0, λ c. ⊎_elim (λ (e : path_eq u t ≡ true). ap (has_begun h) (sym (same_path u t e)) ∙ a) (λ (e : has_aborted h t ≡ true). k.1 e) (or_cases (path_eq u t) (has_aborted h t) c))
+ended_after rows h (Commits u) s a t k = (λ c. ended_more h u t (has_committed h t) s.begun k.0 c, k.1)
+ended_after rows h (Aborts u) s a t k = (k.0, λ c. ended_more h u t (has_aborted h t) a k.1 c)
 ended_after rows h NoEffect s a t k = k
 
 pub ended_begun : EndedBegun
@@ -100,19 +112,17 @@ ended_begun rows (e ∷ h) l t =
     ended_after rows h (effect e) (sound rows h e.by e.event e.answer l.1) (abort_begun rows h e.by e.event e.answer (waits_kept rows h l.0) l.1) t (ended_begun rows h l.0 t)
 
 pub begun_down : BegunDown
-begun_down rows h l [] b = absurd (true≢false (sym b ∙ (kept rows h l).rootless))
+begun_down rows h l [] b = clash b (kept rows h l).rootless
 begun_down rows h l (k ∷ ks) b = (kept rows h l).above k ks b
 
 -- ---- what it did stays
 
+-- an access adds to one that acts, and a commit to its parent, which acts
 items_after : (rows : Rows) (h : History) → KeptAt rows h → (x : Effect) → Sound rows h x → (t : Name) → acts h t ≡ false → with_item t x (items h) ≡ items h t
 items_after rows h kept (Begins u) s t a = refl
-items_after rows h kept (Accesses u k o r) s t a =
-    on_path u t (λ v. cond v (Accessed k o r (items h t)) (items h t) ≡ items h t)
-    (λ e. absurd (true≢false (sym s.0 ∙ ap (acts h) e ∙ a))) (λ _. refl)
+items_after rows h kept (Accesses u k o r) s t a = access_else (items h) u k o r t (differ (acts h) u t s.acting a)
 items_after rows h kept (Commits u) s t a =
-    on_path (parent u) t (λ v. cond v (Block (items h u) (items h t)) (items h t) ≡ items h t)
-    (λ e. absurd (true≢false (sym (kept.steady.down u (parent u) s.1 (is_front-parent u)) ∙ ap (acts h) e ∙ a))) (λ _. refl)
+    commit_else (items h) u t (differ (acts h) (parent u) t (kept.steady.down u (parent u) s.acting (is_front-parent u)) a)
 items_after rows h kept (Aborts u) s t a = refl
 items_after rows h kept NoEffect s t a = refl
 

@@ -1,7 +1,7 @@
 -- Open waits of a legal history: one a transaction at most, each of one that has begun.
-use Rattle.std.proofs.Common.{◌≡◌, Bool, true, false, not, cond, ◌&&◌, ◌||◌, List, [], ◌∷◌, Option, Some, find, filter, refl, sym, ap, subst, ◌∙◌, ⊎_elim, ◌⊎◌}
+use Rattle.std.proofs.Common.{◌≡◌, Bool, true, false, not, cond, ◌&&◌, ◌||◌, List, [], ◌∷◌, Option, Some, find, filter, refl, sym, ap, subst, ◌∙◌, ⊎_elim}
 use Rattle.std.proofs.Common.{None as Nothing}
-use Rattle.std.proofs.lemmas.Bool.{false≢true, true≢false, and_from, or_parts, or_left, or_right, or_cases, false_from_ne_true, not-false}
+use Rattle.std.proofs.lemmas.Bool.{false≢true, and_from, or_left, or_right, not-false}
 use Rattle.std.specs.List.{list_any}
 use Rattle.txn_names.proofs.Names.{on_test, same_path}
 use Rattle.serial_spec.specs.declared.entry.By.{By}
@@ -22,56 +22,25 @@ use Rattle.serial_spec.specs.Rows.{Rows}
 use Rattle.serial_spec.specs.Allowed.{is_other_line, waits_elsewhere, has_waited, has_come, refused_or, cause_at_begin, cause_at_commit, cause_at_end, Allowed}
 use Rattle.serial_spec.specs.Legal.{first_live, Legal, MayStand}
 use Rattle.txn_history.specs.Steps.{unless_by}
-use Rattle.txn_history.proofs.Activity.{acts, acts-is_active}
+use Rattle.txn_history.proofs.Tests.{clash}
+use Rattle.txn_history.proofs.Lists.{any_cases, any-filter, none-filter, any-find, not_found, none_found}
+use Rattle.txn_history.proofs.Activity.{acts, acts_active}
 use Rattle.txn_history.proofs.Causes.{abort_of, neither, not_when, not_refused, acts_at_end}
 
--- ---- lists
-
-pub any_cases : {X : Type 0} (f : X → Bool) (x : X) (xs : List X) → list_any f (x ∷ xs) ≡ true → (f x ≡ true) ⊎ (list_any f xs ≡ true)
-any_cases f x xs h = or_cases (f x) (list_any f xs) h
-
-pub any-filter : {X : Type 0} (f keep : X → Bool) (xs : List X) → list_any f (filter keep xs) ≡ true → list_any f xs ≡ true
-any-filter f keep [] h = h
-any-filter f keep (x ∷ xs) h =
-    on_test (keep x) (λ b. list_any f (cond b (x ∷ filter keep xs) (filter keep xs)) ≡ true → list_any f (x ∷ xs) ≡ true)
-    (λ _ g. ⊎_elim (λ (e : f x ≡ true). or_left (f x) (list_any f xs) e) (λ (e : list_any f (filter keep xs) ≡ true). or_right (f x) (list_any f xs) (any-filter f keep xs e)) (any_cases f x (filter keep xs) g))
-    (λ _ g. or_right (f x) (list_any f xs) (any-filter f keep xs g))
-    h
-
--- what is found passes
-pub any-find : {X : Type 0} (f g : X → Bool) (xs : List X) (x : X) → find f xs ≡ Some x → g x ≡ true → list_any g xs ≡ true
-any-find f g [] x h k = cc
-any-find f g (y ∷ ys) x h k =
-    on_test (f y) (λ b. cond b (Some y) (find f ys) ≡ Some x → list_any g (y ∷ ys) ≡ true)
-    (λ _ e. let s : y ≡ x = cc in or_left (g y) (list_any g ys) (ap g s ∙ k))
-    (λ _ e. or_right (g y) (list_any g ys) (any-find f g ys x e k))
-    h
-
-pub found_passes : {X : Type 0} (f : X → Bool) (xs : List X) (x : X) → find f xs ≡ Some x → f x ≡ true
-found_passes f [] x h = cc
-found_passes f (y ∷ ys) x h =
-    on_test (f y) (λ b. f y ≡ b → cond b (Some y) (find f ys) ≡ Some x → f x ≡ true)
-    (λ _ p e. let s : y ≡ x = cc in ap f (sym s) ∙ p)
-    (λ _ _ e. found_passes f ys x e)
-    refl h
-
-not_found : {X : Type 0} (f : X → Bool) (xs : List X) → find f xs ≡ Nothing → list_any f xs ≡ false
-not_found f [] h = refl
-not_found f (y ∷ ys) h =
-    on_test (f y) (λ b. cond b (Some y) (find f ys) ≡ Nothing → (b || list_any f ys) ≡ false)
-    (λ _ e. cc) (λ _ e. not_found f ys e) h
-
--- ---- at most one wait a transaction
+pub use Rattle.txn_history.proofs.Lists.{found_passes}
 
 abbrev pub waits_as : Name → Entry → Bool
 waits_as t w = accesses t w.event
 
+-- the wait is of another line than this
+abbrev pub of_others : By → Entry → Bool
+of_others by w = not (same_line w.by by)
+
+-- ---- at most one wait a transaction
+
 abbrev pub OneEach : List Entry → Type 0
 OneEach [] = Unit {0}
 OneEach (w ∷ ws) = ((t : Name) → waits_as t w ≡ true → list_any (waits_as t) ws ≡ false) × OneEach ws
-
-none-filter : {X : Type 0} (f keep : X → Bool) (xs : List X) → list_any f xs ≡ false → list_any f (filter keep xs) ≡ false
-none-filter f keep xs h = false_from_ne_true _ (λ e. true≢false (sym (any-filter f keep xs e) ∙ h))
 
 one_each-filter : (keep : Entry → Bool) (ws : List Entry) → OneEach ws → OneEach (filter keep ws)
 one_each-filter keep [] o = tt
@@ -84,34 +53,28 @@ one_each-filter keep (w ∷ ws) o =
 pub found-filter : (keep : Entry → Bool) (ws : List Entry) (t : Name) (w : Entry) → OneEach ws → find (waits_as t) (filter keep ws) ≡ Some w → find (waits_as t) ws ≡ Some w
 found-filter keep [] t w o h = h
 found-filter keep (v ∷ vs) t w o h =
-    on_test (keep v) (λ b. find (waits_as t) (cond b (v ∷ filter keep vs) (filter keep vs)) ≡ Some w → find (waits_as t) (v ∷ vs) ≡ Some w)
-    (λ _ g. on_test (waits_as t v) (λ c. cond c (Some v) (find (waits_as t) (filter keep vs)) ≡ Some w → cond c (Some v) (find (waits_as t) vs) ≡ Some w)
-    (λ _ e. e) (λ _ e. found-filter keep vs t w o.1 e) g)
-    (λ _ g. on_test (waits_as t v) (λ c. waits_as t v ≡ c → cond c (Some v) (find (waits_as t) vs) ≡ Some w)
-    (λ _ e. absurd (true≢false (sym (any-find (waits_as t) (waits_as t) (filter keep vs) w g (found_passes (waits_as t) (filter keep vs) w g)) ∙ none-filter (waits_as t) keep vs (o.0 t e))))
-    (λ _ e. found-filter keep vs t w o.1 g) refl)
+    let rest = filter keep vs in
+    let later : find (waits_as t) rest ≡ Some w → find (waits_as t) vs ≡ Some w = λ g. found-filter keep vs t w o.1 g in
+    on_test (keep v) (λ b. find (waits_as t) (cond b (v ∷ rest) rest) ≡ Some w → find (waits_as t) (v ∷ vs) ≡ Some w)
+    (λ _ g. on_test (waits_as t v) (λ c. cond c (Some v) (find (waits_as t) rest) ≡ Some w → cond c (Some v) (find (waits_as t) vs) ≡ Some w)
+    (λ _ e. e) (λ _. later) g)
+    (λ _ g. on_test (waits_as t v) (λ c. cond c (Some v) (find (waits_as t) vs) ≡ Some w)
+    (λ e. clash (any-find (waits_as t) (waits_as t) rest w g (found_passes (waits_as t) rest w g)) (none-filter (waits_as t) keep vs (o.0 t e)))
+    (λ _. later g))
     h
 
-pub none_found : {X : Type 0} (f : X → Bool) (xs : List X) → list_any f xs ≡ false → find f xs ≡ Nothing
-none_found f [] h = refl
-none_found f (x ∷ xs) h =
-    let p = or_parts (f x) (list_any f xs) h in
-    ap (λ b. cond b (Some x) (find f xs)) p.0 ∙ none_found f xs p.1
-
 -- without the waits of a line, a transaction's wait is the one that it was, unless that was of this line
-pub found_unless : (by : By) (ws : List Entry) (t : Name) → OneEach ws → find (waits_as t) (filter (λ w. not (same_line w.by by)) ws) ≡ unless_by by (find (waits_as t) ws)
+pub found_unless : (by : By) (ws : List Entry) (t : Name) → OneEach ws → find (waits_as t) (filter (of_others by) ws) ≡ unless_by by (find (waits_as t) ws)
 found_unless by [] t o = refl
 found_unless by (v ∷ vs) t o =
-    let keep : Entry → Bool = λ w. not (same_line w.by by) in
-    let rest = filter keep vs in
+    let rest = filter (of_others by) vs in
     let later : find (waits_as t) rest ≡ unless_by by (find (waits_as t) vs) = found_unless by vs t o.1 in
-    on_test (same_line v.by by) (λ b. same_line v.by by ≡ b → find (waits_as t) (cond (not b) (v ∷ rest) rest) ≡ unless_by by (cond (waits_as t v) (Some v) (find (waits_as t) vs)))
-    (λ _ s. on_test (waits_as t v) (λ c. waits_as t v ≡ c → find (waits_as t) rest ≡ unless_by by (cond c (Some v) (find (waits_as t) vs)))
-    (λ _ c. none_found (waits_as t) rest (none-filter (waits_as t) keep vs (o.0 t c)) ∙ sym (ap (λ b. cond b Nothing (Some v)) s))
-    (λ _ _. later) refl)
-    (λ _ s. on_test (waits_as t v) (λ c. cond c (Some v) (find (waits_as t) rest) ≡ unless_by by (cond c (Some v) (find (waits_as t) vs)))
+    on_test (same_line v.by by) (λ b. find (waits_as t) (cond (not b) (v ∷ rest) rest) ≡ unless_by by (cond (waits_as t v) (Some v) (find (waits_as t) vs)))
+    (λ s. on_test (waits_as t v) (λ c. find (waits_as t) rest ≡ unless_by by (cond c (Some v) (find (waits_as t) vs)))
+    (λ c. none_found (waits_as t) rest (none-filter (waits_as t) (of_others by) vs (o.0 t c)) ∙ sym (ap (λ b. cond b Nothing (Some v)) s))
+    (λ _. later))
+    (λ s. on_test (waits_as t v) (λ c. cond c (Some v) (find (waits_as t) rest) ≡ unless_by by (cond c (Some v) (find (waits_as t) vs)))
     (λ _. sym (ap (λ b. cond b Nothing (Some v)) s)) (λ _. later))
-    refl
 
 -- ---- an entry that waits
 
@@ -135,8 +98,11 @@ waits_not_done : Waits ≡ Done Ok → ⊥
 waits_not_done e = cc
 
 -- its transaction has begun and acts, and neither its line nor another has an open wait of it
-abbrev pub NewWaitOf : History → By → Name → Type 0
-NewWaitOf h by t = (has_begun h t ≡ true) × (acts h t ≡ true) × (waits_elsewhere h by t ≡ false) × (has_waited h by ≡ false)
+pub record NewWaitOf (h : History) (by : By) (t : Name) : Type 0 where
+  pub begun : has_begun h t ≡ true
+  pub acting : acts h t ≡ true
+  pub alone : waits_elsewhere h by t ≡ false
+  pub first : has_waited h by ≡ false
 
 abbrev pub NewWait : History → By → Event → Type 0
 NewWait h by e = (t : Name) → accesses t e ≡ true → NewWaitOf h by t
@@ -147,12 +113,13 @@ new_wait rows h by (Access u k o) q t f =
     let p = not_refused _ _ Waits waits_not_refused q in
     let c = neither _ _ p.0 in
     let a = acts_at_end h u c.0 in
-    let n : NewWaitOf h by u = (a.0, a.1, not_when _ _ (neither _ _ c.1).0, wait_given (is_blocked h u k (kind o)) (has_waited h by) _ p.1) in
+    let n : NewWaitOf h by u = record { begun = a.0; acting = a.1; alone = not_when _ _ (neither _ _ c.1).0; first = wait_given (is_blocked h u k (kind o)) (has_waited h by) _ p.1 } in
     subst (NewWaitOf h by) (same_path u t f) n
 new_wait rows h by (Commit u) q t f = absurd (no_wait (cause_at_commit h by u) Ok q)
 new_wait rows h by (Abort u) q t f = absurd (no_wait (cause_at_end h u) Ok q)
 new_wait rows h by (After u w) q t f = absurd (no_wait_after (has_come h u w) q)
 
+-- neither a victim's entry nor one of the close waits
 may_wait : (rows : Rows) (h : History) (by : By) (e : Event) → MayStand rows h by e Waits → NewWait h by e
 may_wait rows h (Line s l) e m = new_wait rows h (Line s l) e m.0
 may_wait rows h Victim e m = absurd (waits_not_done (abort_of (IsVictim h) e Waits m).2)
@@ -162,25 +129,25 @@ may_wait rows h Close e m = absurd (waits_not_done (abort_of (λ t. (first_live 
 waited : (f : Entry → Bool) (h : History) → list_any f (open_waits h) ≡ true → list_any (λ e. f e && is_waits e.answer) h ≡ true
 waited f [] a = a
 waited f (e ∷ h) a =
-    let rest = filter (λ w. not (same_line w.by e.by)) (open_waits h) in
-    let later : list_any f rest ≡ true → list_any (λ e. f e && is_waits e.answer) h ≡ true = λ g. waited f h (any-filter f (λ w. not (same_line w.by e.by)) (open_waits h) g) in
+    let rest = filter (of_others e.by) (open_waits h) in
+    let later : list_any f rest ≡ true → list_any (λ e. f e && is_waits e.answer) h ≡ true = λ g. waited f h (any-filter f (of_others e.by) (open_waits h) g) in
     on_test (is_waits e.answer) (λ b. list_any f (cond b (e ∷ rest) rest) ≡ true → ((f e && b) || list_any (λ e. f e && is_waits e.answer) h) ≡ true)
     (λ _ g. ⊎_elim (λ (k : f e ≡ true). or_left _ _ (and_from _ _ k refl)) (λ (k : list_any f rest ≡ true). or_right _ _ (later k)) (any_cases f e rest g))
     (λ _ g. or_right _ _ (later g))
     a
 
--- a new wait is its transaction's only one
+-- where a transaction's wait, if any, is of this line, and this line has not waited, the transaction has none
+none_of_line : (h : History) (by : By) (t : Name) (w : Option Entry) → find (waits_as t) (open_waits h) ≡ w → is_other_line by w ≡ false → has_waited h by ≡ false → list_any (waits_as t) (open_waits h) ≡ false
+none_of_line h by t Nothing e f n = not_found (waits_as t) (open_waits h) e
+none_of_line h by t (Some w) e f n =
+    let of_line : list_any (λ v. same_line v.by by) (open_waits h) ≡ true = any-find (waits_as t) (λ v. same_line v.by by) (open_waits h) w e (not-false (same_line w.by by) f) in
+    clash (waited (λ v. same_line v.by by) h of_line) n
+
+-- so a new wait is its transaction's only one
 none_open : (h : History) (by : By) (t : Name) → NewWaitOf h by t → list_any (waits_as t) (open_waits h) ≡ false
 none_open h by t n =
-    let w = wait_of h t in
-    let acting : is_active h t ≡ true = acts-is_active h t ∙ n.1 in
-    let is_found : w ≡ find (waits_as t) (open_waits h) = ap (λ b. cond b (find (waits_as t) (open_waits h)) Nothing) acting in
-    nowhere (find (waits_as t) (open_waits h)) refl (ap (is_other_line by) (sym is_found) ∙ n.2)
-  where
-    nowhere : (o : Option Entry) → find (waits_as t) (open_waits h) ≡ o → is_other_line by o ≡ false → list_any (waits_as t) (open_waits h) ≡ false
-    nowhere Nothing e f = not_found (waits_as t) (open_waits h) e
-    nowhere (Some w) e f =
-        absurd (true≢false (sym (waited (λ v. same_line v.by by) h (any-find (waits_as t) (λ v. same_line v.by by) (open_waits h) w e (not-false (same_line w.by by) f))) ∙ n.3))
+    let is_found : wait_of h t ≡ find (waits_as t) (open_waits h) = ap (λ b. cond b (find (waits_as t) (open_waits h)) Nothing) (acts_active h t n.acting) in
+    none_of_line h by t (find (waits_as t) (open_waits h)) refl (ap (is_other_line by) (sym is_found) ∙ n.alone) n.first
 
 -- ---- a history
 
@@ -190,27 +157,25 @@ pub record WaitsKept (started : Name → Bool) (ws : List Entry) : Type 0 where
 
 -- the open waits after an entry with this answer
 abbrev pub opened : Answer → Entry → List Entry → List Entry
-opened a e ws = cond (is_waits a) (e ∷ filter (λ w. not (same_line w.by e.by)) ws) (filter (λ w. not (same_line w.by e.by)) ws)
+opened a e ws = cond (is_waits a) (e ∷ filter (of_others e.by) ws) (filter (of_others e.by) ws)
 
-fewer_waits : (h : History) (e : Entry) → WaitsKept (has_begun h) (open_waits h) → WaitsKept (has_begun (e ∷ h)) (filter (λ w. not (same_line w.by e.by)) (open_waits h))
-fewer_waits h e k =
-    let keep : Entry → Bool = λ w. not (same_line w.by e.by) in
-    record {
-      one = one_each-filter keep (open_waits h) k.one;
-      begun = λ t f. or_right (is_begin t (effect e)) (has_begun h t) (k.begun t (any-filter (waits_as t) keep (open_waits h) f));
-    }
+begun_still : (h : History) (e : Entry) → WaitsKept (has_begun h) (open_waits h) → (t : Name) → list_any (waits_as t) (filter (of_others e.by) (open_waits h)) ≡ true → has_begun (e ∷ h) t ≡ true
+begun_still h e k t f = or_right (is_begin t (effect e)) (has_begun h t) (k.begun t (any-filter (waits_as t) (of_others e.by) (open_waits h) f))
+
+fewer_waits : (h : History) (e : Entry) → WaitsKept (has_begun h) (open_waits h) → WaitsKept (has_begun (e ∷ h)) (filter (of_others e.by) (open_waits h))
+fewer_waits h e k = record { one = one_each-filter (of_others e.by) (open_waits h) k.one; begun = begun_still h e k }
+
+one_wait_more : (h : History) (e : Entry) → NewWait h e.by e.event → WaitsKept (has_begun h) (open_waits h) → WaitsKept (has_begun (e ∷ h)) (e ∷ filter (of_others e.by) (open_waits h))
+one_wait_more h e n k = record {
+  one = (λ t f. none-filter (waits_as t) (of_others e.by) (open_waits h) (none_open h e.by t (n t f)), one_each-filter (of_others e.by) (open_waits h) k.one);
+  begun = λ t f. ⊎_elim
+      (λ (g : waits_as t e ≡ true). or_right (is_begin t (effect e)) (has_begun h t) (n t g).begun)
+      (λ (g : list_any (waits_as t) (filter (of_others e.by) (open_waits h)) ≡ true). begun_still h e k t g)
+      (any_cases (waits_as t) e (filter (of_others e.by) (open_waits h)) f);
+}
 
 waits_kept_after : (rows : Rows) (h : History) (e : Entry) (a : Answer) → MayStand rows h e.by e.event a → WaitsKept (has_begun h) (open_waits h) → WaitsKept (has_begun (e ∷ h)) (opened a e (open_waits h))
-waits_kept_after rows h e Waits m k =
-    let keep : Entry → Bool = λ w. not (same_line w.by e.by) in
-    let n = may_wait rows h e.by e.event m in
-    record {
-      one = (λ t f. none-filter (waits_as t) keep (open_waits h) (none_open h e.by t (n t f)), one_each-filter keep (open_waits h) k.one);
-      begun = λ t f. or_right (is_begin t (effect e)) (has_begun h t) (⊎_elim
-          (λ (g : waits_as t e ≡ true). (n t g).0)
-          (λ (g : list_any (waits_as t) (filter keep (open_waits h)) ≡ true). k.begun t (any-filter (waits_as t) keep (open_waits h) g))
-          (any_cases (waits_as t) e (filter keep (open_waits h)) f));
-    }
+waits_kept_after rows h e Waits m k = one_wait_more h e (may_wait rows h e.by e.event m) k
 waits_kept_after rows h e (Done r) m k = fewer_waits h e k
 waits_kept_after rows h e Stuck m k = fewer_waits h e k
 waits_kept_after rows h e (Refused r) m k = fewer_waits h e k

@@ -98,24 +98,6 @@ ChangesMade =
     → (l : List ℕ) → effect e ≡ Commits (l ∷ []) → (cs : List Change) → IsChanges (value_in rows) h (l ∷ []) cs
     → (k : List ℕ) → stored (value_in rows) (e ∷ h) k ≡ overlay cs (stored (value_in rows) h) k
 
--- whoever has committed or aborted had begun, so a name that begins is live
-abbrev pub EndedBegun : Type 0
-EndedBegun =
-    (rows : Rows) (h : History) → Legal rows h
-    → (t : Name) → (IsTrue (has_committed h t) → IsTrue (has_begun h t)) × (IsTrue (has_aborted h t) → IsTrue (has_begun h t))
-
--- the parent of whoever has begun is the root or has begun
-abbrev pub BegunDown : Type 0
-BegunDown =
-    (rows : Rows) (h : History) → Legal rows h
-    → (t : Name) → IsTrue (has_begun h t) → (parent t ≡ []) ⊎ IsTrue (has_begun h (parent t))
-
--- no entry changes the items of one that does not act
-abbrev pub ItemsStay : Type 0
-ItemsStay =
-    (rows : Rows) (e : Entry) (h : History) → Legal rows (e ∷ h)
-    → (t : Name) → IsFalse (is_active h t) → items (e ∷ h) t ≡ items h t
-
 -- the ancestors of one that acts act
 abbrev pub AncestorsAct : Type 0
 AncestorsAct =

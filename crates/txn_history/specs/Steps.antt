@@ -1,11 +1,11 @@
 -- What each entry does to what is read off a history, a transaction and a key at a time, as statements.
-use Rattle.std.specs.Prelude.{◌≡◌, ◌↔◌, ◌<◌, ℕ, suc, length, take, ℤ, Bool, not, ◌&&◌, ◌||◌, if◌then◌else◌, IsTrue, IsFalse, List, ◌∷◌, Option, Some}
+use Rattle.std.specs.Prelude.{◌≡◌, ◌↔◌, ◌⊎◌, ◌<◌, ℕ, suc, length, take, ℤ, Bool, not, ◌&&◌, ◌||◌, if◌then◌else◌, IsTrue, IsFalse, List, [], ◌∷◌, Option, Some}
 use Rattle.std.specs.Prelude.{None as Nothing}
 use Rattle.txn_names.specs.Path.{label_eq, path_eq, is_front, parent}
 use Rattle.serial_spec.specs.declared.entry.By.{By}
 use Rattle.serial_spec.specs.declared.entry.Entry.{Entry}
 use Rattle.serial_spec.specs.Operations.{kind, leaves}
-use Rattle.serial_spec.specs.History.{Name, History, Effect, Begins, Accesses, Commits, Aborts, effect, or_else, Status, Live, Committed, Aborted, status, is_active, has_aborted, top_of, top_aborted}
+use Rattle.serial_spec.specs.History.{Name, History, Effect, Begins, Accesses, Commits, Aborts, effect, or_else, Status, Live, Committed, Aborted, status, is_active, has_begun, has_committed, has_aborted, top_of, top_aborted}
 use Rattle.serial_spec.specs.Items.{Items, after, items, chain}
 use Rattle.serial_spec.specs.Serial.{Map}
 use Rattle.serial_spec.specs.Locks.{Mode, Exclusive, mode_of, greater, footprint, held, retained, foot}
@@ -40,6 +40,26 @@ abbrev pub ActiveAfter : Type 0
 ActiveAfter =
     (rows : Rows) (e : Entry) (h : History) → Legal rows (e ∷ h)
     → (u : Name) → is_active (e ∷ h) u ≡ acts_next (effect e) u (is_active h u)
+
+-- ---- begun and ended
+
+-- whoever has committed or aborted had begun, so a name that begins is live
+abbrev pub EndedBegun : Type 0
+EndedBegun =
+    (rows : Rows) (h : History) → Legal rows h
+    → (t : Name) → (IsTrue (has_committed h t) → IsTrue (has_begun h t)) × (IsTrue (has_aborted h t) → IsTrue (has_begun h t))
+
+-- the parent of whoever has begun is the root or has begun
+abbrev pub BegunDown : Type 0
+BegunDown =
+    (rows : Rows) (h : History) → Legal rows h
+    → (t : Name) → IsTrue (has_begun h t) → (parent t ≡ []) ⊎ IsTrue (has_begun h (parent t))
+
+-- no entry changes the items of one that does not act
+abbrev pub ItemsStay : Type 0
+ItemsStay =
+    (rows : Rows) (e : Entry) (h : History) → Legal rows (e ∷ h)
+    → (t : Name) → IsFalse (is_active h t) → items (e ∷ h) t ≡ items h t
 
 -- ---- waits
 

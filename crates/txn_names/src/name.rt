@@ -199,8 +199,7 @@ impl Name {
         requires within { depth ≤ length self.now }
         ensures { result ≡ take depth self.now }
     {
-        let labels = self.labels();
-        Self::of_labels(&labels[..depth])
+        Self::of_labels(&self.labels()[..depth])
     }
 
     /// All labels but the last, or nothing where there is one alone: the parent is the root then.

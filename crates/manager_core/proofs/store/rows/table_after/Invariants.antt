@@ -1,7 +1,8 @@
 use Rattle.std.proofs.Common.{◌≡◌, take}
-use Rattle.serial_spec.specs.Rows.{value_in}
 use Rattle.serial_spec.specs.Changes.{overlay}
+use Rattle.serial_spec.specs.Rows.{value_in}
 use Rattle.manager_core.proofs.store.rows.table_after.Given as goal
 
 abbrev pub invariant-loop-change : goal.invariant-loop-change
-invariant-loop-change l = value_in l.next ≡ overlaid (take l.change-index l.changes) (value_in l.table)
+invariant-loop-change l =
+    (value_in l.next ≡ overlay (take l.change-index l.changes) (value_in l.table)) × (l.change-index ≡ 0 → l.next ≡ l.table)

@@ -3,7 +3,7 @@ use Rattle.std.proofs.lemmas.Int.{to_z-of_z}
 use Rattle.serial_spec.specs.Serial.{Map, put}
 use Rattle.serial_spec.specs.Rows.{value_in}
 use Rattle.manager_core.specs.Store.{plain}
-use Rattle.manager_core.proofs.Opening.{value_in-more}
+use Rattle.manager_core.proofs.Tables.{value_in-more}
 use Rattle.manager_core.proofs.store.rows.table_of.Goals as goal
 
 pub loop-left-preserved : goal.loop-left-preserved

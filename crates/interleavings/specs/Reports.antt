@@ -1,0 +1,26 @@
+-- What every report says.
+use Rattle.std.specs.Prelude.{◌≡◌, ℕ, IsTrue, IsFalse, List, [], ◌∷◌, None}
+use Rattle.serial_spec.specs.History.{Name, has_begun, is_orphan, is_live, is_committed, status, begun}
+use Rattle.serial_spec.specs.Items.{items}
+use Rattle.serial_spec.specs.Serial.{Right, Runs}
+use Rattle.serial_spec.specs.Rows.{IsRising, value_in}
+use Rattle.serial_spec.specs.Waits.{Quiet}
+use Rattle.serial_spec.specs.Legal.{first_live, Legal}
+use Rattle.txn_history.specs.Laws.{Stands}
+use Rattle.interleavings.specs.Told.{Told}
+
+pub record IsReport (r : Told) : Type 0 where
+  -- both tables stand in byte order
+  pub rising : IsRising r.opening
+  pub in_order : IsRising r.table
+  -- each entry was allowed where it stands, and no cycle of waits is left
+  pub legal : Legal r.opening r.history
+  pub quiet : Quiet r.history
+  -- no top-level transaction is live
+  pub closed : first_live r.history (begun r.history) ≡ None
+  -- each transaction without an aborted ancestor was replied what a serial run replies
+  pub right : (t : Name) → IsTrue (has_begun r.history t) → IsFalse (is_orphan r.history t) → Right (value_in r.opening) r.history t
+  -- and one run serves them all: each has committed, and stands in it as a block
+  pub served : (t : Name) → IsTrue (has_begun r.history t) → IsFalse (is_orphan r.history t) → IsTrue (is_committed (status r.history t)) × Stands (items r.history t) (items r.history [])
+  -- that run leads from the opening rows to the final table
+  pub runs : Runs (value_in r.opening) (items r.history []) (value_in r.table)

@@ -1,0 +1,126 @@
+//! Sessions, line by line.
+ghost use Rattle.std.specs.Prelude.{◌≡◌, ℕ, List, [], ◌∷◌, map, IfErr, IfOk, IsFalse, OnOk, None};
+ghost use Rattle.serial_spec.specs.History.{begun, is_live};
+ghost use Rattle.serial_spec.specs.Legal.{first_live};
+ghost use Rattle.serial_spec.specs.declared.entry.By.TheVariants.{Line};
+ghost use Rattle.manager_core.specs.Lines.{IsFree};
+ghost use Rattle.manager_core.specs.Sound.{IsSound};
+ghost use Rattle.interleavings.specs.Serving.{Answers, IsServed};
+ghost use Rattle.interleavings.specs.Lines.{AreAnswered, AreDone};
+ghost use Rattle.interleavings.specs.Runs.{HasRunCause, IsRun};
+
+use crate::report::Report;
+use manager_core::store::TopStore;
+use manager_core::{Manager, OpenFault};
+use serial_spec::{By, Event, NoMemory};
+use session_text::Sessions;
+use std::alloc::Global;
+use txn_names::Label;
+
+/// Why a run gave no report. Its store is dropped, and nothing is said of what it holds.
+#[derive(Clone, Copy, Debug, PartialEq, Eq)]
+pub enum RunFault {
+    NoMemory,
+    Open(OpenFault),
+}
+
+fn labels_of(alloc: Global, sessions: &Sessions) -> Result<Vec<Label>, NoMemory>
+    ensures { IfOk result (λ labels. labels.items ≡ map (λ s. s.label) sessions.now) }
+{
+    let mut labels = Vec::new(alloc);
+    let mut session = 0;
+    while let Some(label) = sessions.label(session) {
+        labels.push(*label)?;
+        session += 1;
+    }
+    Ok(labels)
+}
+
+// Answers a line of the one session.
+fn serve<S: TopStore>(
+    manager: &mut Manager<S>,
+    line: u32,
+    event: &Event,
+) -> Result<(), NoMemory>
+    requires free { IsFree manager.old.history (Line 0 line) event.now }
+    requires served { IsServed manager.old.history event.now }
+    ensures { OnOk result (Answers S.TopStore manager.old manager.new line event.now) }
+{
+    let by = By::Line { session: 0, line };
+    let _outcome = match event {
+        Event::Begin(name) => manager.begin(by, name)?,
+        Event::Access(name, key, op) => manager.access(by, name, key, *op)?,
+        Event::Commit(name) => manager.commit(by, name)?,
+        _ => unreachable!(),
+    };
+    Ok(())
+}
+
+// Answers the lines of the one session, in order.
+fn serve_all<S: TopStore>(manager: &mut Manager<S>, sessions: &Sessions) -> Result<(), NoMemory>
+    requires { manager.old.history ≡ [] }
+    ensures { OnOk result (AreAnswered S.TopStore sessions.now manager.old manager.new) }
+{
+    let mut line = 1;
+    while let Some(text) = sessions.line(0, line) {
+        serve(manager, line, text.event())?;
+        line += 1;
+    }
+    Ok(())
+}
+
+// Answers all lines, and closes what is live then.
+fn run_opened<S: TopStore>(manager: &mut Manager<S>, sessions: &Sessions) -> Result<(), NoMemory>
+    requires { manager.old.history ≡ [] }
+    ensures done { OnOk result (AreDone S.TopStore sessions.now manager.old manager.new) }
+    ensures sound { OnOk result (IsSound S.TopStore manager.new) }
+{
+    serve_all(manager, sessions)?;
+    manager.close()
+}
+
+// The report of a manager whose top-level transactions have ended, and its store.
+fn report_of<S: TopStore>(manager: Manager<S>, labels: Vec<Label>) -> (Report, S)
+    requires sound { IsSound S.TopStore manager }
+    requires closed { first_live manager.history (begun manager.history) ≡ None }
+    requires ended { (l : List ℕ) → IsFalse (is_live manager.history (l ∷ [])) }
+    ensures report { result.0 ≡ record { opening = manager.rows; labels = labels.items; history = manager.history; table = manager.table } }
+    ensures store { result.1 ≡ manager.store }
+{
+    let parts = manager.into_parts();
+    // What is known of a table comes with its length: that its keys rise.
+    let _rows = parts.table.len();
+    let report = Report {
+        opening: parts.opening,
+        labels,
+        history: parts.history,
+        table: parts.table,
+    };
+    (report, parts.store)
+}
+
+/// Runs the sessions over the store, and gives it back with the report. At present there is one session at most,
+/// so that no schedule says whose line comes next.
+pub fn run_schedule<S: TopStore>(
+    alloc: Global,
+    sessions: &Sessions,
+    schedule: &[u32],
+    store: S,
+) -> Result<(Report, S), RunFault>
+    requires { schedule.now ≡ [] }
+    ensures ok { IfOk result (λ run. IsRun S.TopStore sessions.now store run.0 run.1) }
+    ensures err { IfErr result (λ fault. HasRunCause S.TopStore store fault) }
+{
+    let _schedule = schedule;
+    let Ok(labels) = labels_of(alloc, sessions) else {
+        return Err(RunFault::NoMemory);
+    };
+    let mut manager = match Manager::open(alloc, store) {
+        Ok(manager) => manager,
+        Err(fault) => return Err(RunFault::Open(fault)),
+    };
+    match run_opened(&mut manager, sessions) {
+        Ok(()) => Ok(report_of(manager, labels)),
+        Err(_) => Err(RunFault::NoMemory),
+    }
+}

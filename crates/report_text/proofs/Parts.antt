@@ -1,0 +1,58 @@
+-- A report's lines, one after another.
+use Rattle.std.proofs.Common.{◌≡◌, ℕ, ℤ, ◌+◌, ◌<◌, zero, suc, List, [], ◌∷◌, ◌++◌, length, take, drop, get_or, reverse, Some, refl, sym, ap, ◌∙◌, append_assoc, append-nil, arith, take-append-drop}
+use Rattle.std.specs.Prelude.{codes, slice_get}
+use Rattle.std.proofs.lemmas.List.{reverse-append}
+use Rattle.serial_spec.specs.declared.entry.Entry.{Entry}
+use Rattle.serial_spec.specs.Rows.{Rows}
+use Rattle.serial_spec.specs.Printing.{spelled_number}
+use Rattle.serial_spec.specs.Report.{line, spelled_history, spelled_rows}
+use Rattle.report_text.specs.Lines.{entry_line, row_line, row_lines}
+
+-- ---- rows
+
+pub spelled_rows-append : (xs ys : Rows) → spelled_rows (xs ++ ys) ≡ spelled_rows xs ++ spelled_rows ys
+spelled_rows-append [] ys = refl
+spelled_rows-append (x ∷ xs) ys = ap (λ z. row_line x ++ z) (spelled_rows-append xs ys) ∙ sym (append_assoc (row_line x) (spelled_rows xs) (spelled_rows ys))
+
+-- up to the row at k, and that row
+pub spelled_rows-at : (xs : Rows) (k : ℕ) → spelled_rows (take (k + 1) xs) ≡ spelled_rows (take k xs) ++ row_lines (slice_get xs k)
+spelled_rows-at [] zero = refl
+spelled_rows-at [] (suc k) = let next : suc k + 1 ≡ suc (k + 1) = omega arith in rw next refl
+spelled_rows-at (x ∷ xs) zero = append-nil (row_line x)
+spelled_rows-at (x ∷ xs) (suc k) =
+    let next : suc k + 1 ≡ suc (k + 1) = omega arith in
+    rw next (ap (λ z. row_line x ++ z) (spelled_rows-at xs k) ∙ sym (append_assoc (row_line x) (spelled_rows (take k xs)) (row_lines (slice_get xs k))))
+
+-- those before the row at k, that row, and those behind it
+pub spelled_rows-parted : (xs : Rows) (k : ℕ) → (spelled_rows (take k xs) ++ row_lines (slice_get xs k)) ++ spelled_rows (drop (k + 1) xs) ≡ spelled_rows xs
+spelled_rows-parted xs k =
+    ap (λ z. z ++ spelled_rows (drop (k + 1) xs)) (sym (spelled_rows-at xs k))
+    ∙ sym (spelled_rows-append (take (k + 1) xs) (drop (k + 1) xs))
+    ∙ ap spelled_rows (take-append-drop (k + 1) xs)
+
+-- ---- entries, which a history lists from the newest
+
+spelled_history-append : (labels : List (List ℕ)) (h g : List Entry) → spelled_history labels (h ++ g) ≡ spelled_history labels g ++ spelled_history labels h
+spelled_history-append labels [] g = sym (append-nil (spelled_history labels g))
+spelled_history-append labels (e ∷ h) g = ap (λ z. z ++ entry_line labels e) (spelled_history-append labels h g) ∙ append_assoc (spelled_history labels g) (spelled_history labels h) (entry_line labels e)
+
+-- the entries of the first part, and then those of the second
+pub spelled-append : (labels : List (List ℕ)) (xs ys : List Entry) → spelled_history labels (reverse (xs ++ ys)) ≡ spelled_history labels (reverse xs) ++ spelled_history labels (reverse ys)
+spelled-append labels xs ys = ap (spelled_history labels) (reverse-append xs ys) ∙ spelled_history-append labels (reverse ys) (reverse xs)
+
+-- up to the entry at k, and that entry
+pub spelled-at : (labels : List (List ℕ)) (xs : List Entry) (k : ℕ) (e : Entry) → k < length xs → e ≡ get_or xs k e → spelled_history labels (reverse (take (k + 1) xs)) ≡ spelled_history labels (reverse (take k xs)) ++ entry_line labels e
+spelled-at labels xs k e h same =
+    ap (λ zs. spelled_history labels (reverse zs)) (taken xs k e h same) ∙ spelled-append labels (take k xs) (e ∷ [])
+  where
+    taken : (xs : List Entry) (k : ℕ) (e : Entry) → k < length xs → e ≡ get_or xs k e → take (k + 1) xs ≡ take k xs ++ e ∷ []
+    taken [] k e h same = absurd (omega (arith, h))
+    taken (x ∷ xs) zero e h same = ap (λ y. y ∷ []) (sym same)
+    taken (x ∷ xs) (suc k) e h same = let next : suc k + 1 ≡ suc (k + 1) = omega arith in rw next (ap (λ zs. x ∷ zs) (taken xs k e (omega (arith, h)) same))
+
+pub spelled-parted : (labels : List (List ℕ)) (xs : List Entry) (k : ℕ) (e : Entry) → k < length xs → e ≡ get_or xs k e
+    → (spelled_history labels (reverse (take k xs)) ++ entry_line labels e) ++ spelled_history labels (reverse (drop (k + 1) xs)) ≡ spelled_history labels (reverse xs)
+spelled-parted labels xs k e h same =
+    ap (λ z. z ++ spelled_history labels (reverse (drop (k + 1) xs))) (sym (spelled-at labels xs k e h same))
+    ∙ sym (spelled-append labels (take (k + 1) xs) (drop (k + 1) xs))
+    ∙ ap (λ zs. spelled_history labels (reverse zs)) (take-append-drop (k + 1) xs)

@@ -1,0 +1,7 @@
+use Rattle.std.proofs.Common.{reverse, take}
+use Rattle.std.specs.Io.KnownBytes.{Appends}
+use Rattle.serial_spec.specs.Report.{spelled_history}
+use Rattle.report_text.proofs.entries.put_history.Given as goal
+
+abbrev pub invariant-loop-entry : goal.invariant-loop-entry
+invariant-loop-entry g l = Appends (g.W.Write.contents l.initial.out) (g.W.Write.contents l.out) (spelled_history l.labels (reverse (take l.entry-index l.entries)))

@@ -1,0 +1,32 @@
+//! Why a text is refused.
+
+/// What is wrong with a line. Of several faults the first in this order is told; those of operands, from `Label`
+/// to `Number` and a bad last word, count from left to right.
+#[derive(Clone, Copy, Debug, PartialEq, Eq)]
+pub enum LineKind {
+    /// The last line of the text has bytes and no line feed, whatever it holds.
+    End,
+    /// The line has no bytes.
+    Empty,
+    /// The first word is not one that starts a line, or the last word of `after` is neither `begun` nor `done`.
+    Word,
+    /// There are more or fewer words than the first one asks.
+    Shape,
+    Label,
+    Name,
+    Key,
+    Number,
+    /// A command before the first header, or a header whose label stood in an earlier one.
+    Header,
+    /// A 65th header, or a 1,025th line of a session.
+    Limit,
+}
+
+/// Why a text is refused.
+#[derive(Clone, Copy, Debug, PartialEq, Eq)]
+pub enum TextFault {
+    /// The first line that has a fault, counted from 1, headers too.
+    Bad { line: usize, kind: LineKind },
+    /// A growth was refused, which says nothing of the text.
+    NoMemory,
+}

@@ -1,0 +1,62 @@
+//! Command lines.
+ghost use Rattle.std.specs.Prelude.{◌≡◌, IfOk, Ok};
+ghost use Rattle.serial_spec.specs.Printing.{spelled_event};
+ghost use Rattle.session_text.specs.Commands.{event_of};
+ghost use Rattle.session_text.specs.Grammar.{IsEvent};
+
+use crate::command;
+use crate::fault::LineKind;
+use serial_spec::Event;
+use std::marker::Model;
+use txn_bytes::Held;
+
+/// A command line: what it asks, and its text, which is the one spelling of that. It takes no memory.
+#[derive(Drop)]
+pub struct Line {
+    event: Event,
+    text: Held<193>,
+}
+
+impl Model for Line {
+    ghost use Rattle.std.specs.Prelude.{◌≡◌};
+    ghost use Rattle.serial_spec.specs.declared.event.Event.{Event};
+    ghost use Rattle.serial_spec.specs.Printing.{spelled_event};
+    ghost use Rattle.session_text.specs.Grammar.{IsEvent};
+
+    ghost Value = { Event };
+
+    ghost view = { λ l. l.event };
+
+    ghost invariant = { λ l. IsEvent l.event × (l.text ≡ spelled_event l.event) };
+}
+
+impl Line {
+    /// What the line asks.
+    pub fn event(&self) -> &Event
+        ensures value { result.now ≡ self.now }
+        ensures valid { IsEvent self.now }
+    {
+        &self.event
+    }
+
+    /// The line without its line feed: at most 193 bytes.
+    pub fn text(&self) -> &[u8]
+        ensures spelled { result.now ≡ spelled_event self.now }
+        ensures read { event_of result.now ≡ Ok self.now }
+    {
+        self.text.as_bytes()
+    }
+}
+
+/// Reads a command line, without its line feed. A header is refused as `Word`; of several faults the first of
+/// `Empty`, `Word` for the first word, `Shape`, and the operands from left to right is answered.
+pub fn parse_line(bytes: &[u8]) -> Result<Line, LineKind>
+    ensures read { result ≡ event_of bytes.now }
+    ensures valid { IfOk result IsEvent }
+{
+    let event = command::event_of(bytes)?;
+    Ok(Line {
+        event,
+        text: Held::of(bytes),
+    })
+}
