@@ -14,3 +14,6 @@ pub use outcome::{OpenFault, Outcome};
 
 
 
+
+#[cfg(test)]
+mod tests;

@@ -2,6 +2,7 @@
 use Rattle.std.specs.Prelude.{ℕ, is_some, Bool, true, false, not, ◌&&◌, if◌then◌else◌, List, [], ◌∷◌, Option, Some, None, option_map}
 use Rattle.std.specs.List.{list_any}
 use Rattle.txn_names.specs.Path.{path_eq}
+pub use Rattle.txn_names.specs.Path.{top_of}
 use Rattle.serial_spec.specs.declared.operation.Op.{Op}
 use Rattle.serial_spec.specs.declared.operation.Reply.{Reply}
 use Rattle.serial_spec.specs.declared.operation.Reply.TheVariants.{Ok}
@@ -89,12 +90,6 @@ is_committed x = false
 abbrev pub or_else : {X : Type 0} → Option X → Option X → Option X
 or_else None y = y
 or_else (Some x) y = Some x
-
--- the shortest front of a path that passes, the empty one left aside
-abbrev pub top_of : (Name → Bool) → Name → Option Name
-top_of passes [] = None
-top_of passes (l ∷ ls) =
-    if passes (l ∷ []) then Some (l ∷ []) else option_map (λ u. l ∷ u) (top_of (λ u. passes (l ∷ u)) ls)
 
 -- the topmost aborted one among t and its ancestors
 abbrev pub top_aborted : History → Name → Option Name

@@ -120,7 +120,7 @@ last_apart (x ∷ xs) s h = or_from _ _ (label_eq-false x.label s.label (taken_l
 
 -- ---- texts
 
-header_placed : (t u : Bool) → cond t (Some kind.Header) (cond u (Some kind.Limit) None) ≡ None → (t ≡ false) × (u ≡ false)
+pub header_placed : (t u : Bool) → cond t (Some kind.Header) (cond u (Some kind.Limit) None) ≡ None → (t ≡ false) × (u ≡ false)
 header_placed true u h = cc
 header_placed false true h = cc
 header_placed false false h = (refl, refl)

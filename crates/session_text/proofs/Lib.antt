@@ -4,3 +4,4 @@ pub mod Bytes
 pub mod Growth
 pub mod Served
 pub mod Reading
+pub mod Adding

@@ -15,6 +15,7 @@ use Rattle.std.proofs.lemmas.Bool.Decides.{nat_tests}
 use Rattle.std.proofs.lemmas.Slice.Eq.{bytes_eq-Decides}
 use Rattle.std.proofs.lemmas.Str.Parse.{IsNumeralModel, numerals_by_value}
 use Rattle.serial_spec.specs.Operations.{is_i64}
+use Rattle.serial_spec.specs.Printing.{spelled_number}
 use Rattle.session_text.specs.Numbers.{is_count, is_numeral, without_minus, number_of}
 
 abbrev AreDigits : List ℕ → Type 0
@@ -120,3 +121,11 @@ count_of n some small = by (decimal n) (digits_decimal own n small) (first_decim
     by : (ds : List ℕ) → AreDigits ds → 48 < get_or ds 0 0 → is_count ds ≡ true
     by [] h k = absurd (omega (arith, k))
     by (d ∷ ds) h k = and_from _ _ (grind (arith, nat_tests, k)) h
+
+-- ---- what is read is spelled so, and what is spelled so is read
+
+pub number_reads : (bs : List ℕ) (z : ℤ) → number_of bs ≡ Some z → (is_i64 z ≡ true) × (bs ≡ spelled_number z)
+number_reads bs z h = ?
+
+pub number_again : (z : ℤ) → is_i64 z ≡ true → number_of (spelled_number z) ≡ Some z
+number_again z h = ?

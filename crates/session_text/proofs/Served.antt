@@ -48,7 +48,7 @@ lines_served (After m w ∷ es) e h r = absurd h
 
 pub served_with_header : (ss : List Session) (l : List ℕ) → IsFirstPath ss → header_refusal (length ss) ≡ None → IsFirstPath (with_header ss l)
 served_with_header [] l h r = tt
-served_with_header (s ∷ ss) l h r = cc
+served_with_header (s ∷ ss) l h r = absurd (omega (arith, eqb-true (length (s ∷ ss)) 0 (unrefused (nat_eq (length (s ∷ ss)) 0) kind.Header r)))
 
 pub served_with_line : (ss : List Session) (e : Event) → IsFirstPath ss → 0 < length ss → command_refusal (open_lines ss) e ≡ None → IsFirstPath (with_line ss e)
 served_with_line [] e h some r = tt

@@ -172,7 +172,8 @@ impl Sessions {
             }
             TextLine::Command(line) => {
                 let last = self.sessions.len() - 1;
-                self.sessions[last].push(line)
+                self.sessions[last].push(line)?;
+                Ok(())
             }
         }
     }

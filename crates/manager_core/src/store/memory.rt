@@ -1,5 +1,5 @@
 //! A store in memory.
-ghost use Rattle.std.specs.Prelude.{◌≡◌, ◌≤◌, ◌↔◌, ℕ, IfOk, OnOk, IfErr, IsErrOf, is_err};
+ghost use Rattle.std.specs.Prelude.{◌≡◌, ◌≤◌, ◌↔◌, ℕ, IfOk, OnOk, IfErr, OnErr, is_err};
 ghost use Rattle.serial_spec.specs.Changes.{AreRising, overlay};
 ghost use Rattle.serial_spec.specs.Rows.{IsRising, value_in};
 ghost use Rattle.manager_core.specs.Store.{plain, faults_after, TellsFailure};
@@ -51,14 +51,24 @@ impl TopStore for MemStore {
 
     ghost faults = { λ s. s.faults };
 
-    fn load(&mut self, alloc: Global) -> Result<Vec<Row>, StoreFault> {
+    fn load(&mut self, alloc: Global) -> Result<Vec<Row>, StoreFault>
+        ensures rows { IfOk result (λ rows. value_in (plain rows.items) ≡ value_in self.old.table) }
+        ensures rising { IfOk result (λ rows. IsRising (plain rows.items)) }
+        ensures memory { IfErr result (λ fault. fault ≡ StoreFault.Memory) }
+        ensures kept { self.new ≡ self.old }
+    {
         match rows_of(alloc, &self.table) {
             Ok(rows) => Ok(rows),
             Err(_) => Err(StoreFault::Memory),
         }
     }
 
-    fn commit(&mut self, changes: &[Change]) -> Result<(), StoreFault> {
+    fn commit(&mut self, changes: &[Change]) -> Result<(), StoreFault>
+        ensures ok { OnOk result (value_in self.new.table ≡ overlay changes.now (value_in self.old.table)) }
+        ensures memory { IfErr result (λ fault. fault ≡ StoreFault.Memory) }
+        ensures refused { OnErr result (self.new.table ≡ self.old.table) }
+        ensures faults { self.new.faults ≡ faults_after (is_err result) self.old.faults }
+    {
         match table_after(&self.table, changes) {
             Ok(next) => {
                 self.table = next;
