@@ -28,6 +28,8 @@ fn labels_of(alloc: Global, sessions: &Sessions) -> Result<Vec<Label>, NoMemory>
     ensures { IfOk result (λ labels. labels.items ≡ map (λ s. s.label) sessions.now) }
 {
     let mut labels = Vec::new(alloc);
+    // What is known of a text comes with its length: here that it has few sessions.
+    let _count = sessions.len();
     let mut session = 0;
     while let Some(label) = sessions.label(session) {
         labels.push(*label)?;
@@ -61,6 +63,8 @@ fn serve_all<S: TopStore>(manager: &mut Manager<S>, sessions: &Sessions) -> Resu
     requires { manager.old.history ≡ [] }
     ensures { OnOk result (AreAnswered S.TopStore sessions.now manager.old manager.new) }
 {
+    // As in `labels_of`: what the lines of a text are like.
+    let _count = sessions.len();
     let mut line = 1;
     while let Some(text) = sessions.line(0, line) {
         serve(manager, line, text.event())?;

@@ -22,33 +22,22 @@ use Rattle.manager_core.specs.Kept.{IsAlone}
 use Rattle.manager_core.specs.Written.{wrote, change_of}
 use Rattle.manager_core.proofs.Writing.{wrote_known}
 use Rattle.manager_core.proofs.Reversed.{any_reversed, or_false}
+use Rattle.manager_core.proofs.Ordered.{on_ordering, above_all, turned, same_key}
 
 -- ---- a key put among others in its place
 
-on_ordering : (o : Ordering) (P : Ordering → Type 0) → (o ≡ Less → P Less) → (o ≡ Equal → P Equal) → (o ≡ Greater → P Greater) → P o
-on_ordering Less P f g h = f refl
-on_ordering Equal P f g h = g refl
-on_ordering Greater P f g h = h refl
-
-above_all : (a b : List ℕ) (ks : List (List ℕ)) → slice_cmp nat_cmp a b ≡ Less → AllByRecursion (λ q. slice_cmp nat_cmp b q ≡ Less) ks → AllByRecursion (λ q. slice_cmp nat_cmp a q ≡ Less) ks
-above_all a b [] e h = tt
-above_all a b (k ∷ ks) e h = (nat_list_cmp_total.trans a b k e h.0, above_all a b ks e h.1)
-
-turned : (a b : List ℕ) → slice_cmp nat_cmp a b ≡ Greater → slice_cmp nat_cmp b a ≡ Less
-turned a b e = nat_list_cmp_total.antisymm b a ∙ ap ordering_reverse e
-
-same_key : (a b : List ℕ) → slice_cmp nat_cmp a b ≡ Equal → a ≡ b
-same_key a b e = same_label a b (texts_ties a b ∙ ap is_eq e)
-
+-- the keys with one more
 abbrev inserted : List (List ℕ) → List ℕ → List (List ℕ)
 inserted ks k = insert_key (slice_cmp nat_cmp) ks k
 
+-- what holds of the key and of the others holds of all
 all_inserted : (P : List ℕ → Type 0) (ks : List (List ℕ)) (k : List ℕ) → P k → AllByRecursion P ks → AllByRecursion P (inserted ks k)
 all_inserted P [] k p h = (p, tt)
 all_inserted P (x ∷ xs) k p h =
     on_ordering (slice_cmp nat_cmp k x) (λ o. AllByRecursion P (match_ordering o (k ∷ x ∷ xs) (x ∷ xs) (x ∷ inserted xs k)))
     (λ _. (p, h)) (λ _. h) (λ _. (h.0, all_inserted P xs k p h.1))
 
+-- the keys still rise
 rising_inserted : (ks : List (List ℕ)) (k : List ℕ) → AreRisingKeys ks → AreRisingKeys (inserted ks k)
 rising_inserted [] k h = (tt, tt)
 rising_inserted (x ∷ xs) k h =
@@ -57,16 +46,19 @@ rising_inserted (x ∷ xs) k h =
     (λ _. h)
     (λ e. (all_inserted (λ q. slice_cmp nat_cmp x q ≡ Less) xs k (turned k x e) h.0, rising_inserted xs k h.1))
 
+-- of three tests the first may stand twice
 or_twice : (a b : Bool) → a || b ≡ a || (a || b)
 or_twice true b = refl
 or_twice false b = refl
 
+-- and the first two may change places
 or_swap : (a b c : Bool) → a || (b || c) ≡ b || (a || c)
 or_swap true true c = refl
 or_swap true false c = refl
 or_swap false true c = refl
 or_swap false false c = refl
 
+-- a key is among them if it is the new one or was there before
 any_inserted : (ks : List (List ℕ)) (k q : List ℕ) → list_any (label_eq q) (inserted ks k) ≡ label_eq q k || list_any (label_eq q) ks
 any_inserted [] k q = refl
 any_inserted (x ∷ xs) k q =
@@ -77,13 +69,16 @@ any_inserted (x ∷ xs) k q =
 
 -- ---- the keys that were written, as far as the known keys were gone through
 
+-- collected are those of the keys that t wrote, in byte order
 pub record AreWritten (h : History) (t : Name) (keys collected : List (List ℕ)) : Type 0 where
   pub rising : AreRisingKeys collected
   pub each : (k : List ℕ) → list_any (label_eq k) collected ≡ list_any (label_eq k) keys && wrote h t k
 
+-- before the first
 pub none_written : (h : History) (t : Name) → AreWritten h t [] []
 none_written h t = record { rising = tt; each = λ k. refl }
 
+-- whether a key is among some keys and one more
 any_push : (k q : List ℕ) (keys : List (List ℕ)) → list_any (label_eq k) (keys ++ q ∷ []) ≡ list_any (label_eq k) keys || label_eq k q
 any_push k q keys = list_any-append (label_eq k) keys (q ∷ []) ∙ ap (λ b. list_any (label_eq k) keys || b) (or_false (label_eq k q))
 
@@ -94,15 +89,18 @@ taken true false mine f = sym (f refl)
 taken false true mine f = refl
 taken false false mine f = refl
 
+-- the same where the next key was not written
 passed : (here before mine : Bool) → (here ≡ true → mine ≡ false) → before && mine ≡ (before || here) && mine
 passed true true mine f = refl
 passed true false mine f = sym (f refl)
 passed false true mine f = refl
 passed false false mine f = refl
 
+-- equal keys were written alike
 wrote_as : (h : History) (t : Name) (k q : List ℕ) (b : Bool) → wrote h t q ≡ b → label_eq k q ≡ true → wrote h t k ≡ b
 wrote_as h t k q b w e = ap (wrote h t) (same_label k q e) ∙ w
 
+-- one more key that was written
 pub written_taken : (h : History) (t : Name) (keys collected : List (List ℕ)) (q : List ℕ)
     → AreWritten h t keys collected → wrote h t q ≡ true
     → AreWritten h t (keys ++ q ∷ []) (inserted collected q)
@@ -115,6 +113,7 @@ written_taken h t keys collected q far w = record {
       ∙ ap (λ b. b && wrote h t k) (sym (any_push k q keys));
 }
 
+-- one more key that was not
 pub written_passed : (h : History) (t : Name) (keys collected : List (List ℕ)) (q : List ℕ)
     → AreWritten h t keys collected → wrote h t q ≡ false
     → AreWritten h t (keys ++ q ∷ []) collected
@@ -126,6 +125,7 @@ written_passed h t keys collected q far w = record {
       ∙ ap (λ b. b && wrote h t k) (sym (any_push k q keys));
 }
 
+-- the second test decides where it implies the first
 both : (a b : Bool) → (b ≡ true → a ≡ true) → a && b ≡ b
 both true b h = refl
 both false true h = absurd (false≢true (h refl))
@@ -142,16 +142,19 @@ written_all rows h t keys collected one a all far k =
 
 -- ---- the changes made of them
 
+-- the changes stand in the order of their keys
 keys_of_changes : (rows : Rows) (h : History) (t : Name) (ks : List (List ℕ)) → ks ≡ map (λ c. c.key) (map (change_of rows h t) ks)
 keys_of_changes rows h t [] = refl
 keys_of_changes rows h t (k ∷ ks) = ap (λ qs. k ∷ qs) (keys_of_changes rows h t ks)
 
+-- by whether a later change or this one is of the key
 one_of : (more here : Bool) (v w : Option ℤ) → (here ≡ true → w ≡ v) → or_else (cond more (Some v) None) (cond here (Some w) None) ≡ cond (here || more) (Some v) None
 one_of true true v w f = refl
 one_of true false v w f = refl
 one_of false true v w f = ap (λ x. Some x) (f refl)
 one_of false false v w f = refl
 
+-- each of these keys is changed to what is seen there, and no other
 change_at-all : (rows : Rows) (h : History) (t : Name) (ks : List (List ℕ)) (k : List ℕ)
     → change_at (map (change_of rows h t) ks) k ≡ cond (list_any (label_eq k) ks) (Some (seen (value_in rows) h t k)) None
 change_at-all rows h t [] k = refl
@@ -170,6 +173,7 @@ change_more rows h t cs k v rest next all so_far is sees =
     ∙ ap (λ ks. cs ++ map (change_of rows h t) ks) (sym is)
     ∙ so_far
 
+-- so these are the changes
 pub are_changes : (rows : Rows) (h : History) (t : Name) (ks : List (List ℕ)) → AreRisingKeys ks → ((k : List ℕ) → list_any (label_eq k) ks ≡ wrote h t k)
     → IsChanges (value_in rows) h t (map (change_of rows h t) ks)
 are_changes rows h t ks rising each = record {

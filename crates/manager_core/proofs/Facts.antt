@@ -14,6 +14,7 @@ use Rattle.manager_core.specs.State.{State, entry}
 use Rattle.manager_core.specs.Kept.{IsKept}
 use Rattle.manager_core.specs.Sound.{is_store_refusal, IsBacked, IsSound}
 
+-- all that callers are told
 pub sound : {S : Type 0} (g : Ghosts S) (m : State S) → IsKept m.rows m.history m.table → IsBacked g m.history m.table m.opened m.store → IsSound g m
 sound g m kept backed = record {
   rising = kept.rising;

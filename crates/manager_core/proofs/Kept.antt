@@ -27,6 +27,7 @@ use Rattle.manager_core.specs.Kept.{IsAlone, IsSingle, has_waits, IsKept}
 
 -- ---- an entry of a line
 
+-- an allowed entry of a line may stand where no cycle does
 may_stand : (rows : Rows) (h : History) (by : By) (event : Event) (answer : Answer) → IsLine by → Allowed rows h by event answer → Quiet h → MayStand rows h by event answer
 may_stand rows h (Line s l) event answer line allowed q = (allowed, q)
 may_stand rows h Victim event answer line allowed q = absurd line
@@ -59,6 +60,7 @@ kept_nothing rows h table by event answer kept line allowed speaks nothing =
     (kept.single.0, kept.single.1, rw nothing kept.single.2)
     (λ k. rw nothing (kept.current k))
 
+-- the begin of the one
 kept_begun : (rows : Rows) (h : History) (table : Rows) (by : By) (t : Name)
     → IsKept rows h table → IsLine by → length t ≡ 1 → IsAlone h t
     → Allowed rows h by (Begin t) (answer_of (Done Ok))
@@ -68,6 +70,7 @@ kept_begun rows h table by t kept line one alone allowed =
     (t, one, and_from _ _ (path_eq_self t) alone)
     kept.current
 
+-- a begin however it is answered
 pub kept_begin : (rows : Rows) (h : History) (table : Rows) (by : By) (t : Name) (outcome : Outcome)
     → IsKept rows h table → IsLine by → length t ≡ 1 → IsAlone h t
     → Allowed rows h by (Begin t) (answer_of outcome) → is_waits (answer_of outcome) ≡ false
@@ -91,6 +94,7 @@ kept_answered rows h table by (l ∷ []) k op r kept line allowed one alone =
     kept.current
 kept_answered rows h table by (l ∷ m ∷ ls) k op r kept line allowed one alone = absurd (omega arith)
 
+-- an access however it is answered
 pub kept_access : (rows : Rows) (h : History) (table : Rows) (by : By) (t : Name) (k : List ℕ) (op : Op) (outcome : Outcome)
     → IsKept rows h table → IsLine by → Allowed rows h by (Access t k op) (answer_of outcome) → is_waits (answer_of outcome) ≡ false
     → IsKept rows (entry by (Access t k op) (answer_of outcome) ∷ h) table

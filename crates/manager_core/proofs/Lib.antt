@@ -1,3 +1,4 @@
+pub mod Ordered
 pub mod Tables
 pub mod Reversed
 pub mod Keys

@@ -12,6 +12,7 @@ use Rattle.manager_core.specs.Kept.{has_waits}
 use Rattle.manager_core.specs.Lines.{entries_of, IsLine, IsFree}
 use Rattle.manager_core.proofs.Waitless.{neither}
 
+-- where none passes nothing is kept
 none_filtered : {X : Type 0} (p : X → Bool) (xs : List X) → list_any p xs ≡ false → filter p xs ≡ []
 none_filtered p [] n = refl
 none_filtered p (x ∷ xs) n =
@@ -27,6 +28,7 @@ first_waits (x ∷ h) by w ws e n =
     (λ _ f. let s : x ≡ w = cc in ap (λ (y : Entry). is_waits y.answer) (sym s) ∙ q.0)
     (λ _ f. first_waits h by w ws f q.1) e
 
+-- and where nothing is kept none passes
 filtered_none : {X : Type 0} (p : X → Bool) (xs : List X) → filter p xs ≡ [] → list_any p xs ≡ false
 filtered_none p [] e = refl
 filtered_none p (x ∷ xs) e =
@@ -37,6 +39,7 @@ filtered_none p (x ∷ xs) e =
 pub free_without : (h : History) (by : By) (event : Event) → has_waits h ≡ false → IsLine by → list_any (λ e. same_line e.by by) h ≡ false → IsFree h by event
 free_without h by event silent line n = record { line = line; unused = inl (none_filtered (λ e. same_line e.by by) h n) }
 
+-- and no others are free
 pub free_is : (h : History) (by : By) (event : Event) → has_waits h ≡ false → IsFree h by event → list_any (λ e. same_line e.by by) h ≡ false
 free_is h by event silent free =
     ⊎_elim (λ e. filtered_none (λ e. same_line e.by by) h e)

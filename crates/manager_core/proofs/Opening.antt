@@ -10,6 +10,7 @@ use Rattle.manager_core.specs.Kept.{IsKept}
 use Rattle.manager_core.specs.Sound.{IsBacked}
 use Rattle.manager_core.proofs.Waitless.{quiet}
 
+-- an empty history keeps what the type keeps, over any rows in order
 pub kept_open : (rows table : Rows) → IsRising rows → value_in table ≡ value_in rows → IsKept rows [] table
 kept_open rows table rising e = record {
   rising = rising;
@@ -20,6 +21,7 @@ kept_open rows table rising e = record {
   silent = refl;
 }
 
+-- the store that gave the rows has them
 pub backed_open : {S : Type 0} (g : Ghosts S) (rows table : Rows) (opened : ℕ) (store : S)
     → value_in table ≡ value_in rows → (g.doubt store ≡ 0 → value_in rows ≡ g.table store) → opened ≡ g.faults store → opened < 2 ^ 64
     → IsBacked g [] table opened store

@@ -13,6 +13,7 @@ use Rattle.serial_spec.specs.Changes.{change_at, overlay}
 use Rattle.manager_core.specs.declared.store.Row.{Row}
 use Rattle.manager_core.specs.Store.{plain}
 
+-- the keys of rows, from either form
 pub keys_plain : (rows : List Row) → map (λ r. r.key) rows ≡ map (λ r. r.0) (plain rows)
 keys_plain [] = refl
 keys_plain (r ∷ rows) = ap (λ ks. r.key ∷ ks) (keys_plain rows)
@@ -33,6 +34,7 @@ plain_more table rows i r e at =
     ∙ ap (λ x. take i table ++ x ∷ []) (sym (get_or_from_slice_get table i (r.key, r.value) (r.key, r.value) at))
     ∙ sym (take_more table i (r.key, r.value) (slice_get_within table i (r.key, r.value) at))
 
+-- there is a row at each place of a table
 pub row_within : (table : Rows) (i : ℕ) → i < length table → None ≡ slice_get table i → ⊥
 row_within [] i h e = absurd (omega arith)
 row_within (r ∷ rs) zero h e = cc
@@ -40,6 +42,7 @@ row_within (r ∷ rs) (suc i) h e = row_within rs i (omega arith) e
 
 -- ---- one change after another
 
+-- the last change decides at its key
 last_change : (cs : List Change) (c : Change) (k : List ℕ) → change_at (cs ++ c ∷ []) k ≡ cond (label_eq c.key k) (Some c.value) (change_at cs k)
 last_change [] c k = refl
 last_change (d ∷ cs) c k =
@@ -50,10 +53,11 @@ last_change (d ∷ cs) c k =
     apart true v y z = refl
     apart false v y z = refl
 
+-- so one more change is put into the map
 pub overlay_push : (cs : List Change) (c : Change) (m : Map) → overlay (cs ++ c ∷ []) m ≡ put (overlay cs m) c.key c.value
 overlay_push cs c m =
     let each : (k : List ℕ) → overlay (cs ++ c ∷ []) m k ≡ put (overlay cs m) c.key c.value k = λ k.
-        ap (λ x. value_or x (m k)) (last_change cs c k) ∙ chosen (label_eq c.key k) c.value (change_at cs k) (m k) in
+    ap (λ x. value_or x (m k)) (last_change cs c k) ∙ chosen (label_eq c.key k) c.value (change_at cs k) (m k) in
     λ i k. each k i
   where
     chosen : (b : Bool) (v : Option ℤ) (x : Option (Option ℤ)) (w : Option ℤ) → value_or (cond b (Some v) x) w ≡ cond b v (value_or x w)

@@ -18,6 +18,7 @@ use Rattle.manager_core.specs.Written.{wrote, writes_at}
 
 -- ---- modes
 
+-- the greater of two modes is exclusive where one of them is
 greater_exclusive : (m n : Mode) → is_exclusive (greater m n) ≡ is_exclusive m || is_exclusive n
 greater_exclusive Free n = refl
 greater_exclusive Shared Free = refl
@@ -25,6 +26,7 @@ greater_exclusive Shared Shared = refl
 greater_exclusive Shared Exclusive = refl
 greater_exclusive Exclusive n = refl
 
+-- an access holds its key to write where it writes
 exclusive_op : (o : Op) → is_exclusive (mode_of (kind o)) ≡ is_write (kind o)
 exclusive_op Get = refl
 exclusive_op (Set v) = refl
@@ -33,12 +35,14 @@ exclusive_op Del = refl
 
 -- ---- entry by entry
 
+-- an access adds a write of its key, if it is one
 access_writes : (a b : Bool) (o : Op) (r : Reply) (q : List ℕ) (xs : Items) (k : List ℕ) → label_eq q k ≡ b
     → is_exclusive (footprint (cond a (Access q o r xs) xs) k) ≡ (a && (b && is_write (kind o))) || is_exclusive (footprint xs k)
 access_writes true true o r q xs k e = rw (e, greater_exclusive, exclusive_op) refl
 access_writes true false o r q xs k e = rw e refl
 access_writes false b o r q xs k e = refl
 
+-- the same of any effect
 writes_next : (l : List ℕ) (own : Name → Items) (k : List ℕ) (x : Effect) → is_on (l ∷ []) x ≡ true
     → is_exclusive (footprint (with_item (l ∷ []) x own) k) ≡ writes_at (l ∷ []) k x || is_exclusive (footprint (own (l ∷ [])) k)
 writes_next l own k (Begins t) on = refl
@@ -49,12 +53,14 @@ writes_next l own k (Commits t) on =
 writes_next l own k (Aborts t) on = refl
 writes_next l own k NoEffect on = refl
 
+-- so the writes of the one are found entry by entry
 wrote_one : (h : History) (l : List ℕ) (k : List ℕ) → IsAlone h (l ∷ []) → list_any (λ e. writes_at (l ∷ []) k (effect e)) h ≡ wrote h (l ∷ []) k
 wrote_one [] l k a = refl
 wrote_one (e ∷ h) l k a =
     let p = and_parts (is_on (l ∷ []) (effect e)) (list_all (λ e. is_on (l ∷ []) (effect e)) h) a in
     ap (λ b. writes_at (l ∷ []) k (effect e) || b) (wrote_one h l k p.1) ∙ sym (writes_next l (items h) k (effect e) p.0)
 
+-- by its name
 pub wrote_scan : (h : History) (t : Name) (k : List ℕ) → length t ≡ 1 → IsAlone h t → list_any (λ e. writes_at t k (effect e)) h ≡ wrote h t k
 wrote_scan h [] k one a = absurd (omega arith)
 wrote_scan h (l ∷ []) k one a = wrote_one h l k a
@@ -62,6 +68,7 @@ wrote_scan h (l ∷ m ∷ ls) k one a = absurd (omega arith)
 
 -- ---- whoever wrote a key somewhere wrote
 
+-- a key held to write was written
 pub wrote_writes : (xs : Items) (k : List ℕ) → is_exclusive (footprint xs k) ≡ true → writes xs ≡ true
 wrote_writes None k e = absurd (false≢true e)
 wrote_writes (Access q o r xs) k e =
@@ -76,6 +83,7 @@ wrote_writes (Block b xs) k e =
 
 -- ---- what is written is known
 
+-- what is known stays known
 known_more : (x : Effect) (ks : List (List ℕ)) (k : List ℕ) → list_any (label_eq k) ks ≡ true → list_any (label_eq k) (with_key x ks) ≡ true
 known_more (Begins t) ks k h = h
 known_more (Accesses t q o r) ks k h =
@@ -84,10 +92,12 @@ known_more (Commits t) ks k h = h
 known_more (Aborts t) ks k h = h
 known_more NoEffect ks k h = h
 
+-- the key of an answered access is known
 known_now : (t : Name) (o : Op) (r : Reply) (ks : List (List ℕ)) (k : List ℕ) → list_any (label_eq k) (with_key (Accesses t k o r) ks) ≡ true
 known_now t o r ks k =
     on_test (list_any (label_eq k) ks) (λ b. list_any (label_eq k) (cond b ks (k ∷ ks)) ≡ true) (λ e. e) (λ _. or_left (label_eq k k) (list_any (label_eq k) ks) (label_eq_self k))
 
+-- so is the key of a write
 writes_known : (x : Effect) (t : Name) (ks : List (List ℕ)) (k : List ℕ) → writes_at t k x ≡ true → list_any (label_eq k) (with_key x ks) ≡ true
 writes_known (Begins u) t ks k e = absurd (false≢true e)
 writes_known (Accesses u q o r) t ks k e =
@@ -97,11 +107,13 @@ writes_known (Commits u) t ks k e = absurd (false≢true e)
 writes_known (Aborts u) t ks k e = absurd (false≢true e)
 writes_known NoEffect t ks k e = absurd (false≢true e)
 
+-- in any history
 any_known : (rows : Rows) (h : History) (t : Name) (k : List ℕ) → list_any (λ e. writes_at t k (effect e)) h ≡ true → list_any (label_eq k) (known rows h) ≡ true
 any_known rows [] t k e = absurd (false≢true e)
 any_known rows (x ∷ h) t k e =
     ⊎_elim (λ (w : writes_at t k (effect x) ≡ true). writes_known (effect x) t (known rows h) k w) (λ (w : list_any (λ e. writes_at t k (effect e)) h ≡ true). known_more (effect x) (known rows h) k (any_known rows h t k w))
     (or_cases (writes_at t k (effect x)) (list_any (λ e. writes_at t k (effect e)) h) e)
 
+-- so whatever the one wrote is known
 pub wrote_known : (rows : Rows) (h : History) (t : Name) (k : List ℕ) → length t ≡ 1 → IsAlone h t → wrote h t k ≡ true → list_any (label_eq k) (known rows h) ≡ true
 wrote_known rows h t k one a w = any_known rows h t k (wrote_scan h t k one a ∙ w)

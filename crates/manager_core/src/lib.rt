@@ -9,11 +9,8 @@ mod outcome;
 mod reading;
 pub mod store;
 
-pub use manager::Manager;
+pub use manager::{Manager, Parts};
 pub use outcome::{OpenFault, Outcome};
-
-
-
 
 #[cfg(test)]
 mod tests;

@@ -112,6 +112,19 @@ impl Log {
         self.entries.as_slice()
     }
 
+    /// The opening rows, and the entries, the oldest first.
+    pub(crate) fn into_parts(self) -> (Vec<Row>, Vec<Entry>)
+        ensures rows { plain result.0.items ≡ self.rows }
+        ensures entries { reverse result.1.items ≡ self.entries }
+    {
+        let Log {
+            rows,
+            entries,
+            keys: _,
+        } = self;
+        (rows, entries)
+    }
+
     /// Makes room for more entries.
     pub(crate) fn reserve(&mut self, additional: usize) -> Result<(), NoMemory>
         ensures rows { self.new.rows ≡ self.old.rows }

@@ -51,6 +51,18 @@ impl<S: TopStore> Model for Manager<S> {
     ghost invariant = { λ m. IsKept m.log.rows m.log.entries m.table × IsBacked S.TopStore m.log.entries m.table m.opened m.store };
 }
 
+/// What is left where a manager is taken apart.
+#[derive(Drop)]
+pub struct Parts<S: TopStore> {
+    /// The opening rows, in byte order.
+    pub opening: Vec<Row>,
+    /// The entries, the oldest first.
+    pub history: Vec<Entry>,
+    /// The table that the committed top-level transactions left.
+    pub table: PlainTable,
+    pub store: S,
+}
+
 /// The most rows of an opening.
 const MOST_ROWS: usize = 4096;
 
@@ -156,12 +168,7 @@ impl<S: TopStore> Manager<S> {
         }
     }
 
-    fn refuse_commit(
-        &mut self,
-        by: By,
-        name: &Name,
-        refusal: Refusal,
-    ) -> Result<Outcome, NoMemory>
+    fn refuse_commit(&mut self, by: By, name: &Name, refusal: Refusal) -> Result<Outcome, NoMemory>
         requires free { IsFree self.old.history by (Commit name.now) }
         requires cause { Some refusal ≡ cause_at_end self.old.history name.now }
         requires unasked { IsFalse (is_store_refusal (Refused refusal)) }
@@ -252,17 +259,34 @@ impl<S: TopStore> Manager<S> {
         self.log.rows()
     }
 
+    /// All that the manager had.
+    pub fn into_parts(self) -> Parts<S>
+        ensures opening { plain result.opening.items ≡ self.rows }
+        ensures history { reverse result.history.items ≡ self.history }
+        ensures table { result.table ≡ self.table }
+        ensures store { result.store ≡ self.store }
+    {
+        let Manager {
+            alloc: _,
+            log,
+            table,
+            store,
+            opened: _,
+        } = self;
+        let (opening, history) = log.into_parts();
+        Parts {
+            opening,
+            history,
+            table,
+            store,
+        }
+    }
+
     /// The store.
     pub fn into_store(self) -> S
         ensures { result ≡ self.store }
     {
-        let Manager {
-            alloc: _,
-            log: _,
-            table: _,
-            store,
-            opened: _,
-        } = self;
+        let Parts { store, .. } = self.into_parts();
         store
     }
 }

@@ -9,8 +9,7 @@ mod memory;
 mod rows;
 
 pub use memory::MemStore;
-pub use rows::{table_after, table_of};
-
+pub use rows::{are_rising, table_after, table_of};
 use std::alloc::Global;
 use std::marker::Model;
 use txn_names::{Change, Key};

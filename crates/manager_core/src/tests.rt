@@ -70,7 +70,10 @@ fn one_transaction(rt: HostRuntime) -> Result<(), Fail> {
     .enumerate()
     {
         let number = i as u32 + 2;
-        assert!(rt; access(&rt, &mut manager, number, &a, key, *op)? == *outcome, "line {number}");
+        assert!(rt;
+            access(&rt, &mut manager, number, &a, key, *op)? == *outcome,
+            "line {number}"
+        );
     }
     assert!(rt; commit(&rt, &mut manager, 10, &a)? == Outcome::Done(Reply::Ok));
     assert!(rt; access(&rt, &mut manager, 11, &a, &x, Op::Get)? == Outcome::Refused(Refusal::Done));
@@ -82,7 +85,9 @@ fn one_transaction(rt: HostRuntime) -> Result<(), Fail> {
     let mut store = manager.into_store();
     assert_eq!(rt; store.faults(), 0);
     let rows = store.load(rt.alloc()).map_err(|_| "load")?;
-    assert!(rt; rows.as_slice() == [Row { key: x, value: -3 }, Row { key: y, value: 5 }].as_slice());
+    assert!(rt;
+        rows.as_slice() == [Row { key: x, value: -3 }, Row { key: y, value: 5 }].as_slice()
+    );
     Ok(())
 }
 

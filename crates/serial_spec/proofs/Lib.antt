@@ -1,1 +1,4 @@
 pub mod Places
+pub mod Flat
+pub mod FirstWrong
+pub mod Running

@@ -10,7 +10,7 @@ mod table;
 
 pub use entry::{Answer, By, Entry, Refusal};
 pub use event::{Event, When};
-pub use item::Item;
+pub use item::{Item, run_items};
 pub use operation::{Kind, Op, Reply, act};
 pub use table::PlainTable;
 

@@ -17,7 +17,7 @@ use Rattle.session_text.proofs.Served.{served_with_line}
 abbrev pub IsKept : List Session → Type 0
 IsKept ss = IsText ss × IsFirstPath ss
 
-some_placed : (ss : List Session) (e : Event) → misplaced ss (Command e) ≡ None → 0 < length ss
+pub some_placed : (ss : List Session) (e : Event) → misplaced ss (Command e) ≡ None → 0 < length ss
 some_placed ss e h = omega (arith, eqb-false (length ss) 0 (header_placed (nat_eq (length ss) 0) (nat_le 1024 (length (open_lines ss))) h).0)
 
 pub pushed : (ss : List Session) (n : ℕ) (s t : Session) (e : Event) (l : TextLine)

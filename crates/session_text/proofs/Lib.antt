@@ -5,3 +5,8 @@ pub mod Growth
 pub mod Served
 pub mod Reading
 pub mod Adding
+pub mod Spelling
+pub mod TextLines
+pub mod WholeTexts
+pub mod Feeds
+pub mod ReadBack

@@ -8,7 +8,8 @@ use Rattle.std.specs.List.{list_all}
 use Rattle.std.specs.Result.{result_ok, OkIff}
 use Rattle.std.specs.Str.{bytes_eq, IsUtf8, IsAscii}
 use Rattle.std.specs.Str.Parse.{signed_digits_value, starts_with_minus, without_leading_sign, ParsesSigned, IsNumeral, digits_value, AllDigits}
-use Rattle.std.proofs.lemmas.Bool.{and_parts, and_from, or_cases, or_left, or_right, not-true, ltb-true, lt-ltb, eq-eqb}
+use Rattle.std.proofs.lemmas.Bool.{and_parts, and_from, or_cases, or_left, or_right, not-true, ltb-true, lt-ltb, eq-eqb, eqb-true}
+use Rattle.std.proofs.lemmas.Option.{same_Some}
 use Rattle.std.proofs.lemmas.Fmt.{IsAscii-from_digits, decimal_digit, decimal-digits_value, digits_decimal, first_decimal, digits_value-decimal}
 use Rattle.std.proofs.lemmas.Str.{IsUtf8-from_ascii}
 use Rattle.std.proofs.lemmas.Bool.Decides.{nat_tests}
@@ -124,8 +125,76 @@ count_of n some small = by (decimal n) (digits_decimal own n small) (first_decim
 
 -- ---- what is read is spelled so, and what is spelled so is read
 
+and_cond : {A : Type 0} (b c : Bool) (x y : A) → cond (b && c) (Some x) None ≡ Some y → (b ≡ true) × (c ≡ true) × (x ≡ y)
+and_cond true true x y h = (refl, refl, same_Some x y h)
+and_cond true false x y h = cc
+and_cond false c x y h = cc
+
+-- digits without a sign
+abbrev value : List ℕ → ℕ
+value ds = digits_value 10 ds
+
+plain_value : (b : ℕ) (bs : List ℕ) → AreDigits (b ∷ bs) → signed_digits_value 10 (b ∷ bs) ≡ pos (value (b ∷ bs))
+plain_value b bs h = let p = not_sign b bs h in rw (p.1, p.0) refl
+
+minus_value : (bs : List ℕ) → signed_digits_value 10 (45 ∷ bs) ≡ neg_ℤ (pos (value bs))
+minus_value bs = refl
+
+reads_zero : (bs : List ℕ) (z : ℤ) → bs ≡ 48 ∷ [] → signed_digits_value 10 bs ≡ z → bs ≡ spelled_number z
+reads_zero bs z e v = e ∙ sym decimal_zero ∙ ap spelled_number (ap (signed_digits_value 10) (sym e) ∙ v)
+
+reads_count : (b : ℕ) (bs : List ℕ) (z : ℤ) → is_count (b ∷ bs) ≡ true → is_i64 z ≡ true → signed_digits_value 10 (b ∷ bs) ≡ z → b ∷ bs ≡ spelled_number z
+reads_count b bs z h fit v =
+    let is : pos (value (b ∷ bs)) ≡ z = sym (plain_value b bs (count_parts (b ∷ bs) h).1) ∙ v in
+    let small : value (b ∷ bs) < 2 ^ 63 = ltb-true (value (b ∷ bs)) (2 ^ 63) (subst (λ (y : ℤ). is_i64 y ≡ true) (sym is) fit) in
+    sym (count_spelled (b ∷ bs) h (omega (arith, small))) ∙ ap spelled_number is
+
+reads_minus : (bs : List ℕ) (z : ℤ) → is_count bs ≡ true → is_i64 z ≡ true → neg_ℤ (pos (value bs)) ≡ z → 45 ∷ bs ≡ spelled_number z
+reads_minus bs z h fit v = by (value bs) refl
+  where
+    by : (n : ℕ) → value bs ≡ n → 45 ∷ bs ≡ spelled_number z
+    by zero e = let p = count_positive bs zero h e (lit< tt) in absurd (omega (arith, p.1))
+    by (suc n) e =
+        let is : negsuc n ≡ z = sym (ap (λ (k : ℕ). neg_ℤ (pos k)) e) ∙ v in
+        let small : n < 2 ^ 63 = ltb-true n (2 ^ 63) (subst (λ (y : ℤ). is_i64 y ≡ true) (sym is) fit) in
+        ap (λ (ds : List ℕ). 45 ∷ ds) (sym (count_spelled bs h (omega (arith, e, small))) ∙ ap decimal e) ∙ ap spelled_number is
+
+reads_by : (b : ℕ) (bs : List ℕ) (z : ℤ) (t : Bool) → nat_eq b 45 ≡ t → (bytes_eq (b ∷ bs) (codes "0") || is_count (cond t bs (b ∷ bs))) ≡ true → is_i64 z ≡ true → signed_digits_value 10 (b ∷ bs) ≡ z → b ∷ bs ≡ spelled_number z
+reads_by b bs z t e h fit v =
+    ⊎_elim (λ (k : bytes_eq (b ∷ bs) (codes "0") ≡ true). reads_zero (b ∷ bs) z (is_zero (b ∷ bs) k) v)
+    (λ (k : is_count (cond t bs (b ∷ bs)) ≡ true). by t e k)
+    (or_cases (bytes_eq (b ∷ bs) (codes "0")) (is_count (cond t bs (b ∷ bs))) h)
+  where
+    by : (t : Bool) → nat_eq b 45 ≡ t → is_count (cond t bs (b ∷ bs)) ≡ true → b ∷ bs ≡ spelled_number z
+    by true f k = let same : b ≡ 45 = eqb-true b 45 f in rw same (reads_minus bs z k fit (subst (λ (c : ℕ). signed_digits_value 10 (c ∷ bs) ≡ z) same v))
+    by false f k = reads_count b bs z k fit v
+
 pub number_reads : (bs : List ℕ) (z : ℤ) → number_of bs ≡ Some z → (is_i64 z ≡ true) × (bs ≡ spelled_number z)
-number_reads bs z h = ?
+number_reads [] z h = cc
+number_reads (b ∷ bs) z h =
+    let p = and_cond (is_numeral (b ∷ bs)) (is_i64 (signed_digits_value 10 (b ∷ bs))) (signed_digits_value 10 (b ∷ bs)) z h in
+    let fit : is_i64 z ≡ true = subst (λ (y : ℤ). is_i64 y ≡ true) p.2 p.1 in
+    (fit, reads_by b bs z (nat_eq b 45) refl p.0 fit p.2)
+
+number_from : (bs : List ℕ) (z : ℤ) → is_numeral bs ≡ true → signed_digits_value 10 bs ≡ z → is_i64 z ≡ true → number_of bs ≡ Some z
+number_from bs z h v fit = rw (h, v) (rw fit refl)
+
+plain_again : (ds : List ℕ) (n : ℕ) → is_count ds ≡ true → value ds ≡ n → n < 2 ^ 63 → number_of ds ≡ Some (pos n)
+plain_again [] n h v small = cc
+plain_again (d ∷ ds) n h v small =
+    let p = count_parts (d ∷ ds) h in
+    let unsigned : nat_eq d 45 ≡ false = (not_sign d ds p.1).1 in
+    number_from (d ∷ ds) (pos n) (or_right (bytes_eq (d ∷ ds) (codes "0")) _ (rw unsigned h)) (plain_value d ds p.1 ∙ ap pos v) (lt-ltb n (2 ^ 63) small)
+
+again_by : (n : ℕ) → n < 2 ^ 63 → number_of (decimal n) ≡ Some (pos n)
+again_by zero small = ap number_of decimal_zero
+again_by (suc n) small = plain_again (decimal (suc n)) (suc n) (count_of (suc n) (omega arith) (omega (arith, small))) (digits_value-decimal own (suc n) (omega (arith, small))) small
 
 pub number_again : (z : ℤ) → is_i64 z ≡ true → number_of (spelled_number z) ≡ Some z
-number_again z h = ?
+number_again (pos n) h = again_by n (ltb-true n (2 ^ 63) h)
+number_again (negsuc n) h =
+    let small : n < 2 ^ 63 = ltb-true n (2 ^ 63) h in
+    number_from (45 ∷ decimal (suc n)) (negsuc n)
+    (or_right (bytes_eq (45 ∷ decimal (suc n)) (codes "0")) _ (count_of (suc n) (omega arith) (omega (arith, small))))
+    (ap (λ (k : ℕ). neg_ℤ (pos k)) (digits_value-decimal own (suc n) (omega (arith, small))))
+    h

@@ -5,3 +5,4 @@ pub mod Commands
 pub mod Grammar
 pub mod Stage
 pub mod Texts
+pub mod Laws

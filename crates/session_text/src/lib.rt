@@ -11,6 +11,7 @@
 mod command;
 mod cut;
 mod fault;
+pub mod laws;
 mod line;
 mod number;
 mod sessions;

@@ -1,7 +1,7 @@
 -- Whose items an access or a commit adds to, and what stays in them.
-use Rattle.std.proofs.Common.{◌≡◌, ℕ, Bool, true, false, cond, List, inr, ap}
+use Rattle.std.proofs.Common.{◌≡◌, ℕ, Bool, true, false, cond, List, [], ◌∷◌, inr, ap}
 use Rattle.txn_names.specs.Path.{path_eq, parent}
-use Rattle.txn_names.proofs.Names.{path_eq_self}
+use Rattle.txn_names.proofs.Names.{path_eq_self, parent-cons}
 use Rattle.serial_spec.specs.declared.operation.Op.{Op}
 use Rattle.serial_spec.specs.declared.operation.Reply.{Reply}
 use Rattle.serial_spec.specs.History.{Name, Accesses, Commits}
@@ -22,8 +22,13 @@ module _ (own : Name → Items) where
   pub commit_else : (c u : Name) → path_eq (parent c) u ≡ false → with_item u (Commits c) own ≡ own u
   commit_else c u other = ap (λ b. cond b (Block (own c) (own u)) (own u)) other
 
+-- a commit below the top adds nothing to the root's items
+pub inner_commit : (own : Name → Items) (l m : List ℕ) (ms : Name) → with_item [] (Commits (l ∷ m ∷ ms)) own ≡ own []
+inner_commit own l m ms = ap (λ (p : Name). cond (path_eq p []) (Block (own (l ∷ m ∷ ms)) (own [])) (own [])) (parent-cons l m ms)
+
 -- an item more leaves the blocks that stand there
-pub access_keeps_block : (here : Bool) (b : Items) (k : List ℕ) (o : Op) (r : Reply) (xs : Items) → HasBlock b xs → HasBlock b (cond here (Access k o r xs) xs)
+pub access_keeps_block : (here : Bool) (b : Items) (k : List ℕ) (o : Op) (r : Reply) (xs : Items) → HasBlock b xs
+    → HasBlock b (cond here (Access k o r xs) xs)
 access_keeps_block true b k o r xs h = h
 access_keeps_block false b k o r xs h = h
 

@@ -8,7 +8,9 @@ use Rattle.serial_spec.specs.History.{Name, History, Effect, Begins, Accesses, C
 use Rattle.txn_history.proofs.Tests.{clash}
 use Rattle.txn_history.proofs.Lists.{any_cases}
 
-any_begun_by : (f : Name → Bool) (t : Name) (b : Bool) (x : Effect) (ts : List Name) → (b ≡ true → list_any f ts ≡ true) → (is_begin t x || b) ≡ true → f t ≡ true → list_any f (begun_by x ts) ≡ true
+-- with one more effect in front
+any_begun_by : (f : Name → Bool) (t : Name) (b : Bool) (x : Effect) (ts : List Name) → (b ≡ true → list_any f ts ≡ true) → (is_begin t x || b) ≡ true
+    → f t ≡ true → list_any f (begun_by x ts) ≡ true
 any_begun_by f t b (Begins u) ts ih h k = ⊎_elim
     (λ (e : path_eq u t ≡ true). or_left (f u) (list_any f ts) (ap f (same_path u t e) ∙ k))
     (λ (e : b ≡ true). or_right (f u) (list_any f ts) (ih e))
@@ -27,7 +29,9 @@ any_begun f t (e ∷ h) b k = any_begun_by f t (has_begun h t) (effect e) (begun
 pub none_begun : (f : Name → Bool) (t : Name) (h : History) → list_any f (begun h) ≡ false → has_begun h t ≡ true → f t ≡ false
 none_begun f t h n b = false_from_ne_true _ (λ e. clash (any_begun f t h b e) n)
 
-some_begun_by : (f : Name → Bool) (x : Effect) (h : History) → (list_any f (begun h) ≡ true → (b : Name) × (has_begun h b ≡ true) × (f b ≡ true)) → list_any f (begun_by x (begun h)) ≡ true → (b : Name) × ((is_begin b x || has_begun h b) ≡ true) × (f b ≡ true)
+-- with one more effect in front
+some_begun_by : (f : Name → Bool) (x : Effect) (h : History) → (list_any f (begun h) ≡ true → (b : Name) × (has_begun h b ≡ true) × (f b ≡ true))
+    → list_any f (begun_by x (begun h)) ≡ true → (b : Name) × ((is_begin b x || has_begun h b) ≡ true) × (f b ≡ true)
 some_begun_by f (Begins t) h ih a = ⊎_elim
     (λ (g : f t ≡ true). (t, or_left (path_eq t t) (has_begun h t) (path_eq_self t), g))
     (λ (g : list_any f (begun h) ≡ true). let r = ih g in (r.0, or_right (path_eq t r.0) (has_begun h r.0) r.1, r.2))

@@ -1,5 +1,5 @@
 -- Who blocks an access after an entry: with an answered access aside, only whoever blocked it before, or one on the same branch.
-use Rattle.std.proofs.Common.{◌≡◌, ℕ, ◌+◌, suc, Bool, true, false, not, cond, ◌&&◌, ◌||◌, List, [], ◌∷◌, take, refl, sym, ap, subst, ◌∙◌, ⊎_elim, arith}
+use Rattle.std.proofs.Common.{◌≡◌, ℕ, ◌+◌, suc, Bool, true, false, not, cond, ◌&&◌, List, [], ◌∷◌, take, refl, sym, ap, subst, ◌∙◌, ⊎_elim, arith}
 use Rattle.std.proofs.lemmas.Bool.{false≢true, true≢false, and_parts, and_from, not-true, not_from_false, false_from_ne_true}
 use Rattle.txn_names.specs.Path.{label_eq, is_front, meet, parent}
 use Rattle.txn_names.proofs.Names.{on_test, on_path, same_label, label_eq_self, parent-cons, is_front-parent, is_front-trans}
@@ -51,15 +51,18 @@ pub record Blocks (acting : Name → Bool) (own : Name → Items) (t : Name) (k 
   pub beside : is_front b t ≡ false
   pub conflict : conflicts (footprint (own b) k) x ≡ true
 
+-- a blocker in these words
 pub blocks_from : (h : History) (t : Name) (k : List ℕ) (x : Kind) (b : Name) → is_blocker h t k x b ≡ true → Blocks (acts h) (items h) t k x b
 blocks_from h t k x b e =
     let p = and_parts (is_active h b) _ e in
     let q = and_parts (not (is_front b t)) _ p.1 in
     record { acts = active_acts h b p.0; beside = not-true (is_front b t) q.0; conflict = q.1 }
 
+-- and back
 pub blocks_to : (h : History) (t : Name) (k : List ℕ) (x : Kind) (b : Name) → Blocks (acts h) (items h) t k x b → is_blocker h t k x b ≡ true
 blocks_to h t k x b p = and_from _ _ (acts_active h b p.acts) (and_from _ _ (not_from_false (is_front b t) p.beside) p.conflict)
 
+-- whoever blocks has begun: the root stands above all
 pub begun_blocks : (h : History) (t : Name) (k : List ℕ) (x : Kind) (b : Name) → Blocks (acts h) (items h) t k x b → has_begun h b ≡ true
 begun_blocks h t k x [] p = absurd (true≢false p.beside)
 begun_blocks h t k x (l ∷ ls) p = (acting h l ls p.acts).has_begun
@@ -70,6 +73,7 @@ begun_blocks h t k x (l ∷ ls) p = (acting h l ls p.acts).has_begun
 abbrev pub OnBranch : History → Name → List ℕ → Kind → Name → Type 0
 OnBranch h t k x b = (c : Name) × Blocks (acts h) (items h) t k x c × (branch_of t b ≡ branch_of t c)
 
+-- the effect is an answered access
 abbrev pub is_access : Effect → Bool
 is_access (Accesses t k o r) = true
 is_access x = false

@@ -26,23 +26,28 @@ use Rattle.txn_history.proofs.StatusTests.{begun_not_absent, acts_by_status}
 
 -- ---- no cause holds
 
+-- where neither of two causes holds, none of them does
 pub neither : {X : Type 0} (x y : Option X) → or_else x y ≡ Nothing → (x ≡ Nothing) × (y ≡ Nothing)
 neither Nothing y h = (refl, h)
 neither (Some x) y h = cc
 
+-- a cause that is not given does not hold
 pub not_when : (b : Bool) (r : Refusal) → when b r ≡ Nothing → b ≡ false
 not_when true r h = cc
 not_when false r h = refl
 
+-- nothing comes of nothing alone
 not_mapped : {X Y : Type 0} (f : X → Y) (o : Option X) → option_map f o ≡ Nothing → is_some o ≡ false
 not_mapped f Nothing h = refl
 not_mapped f (Some x) h = cc
 
 -- an answer that is no refusal comes where there is no cause
-pub not_refused : (c : Option Refusal) (a : Option Answer) (b : Answer) → ((r : Refusal) → b ≡ Refused r → ⊥) → refused_or c a ≡ Some b → (c ≡ Nothing) × (a ≡ Some b)
+pub not_refused : (c : Option Refusal) (a : Option Answer) (b : Answer) → ((r : Refusal) → b ≡ Refused r → ⊥) → refused_or c a ≡ Some b
+    → (c ≡ Nothing) × (a ≡ Some b)
 not_refused Nothing a b n h = (refl, h)
 not_refused (Some r) a b n h = absurd (n r cc)
 
+-- a reply is no refusal
 pub done_not_refused : (s : Reply) (r : Refusal) → Done s ≡ Refused r → ⊥
 done_not_refused s r e = cc
 
@@ -74,6 +79,7 @@ pub record SoundCommit (h : History) (t : Name) : Type 0 where
   pub acting : acts h t ≡ true
   pub childless : has_live_child h t ≡ false
 
+-- what each effect tells of the history before it
 abbrev pub Sound : Rows → History → Effect → Type 0
 Sound rows h (Begins t) = SoundBegin h t
 Sound rows h (Accesses t k o r) = SoundAccess rows h t k o r
@@ -81,6 +87,7 @@ Sound rows h (Commits t) = SoundCommit h t
 Sound rows h (Aborts t) = Unit {0}
 Sound rows h NoEffect = Unit {0}
 
+-- a begin that no cause refuses
 sound_begin : (h : History) (t : Name) → cause_at_begin h t ≡ Nothing → SoundBegin h t
 sound_begin h t e =
     let p = neither _ _ e in
@@ -93,11 +100,13 @@ sound_begin h t e =
     }
 
 -- an access that is answered with a reply is not blocked
-reply_given : (blocked waited : Bool) (r s : Reply) → cond blocked (cond waited Nothing (Some Waits)) (Some (Done s)) ≡ Some (Done r) → (blocked ≡ false) × (r ≡ s)
+reply_given : (blocked waited : Bool) (r s : Reply) → cond blocked (cond waited Nothing (Some Waits)) (Some (Done s)) ≡ Some (Done r)
+    → (blocked ≡ false) × (r ≡ s)
 reply_given true true r s h = cc
 reply_given true false r s h = cc
 reply_given false w r s h = (refl, cc)
 
+-- an entry of a line
 sound_line : (rows : Rows) (h : History) (by : By) (e : Event) (a : Answer) → Allowed rows h by e a → Sound rows h (effect_of e a)
 sound_line rows h by (Begin t) (Done Ok) q = sound_begin h t (not_refused _ _ (Done Ok) (done_not_refused Ok) q).0
 sound_line rows h by (Access t k o) (Done r) q =
@@ -118,10 +127,12 @@ pub abort_of : (P : Name → Type 0) (e : Event) (a : Answer) → IsAbortOf P e 
 abort_of P (Abort t) (Done Ok) p = (t, refl, refl, p)
 abort_of P e a p = absurd p
 
+-- an entry of a victim or of the close is an abort, which tells nothing here
 sound_abort : (rows : Rows) (h : History) (P : Name → Type 0) (e : Event) (a : Answer) → IsAbortOf P e a → Sound rows h (effect_of e a)
 sound_abort rows h P (Abort t) (Done Ok) p = tt
 sound_abort rows h P e a p = absurd p
 
+-- so each entry that may stand is sound
 pub sound : (rows : Rows) (h : History) (by : By) (e : Event) (a : Answer) → MayStand rows h by e a → Sound rows h (effect_of e a)
 sound rows h (Line s l) e a m = sound_line rows h (Line s l) e a m.0
 sound rows h Victim e a m = sound_abort rows h (IsVictim h) e a m

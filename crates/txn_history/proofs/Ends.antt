@@ -34,6 +34,7 @@ use Rattle.txn_history.proofs.Waiting.{waits_as, WaitsKept, waits_kept}
 
 -- ---- a victim has begun, since it waits
 
+-- whoever waits has begun
 waiter_begun : (h : History) → WaitsKept (has_begun h) (open_waits h) → (t : Name) (w : Entry) → wait_of h t ≡ Some w → has_begun h t ≡ true
 waiter_begun h k t w f =
     on_test (is_active h t) (λ b. cond b (find (waits_as t) (open_waits h)) Nothing ≡ Some w → has_begun h t ≡ true)
@@ -41,25 +42,33 @@ waiter_begun h k t w f =
     (λ _ g. cc)
     f
 
-pair_begun : (h : History) → WaitsKept (has_begun h) (open_waits h) → (t u : Name) (x y : Option Entry) → wait_of h t ≡ x → waits_by h t u x y ≡ true → has_begun h t ≡ true
+-- whoever waits for another has begun
+pair_begun : (h : History) → WaitsKept (has_begun h) (open_waits h) → (t u : Name) (x y : Option Entry) → wait_of h t ≡ x → waits_by h t u x y ≡ true
+    → has_begun h t ≡ true
 pair_begun h k t u Nothing y e f = absurd (false≢true f)
 pair_begun h k t u (Some w) y e f = waiter_begun h k t w e
 
-cycle_begun : (h : History) → WaitsKept (has_begun h) (open_waits h) → (t : Name) (others : List Name) → WaitInTurn h t others t → has_begun h t ≡ true
+-- whoever lies on a cycle has begun
+cycle_begun : (h : History) → WaitsKept (has_begun h) (open_waits h) → (t : Name) (others : List Name) → WaitInTurn h t others t
+    → has_begun h t ≡ true
 cycle_begun h k t [] c = pair_begun h k t t (wait_of h t) (wait_of h t) refl c
 cycle_begun h k t (x ∷ xs) c = pair_begun h k t x (wait_of h t) (wait_of h x) refl c.0
 
 -- ---- one that the close aborts has begun, since it is found among those
 
-last_found : (b : Bool) (u t : Name) (us : List Name) (o : Option Name) → (o ≡ Some t → list_any (path_eq t) us ≡ true) → or_else o (cond b (Some u) Nothing) ≡ Some t → (path_eq t u || list_any (path_eq t) us) ≡ true
+-- what is found among these, or behind them, is one of all
+last_found : (b : Bool) (u t : Name) (us : List Name) (o : Option Name) → (o ≡ Some t → list_any (path_eq t) us ≡ true)
+    → or_else o (cond b (Some u) Nothing) ≡ Some t → (path_eq t u || list_any (path_eq t) us) ≡ true
 last_found b u t us (Some z) ih e = or_right (path_eq t u) (list_any (path_eq t) us) (ih e)
 last_found true u t us Nothing ih e = or_left (path_eq t u) (list_any (path_eq t) us) (path_eq-from t u cc)
 last_found false u t us Nothing ih e = cc
 
+-- the first live one is one of those that were looked at
 found_live : (h : History) (ts : List Name) (t : Name) → first_live h ts ≡ Some t → list_any (path_eq t) ts ≡ true
 found_live h [] t e = cc
 found_live h (u ∷ us) t e = last_found (is_top_level u && is_live h u) u t us (first_live h us) (found_live h us t) e
 
+-- and these have begun
 first_live_begun : (h : History) (t : Name) → first_live h (begun h) ≡ Some t → has_begun h t ≡ true
 first_live_begun h t e =
     let b = some_begun (path_eq t) h (found_live h (begun h) t e) in
@@ -67,10 +76,12 @@ first_live_begun h t e =
 
 -- ---- so whoever is aborted had begun
 
+-- the effect, if it is an abort, is of one that has begun
 abbrev pub AbortOf : History → Effect → Type 0
 AbortOf h (Aborts u) = has_begun h u ≡ true
 AbortOf h x = Unit {0}
 
+-- an abort that no cause refuses
 abort_by_line : (rows : Rows) (h : History) (by : By) (e : Event) (a : Answer) → Allowed rows h by e a → AbortOf h (effect_of e a)
 abort_by_line rows h by (Abort t) (Done Ok) q = (acts_at_end h t (not_refused _ _ (Done Ok) (done_not_refused Ok) q).0).0
 abort_by_line rows h by (Begin t) (Done Ok) q = tt
@@ -78,11 +89,15 @@ abort_by_line rows h by (Access t k o) (Done r) q = tt
 abort_by_line rows h by (Commit t) (Done Ok) q = tt
 abort_by_line rows h by e a q = tt
 
-abort_by_manager : (h : History) (P : Name → Type 0) → ((t : Name) → P t → has_begun h t ≡ true) → (e : Event) (a : Answer) → IsAbortOf P e a → AbortOf h (effect_of e a)
+-- an abort of a victim or of the close
+abort_by_manager : (h : History) (P : Name → Type 0) → ((t : Name) → P t → has_begun h t ≡ true) → (e : Event) (a : Answer) → IsAbortOf P e a
+    → AbortOf h (effect_of e a)
 abort_by_manager h P b (Abort t) (Done Ok) p = b t p
 abort_by_manager h P b e a p = absurd p
 
-pub abort_begun : (rows : Rows) (h : History) (by : By) (e : Event) (a : Answer) → WaitsKept (has_begun h) (open_waits h) → MayStand rows h by e a → AbortOf h (effect_of e a)
+-- so it is with each entry that may stand
+pub abort_begun : (rows : Rows) (h : History) (by : By) (e : Event) (a : Answer) → WaitsKept (has_begun h) (open_waits h) → MayStand rows h by e a
+    → AbortOf h (effect_of e a)
 abort_begun rows h (Line s l) e a k m = abort_by_line rows h (Line s l) e a m.0
 abort_begun rows h Victim e a k m =
     abort_by_manager h (IsVictim h) (λ t v. ∥∥₁_elim v.0 (Bool-set (has_begun h t) true) (λ c. cycle_begun h k t c.0 c.2)) e a m
@@ -91,14 +106,18 @@ abort_begun rows h Close e a k m =
 
 -- ---- whoever has ended had begun
 
+-- whoever has committed or aborted has begun
 abbrev Ended : (Name → Bool) → (Name → Bool) → (Name → Bool) → Name → Type 0
 Ended started committed aborted t = (committed t ≡ true → started t ≡ true) × (aborted t ≡ true → started t ≡ true)
 
 -- one more name that has begun is among those that end
-ended_more : (h : History) (u t : Name) (b : Bool) → has_begun h u ≡ true → (b ≡ true → has_begun h t ≡ true) → (path_eq u t || b) ≡ true → has_begun h t ≡ true
+ended_more : (h : History) (u t : Name) (b : Bool) → has_begun h u ≡ true → (b ≡ true → has_begun h t ≡ true) → (path_eq u t || b) ≡ true
+    → has_begun h t ≡ true
 ended_more h u t b begun before c = ⊎_elim (λ (e : path_eq u t ≡ true). ap (has_begun h) (sym (same_path u t e)) ∙ begun) before (or_cases (path_eq u t) b c)
 
-ended_after : (rows : Rows) (h : History) (x : Effect) → Sound rows h x → AbortOf h x → (t : Name) → Ended (has_begun h) (has_committed h) (has_aborted h) t
+-- an effect keeps that
+ended_after : (rows : Rows) (h : History) (x : Effect) → Sound rows h x → AbortOf h x → (t : Name)
+    → Ended (has_begun h) (has_committed h) (has_aborted h) t
     → Ended (λ u. is_begin u x || has_begun h u) (λ u. is_commit u x || has_committed h u) (λ u. is_abort u x || has_aborted h u) t
 ended_after rows h (Begins u) s a t k = (λ c. or_right _ _ (k.0 c), λ c. or_right _ _ (k.1 c))
 ended_after rows h (Accesses u q o r) s a t k = k
@@ -106,11 +125,13 @@ ended_after rows h (Commits u) s a t k = (λ c. ended_more h u t (has_committed 
 ended_after rows h (Aborts u) s a t k = (k.0, λ c. ended_more h u t (has_aborted h t) a k.1 c)
 ended_after rows h NoEffect s a t k = k
 
+-- entry by entry
 pub ended_begun : EndedBegun
 ended_begun rows [] l t = (λ c. absurd (false≢true c), λ c. absurd (false≢true c))
 ended_begun rows (e ∷ h) l t =
     ended_after rows h (effect e) (sound rows h e.by e.event e.answer l.1) (abort_begun rows h e.by e.event e.answer (waits_kept rows h l.0) l.1) t (ended_begun rows h l.0 t)
 
+-- kept by every legal history
 pub begun_down : BegunDown
 begun_down rows h l [] b = clash b (kept rows h l).rootless
 begun_down rows h l (k ∷ ks) b = (kept rows h l).above k ks b
@@ -118,7 +139,8 @@ begun_down rows h l (k ∷ ks) b = (kept rows h l).above k ks b
 -- ---- what it did stays
 
 -- an access adds to one that acts, and a commit to its parent, which acts
-items_after : (rows : Rows) (h : History) → KeptAt rows h → (x : Effect) → Sound rows h x → (t : Name) → acts h t ≡ false → with_item t x (items h) ≡ items h t
+items_after : (rows : Rows) (h : History) → KeptAt rows h → (x : Effect) → Sound rows h x → (t : Name) → acts h t ≡ false
+    → with_item t x (items h) ≡ items h t
 items_after rows h kept (Begins u) s t a = refl
 items_after rows h kept (Accesses u k o r) s t a = access_else (items h) u k o r t (differ (acts h) u t s.acting a)
 items_after rows h kept (Commits u) s t a =
@@ -126,6 +148,7 @@ items_after rows h kept (Commits u) s t a =
 items_after rows h kept (Aborts u) s t a = refl
 items_after rows h kept NoEffect s t a = refl
 
+-- so no entry does
 pub items_stay : ItemsStay
 items_stay rows e h l t a =
     items_after rows h (kept rows h l.0) (effect e) (sound rows h e.by e.event e.answer l.1) t (sym (acts-is_active h t) ∙ a)

@@ -2,7 +2,7 @@
 use Rattle.std.proofs.Common.{◌≡◌, ℕ, ℤ, Bool, true, false, cond, List, Option, refl, sym, ap, ◌∙◌}
 use Rattle.std.proofs.lemmas.Bool.{true≢false}
 use Rattle.txn_names.specs.Path.{label_eq}
-use Rattle.txn_names.proofs.Names.{on_label, on_test}
+use Rattle.txn_names.proofs.Names.{on_label}
 use Rattle.serial_spec.specs.declared.operation.Op.{Op}
 use Rattle.serial_spec.specs.declared.operation.Op.TheVariants.{Get, Set, Add, Del}
 use Rattle.serial_spec.specs.Operations.{kind, value_after}
@@ -42,9 +42,11 @@ footprint_parts (Block b xs) k =
 
 -- ---- items that do not disturb one another
 
+-- neither disturbs the other
 pub Apart_comm : (xs ys : Items) → Apart xs ys → Apart ys xs
 Apart_comm xs ys a k = is_apart_comm (footprint xs k) (footprint ys k) (a k)
 
+-- what disturbs neither of two parts does not disturb both together
 pub Apart-after : (xs ys zs : Items) → Apart xs ys → Apart xs zs → Apart xs (after ys zs)
 Apart-after xs ys zs a b k = rw (footprint-after ys zs k) (is_apart-greater (footprint xs k) (footprint ys k) (footprint zs k) (a k) (b k))
 

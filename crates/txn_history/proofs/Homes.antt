@@ -1,5 +1,5 @@
 -- The laws of those that have committed: the run in which they stand, as a block or in a block.
-use Rattle.std.proofs.Common.{◌≡◌, ℕ, ◌≤◌, zero, suc, Bool, true, false, not, cond, List, [], ◌∷◌, length, ⊎_elim, ◌⊎◌, inl, inr, refl, sym, ap, subst, ◌∙◌, arith}
+use Rattle.std.proofs.Common.{◌≡◌, ℕ, ◌≤◌, zero, suc, Bool, true, false, cond, List, [], ◌∷◌, length, ⊎_elim, ◌⊎◌, inl, inr, refl, sym, ap, subst, ◌∙◌, arith}
 use Rattle.std.proofs.lemmas.Bool.{false≢true, and_from, true_from_ne_false}
 use mathlib.Core.Logic.{⊎_map}
 use Rattle.txn_names.specs.Path.{parent}
@@ -19,15 +19,19 @@ use Rattle.txn_history.proofs.Kept.{KeptAt}
 use Rattle.txn_history.proofs.KeptByAll.{kept}
 use Rattle.txn_history.proofs.Live.{live_correctness}
 
+-- kept by every legal history
 pub block_of_parent : BlockOfParent
 block_of_parent rows h l [] c = absurd (false≢true c)
 block_of_parent rows h l (k ∷ ks) c = (kept rows h l).blocks k ks (status_committed h k ks c)
 
 -- ---- the way up to the home
 
-home_at : (h : History) (t : Name) (n : ℕ) (b : Bool) → is_committed (status h t) ≡ b → home_within h t (suc n) ≡ cond b (home_within h (parent t) n) t
+-- one step up, or none
+home_at : (h : History) (t : Name) (n : ℕ) (b : Bool) → is_committed (status h t) ≡ b
+    → home_within h t (suc n) ≡ cond b (home_within h (parent t) n) t
 home_at h t n b e = ap (λ v. cond v (home_within h (parent t) n) t) e
 
+-- the way up has as many steps as the name has labels
 pub home_by_parent : HomeByParent
 home_by_parent h [] = (λ c. refl, λ c. refl)
 home_by_parent h (l ∷ ls) =
@@ -41,11 +45,13 @@ orphan-parent h t o =
     none_passes_from (has_aborted h) (parent t)
     (λ l ls f. none_passes (has_aborted h) t o l ls (is_front-trans (l ∷ ls) (parent t) t f (is_front-parent t)))
 
+-- a parent has a label less
 length-parent-le : (l : List ℕ) (ls : Name) (n : ℕ) → length (l ∷ ls) ≤ suc n → length (parent (l ∷ ls)) ≤ n
 length-parent-le l ls n b = omega (arith, Names.length-parent (l ∷ ls))
 
 -- the way up from one that has begun and is no orphan ends at one that acts
-home_acts : (rows : Rows) (h : History) → KeptAt rows h → (n : ℕ) (t : Name) → length t ≤ n → (t ≡ []) ⊎ (has_begun h t ≡ true) → is_orphan h t ≡ false → acts h (home_within h t n) ≡ true
+home_acts : (rows : Rows) (h : History) → KeptAt rows h → (n : ℕ) (t : Name) → length t ≤ n → (t ≡ []) ⊎ (has_begun h t ≡ true)
+    → is_orphan h t ≡ false → acts h (home_within h t n) ≡ true
 home_acts rows h k zero [] b s o = refl
 home_acts rows h k zero (l ∷ ls) b s o = absurd (omega arith)
 home_acts rows h k (suc n) [] b s o = refl
@@ -55,14 +61,17 @@ home_acts rows h k (suc n) (l ∷ ls) b s o =
     (λ _. home_acts rows h k n (parent (l ∷ ls)) (length-parent-le l ls n b) (k.above l ls begun) (orphan-parent h (l ∷ ls) o))
     (λ c. acts_by_status h (l ∷ ls) (begun_not_absent h (l ∷ ls) begun) c o)
 
+-- with as many steps as labels
 home_of_begun : (rows : Rows) (h : History) → Legal rows h → (t : Name) → has_begun h t ≡ true → is_orphan h t ≡ false → acts h (home h t) ≡ true
 home_of_begun rows h l t b o = home_acts rows h (kept rows h l) (length t) t (omega arith) (inr b) o
 
+-- what the one at home sees is a run
 pub serial_correctness : SerialCorrectness
 serial_correctness rows h l t b o = (kept rows h l).steady.run (home h t) (home_of_begun rows h l t b o)
 
 -- ---- blocks in blocks
 
+-- a block stands
 stands-block : (b xs : Items) → HasBlock b xs → Stands b xs
 stands-block b None s = s
 stands-block b (Access k o r xs) s = stands-block b xs s
@@ -76,7 +85,9 @@ stands-below b c (Block d xs) h s = ⊎_elim
     (λ (e : c ≡ d). inr (inl (stands-block b d (subst (HasBlock b) e h))))
     (λ (e : Stands c d ⊎ Stands c xs). inr (⊎_map (stands-below b c d h) (stands-below b c xs h) e)) s
 
-stands_within : (rows : Rows) (h : History) → Legal rows h → (n : ℕ) (t : Name) → (home_within h t n ≡ t) ⊎ Stands (items h t) (items h (home_within h t n))
+-- each step up puts it into a block
+stands_within : (rows : Rows) (h : History) → Legal rows h → (n : ℕ) (t : Name)
+    → (home_within h t n ≡ t) ⊎ Stands (items h t) (items h (home_within h t n))
 stands_within rows h l zero t = inl refl
 stands_within rows h l (suc n) t =
     let p = parent t in
@@ -90,6 +101,7 @@ stands_within rows h l (suc n) t =
     (stands_within rows h l n p)))
     (λ _. inl refl)
 
+-- with as many steps as labels
 pub place_in_run : PlaceInRun
 place_in_run rows h l t b o = stands_within rows h l (length t) t
 
@@ -102,6 +114,7 @@ only_root rows h l none (k ∷ ks) a =
     let top : acts h (k ∷ []) ≡ true = (kept rows h l).steady.down (k ∷ ks) (k ∷ []) a (and_from _ _ (label_eq_self k) refl) in
     clash (acts_live h (k ∷ []) top) (none k)
 
+-- the home of each is the root, so each has committed and stands in the root's run
 pub finished_correctness : FinishedCorrectness
 finished_correctness rows h l none t b o =
     let at_root : home h t ≡ [] = only_root rows h l none (home h t) (home_of_begun rows h l t b o) in

@@ -35,13 +35,15 @@ not_conflicting true true c a f n = cc
 not_conflicting false f c a g n = cc
 
 -- so an access of p that nobody blocks disturbs nobody who acts and is not above p
-unblocked : (h : History) (p : Name) (k : List ℕ) (x : Kind) → is_blocked h p k x ≡ false → (u : Name) → acts h u ≡ true → is_front u p ≡ false → conflicts (foot h u k) x ≡ false
+unblocked : (h : History) (p : Name) (k : List ℕ) (x : Kind) → is_blocked h p k x ≡ false → (u : Name) → acts h u ≡ true → is_front u p ≡ false
+    → conflicts (foot h u k) x ≡ false
 unblocked h p k x free [] a f = absurd (true≢false f)
 unblocked h p k x free (l ∷ ls) a f =
     not_conflicting (is_active h (l ∷ ls)) (is_front (l ∷ ls) p) (conflicts (foot h (l ∷ ls) k) x) (acts_active h (l ∷ ls) a) f
     (none_begun (is_blocker h p k x) (l ∷ ls) h free (acting h l ls a).has_begun)
 
 module _ (rows : Rows) (h : History) (kept : KeptAt rows h) (p : Name) (k : List ℕ) (o : Op) (r : Reply) (s : SoundAccess rows h p k o r) where
+  -- p gets the access, which runs behind all that p sees
   grows : Grows (value_in rows) (acts h) (items h) (λ t. with_item t (Accesses p k o r) (items h)) p (Access k o r None)
   grows = record {
     at_p = access_at (items h) p k o r;
@@ -50,6 +52,7 @@ module _ (rows : Rows) (h : History) (kept : KeptAt rows h) (p : Name) (k : List
     runs = (tt, s.reply ∙ ap (λ v. reply_of v o) (seen_of-chain (value_in rows) (items h) p k (kept.steady.run p s.acting)));
   }
 
+  -- what is kept after an access
   pub kept_access : KeptAfter rows h (Accesses p k o r)
   kept_access = record {
     steady = steady-grows (value_in rows) (acts h) (items h) (λ t. with_item t (Accesses p k o r) (items h)) p (Access k o r None) grows kept.steady;

@@ -1,5 +1,5 @@
 -- Every legal history keeps it, an entry at a time from the empty one.
-use Rattle.std.proofs.Common.{◌≡◌, true, [], ◌∷◌, refl}
+use Rattle.std.proofs.Common.{[], ◌∷◌, refl}
 use Rattle.std.proofs.lemmas.Bool.{false≢true}
 use Rattle.serial_spec.specs.History.{Name, History, Effect, Begins, Accesses, Commits, Aborts, Nothing, effect}
 use Rattle.serial_spec.specs.Items.{None, chain_of}
@@ -28,15 +28,18 @@ kept_after rows h k Nothing s = k
 
 -- ---- the empty history, where the root alone acts
 
+-- whoever acts is the root
 only_root : ActsDown (acts [])
 only_root [] [] a f = refl
 only_root (l ∷ ls) u a f = absurd (false≢true a)
 only_root [] (l ∷ ls) a f = absurd (false≢true f)
 
+-- no items are a run
 run_nothing : (m : Map) (t : Name) → Replies m (chain_of (λ _. None) t)
 run_nothing m [] = tt
 run_nothing m (l ∷ ls) = Replies-join m (chain_of (λ _. None) ls) None tt (run_nothing m ls)
 
+-- the empty history keeps it
 kept_nothing : (rows : Rows) → KeptAt rows []
 kept_nothing rows = record {
   steady = record {
@@ -50,6 +53,7 @@ kept_nothing rows = record {
   blocks = λ l ls e. absurd (false≢true e);
 }
 
+-- so every legal history does
 pub kept : (rows : Rows) (h : History) → Legal rows h → KeptAt rows h
 kept rows [] l = kept_nothing rows
 kept rows (e ∷ h) l = kept_after rows h (kept rows h l.0) (effect e) (sound rows h e.by e.event e.answer l.1)

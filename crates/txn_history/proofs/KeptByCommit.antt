@@ -1,6 +1,6 @@
 -- A commit keeps what every legal history keeps: the child's items, which ran behind all that the parent sees, move behind the
 -- parent's items as one block, past every other live run.
-use Rattle.std.proofs.Common.{◌≡◌, ℕ, Bool, true, false, ◌&&◌, ◌||◌, List, ◌∷◌, inl, ⊎_elim, refl, sym, ap, subst, subst₂, ◌∙◌}
+use Rattle.std.proofs.Common.{◌≡◌, ℕ, Bool, true, false, ◌&&◌, List, ◌∷◌, inl, ⊎_elim, refl, sym, ap, subst, subst₂, ◌∙◌}
 use Rattle.std.proofs.lemmas.Bool.{and_from, or_cases, false_from_ne_true}
 use Rattle.txn_names.specs.Path.{path_eq, is_front, parent}
 use Rattle.txn_names.proofs.Names.{path_eq-from, same_path, is_front_self, is_front-parent, not_front-parent, front_cases}
@@ -30,14 +30,17 @@ module _ (rows : Rows) (h : History) (kept : KeptAt rows h) (c : List ℕ) (cs :
   still : Name → Bool
   still = acts_of (has_begun h) (or_this (c ∷ cs) (has_committed h)) (has_aborted h)
 
+  -- it acted before
   acted : (u : Name) → still u ≡ true → acts h u ≡ true
   unfolding still
   acted u su = commits-fewer (has_begun h) (has_committed h) (has_aborted h) (c ∷ cs) u su
 
+  -- the one that commits does not
   acts_no_more : still (c ∷ cs) ≡ true → ⊥
   unfolding still
   acts_no_more = commits-itself (has_begun h) (has_committed h) (has_aborted h) c cs
 
+  -- the parent acts
   parent_acts : acts h (parent (c ∷ cs)) ≡ true
   parent_acts = kept.steady.down (c ∷ cs) (parent (c ∷ cs)) s.acting (is_front-parent (c ∷ cs))
 
@@ -48,6 +51,7 @@ module _ (rows : Rows) (h : History) (kept : KeptAt rows h) (c : List ℕ) (cs :
       and_from _ _ (path_eq-from (parent (k ∷ ks)) (c ∷ cs) e) (acts_live h (k ∷ ks) a) in
       clash (any_begun (λ u. path_eq (parent u) (c ∷ cs) && is_live h u) (k ∷ ks) h (acting h k ks a).has_begun live_child) s.childless
 
+  -- with the child ended and nothing added, the invariant holds
   steady_ended : Steady (value_in rows) still (items h)
   unfolding still
   steady_ended =
@@ -59,15 +63,16 @@ module _ (rows : Rows) (h : History) (kept : KeptAt rows h) (c : List ℕ) (cs :
   beside u su f = (
     false_from_ne_true _ (λ g. acts_no_more (steady_ended.down u (c ∷ cs) su g)),
     false_from_ne_true _ (λ g. ⊎_elim
-    (λ (e : u ≡ c ∷ cs). acts_no_more (ap still (sym e) ∙ su))
-    (λ (e : is_front u (parent (c ∷ cs)) ≡ true). clash e f)
-    (front_cases u (c ∷ cs) g)),
+        (λ (e : u ≡ c ∷ cs). acts_no_more (ap still (sym e) ∙ su))
+        (λ (e : is_front u (parent (c ∷ cs)) ≡ true). clash e f)
+        (front_cases u (c ∷ cs) g)),
   )
 
   -- the child's items ran behind all that its parent sees
   child_runs : Replies (value_in rows) (chain_of (items h) (c ∷ cs))
   child_runs = kept.steady.run (c ∷ cs) s.acting
 
+  -- the parent gets the child's block, which runs behind all that the parent sees
   grows : Grows (value_in rows) still (items h) (λ t. with_item t (Commits (c ∷ cs)) (items h)) (parent (c ∷ cs)) (Block (items h (c ∷ cs)) None)
   grows = record {
     at_p = commit_at (items h) (c ∷ cs);
@@ -94,6 +99,7 @@ module _ (rows : Rows) (h : History) (kept : KeptAt rows h) (c : List ℕ) (cs :
       (sym (commit_else (items h) (c ∷ cs) (l ∷ ls) (not_committed h (parent (c ∷ cs)) l ls parent_acts g)))
       (block_keeps_block (path_eq (parent (c ∷ cs)) (parent (l ∷ ls))) (items h (l ∷ ls)) (items h (c ∷ cs)) (items h (parent (l ∷ ls))) (kept.blocks l ls g))
 
+  -- what is kept after a commit
   pub kept_commit : KeptAfter rows h (Commits (c ∷ cs))
   unfolding still
   kept_commit = record {

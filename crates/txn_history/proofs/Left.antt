@@ -1,5 +1,5 @@
 -- The value that a run leaves at a key, read off its accesses and replies.
-use Rattle.std.proofs.Common.{◌≡◌, ℕ, ℤ, ◌+ℤ◌, Bool, true, false, cond, List, Option, Some, refl, sym, ap, subst₂, ◌∙◌}
+use Rattle.std.proofs.Common.{◌≡◌, ℕ, ℤ, ◌+ℤ◌, false, cond, List, Option, Some, refl, sym, ap, subst₂, ◌∙◌}
 use Rattle.std.proofs.Common.{None as Nothing}
 use Rattle.std.proofs.lemmas.Bool.{true≢false}
 use Rattle.txn_names.specs.Path.{label_eq}
@@ -17,6 +17,7 @@ use Rattle.serial_spec.specs.Values.{value_or, last_left}
 use Rattle.txn_history.specs.Steps.{LeftIsWritten}
 use Rattle.txn_history.proofs.Modes.{shared_parts, is_exclusive-not}
 
+-- the later of two that are left, over a value
 pub or_else-value_or : (x y : Option (Option ℤ)) (v : Option ℤ) → value_or (or_else x y) v ≡ value_or x (value_or y v)
 or_else-value_or Nothing y v = refl
 or_else-value_or (Some w) y v = refl
@@ -24,7 +25,8 @@ or_else-value_or (Some w) y v = refl
 -- ---- a run
 
 -- an access leaves the value that its reply tells, or else the one that was left before
-left_by : (o : Op) (v : Option ℤ) (left : Option (Option ℤ)) (base : Option ℤ) → value_or left base ≡ v → value_or (or_else (leaves o (reply_of v o)) left) base ≡ value_after v o
+left_by : (o : Op) (v : Option ℤ) (left : Option (Option ℤ)) (base : Option ℤ) → value_or left base ≡ v
+    → value_or (or_else (leaves o (reply_of v o)) left) base ≡ value_after v o
 left_by Get Nothing left base e = e
 left_by Get (Some w) left base e = e
 left_by (Set w) v left base e = refl
@@ -49,12 +51,14 @@ last_left-run m (Block b xs) k h =
 
 -- ---- what is left was written
 
+-- a read leaves nothing
 read_leaves_nothing : (o : Op) (r : Reply) → is_exclusive (mode_of (kind o)) ≡ false → leaves o r ≡ Nothing
 read_leaves_nothing Get r h = refl
 read_leaves_nothing (Set v) r h = absurd (true≢false h)
 read_leaves_nothing (Add d) r h = absurd (true≢false h)
 read_leaves_nothing Del r h = absurd (true≢false h)
 
+-- nothing and nothing
 or_else-nothing : (x y : Option (Option ℤ)) → x ≡ Nothing → y ≡ Nothing → or_else x y ≡ Nothing
 or_else-nothing Nothing y h k = k
 or_else-nothing (Some z) y h k = cc
@@ -73,5 +77,6 @@ unwritten (Block b xs) k h =
     let p = shared_parts (footprint b k) (footprint xs k) h in
     or_else-nothing (last_left b k) (last_left xs k) (unwritten b k p.0) (unwritten xs k p.1)
 
+-- the same in the law's words
 pub left_is_written : LeftIsWritten
 left_is_written xs k h = unwritten xs k (is_exclusive-not (footprint xs k) h)

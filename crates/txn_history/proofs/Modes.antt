@@ -1,11 +1,12 @@
 -- The laws of lock modes, each by its cases.
-use Rattle.std.proofs.Common.{◌≡◌, Bool, true, false, cond, refl, ◌⊎◌, inl, inr}
+use Rattle.std.proofs.Common.{◌≡◌, Bool, true, false, refl, ◌⊎◌, inl, inr}
 use Rattle.serial_spec.specs.declared.operation.Kind.{Kind}
 use Rattle.serial_spec.specs.declared.operation.Kind.TheVariants.{Read, Write}
 use Rattle.serial_spec.specs.Locks.{Mode, Free, Shared, Exclusive, mode_of, greater, is_exclusive, conflicts}
 use Rattle.serial_spec.specs.Allowed.{is_write}
 use Rattle.txn_history.specs.Apart.{is_apart}
 
+-- no lock
 abbrev pub is_free : Mode → Bool
 is_free Free = true
 is_free m = false
@@ -44,6 +45,7 @@ greater-exclusive Exclusive = refl
 
 -- ---- free
 
+-- two modes together are free only where both are
 pub free_left : (m n : Mode) → is_free m ≡ false → is_free (greater m n) ≡ false
 free_left Free n h = cc
 free_left Shared Free h = refl
@@ -85,6 +87,7 @@ exclusive_parts Shared Shared h = cc
 exclusive_parts Shared Exclusive h = inr refl
 exclusive_parts Exclusive n h = inl refl
 
+-- a mode other than exclusive fails the test
 pub is_exclusive-not : (m : Mode) → (m ≡ Exclusive → ⊥) → is_exclusive m ≡ false
 is_exclusive-not Free h = refl
 is_exclusive-not Shared h = refl
@@ -101,6 +104,7 @@ write_mode Write m h = refl
 
 -- ---- modes that do not conflict
 
+-- neither stands in the other's way
 pub is_apart_comm : (m n : Mode) → is_apart m n ≡ true → is_apart n m ≡ true
 is_apart_comm Free Free h = refl
 is_apart_comm Free Shared h = refl
@@ -120,6 +124,7 @@ is_apart-free Exclusive Free h e = refl
 is_apart-free Exclusive Shared h e = cc
 is_apart-free Exclusive Exclusive h e = cc
 
+-- a mode beside each of two is beside the greater
 pub is_apart-greater : (m n p : Mode) → is_apart m n ≡ true → is_apart m p ≡ true → is_apart m (greater n p) ≡ true
 is_apart-greater Free n p h k = refl
 is_apart-greater Shared Free p h k = k

@@ -1,9 +1,9 @@
 -- Only an answered access and a new wait may add a pair of a transaction and one that it waits for, and so a cycle.
-use Rattle.std.proofs.Common.{◌≡◌, ℕ, Bool, true, false, not, cond, ◌&&◌, ◌||◌, List, [], ◌∷◌, Option, Some, find, filter, refl, sym, ap, subst, ◌∙◌}
+use Rattle.std.proofs.Common.{◌≡◌, true, false, cond, ◌&&◌, List, [], ◌∷◌, Option, Some, find, filter, refl, sym, ap, subst, ◌∙◌}
 use Rattle.std.proofs.Common.{None as Nothing}
 use Rattle.std.proofs.lemmas.Bool.{false≢true, true≢false, and_parts, and_from}
 use Rattle.std.specs.List.{list_any}
-use Rattle.txn_names.specs.Path.{path_eq, is_front}
+use Rattle.txn_names.specs.Path.{is_front}
 use Rattle.txn_names.proofs.Names.{on_test, on_path, same_path}
 use Rattle.serial_spec.specs.declared.event.Event.{Event}
 use Rattle.serial_spec.specs.declared.event.Event.TheVariants.{Begin, Access, Commit, Abort, After}
@@ -13,7 +13,6 @@ use Rattle.serial_spec.specs.declared.operation.Reply.TheVariants.{Ok}
 use Rattle.serial_spec.specs.declared.entry.Entry.{Entry}
 use Rattle.serial_spec.specs.Operations.{kind}
 use Rattle.serial_spec.specs.History.{Name, History, Effect, Begins, Accesses, Commits, Aborts, Nothing as NoEffect, effect, effect_of, begun, has_begun, has_committed, has_aborted, is_active}
-use Rattle.serial_spec.specs.Items.{items}
 use Rattle.serial_spec.specs.Locks.{is_blocker}
 use Rattle.serial_spec.specs.Waits.{accesses, is_waits, open_waits, wait_of, blocks_event, branch_of, waits_by, waits_for, WaitInTurn, Quiet}
 use Rattle.serial_spec.specs.Rows.{Rows}
@@ -31,6 +30,7 @@ use Rattle.txn_history.proofs.Blockers.{is_access, OnBranch, blocks_from, blocks
 
 -- ---- an entry that may add none
 
+-- it answers no access
 no_access : (e : Event) (a : Answer) → may_add_pair e a ≡ false → is_access (effect_of e a) ≡ false
 no_access (Access t k o) (Done r) n = absurd (true≢false n)
 no_access (Begin t) (Done Ok) n = refl
@@ -38,12 +38,14 @@ no_access (Commit t) (Done Ok) n = refl
 no_access (Abort t) (Done Ok) n = refl
 no_access e a n = refl
 
+-- and makes no wait
 no_waits : (e : Event) (a : Answer) → may_add_pair e a ≡ false → is_waits a ≡ false
 no_waits e Waits n = absurd (true≢false n)
 no_waits e a n = refl
 
 -- one that had begun and acts afterwards acted before
-pub acted_before : (rows : Rows) (h : History) (x : Effect) → Sound rows h x → (t : Name) → has_begun h t ≡ true → acts_after h x t ≡ true → acts h t ≡ true
+pub acted_before : (rows : Rows) (h : History) (x : Effect) → Sound rows h x → (t : Name) → has_begun h t ≡ true → acts_after h x t ≡ true
+    → acts h t ≡ true
 acted_before rows h (Begins c) s t b a =
     on_path c t (λ _. acts h t ≡ true)
     (λ e. clash (ap (has_begun h) e ∙ b) (absent_not_begun h c s.new))
@@ -54,6 +56,7 @@ acted_before rows h (Aborts c) s t b a = aborts-fewer (has_begun h) (has_committ
 acted_before rows h NoEffect s t b a = a
 
 module _ (rows : Rows) (e : Entry) (h : History) (legal : Legal rows (e ∷ h)) (none : may_add_pair e.event e.answer ≡ false) where
+  -- no cause of refusal held
   effect_sound : Sound rows h (effect e)
   effect_sound = sound rows h e.by e.event e.answer legal.1
 
@@ -76,7 +79,9 @@ module _ (rows : Rows) (e : Entry) (h : History) (legal : Legal rows (e ∷ h)) 
       f
 
   -- an access that waits is blocked on the branches on which it was
-  blocked_on_branch : (t u : Name) (ev : Event) → accesses t ev ≡ true → list_any (λ b. blocks_event (e ∷ h) ev b && is_front (branch_of t b) u) (begun (e ∷ h)) ≡ true → list_any (λ b. blocks_event h ev b && is_front (branch_of t b) u) (begun h) ≡ true
+  blocked_on_branch : (t u : Name) (ev : Event) → accesses t ev ≡ true
+      → list_any (λ b. blocks_event (e ∷ h) ev b && is_front (branch_of t b) u) (begun (e ∷ h)) ≡ true
+      → list_any (λ b. blocks_event h ev b && is_front (branch_of t b) u) (begun h) ≡ true
   blocked_on_branch t u (Begin v) a f = absurd (false≢true a)
   blocked_on_branch t u (Access v k o) a f =
       let b = some_begun (λ b. is_blocker (e ∷ h) v k (kind o) b && is_front (branch_of t b) u) (e ∷ h) f in
@@ -91,7 +96,9 @@ module _ (rows : Rows) (e : Entry) (h : History) (legal : Legal rows (e ∷ h)) 
   blocked_on_branch t u (Abort v) a f = absurd (false≢true a)
   blocked_on_branch t u (After v w) a f = absurd (false≢true a)
 
-  pair_before : (t u : Name) (x y : Option Entry) → wait_of (e ∷ h) t ≡ x → wait_of (e ∷ h) u ≡ y → waits_by (e ∷ h) t u x y ≡ true → waits_for h t u ≡ true
+  -- so both waited before, and the first for the second
+  pair_before : (t u : Name) (x y : Option Entry) → wait_of (e ∷ h) t ≡ x → wait_of (e ∷ h) u ≡ y → waits_by (e ∷ h) t u x y ≡ true
+      → waits_for h t u ≡ true
   pair_before t u Nothing y f g w = absurd (false≢true w)
   pair_before t u (Some v) Nothing f g w = absurd (false≢true w)
   pair_before t u (Some v) (Some z) f g w =
@@ -99,6 +106,7 @@ module _ (rows : Rows) (e : Entry) (h : History) (legal : Legal rows (e ∷ h)) 
       let b = waited_before u z g in
       ap (λ (o : Option Entry). waits_by h t u o (wait_of h u)) a.0 ∙ ap (waits_by h t u (Some v)) b.0 ∙ blocked_on_branch t u v.event a.1 w
 
+  -- a pair that stands stood before
   pub pair_stays : (t u : Name) → waits_for (e ∷ h) t u ≡ true → waits_for h t u ≡ true
   pair_stays t u w = pair_before t u (wait_of (e ∷ h) t) (wait_of (e ∷ h) u) refl refl w
 
@@ -110,8 +118,10 @@ module _ (rows : Rows) (e : Entry) (h : History) (legal : Legal rows (e ∷ h)) 
   pub quiet_stays_at : Quiet h → Quiet (e ∷ h)
   quiet_stays_at q t c = q t (c.0, c.1, turns_stay t c.0 t c.2)
 
+-- the same in the law's words
 pub pairs_stay : PairsStay
 pairs_stay rows e h legal none t u w = pair_stays rows e h legal none t u w
 
+-- the same in the law's words
 pub quiet_stays : QuietStays
 quiet_stays rows e h legal none q = quiet_stays_at rows e h legal none q

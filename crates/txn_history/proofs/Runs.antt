@@ -1,10 +1,11 @@
 -- A run of two parts, one behind the other.
-use Rattle.std.proofs.Common.{◌≡◌, List, refl, sym, ap, subst, ◌∙◌}
+use Rattle.std.proofs.Common.{◌≡◌, refl, sym, ap, subst, ◌∙◌}
 use Rattle.serial_spec.specs.Operations.{value_after, reply_of}
 use Rattle.serial_spec.specs.Items.{Items, None, Access, Block, after}
 use Rattle.serial_spec.specs.Serial.{Map, put, map_after, Replies}
 use Rattle.txn_history.specs.Laws.{ChildAsBlock}
 
+-- three parts, however they are joined
 pub after_assoc : (xs ys zs : Items) → after (after xs ys) zs ≡ after xs (after ys zs)
 after_assoc None ys zs = refl
 after_assoc (Access k o r xs) ys zs = ap (Access k o r) (after_assoc xs ys zs)

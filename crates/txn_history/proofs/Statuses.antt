@@ -1,5 +1,5 @@
 -- What each entry does to statuses, to who acts and to who waits.
-use Rattle.std.proofs.Common.{◌≡◌, ℕ, Bool, true, false, not, cond, ◌&&◌, ◌||◌, List, [], ◌∷◌, Some, find, filter, refl, sym, ap, ◌∙◌, ⊎_elim}
+use Rattle.std.proofs.Common.{◌≡◌, ℕ, true, false, not, cond, ◌&&◌, ◌||◌, List, [], ◌∷◌, Some, find, filter, refl, sym, ap, ◌∙◌, ⊎_elim}
 use Rattle.std.proofs.Common.{None as Nothing}
 use Rattle.std.proofs.lemmas.Bool.{false≢true, or_left, false_from_ne_true}
 use Rattle.txn_names.specs.Path.{path_eq, is_front, parent}
@@ -32,6 +32,7 @@ pub record Told (rows : Rows) (h : History) (x : Effect) : Type 0 where
   pub uncommitted : (t : Name) → has_begun h t ≡ false → has_committed h t ≡ false
   pub unaborted : (t : Name) → has_begun h t ≡ false → has_aborted h t ≡ false
 
+-- of an entry that may stand
 pub told : (rows : Rows) (e : Entry) (h : History) → Legal rows (e ∷ h) → Told rows h (effect e)
 told rows e h l = record {
   kept = kept rows h l.0;
@@ -43,6 +44,7 @@ told rows e h l = record {
 
 -- ---- statuses
 
+-- the status that the effect sets, or the one before
 status_after_effect : (rows : Rows) (h : History) (x : Effect) → Told rows h x → (l : List ℕ) (ls : Name)
     → status_by (is_begin (l ∷ ls) x || has_begun h (l ∷ ls)) (is_commit (l ∷ ls) x || has_committed h (l ∷ ls)) (is_abort (l ∷ ls) x || has_aborted h (l ∷ ls)) ≡ sets_status x (l ∷ ls) (status h (l ∷ ls))
 status_after_effect rows h (Begins t) k l ls =
@@ -77,6 +79,7 @@ root_live rows h (Aborts []) k = clash k.abort k.kept.rootless
 root_live rows h (Aborts (c ∷ cs)) k = refl
 root_live rows h NoEffect k = refl
 
+-- of the root too
 pub status_after : StatusAfter
 status_after rows e h l [] = root_live rows h (effect e) (told rows e h l)
 status_after rows e h l (k ∷ ks) = status_after_effect rows h (effect e) (told rows e h l) k ks
@@ -88,6 +91,7 @@ none_above : (h : History) (t : Name) → acts h t ≡ true → NonePasses (has_
 none_above h [] a l ls f = absurd (false≢true f)
 none_above h (m ∷ ms) a l ls f = (acting h m ms a).unaborted l ls f
 
+-- one that begins acts
 new_acts : (rows : Rows) (h : History) (t : Name) → Told rows h (Begins t) → acts_after h (Begins t) t ≡ true
 new_acts rows h [] k = refl
 new_acts rows h (l ∷ ls) k =
@@ -102,6 +106,7 @@ new_acts rows h (l ∷ ls) k =
           (front_cases (m ∷ ms) t f);
     })
 
+-- who acts after an effect
 active_after_effect : (rows : Rows) (h : History) (x : Effect) → Told rows h x → (u : Name) → acts_after h x u ≡ acts_next x u (acts h u)
 active_after_effect rows h (Begins t) k u =
     on_path t u (λ v. acts_after h (Begins t) u ≡ (v || acts h u))
@@ -122,6 +127,7 @@ active_after_effect rows h (Aborts (c ∷ cs)) k u =
     (λ e. same_tests _ _ (aborts-fewer (has_begun h) (has_committed h) (has_aborted h) t u) (aborts-others (has_begun h) (has_committed h) (has_aborted h) t u e))
 active_after_effect rows h NoEffect k u = refl
 
+-- in the words of a history
 pub active_after : ActiveAfter
 active_after rows e h l u =
     acts-is_active (e ∷ h) u ∙ active_after_effect rows h (effect e) (told rows e h l) u ∙ ap (acts_next (effect e) u) (sym (acts-is_active h u))
@@ -129,18 +135,22 @@ active_after rows e h l u =
 -- ---- who waits
 
 -- one that acts if it has begun waits by the open wait that it has
-wait_is_found : (h : History) → WaitsKept (has_begun h) (open_waits h) → (u : Name) → (has_begun h u ≡ true → is_active h u ≡ true) → wait_of h u ≡ find (waits_as u) (open_waits h)
+wait_is_found : (h : History) → WaitsKept (has_begun h) (open_waits h) → (u : Name) → (has_begun h u ≡ true → is_active h u ≡ true)
+    → wait_of h u ≡ find (waits_as u) (open_waits h)
 wait_is_found h k u a =
     on_test (is_active h u) (λ b. cond b (find (waits_as u) (open_waits h)) Nothing ≡ find (waits_as u) (open_waits h))
     (λ _. refl)
     (λ e. sym (none_found (waits_as u) (open_waits h) (false_from_ne_true _ (λ w. clash (a (k.begun u w)) e))))
 
-find_opened : (a : Answer) (e : Entry) (ws : List Entry) (u : Name) → find (waits_as u) (opened a e ws) ≡ cond (is_waits a && accesses u e.event) (Some e) (find (waits_as u) (filter (of_others e.by) ws))
+-- the wait that is found: the new one, or one of those of other lines
+find_opened : (a : Answer) (e : Entry) (ws : List Entry) (u : Name)
+    → find (waits_as u) (opened a e ws) ≡ cond (is_waits a && accesses u e.event) (Some e) (find (waits_as u) (filter (of_others e.by) ws))
 find_opened Waits e ws u = refl
 find_opened (Done r) e ws u = refl
 find_opened Stuck e ws u = refl
 find_opened (Refused r) e ws u = refl
 
+-- the found wait is the transaction's, as long as it acts
 pub wait_after : WaitAfter
 wait_after rows e h l u =
     let k = waits_kept rows h l.0 in

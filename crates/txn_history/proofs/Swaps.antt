@@ -61,13 +61,16 @@ swap_at m xs ys a k =
     map_after-shared (map_after m xs) ys k shared ∙ sym (map_after-cong (map_after m ys) m xs k (map_after-shared m ys k shared)))
     (λ e. map_after-cong (map_after m xs) m ys k (map_after-shared m xs k e) ∙ sym (map_after-shared (map_after m ys) xs k e))
 
+-- so both orders leave the same map
 swap_maps : (m : Map) (xs ys : Items) → Apart xs ys → map_after m (after ys xs) ≡ map_after m (after xs ys)
 swap_maps m xs ys a = map_after-after m ys xs ∙ fun_ext (swap_at m xs ys a) ∙ sym (map_after-after m xs ys)
 
+-- and have the same replies
 swap_replies : (m : Map) (xs ys : Items) → Apart xs ys → Replies m (after ys xs) → Replies m (after xs ys)
 swap_replies m xs ys a h =
     Replies-join m xs ys (Replies-before m xs ys a (Replies-second m ys xs h))
     (Replies-behind m ys xs (Apart_comm xs ys a) (Replies-first m ys xs h))
 
+-- both together
 pub neighbours_swap : NeighboursSwap
 neighbours_swap m m2 xs ys a run = (swap_replies m xs ys a run.0, sym (swap_maps m xs ys a) ∙ run.1)

@@ -15,7 +15,7 @@ use Rattle.serial_spec.specs.declared.entry.Answer.{Answer}
 use Rattle.serial_spec.specs.declared.entry.Answer.TheVariants.{Done, Waits, Stuck, Refused}
 use Rattle.serial_spec.specs.declared.entry.Entry.{Entry}
 use Rattle.serial_spec.specs.Operations.{kind}
-use Rattle.serial_spec.specs.History.{Name, History, begun, has_begun, is_active, is_begin, effect}
+use Rattle.serial_spec.specs.History.{Name, History, begun, has_begun, is_begin, effect}
 use Rattle.serial_spec.specs.Locks.{is_blocked}
 use Rattle.serial_spec.specs.Waits.{same_line, is_waits, open_waits, accesses, wait_of, Quiet, IsVictim}
 use Rattle.serial_spec.specs.Rows.{Rows}
@@ -26,9 +26,9 @@ use Rattle.txn_history.proofs.Tests.{clash}
 use Rattle.txn_history.proofs.Lists.{any_cases, any-filter, none-filter, any-find, not_found, none_found}
 use Rattle.txn_history.proofs.Activity.{acts, acts_active}
 use Rattle.txn_history.proofs.Causes.{abort_of, neither, not_when, not_refused, acts_at_end}
-
 pub use Rattle.txn_history.proofs.Lists.{found_passes}
 
+-- the entry is of an access of t
 abbrev pub waits_as : Name → Entry → Bool
 waits_as t w = accesses t w.event
 
@@ -38,10 +38,12 @@ of_others by w = not (same_line w.by by)
 
 -- ---- at most one wait a transaction
 
+-- no two of these waits are of one transaction
 abbrev pub OneEach : List Entry → Type 0
 OneEach [] = Unit {0}
 OneEach (w ∷ ws) = ((t : Name) → waits_as t w ≡ true → list_any (waits_as t) ws ≡ false) × OneEach ws
 
+-- a filter keeps that
 one_each-filter : (keep : Entry → Bool) (ws : List Entry) → OneEach ws → OneEach (filter keep ws)
 one_each-filter keep [] o = tt
 one_each-filter keep (w ∷ ws) o =
@@ -50,7 +52,8 @@ one_each-filter keep (w ∷ ws) o =
     (λ _. one_each-filter keep ws o.1)
 
 -- so of a transaction's waits a filter keeps the one that is found, or none
-pub found-filter : (keep : Entry → Bool) (ws : List Entry) (t : Name) (w : Entry) → OneEach ws → find (waits_as t) (filter keep ws) ≡ Some w → find (waits_as t) ws ≡ Some w
+pub found-filter : (keep : Entry → Bool) (ws : List Entry) (t : Name) (w : Entry) → OneEach ws → find (waits_as t) (filter keep ws) ≡ Some w
+    → find (waits_as t) ws ≡ Some w
 found-filter keep [] t w o h = h
 found-filter keep (v ∷ vs) t w o h =
     let rest = filter keep vs in
@@ -64,7 +67,8 @@ found-filter keep (v ∷ vs) t w o h =
     h
 
 -- without the waits of a line, a transaction's wait is the one that it was, unless that was of this line
-pub found_unless : (by : By) (ws : List Entry) (t : Name) → OneEach ws → find (waits_as t) (filter (of_others by) ws) ≡ unless_by by (find (waits_as t) ws)
+pub found_unless : (by : By) (ws : List Entry) (t : Name) → OneEach ws
+    → find (waits_as t) (filter (of_others by) ws) ≡ unless_by by (find (waits_as t) ws)
 found_unless by [] t o = refl
 found_unless by (v ∷ vs) t o =
     let rest = filter (of_others by) vs in
@@ -78,15 +82,18 @@ found_unless by (v ∷ vs) t o =
 
 -- ---- an entry that waits
 
+-- an access that waits has a line that has not waited
 wait_given : (b w : Bool) (s : Reply) → cond b (cond w Nothing (Some Waits)) (Some (Done s)) ≡ Some Waits → w ≡ false
 wait_given true true s h = cc
 wait_given true false s h = refl
 wait_given false w s h = cc
 
+-- a begin, a commit and an abort do not wait
 no_wait : (c : Option Refusal) (s : Reply) → refused_or c (Some (Done s)) ≡ Some Waits → ⊥
 no_wait Nothing s h = cc
 no_wait (Some r) s h = cc
 
+-- nor does an `after` line make an entry that waits
 no_wait_after : (b : Bool) → cond b (Some (Done Ok)) Nothing ≡ Some Waits → ⊥
 no_wait_after true h = cc
 no_wait_after false h = cc
@@ -104,9 +111,11 @@ pub record NewWaitOf (h : History) (by : By) (t : Name) : Type 0 where
   pub alone : waits_elsewhere h by t ≡ false
   pub first : has_waited h by ≡ false
 
+-- the entry is of no transaction, or of one of which this holds
 abbrev pub NewWait : History → By → Event → Type 0
 NewWait h by e = (t : Name) → accesses t e ≡ true → NewWaitOf h by t
 
+-- a wait that may stand is new
 new_wait : (rows : Rows) (h : History) (by : By) (e : Event) → Allowed rows h by e Waits → NewWait h by e
 new_wait rows h by (Begin u) q t f = absurd (no_wait (cause_at_begin h u) Ok q)
 new_wait rows h by (Access u k o) q t f =
@@ -137,7 +146,8 @@ waited f (e ∷ h) a =
     a
 
 -- where a transaction's wait, if any, is of this line, and this line has not waited, the transaction has none
-none_of_line : (h : History) (by : By) (t : Name) (w : Option Entry) → find (waits_as t) (open_waits h) ≡ w → is_other_line by w ≡ false → has_waited h by ≡ false → list_any (waits_as t) (open_waits h) ≡ false
+none_of_line : (h : History) (by : By) (t : Name) (w : Option Entry) → find (waits_as t) (open_waits h) ≡ w → is_other_line by w ≡ false
+    → has_waited h by ≡ false → list_any (waits_as t) (open_waits h) ≡ false
 none_of_line h by t Nothing e f n = not_found (waits_as t) (open_waits h) e
 none_of_line h by t (Some w) e f n =
     let of_line : list_any (λ v. same_line v.by by) (open_waits h) ≡ true = any-find (waits_as t) (λ v. same_line v.by by) (open_waits h) w e (not-false (same_line w.by by) f) in
@@ -159,13 +169,19 @@ pub record WaitsKept (started : Name → Bool) (ws : List Entry) : Type 0 where
 abbrev pub opened : Answer → Entry → List Entry → List Entry
 opened a e ws = cond (is_waits a) (e ∷ filter (of_others e.by) ws) (filter (of_others e.by) ws)
 
-begun_still : (h : History) (e : Entry) → WaitsKept (has_begun h) (open_waits h) → (t : Name) → list_any (waits_as t) (filter (of_others e.by) (open_waits h)) ≡ true → has_begun (e ∷ h) t ≡ true
+-- each of the waits that are left is of one that has begun
+begun_still : (h : History) (e : Entry) → WaitsKept (has_begun h) (open_waits h) → (t : Name)
+    → list_any (waits_as t) (filter (of_others e.by) (open_waits h)) ≡ true → has_begun (e ∷ h) t ≡ true
 begun_still h e k t f = or_right (is_begin t (effect e)) (has_begun h t) (k.begun t (any-filter (waits_as t) (of_others e.by) (open_waits h) f))
 
-fewer_waits : (h : History) (e : Entry) → WaitsKept (has_begun h) (open_waits h) → WaitsKept (has_begun (e ∷ h)) (filter (of_others e.by) (open_waits h))
+-- an entry that does not wait ends its own line's waits at most
+fewer_waits : (h : History) (e : Entry) → WaitsKept (has_begun h) (open_waits h)
+    → WaitsKept (has_begun (e ∷ h)) (filter (of_others e.by) (open_waits h))
 fewer_waits h e k = record { one = one_each-filter (of_others e.by) (open_waits h) k.one; begun = begun_still h e k }
 
-one_wait_more : (h : History) (e : Entry) → NewWait h e.by e.event → WaitsKept (has_begun h) (open_waits h) → WaitsKept (has_begun (e ∷ h)) (e ∷ filter (of_others e.by) (open_waits h))
+-- an entry that waits adds its transaction's only wait
+one_wait_more : (h : History) (e : Entry) → NewWait h e.by e.event → WaitsKept (has_begun h) (open_waits h)
+    → WaitsKept (has_begun (e ∷ h)) (e ∷ filter (of_others e.by) (open_waits h))
 one_wait_more h e n k = record {
   one = (λ t f. none-filter (waits_as t) (of_others e.by) (open_waits h) (none_open h e.by t (n t f)), one_each-filter (of_others e.by) (open_waits h) k.one);
   begun = λ t f. ⊎_elim
@@ -174,12 +190,15 @@ one_wait_more h e n k = record {
       (any_cases (waits_as t) e (filter (of_others e.by) (open_waits h)) f);
 }
 
-waits_kept_after : (rows : Rows) (h : History) (e : Entry) (a : Answer) → MayStand rows h e.by e.event a → WaitsKept (has_begun h) (open_waits h) → WaitsKept (has_begun (e ∷ h)) (opened a e (open_waits h))
+-- one or the other, by the answer
+waits_kept_after : (rows : Rows) (h : History) (e : Entry) (a : Answer) → MayStand rows h e.by e.event a → WaitsKept (has_begun h) (open_waits h)
+    → WaitsKept (has_begun (e ∷ h)) (opened a e (open_waits h))
 waits_kept_after rows h e Waits m k = one_wait_more h e (may_wait rows h e.by e.event m) k
 waits_kept_after rows h e (Done r) m k = fewer_waits h e k
 waits_kept_after rows h e Stuck m k = fewer_waits h e k
 waits_kept_after rows h e (Refused r) m k = fewer_waits h e k
 
+-- so every legal history keeps it
 pub waits_kept : (rows : Rows) (h : History) → Legal rows h → WaitsKept (has_begun h) (open_waits h)
 waits_kept rows [] l = record { one = tt; begun = λ t f. absurd (false≢true f) }
 waits_kept rows (e ∷ h) l = waits_kept_after rows h e e.answer l.1 (waits_kept rows h l.0)

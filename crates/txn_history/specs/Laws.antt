@@ -6,7 +6,7 @@ use Rattle.serial_spec.specs.declared.event.Event.TheVariants.{Access as AccessO
 use Rattle.serial_spec.specs.declared.entry.Answer.{Answer}
 use Rattle.serial_spec.specs.declared.entry.Answer.TheVariants.{Done, Waits}
 use Rattle.serial_spec.specs.declared.entry.Entry.{Entry}
-use Rattle.serial_spec.specs.History.{Name, History, Effect, Commits, effect, status, is_live, is_committed, has_begun, has_committed, has_aborted, is_orphan, is_active}
+use Rattle.serial_spec.specs.History.{Name, History, Effect, Commits, effect, status, is_live, is_committed, has_begun, is_orphan, is_active}
 use Rattle.serial_spec.specs.Items.{Items, None, Access, Block, after, items, chain, HasBlock}
 use Rattle.serial_spec.specs.Serial.{Map, map_after, Replies, Runs, Right, home, stored}
 use Rattle.serial_spec.specs.Locks.{foot, is_exclusive}
@@ -34,6 +34,24 @@ HomeByParent =
 abbrev pub TableCorrectness : Type 0
 TableCorrectness =
     (rows : Rows) (h : History) → Legal rows h → Runs (value_in rows) (items h []) (stored (value_in rows) h)
+
+-- the top-level transactions that have committed, the last committed first
+abbrev pub committed_by : Effect → List Name → List Name
+committed_by (Commits (l ∷ [])) ts = (l ∷ []) ∷ ts
+committed_by x ts = ts
+
+abbrev pub committed_tops : History → List Name
+committed_tops [] = []
+committed_tops (e ∷ h) = committed_by (effect e) (committed_tops h)
+
+-- what each of them has done, as one block
+abbrev pub blocks_of : (Name → Items) → List Name → Items
+blocks_of own [] = None
+blocks_of own (t ∷ ts) = Block (own t) (blocks_of own ts)
+
+-- the run that makes the table is that of the committed top-level transactions, whole and one at a time, in the order in which they committed
+abbrev pub CommitOrder : Type 0
+CommitOrder = (rows : Rows) (h : History) → Legal rows h → items h [] ≡ blocks_of (items h) (committed_tops h)
 
 -- what a live one sees is itself a run
 abbrev pub LiveCorrectness : Type 0

@@ -2,11 +2,12 @@
 ghost use Rattle.std.specs.Prelude.{◌≡◌, ◌≤◌, ◌↔◌, ℕ, IfOk, OnOk, IfErr, OnErr, is_err};
 ghost use Rattle.serial_spec.specs.Changes.{AreRising, overlay};
 ghost use Rattle.serial_spec.specs.Rows.{IsRising, value_in};
-ghost use Rattle.manager_core.specs.Store.{plain, faults_after, TellsFailure};
+ghost use Rattle.manager_core.specs.Store.{plain, faults_after};
 
 use crate::store::{Row, StoreFault, TopStore, table_after, table_of};
 use serial_spec::{NoMemory, PlainTable};
 use std::alloc::Global;
+use std::marker::Model;
 use txn_names::Change;
 
 /// A table in memory, which fails for want of memory alone.
@@ -16,15 +17,25 @@ pub struct MemStore {
     faults: u64,
 }
 
+impl Model for MemStore {
+    ghost use Rattle.manager_core.specs.Memory.{Memory};
+
+    ghost Value = { Memory };
+
+    ghost view = { λ s. record { rows = s.table; faults = s.faults } };
+}
+
 impl MemStore {
     /// A store of these rows, which stand in byte order of their keys, one for each. The only error is want
     /// of memory.
     pub fn new(alloc: Global, rows: &[Row]) -> Result<MemStore, NoMemory>
         requires { IsRising (plain rows.now) }
-        ensures table { IfOk result (λ store. ⟦<MemStore as TopStore>⟧.table store ≡ value_in (plain rows.now)) }
-        ensures faults { IfOk result (λ store. ⟦<MemStore as TopStore>⟧.faults store ≡ 0) }
+        ensures rows { IfOk result (λ store. store.rows ≡ plain rows.now) }
+        ensures faults { IfOk result (λ store. store.faults ≡ 0) }
     {
         let table = table_of(alloc, rows)?;
+        // By this the rows are known to be in order.
+        let _len = table.len();
         Ok(MemStore { table, faults: 0 })
     }
 }
@@ -43,7 +54,7 @@ fn rows_of(alloc: Global, table: &PlainTable) -> Result<Vec<Row>, NoMemory>
 }
 
 impl TopStore for MemStore {
-    ghost table = { λ s. value_in s.table };
+    ghost table = { λ s. value_in s.rows };
 
     ghost doubt = { λ _. 0 };
 
@@ -52,7 +63,7 @@ impl TopStore for MemStore {
     ghost faults = { λ s. s.faults };
 
     fn load(&mut self, alloc: Global) -> Result<Vec<Row>, StoreFault>
-        ensures rows { IfOk result (λ rows. value_in (plain rows.items) ≡ value_in self.old.table) }
+        ensures rows { IfOk result (λ rows. plain rows.items ≡ self.old.rows) }
         ensures rising { IfOk result (λ rows. IsRising (plain rows.items)) }
         ensures memory { IfErr result (λ fault. fault ≡ StoreFault.Memory) }
         ensures kept { self.new ≡ self.old }
@@ -64,9 +75,9 @@ impl TopStore for MemStore {
     }
 
     fn commit(&mut self, changes: &[Change]) -> Result<(), StoreFault>
-        ensures ok { OnOk result (value_in self.new.table ≡ overlay changes.now (value_in self.old.table)) }
+        ensures ok { OnOk result (value_in self.new.rows ≡ overlay changes.now (value_in self.old.rows)) }
         ensures memory { IfErr result (λ fault. fault ≡ StoreFault.Memory) }
-        ensures refused { OnErr result (self.new.table ≡ self.old.table) }
+        ensures refused { OnErr result (self.new.rows ≡ self.old.rows) }
         ensures faults { self.new.faults ≡ faults_after (is_err result) self.old.faults }
     {
         match table_after(&self.table, changes) {

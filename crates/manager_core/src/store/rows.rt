@@ -1,13 +1,27 @@
 //! Rows and changes over one plain table.
-ghost use Rattle.std.specs.Prelude.{◌≡◌, ℕ, [], IfOk};
+ghost use Rattle.std.specs.Prelude.{◌≡◌, ◌↔◌, ℕ, [], IfOk, IsTrue};
 ghost use Rattle.serial_spec.specs.Changes.{overlay};
-ghost use Rattle.serial_spec.specs.Rows.{value_in};
+ghost use Rattle.serial_spec.specs.Rows.{IsRising, value_in};
 ghost use Rattle.manager_core.specs.Store.{plain};
 
 use crate::store::Row;
 use serial_spec::{NoMemory, PlainTable};
 use std::alloc::Global;
 use txn_names::Change;
+
+/// Whether the rows stand in byte order of their keys, one for each.
+pub fn are_rising(rows: &[Row]) -> bool
+    ensures { IsTrue result ↔ IsRising (plain rows.now) }
+{
+    let mut left = rows.len();
+    while left > 1 {
+        left -= 1;
+        if rows[left - 1].key >= rows[left].key {
+            return false;
+        }
+    }
+    true
+}
 
 /// The table of these rows. Of several rows with one key the first counts. The only error is want of memory.
 pub fn table_of(alloc: Global, rows: &[Row]) -> Result<PlainTable, NoMemory>

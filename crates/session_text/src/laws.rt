@@ -1,0 +1,18 @@
+//! The laws of session texts, each as the contract of a function that does nothing.
+
+ghost use Rattle.session_text.specs.Laws.{LinesReadBack, NumbersReadBack, TextsReadBack};
+
+/// Bytes are read as a number exactly where they spell it.
+pub fn numbers_read_back()
+    ensures { NumbersReadBack }
+{}
+
+/// Bytes are read as a command exactly where they spell it.
+pub fn lines_read_back()
+    ensures { LinesReadBack }
+{}
+
+/// Bytes are read as sessions exactly where they spell them, and they are served.
+pub fn texts_read_back()
+    ensures { TextsReadBack }
+{}

@@ -1,0 +1,4 @@
+pub mod Changes
+pub mod Children
+pub mod Refusals
+pub mod Tops

@@ -1,0 +1,47 @@
+-- What it tells that there is no cause to refuse.
+use Rattle.std.proofs.Common.{◌≡◌, ◌≢◌, ℕ, ◌<◌, Bool, true, false, not, nat_le, List, [], ◌∷◌, length, Option, Some, None, unwrap_or, refl, ap, subst, ◌∙◌, true≢false, arith}
+use Rattle.std.specs.Prelude.{IfSome}
+use Rattle.std.specs.Map.{lookup}
+use Rattle.std.proofs.lemmas.Bool.{leb-false}
+use Rattle.std.proofs.lemmas.Map.Views.{IfSome-lookup_from_All}
+use Rattle.txn_names.specs.Path.{Path, path_eq, parent}
+use Rattle.serial_spec.specs.History.{or_else}
+use Rattle.serial_spec.specs.Allowed.{when, most_transactions}
+use Rattle.serial_spec.specs.declared.entry.Refusal.{Refusal}
+use Rattle.serial_spec.specs.declared.entry.Refusal.TheVariants.{Unknown, Used, NoParent, Done, Full}
+use Rattle.txn_tree.specs.declared.status.Status.{Status}
+use Rattle.txn_tree.specs.declared.status.Status.TheVariants.{Absent}
+use Rattle.txn_tree.specs.States.{States, IsTree, status_in, is_absent}
+use Rattle.txn_tree.specs.Asked.{is_absent_in, has_committed_in}
+use Rattle.txn_tree.specs.Causes.{orphaned, cause_at_begin, cause_at_abort, cause_at_commit}
+
+no_cause_at_begin : (a b : Bool) (o : Option Refusal) (d e : Bool)
+    → or_else (when (not a) Used) (or_else (when b NoParent) (or_else o (or_else (when d NoParent) (when e Full)))) ≡ None
+    → (a ≡ true) × (e ≡ false)
+no_cause_at_begin true false None false false h = (refl, refl)
+no_cause_at_begin true false None false true h = cc
+no_cause_at_begin true false None true e h = cc
+no_cause_at_begin true false (Some r) d e h = cc
+no_cause_at_begin true true o d e h = cc
+no_cause_at_begin false b o d e h = cc
+
+no_row : (o : Option Status) → IfSome o (λ s. s ≢ Absent) → is_absent (unwrap_or o Absent) ≡ true → o ≡ None
+no_row None h e = refl
+no_row (Some s) h e = absurd (h (is s e))
+  where
+    is : (s : Status) → is_absent s ≡ true → s ≡ Absent
+    is Absent e = refl
+    is s e = absurd (true≢false cc)
+
+-- who may begin is new, and there is place for it
+pub new_to_begin : (tree : States) (l : List ℕ) (ls : Path) → IsTree tree → cause_at_begin tree (l ∷ ls) ≡ None → lookup (path_eq (l ∷ ls)) tree ≡ None
+new_to_begin tree l ls is e =
+    let t = l ∷ ls in
+    let p = no_cause_at_begin (is_absent_in tree t) (is_absent_in tree (parent t)) (orphaned tree (parent t)) (has_committed_in tree (parent t)) (nat_le most_transactions (length tree)) e in
+    no_row (lookup (path_eq t) tree) (IfSome-lookup_from_All (λ s. s ≢ Absent) (path_eq t) tree is.begun) p.0
+
+pub place_to_begin : (tree : States) (t : Path) → cause_at_begin tree t ≡ None → length tree < most_transactions
+place_to_begin tree t e =
+    let p = no_cause_at_begin (is_absent_in tree t) (is_absent_in tree (parent t)) (orphaned tree (parent t)) (has_committed_in tree (parent t)) (nat_le most_transactions (length tree)) e in
+    leb-false most_transactions (length tree) p.1
+
