@@ -4,16 +4,11 @@ use Rattle.std.proofs.lemmas.Bool.{false≢true, and_parts, and_from, or_cases, 
 use Rattle.std.specs.List.{list_any, list_all}
 use Rattle.txn_names.specs.Path.{path_eq}
 use Rattle.txn_names.proofs.Names.{path_eq_self, same_path, on_test}
-use Rattle.serial_spec.specs.declared.entry.By.TheVariants.{Close}
-use Rattle.serial_spec.specs.declared.operation.Reply.TheVariants.{Ok}
-use Rattle.serial_spec.specs.declared.event.Event.TheVariants.{Abort}
-use Rattle.serial_spec.specs.declared.entry.Answer.TheVariants.{Done}
 use Rattle.serial_spec.specs.declared.entry.Entry.{Entry}
 use Rattle.serial_spec.specs.History.{Name, History, Effect, Begins, Accesses, Commits, Aborts, Nothing, effect, is_begin, is_live, is_live_status, Absent, Live, Committed, Aborted, or_else, has_begun, has_aborted, has_committed, begun, begun_by}
 use Rattle.serial_spec.specs.Rows.{Rows}
 use Rattle.serial_spec.specs.Interleaving.{closing}
 use Rattle.serial_spec.specs.Legal.{is_top_level, first_live}
-use Rattle.manager_core.specs.State.{entry}
 use Rattle.manager_core.specs.Kept.{is_on, IsAlone, IsSingle, IsKept}
 use Rattle.manager_core.specs.Recorded.{begun_in}
 use Rattle.manager_core.proofs.Waitless.{neither, quiet}

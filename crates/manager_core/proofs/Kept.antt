@@ -15,7 +15,7 @@ use Rattle.serial_spec.specs.Values.{seen}
 use Rattle.serial_spec.specs.Waits.{is_waits, Quiet}
 use Rattle.serial_spec.specs.Rows.{Rows, value_in}
 use Rattle.serial_spec.specs.Allowed.{Allowed}
-use Rattle.serial_spec.specs.Legal.{Legal, MayStand}
+use Rattle.serial_spec.specs.Legal.{MayStand}
 use Rattle.manager_core.specs.declared.outcome.Outcome.{Outcome}
 use Rattle.manager_core.specs.declared.outcome.Outcome.TheVariants.{Done, Waits, Refused}
 use Rattle.manager_core.specs.Outcomes.{answer_of}

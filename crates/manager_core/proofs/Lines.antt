@@ -35,11 +35,11 @@ filtered_none p (x ∷ xs) e =
     on_test (p x) (λ b. cond b (x ∷ filter p xs) (filter p xs) ≡ [] → b || list_any p xs ≡ false)
     (λ _ f. cc) (λ _ f. filtered_none p xs f) e
 
--- where nobody waits, the lines without an entry
-pub free_without : (h : History) (by : By) (event : Event) → has_waits h ≡ false → IsLine by → list_any (λ e. same_line e.by by) h ≡ false → IsFree h by event
-free_without h by event silent line n = record { line = line; unused = inl (none_filtered (λ e. same_line e.by by) h n) }
+-- a line without an entry is free
+pub free_without : (h : History) (by : By) (event : Event) → IsLine by → list_any (λ e. same_line e.by by) h ≡ false → IsFree h by event
+free_without h by event line n = record { line = line; unused = inl (none_filtered (λ e. same_line e.by by) h n) }
 
--- and no others are free
+-- and where nobody waits no others are
 pub free_is : (h : History) (by : By) (event : Event) → has_waits h ≡ false → IsFree h by event → list_any (λ e. same_line e.by by) h ≡ false
 free_is h by event silent free =
     ⊎_elim (λ e. filtered_none (λ e. same_line e.by by) h e)

@@ -1,11 +1,8 @@
 -- The rows of the opening.
-use Rattle.std.proofs.Common.{◌≡◌, ℕ, ◌+◌, ◌<◌, ◌^◌, List, [], ◌∷◌, length, map, drop, get_or, Some, refl, ap, sym, ◌∙◌, arith}
-use Rattle.std.proofs.lemmas.List.{drop_more}
-use Rattle.serial_spec.specs.Serial.{Map, put}
+use Rattle.std.proofs.Common.{◌≡◌, ℕ, ◌<◌, ◌^◌, [], ◌∷◌, refl, ap, sym, ◌∙◌, arith}
+use Rattle.serial_spec.specs.Serial.{Map}
 use Rattle.serial_spec.specs.Rows.{Rows, value_in, IsRising}
-use Rattle.manager_core.specs.declared.store.Row.{Row}
 use Rattle.manager_core.specs.declared.store.TopStore.{Ghosts}
-use Rattle.manager_core.specs.Store.{plain}
 use Rattle.manager_core.specs.Kept.{IsKept}
 use Rattle.manager_core.specs.Sound.{IsBacked}
 use Rattle.manager_core.proofs.Waitless.{quiet}

@@ -9,7 +9,7 @@ use Rattle.std.specs.Ordering.{nat_cmp, is_eq, is_ge, ordering_reverse}
 use Rattle.std.specs.declared.cmp.Ordering.{Ordering}
 use Rattle.std.specs.declared.cmp.Ordering.TheVariants.{Less, Equal, Greater}
 use Rattle.txn_names.specs.Path.{label_eq}
-use Rattle.txn_names.proofs.Names.{same_label, label_eq_self, on_test}
+use Rattle.txn_names.proofs.Names.{same_label, label_eq_self}
 use Rattle.serial_spec.specs.Rows.{Rows, value_in, IsRising}
 use Rattle.manager_core.specs.declared.store.Row.{Row}
 use Rattle.manager_core.specs.Store.{plain}

@@ -148,8 +148,8 @@ impl Log {
         entry.add_to(&mut self.entries);
     }
 
-    #[tactic(auto, using(crate::proofs::Reversed::any_reversed))]
     /// Whether the key is in an opening row or in an answered access.
+    #[tactic(auto, using(crate::proofs::Reversed::any_reversed))]
     pub(crate) fn knows(&self, key: &Key) -> bool
         ensures { result ≡ list_any (label_eq key.now) (known self.now.rows self.now.entries) }
     {

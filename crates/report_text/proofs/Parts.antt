@@ -6,6 +6,8 @@ use Rattle.serial_spec.specs.declared.entry.Entry.{Entry}
 use Rattle.serial_spec.specs.Rows.{Rows}
 use Rattle.serial_spec.specs.Printing.{spelled_number}
 use Rattle.serial_spec.specs.Report.{line, spelled_history, spelled_rows}
+use Rattle.manager_core.specs.declared.store.Row.{Row}
+use Rattle.manager_core.specs.Store.{plain}
 use Rattle.report_text.specs.Lines.{entry_line, row_line, row_lines}
 
 -- ---- rows
@@ -56,3 +58,19 @@ spelled-parted labels xs k e h same =
     ap (λ z. z ++ spelled_history labels (reverse (drop (k + 1) xs))) (sym (spelled-at labels xs k e h same))
     ∙ sym (spelled-append labels (take (k + 1) xs) (drop (k + 1) xs))
     ∙ ap (λ zs. spelled_history labels (reverse zs)) (take-append-drop (k + 1) xs)
+
+-- ---- rows as the program holds them
+
+abbrev key_value : Row → List ℕ × ℤ
+key_value r = (r.key, r.value)
+
+-- the row at k, as keys and values
+pub plain-at : (rows : List Row) (k : ℕ) (r : Row) → k < length rows → r ≡ get_or rows k r → slice_get (plain rows) k ≡ Some (r.key, r.value)
+plain-at [] k r h e = absurd (omega (arith, h))
+plain-at (x ∷ rows) zero r h e = ap (λ q. Some (key_value q)) (sym e)
+plain-at (x ∷ rows) (suc k) r h e = plain-at rows k r (omega (arith, h)) e
+
+pub plain-take : (rows : List Row) (k : ℕ) → plain (take k rows) ≡ take k (plain rows)
+plain-take rows zero = refl
+plain-take [] (suc k) = refl
+plain-take (x ∷ rows) (suc k) = ap (λ rs. key_value x ∷ rs) (plain-take rows k)

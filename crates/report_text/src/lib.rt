@@ -2,6 +2,8 @@
 #![tactic(auto)]
 
 mod entries;
+mod report;
 mod spelling;
 
+pub use report::write_report;
 pub use txn_bytes::WriteFault;

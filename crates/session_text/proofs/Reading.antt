@@ -116,8 +116,8 @@ when_reads w t h =
     pick (bytes_eq w (codes "begun")) (Ok Begun) (cond (bytes_eq w (codes "done")) (Ok Done) (Err kind.Word)) (Ok t) h
     (λ b e. is_word w _ b ∙ ap spelled_when (same_ok Begun t e))
     (λ _ no. pick (bytes_eq w (codes "done")) (Ok Done) (Err kind.Word) (Ok t) no
-      (λ b e. is_word w _ b ∙ ap spelled_when (same_ok Done t e))
-      (λ _ e. not_word kind.Word t e))
+    (λ b e. is_word w _ b ∙ ap spelled_when (same_ok Done t e))
+    (λ _ e. not_word kind.Word t e))
 
 when_again : (t : When) → when_in (spelled_when t) ≡ Ok t
 when_again Begun = refl
@@ -174,9 +174,12 @@ valued_reads ws p h =
     let rn = name_reads w.0.0 n.0 n.1 in
     let rk = key_reads w.0.1 k.0 k.1 in
     let rv = value_reads w.0.2 v.0 v.1 in
-    subst (ReadsValued ws) same
-    (rn.0, rk.0, rv.0,
-     three_reads ws w.0 w.1 ∙ ap₂ (λ a bs. a ∷ bs) rn.1 (ap₂ (λ a b. a ∷ b ∷ []) rk.1 rv.1))
+    subst (ReadsValued ws) same (
+      rn.0,
+      rk.0,
+      rv.0,
+      three_reads ws w.0 w.1 ∙ ap₂ (λ a bs. a ∷ bs) rn.1 (ap₂ (λ a b. a ∷ b ∷ []) rk.1 rv.1),
+    )
 
 timed_reads : (ws : Words) (p : Path × When) → timed ws ≡ Ok p → IsName p.0 × (ws ≡ spelled_name p.0 ∷ spelled_when p.1 ∷ [])
 timed_reads ws p h =
@@ -296,7 +299,7 @@ event_reads bs e h =
     pick (nat_eq (length bs) 0) (Err kind.Empty) (command_of (cut_at 32 bs)) (Ok e) h
     (λ _ no. not_word kind.Empty e no)
     (λ _ r. let s = words_read (cut_at 32 bs) e r in
-      (s.0, sym (joined_cut 32 bs) ∙ ap (join_with_byte 32) s.1 ∙ joined_words e))
+    (s.0, sym (joined_cut 32 bs) ∙ ap (join_with_byte 32) s.1 ∙ joined_words e))
 
 -- ---- what is spelled is read again
 

@@ -62,7 +62,7 @@ line_reads bs l h = reads_by (cut_at 32 bs) bs l (sym (joined_cut 32 bs)) h
 header_again : (l : List ℕ) → IsLabel l → line_of (codes "session " ++ l) ≡ Ok (Header l)
 header_again l h =
     let cut : cut_at 32 (codes "session " ++ l) ≡ codes "session" ∷ l ∷ [] =
-        cut_behind 32 (codes "session") l refl ∙ ap (λ ws. codes "session" ∷ ws) (cut_lacking 32 l (label_lacks 32 space l h.plain)) in
+    cut_behind 32 (codes "session") l refl ∙ ap (λ ws. codes "session" ∷ ws) (cut_lacking 32 l (label_lacks 32 space l h.plain)) in
     ap (λ ws. line_by ws (codes "session " ++ l)) cut ∙ ap (λ r. r >>= λ x. Ok (Header x)) (label_again l h)
 
 -- the first word of a command is not a header's

@@ -72,9 +72,10 @@ with_bytes_reads : (ss more : List Session) (p : List ℕ) → IsKept ss → wit
 with_bytes_reads ss more p h e =
     let l = bind_ok (line_of p) (λ l. unless (option_or (misplaced ss l) (refusal ss l)) (grown ss l)) more e in
     let f = faultless (misplaced ss l.0) (refusal ss l.0) (grown ss l.0) more l.2 in
-    let r = line_reads p l.0 l.1 in
-    (subst IsKept f.2 (kept_grown ss l.0 h r.0 f.0 f.1),
-     ap spelled_text (sym f.2) ∙ spelled_grown ss l.0 f.0 ∙ ap (λ bs. spelled_text ss ++ (bs ++ 10 ∷ [])) (sym r.1))
+    let r = line_reads p l.0 l.1 in (
+      subst IsKept f.2 (kept_grown ss l.0 h r.0 f.0 f.1),
+      ap spelled_text (sym f.2) ∙ spelled_grown ss l.0 f.0 ∙ ap (λ bs. spelled_text ss ++ (bs ++ 10 ∷ [])) (sym r.1),
+    )
 
 at_line_ok : (n : ℕ) (r : Result (List Session) LineKind) (ss : List Session) → at_line n r ≡ Ok ss → r ≡ Ok ss
 at_line_ok n (Ok ts) ss h = cc
@@ -97,12 +98,13 @@ read_reads (p ∷ []) n ss ts h e =
 read_reads (p ∷ q ∷ ps) n ss ts h e =
     let more = bind_ok (at_line n (with_bytes ss p)) (λ more. read_from (n + 1) more (q ∷ ps)) ts e in
     let line = with_bytes_reads ss more.0 p h (at_line_ok n (with_bytes ss p) more.0 more.1) in
-    let rest = read_reads (q ∷ ps) (n + 1) more.0 ts line.0 more.2 in
-    (rest.0,
-     rest.1
-     ∙ ap (λ bs. bs ++ join_with_byte 10 (q ∷ ps)) line.1
-     ∙ append_assoc (spelled_text ss) (p ++ 10 ∷ []) (join_with_byte 10 (q ∷ ps))
-     ∙ ap (λ bs. spelled_text ss ++ bs) (append_assoc p (10 ∷ []) (join_with_byte 10 (q ∷ ps))))
+    let rest = read_reads (q ∷ ps) (n + 1) more.0 ts line.0 more.2 in (
+      rest.0,
+      rest.1
+          ∙ ap (λ bs. bs ++ join_with_byte 10 (q ∷ ps)) line.1
+          ∙ append_assoc (spelled_text ss) (p ++ 10 ∷ []) (join_with_byte 10 (q ∷ ps))
+          ∙ ap (λ bs. spelled_text ss ++ bs) (append_assoc p (10 ∷ []) (join_with_byte 10 (q ∷ ps))),
+    )
 
 empty : IsKept []
 empty = (record { few = omega arith; sessions = tt; apart = tt }, tt)
@@ -120,8 +122,8 @@ step : (n : ℕ) (ss : List Session) (l : TextLine) (rest : List ℕ) → IsText
 step n ss l rest h placed served =
     let s = cut_some 10 rest in
     let grows : with_bytes ss (spelled_line l) ≡ Ok (grown ss l) =
-        ap (λ (r : Result TextLine LineKind). r >>= λ l. unless (option_or (misplaced ss l) (refusal ss l)) (grown ss l)) (line_again l h)
-        ∙ ap₂ (λ a b. unless (option_or a b) (grown ss l)) placed served in
+    ap (λ (r : Result TextLine LineKind). r >>= λ l. unless (option_or (misplaced ss l) (refusal ss l)) (grown ss l)) (line_again l h)
+    ∙ ap₂ (λ a b. unless (option_or a b) (grown ss l)) placed served in
     ap (read_from n ss) (cut_behind 10 (spelled_line l) rest (line_lacks l h) ∙ ap (λ ps. spelled_line l ∷ ps) s.2)
     ∙ ap (λ r. at_line n r >>= λ more. read_from (n + 1) more (s.0 ∷ s.1)) grows
     ∙ ap (read_from (n + 1) (grown ss l)) (sym s.2)
@@ -174,15 +176,16 @@ lines_again (e ∷ fs) es n xs l rest h =
     let ss : List Session = xs ++ session l es ∷ [] in
     let whole : IsSession (session l (es ++ e ∷ fs)) = all_at IsSession xs (session l (es ++ e ∷ fs)) [] h.0.sessions in
     let here = step n ss (Command e) (spelled_lines fs ++ rest) (all_at IsEvent es e fs whole.events)
-        (command_fits xs l es e fs h.0)
-        (ap (λ ds. command_refusal ds e) (open_lines-last xs (session l es)) ∙ command_unrefused xs l es e fs h.1) in
-    let on = lines_again fs (es ++ e ∷ []) (n + 1) xs l rest (subst (λ ds. IsKept (xs ++ session l ds ∷ [])) (sym (append_assoc es (e ∷ []) fs)) h) in
-    (on.0,
-     ap (λ bs. read_from n ss (cut_at 10 bs)) (append_assoc (spelled_event e) (10 ∷ spelled_lines fs) rest)
-     ∙ here
-     ∙ ap (λ ts. read_from (n + 1) ts (cut_at 10 (spelled_lines fs ++ rest))) (with_line-last xs (session l es) e)
-     ∙ on.1
-     ∙ ap (λ ds. read_from on.0 (xs ++ session l ds ∷ []) (cut_at 10 rest)) (append_assoc es (e ∷ []) fs))
+    (command_fits xs l es e fs h.0)
+    (ap (λ ds. command_refusal ds e) (open_lines-last xs (session l es)) ∙ command_unrefused xs l es e fs h.1) in
+    let on = lines_again fs (es ++ e ∷ []) (n + 1) xs l rest (subst (λ ds. IsKept (xs ++ session l ds ∷ [])) (sym (append_assoc es (e ∷ []) fs)) h) in (
+      on.0,
+      ap (λ bs. read_from n ss (cut_at 10 bs)) (append_assoc (spelled_event e) (10 ∷ spelled_lines fs) rest)
+          ∙ here
+          ∙ ap (λ ts. read_from (n + 1) ts (cut_at 10 (spelled_lines fs ++ rest))) (with_line-last xs (session l es) e)
+          ∙ on.1
+          ∙ ap (λ ds. read_from on.0 (xs ++ session l ds ∷ []) (cut_at 10 rest)) (append_assoc es (e ∷ []) fs),
+    )
 
 kept_front : (xs ys : List Session) → IsKept (xs ++ ys) → IsKept xs
 kept_front xs ys h = (text_front xs ys h.0, served_front xs ys h.1)
@@ -195,7 +198,7 @@ sessions_again (s ∷ ss) n xs h =
     let here : IsKept (xs ++ s ∷ []) = kept_front (xs ++ s ∷ []) ss whole in
     let label = all_at IsSession xs s [] here.0.sessions in
     let head = step n xs (Header s.label) (spelled_lines s.lines ++ spelled_text ss) label.label
-        (header_fits xs s here.0) (header_unrefused xs s here.1) in
+    (header_fits xs s here.0) (header_unrefused xs s here.1) in
     let lines = lines_again s.lines [] (n + 1) xs s.label (spelled_text ss) here in
     ap (λ bs. read_from n xs (cut_at 10 bs)) (append_assoc (codes "session " ++ s.label) (10 ∷ spelled_lines s.lines) (spelled_text ss))
     ∙ head

@@ -21,3 +21,6 @@ mod text_line;
 pub use fault::{LineKind, TextFault};
 pub use line::{Line, parse_line};
 pub use sessions::Sessions;
+
+#[cfg(test)]
+mod tests;

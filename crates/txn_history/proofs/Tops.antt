@@ -2,9 +2,9 @@
 use Rattle.std.proofs.Common.{◌≡◌, ◌<◌, ℕ, zero, suc, length, take, Bool, true, false, cond, List, [], ◌∷◌, Option, Some, is_some, option_map, refl, sym, ap, subst, ◌∙◌, arith}
 use Rattle.std.proofs.Common.{None as Nothing}
 use Rattle.std.proofs.lemmas.Bool.{false≢true, true≢false, and_parts, and_from}
-use Rattle.txn_names.specs.Path.{label_eq, is_front, parent}
+use Rattle.txn_names.specs.Path.{label_eq, is_front, parent, top_of}
 use Rattle.txn_names.proofs.Names.{same_label, label_eq_self, on_test, parent-cons}
-use Rattle.serial_spec.specs.History.{Name, or_else, has_aborted, top_of}
+use Rattle.serial_spec.specs.History.{Name, or_else, has_aborted}
 use Rattle.txn_history.specs.Steps.{TopByParent, TopByDepth}
 
 -- the names below a first label

@@ -1,11 +1,11 @@
 -- What each entry does to what is read off a history, a transaction and a key at a time, as statements.
 use Rattle.std.specs.Prelude.{◌≡◌, ◌↔◌, ◌⊎◌, ◌<◌, ℕ, suc, length, take, ℤ, Bool, not, ◌&&◌, ◌||◌, if◌then◌else◌, IsTrue, IsFalse, List, [], ◌∷◌, Option, Some}
 use Rattle.std.specs.Prelude.{None as Nothing}
-use Rattle.txn_names.specs.Path.{label_eq, path_eq, is_front, parent}
+use Rattle.txn_names.specs.Path.{label_eq, path_eq, is_front, parent, top_of}
 use Rattle.serial_spec.specs.declared.entry.By.{By}
 use Rattle.serial_spec.specs.declared.entry.Entry.{Entry}
 use Rattle.serial_spec.specs.Operations.{kind, leaves}
-use Rattle.serial_spec.specs.History.{Name, History, Effect, Begins, Accesses, Commits, Aborts, effect, or_else, Status, Live, Committed, Aborted, status, is_active, has_begun, has_committed, has_aborted, top_of, top_aborted}
+use Rattle.serial_spec.specs.History.{Name, History, Effect, Begins, Accesses, Commits, Aborts, effect, or_else, Status, Live, Committed, Aborted, status, is_active, has_begun, has_committed, has_aborted, top_aborted}
 use Rattle.serial_spec.specs.Items.{Items, after, items, chain}
 use Rattle.serial_spec.specs.Serial.{Map}
 use Rattle.serial_spec.specs.Locks.{Mode, Exclusive, mode_of, greater, footprint, held, retained, foot}

@@ -1,10 +1,17 @@
--- A child by its parent, and by what it stands below.
-use Rattle.std.proofs.Common.{◌≡◌, ℕ, ◌+◌, ◌-◌, ◌<◌, ◌&&◌, ◌||◌, Bool, true, false, cond, nat_eq, nat_lt, count_by, List, [], ◌∷◌, length, take, refl, sym, ap, subst, ◌∙◌, arith}
+-- Children, and how many of them are live.
+use Rattle.std.proofs.Common.{◌≡◌, ℕ, ◌+◌, ◌-◌, ◌<◌, ◌≤◌, ◌||◌, Bool, true, false, cond, nat_lt, count_by, List, [], ◌∷◌, length, take, Some, None, refl, sym, ap, subst, ◌∙◌, arith}
 use Rattle.std.specs.List.{list_any}
+use Rattle.std.proofs.lemmas.Bool.{lt-ltb, le-ltb}
 use Rattle.std.proofs.lemmas.Bool.Decides.{nat_tests}
-use Rattle.std.proofs.lemmas.Bool.{and_parts, and_from, eqb-true, eq-eqb}
+use Rattle.std.proofs.lemmas.List.Sums.{sum_by-cons}
 use Rattle.txn_names.specs.Path.{Path, path_eq, is_front, parent}
-use Rattle.txn_names.proofs.Names.{same_path, path_eq-from, is_front-parent, take-front, length-parent}
+use Rattle.txn_names.proofs.Names.{same_path, path_eq-from, is_front-parent, take-front}
+use Rattle.serial_spec.specs.History.{or_else}
+use Rattle.serial_spec.specs.Allowed.{when}
+use Rattle.serial_spec.specs.declared.entry.Refusal.TheVariants.{Children}
+use Rattle.txn_tree.specs.States.{States, names}
+use Rattle.txn_tree.specs.Asked.{is_live_child_in, live_children_of}
+use Rattle.txn_tree.specs.Causes.{cause_at_abort, cause_at_commit}
 
 -- two tests that give each other agree
 same_tests : (a b : Bool) → (a ≡ true → b ≡ true) → (b ≡ true → a ≡ true) → a ≡ b
@@ -12,23 +19,30 @@ same_tests true b f g = sym (f refl)
 same_tests false true f g = g refl
 same_tests false false f g = refl
 
--- the parent is the path above with one label less
-pub child_by_depth : (u t : Path) → 0 < length u → path_eq (parent u) t ≡ (nat_eq (length u) (length t + 1) && is_front t u)
-child_by_depth u t some = same_tests (path_eq (parent u) t) (nat_eq (length u) (length t + 1) && is_front t u)
-    (λ e.
-      let same = same_path (parent u) t e in
-      and_from _ _ (eq-eqb (length u) (length t + 1) (omega (arith, length-parent u, ap length same))) (subst (λ (p : Path). is_front p u ≡ true) same (is_front-parent u)))
-    (λ e.
-      let h = and_parts (nat_eq (length u) (length t + 1)) (is_front t u) e in
-      let deeper = eqb-true (length u) (length t + 1) h.0 in
+-- of a path with one label more, t is the parent exactly where it is a front
+pub front-parent : (t u : Path) → length u ≡ length t + 1 → is_front t u ≡ path_eq (parent u) t
+front-parent t u deeper = same_tests (is_front t u) (path_eq (parent u) t)
+    (λ f.
       let n : length u - 1 ≡ length t = omega arith in
-      path_eq-from (parent u) t (ap (λ n. take n u) n ∙ take-front t u h.1))
+      path_eq-from (parent u) t (ap (λ n. take n u) n ∙ take-front t u f))
+    (λ e. subst (λ (p : Path). is_front p u ≡ true) (same_path (parent u) t e) (is_front-parent u))
 
 -- some pass exactly where more than none do
-pub any_counted : {X : Type 0} (p : X → Bool) (xs : List X) → list_any p xs ≡ nat_lt 0 (count_by p xs)
+any_counted : {X : Type 0} (p : X → Bool) (xs : List X) → list_any p xs ≡ nat_lt 0 (count_by p xs)
 any_counted p [] = refl
-any_counted p (x ∷ xs) = by (p x) (any_counted p xs)
+any_counted p (x ∷ xs) = by (p x) (any_counted p xs) ∙ ap (nat_lt 0) (sym (sum_by-cons (λ y. cond (p y) 1 0) x xs))
   where
-    by : (b : Bool) → list_any p xs ≡ nat_lt 0 (count_by p xs) → (b || list_any p xs) ≡ nat_lt 0 (cond b (1 + count_by p xs) (count_by p xs))
+    by : (b : Bool) → list_any p xs ≡ nat_lt 0 (count_by p xs) → (b || list_any p xs) ≡ nat_lt 0 (cond b 1 0 + count_by p xs)
     by true e = grind (arith, nat_tests)
-    by false e = e
+    by false e = e ∙ grind (arith, nat_tests)
+
+module _ (tree : States) (t : Path) (ends : None ≡ cause_at_abort tree t) where
+  by_children : (b : Bool) → list_any (is_live_child_in tree t) (names tree) ≡ b → when b Children ≡ cause_at_commit tree t
+  by_children b e = ap (λ v. when v Children) (sym e) ∙ ap (λ o. or_else o (when (list_any (is_live_child_in tree t) (names tree)) Children)) ends
+
+  -- a live child is a cause of its own
+  pub cause_by_children : 0 < live_children_of tree t → Some Children ≡ cause_at_commit tree t
+  cause_by_children some = by_children true (any_counted (is_live_child_in tree t) (names tree) ∙ lt-ltb 0 (live_children_of tree t) some)
+
+  pub no_cause_by_children : live_children_of tree t ≤ 0 → None ≡ cause_at_commit tree t
+  no_cause_by_children none = by_children false (any_counted (is_live_child_in tree t) (names tree) ∙ le-ltb 0 (live_children_of tree t) none)

@@ -5,6 +5,7 @@ use Rattle.std.specs.Map.{lookup}
 use Rattle.std.proofs.lemmas.Bool.{leb-false}
 use Rattle.std.proofs.lemmas.Map.Views.{IfSome-lookup_from_All}
 use Rattle.txn_names.specs.Path.{Path, path_eq, parent}
+use Rattle.txn_names.specs.Text.{IsName}
 use Rattle.serial_spec.specs.History.{or_else}
 use Rattle.serial_spec.specs.Allowed.{when, most_transactions}
 use Rattle.serial_spec.specs.declared.entry.Refusal.{Refusal}
@@ -33,15 +34,18 @@ no_row (Some s) h e = absurd (h (is s e))
     is Absent e = refl
     is s e = absurd (true≢false cc)
 
--- who may begin is new, and there is place for it
-pub new_to_begin : (tree : States) (l : List ℕ) (ls : Path) → IsTree tree → cause_at_begin tree (l ∷ ls) ≡ None → lookup (path_eq (l ∷ ls)) tree ≡ None
-new_to_begin tree l ls is e =
-    let t = l ∷ ls in
-    let p = no_cause_at_begin (is_absent_in tree t) (is_absent_in tree (parent t)) (orphaned tree (parent t)) (has_committed_in tree (parent t)) (nat_le most_transactions (length tree)) e in
-    no_row (lookup (path_eq t) tree) (IfSome-lookup_from_All (λ s. s ≢ Absent) (path_eq t) tree is.begun) p.0
+module _ (tree : States) (t : Path) (begins : cause_at_begin tree t ≡ None) where
+  causes : (is_absent_in tree t ≡ true) × (nat_le most_transactions (length tree) ≡ false)
+  causes = no_cause_at_begin (is_absent_in tree t) (is_absent_in tree (parent t)) (orphaned tree (parent t)) (has_committed_in tree (parent t)) (nat_le most_transactions (length tree)) begins
 
-pub place_to_begin : (tree : States) (t : Path) → cause_at_begin tree t ≡ None → length tree < most_transactions
-place_to_begin tree t e =
-    let p = no_cause_at_begin (is_absent_in tree t) (is_absent_in tree (parent t)) (orphaned tree (parent t)) (has_committed_in tree (parent t)) (nat_le most_transactions (length tree)) e in
-    leb-false most_transactions (length tree) p.1
+  -- there is place for one more
+  pub place_to_begin : length tree < most_transactions
+  place_to_begin = leb-false most_transactions (length tree) causes.1
 
+  -- it has no row
+  pub new_to_begin : IsTree tree → IsName t → lookup (path_eq t) tree ≡ None
+  new_to_begin is name = by t name causes.0
+    where
+      by : (u : Path) → IsName u → is_absent_in tree u ≡ true → lookup (path_eq u) tree ≡ None
+      by [] name e = absurd (omega (arith, name.some))
+      by (l ∷ ls) name e = no_row (lookup (path_eq (l ∷ ls)) tree) (IfSome-lookup_from_All (λ s. s ≢ Absent) (path_eq (l ∷ ls)) tree is.begun) e

@@ -8,7 +8,7 @@ pub returns-in-Ok : goal.returns-in-Ok
 returns-in-Ok c =
     c.ok.ensures.value
     ∙ read c.args.bytes.now c.parse.result (sym c.is_numeral.ensures ∙ c.if-not-is_numeral.false)
-        (subst (λ (bs : List ℕ). ParsesSigned w64 10 bs c.parse.result) c.in-Ok.ensures.cases.0 c.parse.ensures.value.0)
+    (subst (λ (bs : List ℕ). ParsesSigned w64 10 bs c.parse.result) c.in-Ok.ensures.cases.0 c.parse.ensures.value.0)
 
 pub returns-in-Err : goal.returns-in-Err
 returns-in-Err c = absurd (c.in-Err.ensures.cases.0 (utf8 c.args.bytes.now (sym c.is_numeral.ensures ∙ c.if-not-is_numeral.false)))

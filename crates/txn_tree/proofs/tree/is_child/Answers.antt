@@ -1,9 +1,6 @@
-use Rattle.std.proofs.Common.{sym, ◌∙◌, arith}
-use Rattle.txn_tree.proofs.Children.{child_by_depth}
+use Rattle.std.proofs.Common.{◌≡◌, ◌+◌, length, ◌∙◌, arith}
+use Rattle.txn_tree.proofs.Children.{front-parent}
 use Rattle.txn_tree.proofs.tree.is_child.Goals as goal
 
 pub returns-then-depth : goal.returns-then-depth
-returns-then-depth c = ?
-
-pub returns-else-depth : goal.returns-else-depth
-returns-else-depth c = ?
+returns-then-depth c = c.is_ancestor_or_self.ensures ∙ front-parent c.args.name.now c.args.child.now (omega arith)

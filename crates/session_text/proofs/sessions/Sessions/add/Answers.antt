@@ -12,6 +12,6 @@ invariant_of-self-in-Command c =
     let placed : misplaced items c.args.line ≡ None = subst (λ (ss : List Session). misplaced ss c.args.line ≡ None) (sym c.self.view_is) c.requires.placed in
     let served : refusal items c.args.line ≡ None = subst (λ (ss : List Session). refusal ss c.args.line ≡ None) (sym c.self.view_is) c.requires.served in
     let grows : set items (c.len-last.result - 1) c.push-in-Command.new.self ≡ grown items c.args.line =
-        pushed items c.len-last.result c.index_mut.result.now c.push-in-Command.new.self c.in-Command.line c.args.line len c.in-Command.is placed
-            c.index_mut.ensures.value c.push-in-Command.ensures.label c.in_ok-push-in-Command.ensures.ok in
+    pushed items c.len-last.result c.index_mut.result.now c.push-in-Command.new.self c.in-Command.line c.args.line len c.in-Command.is placed
+    c.index_mut.ensures.value c.push-in-Command.ensures.label c.in_ok-push-in-Command.ensures.ok in
     subst IsKept (sym grows) (kept items c.in-Command.line c.args.line c.self.invariant c.requires.valid c.in-Command.is placed served)

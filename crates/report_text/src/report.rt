@@ -1,0 +1,44 @@
+//! A report, from its first line to its last.
+ghost use Rattle.std.specs.Prelude.{ℕ, [], ◌∷◌, ◌++◌, codes, OnErr, OnOk};
+ghost use Rattle.std.specs.Io.KnownBytes.{Appends};
+ghost use Rattle.txn_bytes.specs.Written.{AppendsFront};
+ghost use Rattle.serial_spec.specs.Report.{report, spelled_rows};
+ghost use Rattle.manager_core.specs.Store.{plain};
+ghost use Rattle.report_text.specs.Lines.{row_line};
+
+use crate::entries::{put_history, put_row_line, put_table};
+use interleavings::Report;
+use manager_core::store::Row;
+use std::io::Write;
+use txn_bytes::{WriteFault, put};
+
+fn put_opening_row<W: Write>(out: &mut W, row: &Row) -> Result<(), WriteFault>
+    ensures ok { OnOk result (Appends (W.contents out.old) (W.contents out.new) (row_line (row.now.key, row.now.value))) }
+    ensures err { OnErr result (AppendsFront (W.contents out.old) (W.contents out.new) (row_line (row.now.key, row.now.value))) }
+{
+    put_row_line(out, &row.key, row.value)
+}
+
+fn put_opening<W: Write>(out: &mut W, rows: &[Row]) -> Result<(), WriteFault>
+    ensures ok { OnOk result (Appends (W.contents out.old) (W.contents out.new) (spelled_rows (plain rows.now))) }
+    ensures err { OnErr result (AppendsFront (W.contents out.old) (W.contents out.new) (spelled_rows (plain rows.now))) }
+{
+    for row in rows {
+        put_opening_row(out, row)?;
+    }
+    Ok(())
+}
+
+/// Writes the report: the opening rows, each entry of the history, and the final table. It takes no memory. After
+/// a fault, the only one, the writer has taken a beginning of it.
+pub fn write_report<W: Write>(told: &Report, out: &mut W) -> Result<(), WriteFault>
+    ensures ok { OnOk result (Appends (W.contents out.old) (W.contents out.new) (report told.now.opening told.now.labels told.now.history told.now.table)) }
+    ensures err { OnErr result (AppendsFront (W.contents out.old) (W.contents out.new) (report told.now.opening told.now.labels told.now.history told.now.table)) }
+{
+    put(out, b"open\n")?;
+    put_opening(out, told.opening())?;
+    put_history(out, told.labels(), told.history())?;
+    put(out, b"table\n")?;
+    put_table(out, told.table())?;
+    put(out, b"end\n")
+}
