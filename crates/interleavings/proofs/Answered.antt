@@ -43,10 +43,10 @@ other_line : (rows : Rows) (ss : List Session) (h : History) (by : By) (ev : Eve
 other_line rows ss h (Line s2 l2) ev a s l turn silent later =
     on_test (eqb s2 s) (λ b. eqb s2 s ≡ b → b && eqb l2 l ≡ false)
     (λ e _.
-      let counted : eqb s s2 && not (is_waits a) ≡ true = rw (same_number s2 s e, silent) refl in
-      let mine : suc (answered h s) < l = subst (λ b. cond b (suc (answered h s)) (answered h s) < l) counted later in
-      let number : l2 ≡ suc (answered h s) = turn.0 ∙ ap (λ n. suc (answered h n)) (eqb-true s2 s e) in
-      on_test (eqb l2 l) (λ b. b ≡ false) (λ f. absurd (omega (arith, mine, number, eqb-true l2 l f))) (λ _. refl))
+    let counted : eqb s s2 && not (is_waits a) ≡ true = rw (same_number s2 s e, silent) refl in
+    let mine : suc (answered h s) < l = subst (λ b. cond b (suc (answered h s)) (answered h s) < l) counted later in
+    let number : l2 ≡ suc (answered h s) = turn.0 ∙ ap (λ n. suc (answered h n)) (eqb-true s2 s e) in
+    on_test (eqb l2 l) (λ b. b ≡ false) (λ f. absurd (omega (arith, mine, number, eqb-true l2 l f))) (λ _. refl))
     (λ _ _. refl) refl
 other_line rows ss h Victim ev a s l turn silent later = refl
 other_line rows ss h Close ev a s l turn silent later = refl
@@ -149,7 +149,7 @@ one_more g ss old mid new n e so_far next told =
     let h2 : History = entry (Line 0 (suc n)) e a ∷ mid.history in
     let counted : cond (not (is_waits a)) (suc (answered mid.history 0)) (answered mid.history 0) ≡ suc n = rw (told.at_once, so_far.count) refl in
     let turn : IsInTurn mid.rows ss mid.history (Line 0 (suc n)) e a =
-        (ap suc (sym so_far.count), ap (slice_get (lines_of (slice_get ss 0))) so_far.count ∙ sym next, fits_moment mid.rows ss mid.history 0 told.outcome told.at_once) in
+    (ap suc (sym so_far.count), ap (slice_get (lines_of (slice_get ss 0))) so_far.count ∙ sym next, fits_moment mid.rows ss mid.history 0 told.outcome told.at_once) in
     let whole : IsInterleaving mid.rows ss h2 = (so_far.interleaving, turn) in
     record {
       interleaving = subst (λ h. IsInterleaving new.rows ss h) (sym told.history) (subst (λ r. IsInterleaving r ss h2) (sym told.rows) whole);

@@ -39,11 +39,7 @@ fn labels_of(alloc: Global, sessions: &Sessions) -> Result<Vec<Label>, NoMemory>
 }
 
 // Answers a line of the one session.
-fn serve<S: TopStore>(
-    manager: &mut Manager<S>,
-    line: u32,
-    event: &Event,
-) -> Result<(), NoMemory>
+fn serve<S: TopStore>(manager: &mut Manager<S>, line: u32, event: &Event) -> Result<(), NoMemory>
     requires free { IsFree manager.old.history (Line 0 line) event.now }
     requires served { IsServed manager.old.history event.now }
     ensures { OnOk result (Answers S.TopStore manager.old manager.new line event.now) }

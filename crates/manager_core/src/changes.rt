@@ -22,7 +22,8 @@ fn written_keys(alloc: Global, log: &Log, name: &Name) -> Result<BTreeSet<Key>, 
     requires single { IsSingle log.now.entries }
     requires begun { IsTrue (has_begun log.now.entries name.now) }
     ensures rising { IfOk result (λ keys. AreRisingKeys keys.keys) }
-    ensures each { IfOk result (λ keys. (k : List ℕ) → list_any (label_eq k) keys.keys ≡ wrote log.now.entries name.now k) }
+    ensures each { IfOk result (λ keys.
+        (k : List ℕ) → list_any (label_eq k) keys.keys ≡ wrote log.now.entries name.now k) }
 {
     let mut written = BTreeSet::new(alloc);
     let keys = log.keys();

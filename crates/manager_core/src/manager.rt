@@ -48,7 +48,9 @@ impl<S: TopStore> Model for Manager<S> {
       store = m.store;
     } };
 
-    ghost invariant = { λ m. IsKept m.log.rows m.log.entries m.table × IsBacked S.TopStore m.log.entries m.table m.opened m.store };
+    ghost invariant = { λ m.
+        IsKept m.log.rows m.log.entries m.table
+        × IsBacked S.TopStore m.log.entries m.table m.opened m.store };
 }
 
 /// What is left where a manager is taken apart.

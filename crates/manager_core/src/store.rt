@@ -60,7 +60,8 @@ pub trait TopStore: Drop {
     fn commit(&mut self, changes: &[Change]) -> Result<(), StoreFault>
         requires rising { AreRising changes.now }
         ensures ok { doubt self.new ≡ 0 → OnOk result (table self.new ≡ overlay changes.now (table self.old)) }
-        ensures refused { doubt self.new ≡ 0 → IfErr result (λ fault. (fault ≡ StoreFault.Failed → ⊥) → table self.new ≡ table self.old) }
+        ensures refused { doubt self.new ≡ 0 → IfErr result (λ fault.
+            (fault ≡ StoreFault.Failed → ⊥) → table self.new ≡ table self.old) }
         ensures failures { TellsFailure (failures self.old) (failures self.new) (IsErrOf result StoreFault.Failed) }
         ensures faults { faults self.new ≡ faults_after (is_err result) (faults self.old) }
         ensures doubt { doubt self.old ≤ doubt self.new };

@@ -24,11 +24,7 @@ fn put_row<W: Write>(out: &mut W, key: &Key, value: i64) -> Result<(), WriteFaul
     put_number(out, value)
 }
 
-pub(crate) fn put_row_line<W: Write>(
-    out: &mut W,
-    key: &Key,
-    value: i64,
-) -> Result<(), WriteFault>
+pub(crate) fn put_row_line<W: Write>(out: &mut W, key: &Key, value: i64) -> Result<(), WriteFault>
     ensures ok { OnOk result (Appends (W.contents out.old) (W.contents out.new) (line (key.now ++ codes "=" ++ spelled_number value))) }
     ensures err { OnErr result (AppendsFront (W.contents out.old) (W.contents out.new) (line (key.now ++ codes "=" ++ spelled_number value))) }
 {

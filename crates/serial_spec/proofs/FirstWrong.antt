@@ -1,5 +1,5 @@
 -- The first wrong reply of accesses, and the replies of the items that they stand in.
-use Rattle.std.proofs.Common.{◌≡◌, ◌<◌, ◌≤◌, ◌+◌, ◌↔◌, ℕ, zero, suc, Bool, true, false, if◌then◌else◌, List, [], ◌∷◌, ◌++◌, length, take, fold, Option, Some, None, IfSome, IsNone, option_map, refl, ap, sym, ◌∙◌, subst, arith, true≢false}
+use Rattle.std.proofs.Common.{◌≡◌, ◌<◌, ◌+◌, ◌↔◌, ℕ, zero, suc, Bool, true, false, if◌then◌else◌, List, [], ◌∷◌, ◌++◌, length, fold, Option, Some, None, IfSome, IsNone, option_map, refl, ap, sym, ◌∙◌, subst, arith}
 use Rattle.std.specs.Bool.{Decides}
 use Rattle.std.specs.Ordering.{int_eq}
 use Rattle.std.proofs.lemmas.Bool.Decides.{Decides-int_eq, Decides-like, not_from_Decides}
@@ -11,7 +11,7 @@ use Rattle.serial_spec.specs.Serial.{Map, map_after, Replies}
 use Rattle.serial_spec.specs.Items.{Items}
 use Rattle.serial_spec.specs.Items.{None as NoItems}
 use Rattle.serial_spec.specs.Flat.{with_nested, with_all, nested, Step, steps_in, steps_of, flat, due, after_step, after_steps, IsDueAt, IsFirstWrong, same_reply, first_wrong}
-use Rattle.serial_spec.proofs.Flat.{after_one, after_steps-append}
+use Rattle.serial_spec.proofs.Flat.{after_one}
 
 pub same_reply-Decides : (a b : Reply) → Decides (same_reply a b) (a ≡ b)
 same_reply-Decides Ok Ok = (λ e. refl, λ e. refl)
@@ -101,7 +101,7 @@ then_steps : (m : Map) (xs : Items) (i : Item) (ss : List Step) (P : Type 0) →
 then_steps m xs i ss P one all =
     let place : map_after m (with_nested xs i) ≡ after_steps (map_after m xs) (steps_in i) = after_one m xs i in
     let both : AllDue (map_after m xs) (steps_in i ++ ss) ↔ (AllDue (map_after m xs) (steps_in i) × AllDue (after_steps (map_after m xs) (steps_in i)) ss)
-        = AllDue-append (map_after m xs) (steps_in i) ss in (
+    = AllDue-append (map_after m xs) (steps_in i) ss in (
       λ h. let p = all.0 h in let q = one.0 p.0 in (q.0, both.1 (q.1, subst (λ m2. AllDue m2 ss) place p.1)),
       λ h. let q = both.0 h.1 in all.1 (one.1 (h.0, q.0), subst (λ m2. AllDue m2 ss) (sym place) q.1),
     )

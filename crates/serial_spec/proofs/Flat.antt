@@ -2,8 +2,9 @@
 use Rattle.std.proofs.Common.{◌≡◌, ◌+◌, ℕ, List, [], ◌∷◌, ◌++◌, length, take, get_or, ◌<◌, fold, refl, ap, sym, ◌∙◌, append_assoc, append-nil, Vec, Global}
 use mathlib.Core.Former.{Count}
 use Rattle.std.proofs.lemmas.List.{take_more}
+use Rattle.std.proofs.lemmas.List.Sums.{fold-append}
 use Rattle.serial_spec.specs.declared.item.Item.{Item, Access, Block, Block', Row_of-Item, end_of-Item, more_of-Item, items-the_row-Item, items_hidden-the_row-Item-0}
-use Rattle.serial_spec.specs.Serial.{Map, map_after, put}
+use Rattle.serial_spec.specs.Serial.{Map, map_after}
 use Rattle.serial_spec.specs.Items.{Items}
 use Rattle.serial_spec.specs.Items.{None as NoItems, Block as Blocked}
 use Rattle.serial_spec.specs.Flat.{with_nested, with_all, nested, Step, steps_in, steps_of, flat, after_step, after_steps}
@@ -57,3 +58,17 @@ after_behind m xs (i ∷ items) =
 -- the accesses one by one leave what the items leave
 pub map_after-nested : (m : Map) (items : List Item) → map_after m (nested items) ≡ after_steps m (flat items)
 map_after-nested m items = after_behind m NoItems items
+
+-- Words for those who make items: one more item, and a block
+
+pub nested-push : (items : List Item) (i : Item) → nested (items ++ i ∷ []) ≡ with_nested (nested items) i
+nested-push items i = fold-append with_nested NoItems items (i ∷ [])
+
+with_all_row : (xs : Items) (n : _) (row : Row_of-Item n) → with_all xs row ≡ fold with_nested xs (items-the_row-Item n row)
+with_all_row xs n end_of-Item = refl
+with_all_row xs n (more_of-Item i rest) = with_all_row (with_nested xs i) _ rest
+
+pub with_nested-Block : (xs : Items) (items : Vec Item Global) → with_nested xs (Block items) ≡ Blocked (nested items.items) xs
+with_nested-Block xs items =
+    let row = row_of (Block items) in
+    ap (λ b. Blocked b xs) (with_all_row NoItems row.0 row.1 ∙ ap nested (items_hidden-the_row-Item-0 items))

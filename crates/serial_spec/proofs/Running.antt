@@ -1,5 +1,5 @@
 -- Runs one behind another.
-use Rattle.std.proofs.Common.{◌≡◌, ◌+◌, ℕ, List, ◌++◌, length, Option, Some, None, option_map, Result, Ok, Err, OnOk, IfSome, IsNone, ◌↔◌, refl, ap, sym, subst, ◌∙◌, arith, length-append}
+use Rattle.std.proofs.Common.{◌≡◌, ◌+◌, ℕ, List, ◌++◌, length, Option, Some, None, option_map, IfSome, IsNone, ◌↔◌, refl, ap, sym, subst, ◌∙◌, arith, length-append}
 use Rattle.serial_spec.specs.declared.item.Run.{Run}
 use Rattle.serial_spec.specs.History.{or_else}
 use Rattle.serial_spec.specs.declared.item.Item.{Item}

@@ -1,5 +1,5 @@
 -- A history is the list of its entries, the newest first. What has happened to each transaction is read off it.
-use Rattle.std.specs.Prelude.{ℕ, is_some, Bool, true, false, not, ◌&&◌, if◌then◌else◌, List, [], ◌∷◌, Option, Some, None, option_map}
+use Rattle.std.specs.Prelude.{ℕ, is_some, Bool, true, false, not, ◌&&◌, if◌then◌else◌, List, [], ◌∷◌, Option, Some, None}
 use Rattle.std.specs.List.{list_any}
 use Rattle.txn_names.specs.Path.{path_eq}
 pub use Rattle.txn_names.specs.Path.{top_of}

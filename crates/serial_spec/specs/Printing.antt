@@ -1,5 +1,5 @@
 -- How events, answers and rows are spelled, byte by byte. There is one spelling each.
-use Rattle.std.specs.Prelude.{ℕ, ℤ, pos, negsuc, suc, List, [], ◌∷◌, ◌++◌, codes, decimal}
+use Rattle.std.specs.Prelude.{ℕ, ℤ, pos, negsuc, suc, List, ◌++◌, codes, decimal}
 use Rattle.serial_spec.specs.declared.operation.Op.{Op}
 use Rattle.serial_spec.specs.declared.operation.Op.TheVariants.{Get, Set, Add, Del}
 use Rattle.serial_spec.specs.declared.operation.Reply.{Reply}

@@ -16,3 +16,6 @@ pub use table::PlainTable;
 
 /// Want of memory: a growth was refused.
 pub type NoMemory = std::alloc::AllocError;
+
+#[cfg(test)]
+mod tests;

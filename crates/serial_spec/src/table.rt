@@ -39,13 +39,7 @@ fn value_at(rows: &[(Key, i64)], place: usize, key: &Key) -> Option<i64>
     ensures { result ≡ matching (slice_get rows.now place) key.now }
 {
     match rows.get(place) {
-        Some(row) => {
-            if row.0 == *key {
-                Some(row.1)
-            } else {
-                None
-            }
-        }
+        Some(row) => { if row.0 == *key { Some(row.1) } else { None } }
         None => None,
     }
 }

@@ -10,7 +10,9 @@ pub enum Task<'a> {
 }
 
 fn replay_command<'a>(alloc: Global) -> Result<Command<'a>, Error> {
-    let file = Arg::new(alloc, "file").required(true).action(ArgAction::Set);
+    let file = Arg::new(alloc, "file")
+        .required(true)
+        .action(ArgAction::Set);
     Ok(Command::new(alloc, "replay").arg(file)?)
 }
 

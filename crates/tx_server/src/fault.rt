@@ -1,5 +1,8 @@
 //! The lines by which the program says why it gave no report.
-use session_text::LineKind;
+use crate::replay::ReplayFault;
+use interleavings::RunFault;
+use manager_core::OpenFault;
+use session_text::{LineKind, TextFault};
 use thiserror::Error;
 
 /// Why the program gave no report, as it says on standard error.
@@ -19,8 +22,7 @@ pub enum Fault<'a> {
     CannotWrite,
 }
 
-/// The word of the kind of a line's fault.
-pub fn word_of(kind: LineKind) -> &'static str {
+fn word_of(kind: LineKind) -> &'static str {
     match kind {
         LineKind::End => "end",
         LineKind::Empty => "empty",
@@ -32,5 +34,21 @@ pub fn word_of(kind: LineKind) -> &'static str {
         LineKind::Number => "number",
         LineKind::Header => "header",
         LineKind::Limit => "limit",
+    }
+}
+
+/// What the program says of a text that was not replayed.
+pub fn fault_of<'a>(fault: ReplayFault) -> Fault<'a> {
+    match fault {
+        ReplayFault::Text(TextFault::Bad { line, kind }) => Fault::Line {
+            line,
+            kind: word_of(kind),
+        },
+        ReplayFault::Text(TextFault::NoMemory) => Fault::NoMemory,
+        ReplayFault::Run(RunFault::NoMemory) => Fault::NoMemory,
+        ReplayFault::Run(RunFault::Open(OpenFault::NoMemory)) => Fault::NoMemory,
+        ReplayFault::Run(RunFault::Open(OpenFault::Store(_))) => Fault::CannotOpen,
+        ReplayFault::Run(RunFault::Open(OpenFault::TooManyRows)) => Fault::TooManyRows,
+        ReplayFault::Write(_) => Fault::CannotWrite,
     }
 }

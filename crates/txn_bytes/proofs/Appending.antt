@@ -1,5 +1,5 @@
 -- Bytes that are written one part after another.
-use Rattle.std.proofs.Common.{◌≡◌, ℕ, List, [], ◌∷◌, ◌++◌, Option, Some, None, take, drop, append_assoc, append-nil, sym, ◌∙◌, ap, subst, refl, take-append-drop, zero, suc, ◌+◌, ◌<◌, length, arith, Result, Ok, Err, OnErr, OnOk, get_or}
+use Rattle.std.proofs.Common.{◌≡◌, ℕ, List, [], ◌++◌, Option, Some, None, take, drop, append_assoc, append-nil, sym, ◌∙◌, ap, subst, take-append-drop, Result, Ok, Err, OnErr, OnOk}
 use Rattle.std.specs.Io.KnownBytes.{Appends, Keeps}
 use Rattle.txn_bytes.specs.Written.{AppendsFront}
 

@@ -23,8 +23,8 @@ same_tests false false f g = refl
 pub front-parent : (t u : Path) → length u ≡ length t + 1 → is_front t u ≡ path_eq (parent u) t
 front-parent t u deeper = same_tests (is_front t u) (path_eq (parent u) t)
     (λ f.
-      let n : length u - 1 ≡ length t = omega arith in
-      path_eq-from (parent u) t (ap (λ n. take n u) n ∙ take-front t u f))
+    let n : length u - 1 ≡ length t = omega arith in
+    path_eq-from (parent u) t (ap (λ n. take n u) n ∙ take-front t u f))
     (λ e. subst (λ (p : Path). is_front p u ≡ true) (same_path (parent u) t e) (is_front-parent u))
 
 -- some pass exactly where more than none do

@@ -12,6 +12,5 @@ pub use number::TxnNo;
 pub use status::Status;
 pub use tree::{MOST_TRANSACTIONS, Tree};
 
-
 #[cfg(test)]
 mod tests;

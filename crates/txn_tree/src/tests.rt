@@ -44,7 +44,10 @@ fn numbers_in_order_of_beginning(rt: HostRuntime) -> Result<(), Fail> {
         let number = TxnNo::new(place as u32);
         assert_eq!(rt; tree.begin(&name(text)?)?, number);
         assert!(rt; tree.no_of(&name(text)?) == Some(number), "{text}");
-        assert!(rt; tree.name_of(number).copied() == Some(name(text)?), "{text}");
+        assert!(rt;
+            tree.name_of(number).copied() == Some(name(text)?),
+            "{text}"
+        );
         assert_eq!(rt; number.place(), place as u32);
     }
     assert_eq!(rt; tree.len(), 4);

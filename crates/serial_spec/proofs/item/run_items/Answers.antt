@@ -1,4 +1,4 @@
-use Rattle.std.proofs.Common.{◌≡◌, ◌↔◌, ℕ, Option, IsNone, IfSome, subst}
+use Rattle.std.proofs.Common.{◌≡◌, ◌↔◌, IsNone, IfSome, subst}
 use Rattle.serial_spec.specs.Rows.{Rows, value_in}
 use Rattle.serial_spec.specs.Serial.{map_after, Replies}
 use Rattle.serial_spec.specs.Flat.{flat, nested, IsFirstWrong}

@@ -1,4 +1,4 @@
-use Rattle.std.proofs.Common.{◌≡◌, ℕ, ◌-◌, List, length, drop, replicate, ◌++◌, ◌∙◌, ap, arith, length-append, length-drop}
+use Rattle.std.proofs.Common.{◌≡◌, ℕ, List, length, drop, replicate, ◌∙◌, ap, arith, length-append, length-drop}
 use Rattle.std.proofs.lemmas.List.{drop-replicate, length-replicate}
 use Rattle.std.proofs.lemmas.Slice.{drop-append-drop}
 use Rattle.txn_bytes.proofs.held.Held.of.Goals as goal

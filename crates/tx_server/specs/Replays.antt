@@ -1,0 +1,58 @@
+-- What the replay of a text comes to.
+use Rattle.std.specs.Prelude.{◌≡◌, ℕ, List, Option, Ok}
+use Rattle.std.specs.Io.KnownBytes.{Appends}
+use Rattle.txn_bytes.specs.Written.{AppendsFront}
+use Rattle.serial_spec.specs.Interleaving.{Session}
+use Rattle.serial_spec.specs.Report.{report}
+use Rattle.session_text.specs.Texts.{sessions_of, Tells}
+use Rattle.manager_core.specs.declared.store.TopStore.{Ghosts}
+use Rattle.interleavings.specs.Told.{Told}
+use Rattle.interleavings.specs.Reports.{IsReport}
+use Rattle.interleavings.specs.Runs.{IsRun, HasRunCause}
+use Rattle.interleavings.specs.declared.run.RunFault.{RunFault}
+use Rattle.tx_server.specs.declared.replay.ReplayFault.{ReplayFault}
+use Rattle.tx_server.specs.declared.replay.ReplayFault.TheVariants.{Text, Run, Write}
+
+-- the bytes of a report
+abbrev pub spelled_report : Told → List ℕ
+spelled_report r = report r.opening r.labels r.history r.table
+
+-- The text spells sessions, and this is the report of a run of them over the store, which comes back as `left`
+pub record IsTold {S : Type 0} (g : Ghosts S) (text : List ℕ) (store left : S) (r : Told) : Type 0 where
+  pub sessions : List Session
+  pub read : sessions_of text ≡ Ok sessions
+  -- legal, serially correct, finished, with the table that is due
+  pub report : IsReport r
+  -- of these sessions' lines, in turn, over the store's rows
+  pub run : IsRun g sessions store r left
+
+-- the writer took the bytes of that report
+pub record IsReplayed {S : Type 0} (g : Ghosts S) (old new : Option (List ℕ)) (text : List ℕ) (store left : S) : Type 0 where
+  pub told : Told
+  pub holds : IsTold g text store left told
+  pub written : Appends old new (spelled_report told)
+
+-- the writer failed, after a beginning of that report
+pub record IsCutShort {S : Type 0} (g : Ghosts S) (old new : Option (List ℕ)) (text : List ℕ) (store : S) : Type 0 where
+  pub left : S
+  pub told : Told
+  pub holds : IsTold g text store left told
+  pub written : AppendsFront old new (spelled_report told)
+
+-- the text spells sessions, and their run gave no report
+pub record IsUnrun {S : Type 0} (g : Ghosts S) (text : List ℕ) (store : S) (fault : RunFault) : Type 0 where
+  pub sessions : List Session
+  pub read : sessions_of text ≡ Ok sessions
+  pub cause : HasRunCause g store fault
+
+-- why a text was not replayed
+abbrev pub HasReplayCause : {S : Type 0} → Ghosts S → Option (List ℕ) → Option (List ℕ) → List ℕ → S → ReplayFault → Type 0
+HasReplayCause g old new text store (Text fault) = Tells fault (sessions_of text)
+HasReplayCause g old new text store (Run fault) = IsUnrun g text store fault
+HasReplayCause g old new text store (Write fault) = IsCutShort g old new text store
+
+-- a fault that came before anything was written
+abbrev pub IsUnwritten : ReplayFault → Type 0
+IsUnwritten (Text fault) = Unit {0}
+IsUnwritten (Run fault) = Unit {0}
+IsUnwritten (Write fault) = ⊥

@@ -1,0 +1,47 @@
+//! A session text, from its bytes to the bytes of its report.
+ghost use Rattle.std.specs.Prelude.{◌≡◌, [], IfErr, IfOk};
+ghost use Rattle.tx_server.specs.Replays.{HasReplayCause, IsReplayed, IsUnwritten};
+
+use interleavings::{RunFault, run_schedule};
+use manager_core::store::TopStore;
+use report_text::{WriteFault, write_report};
+use session_text::{Sessions, TextFault};
+use std::alloc::Global;
+use std::io::Write;
+
+/// Why a text was not replayed.
+#[derive(Clone, Copy, Debug, PartialEq, Eq)]
+pub enum ReplayFault {
+    Text(TextFault),
+    Run(RunFault),
+    Write(WriteFault),
+}
+
+/// Reads a session text, runs it over the store, writes the report, and gives the store back. The first fault is
+/// told: of the text, of the run, or of the writer. Only after one of the writer has `out` taken bytes, which are
+/// a beginning of the report. At present no schedule says whose line comes next.
+pub fn replay_text<S: TopStore, W: Write>(
+    alloc: Global,
+    text: &[u8],
+    schedule: &[u32],
+    store: S,
+    out: &mut W,
+) -> Result<S, ReplayFault>
+    requires { schedule.now ≡ [] }
+    ensures ok { IfOk result (λ left. IsReplayed S.TopStore (W.contents out.old) (W.contents out.new) text.now store left) }
+    ensures err { IfErr result (λ fault. HasReplayCause S.TopStore (W.contents out.old) (W.contents out.new) text.now store fault) }
+    ensures unwritten { IfErr result (λ fault. IsUnwritten fault → out.new ≡ out.old) }
+{
+    let sessions = match Sessions::parse(alloc, text) {
+        Ok(sessions) => sessions,
+        Err(fault) => return Err(ReplayFault::Text(fault)),
+    };
+    let (report, left) = match run_schedule(alloc, &sessions, schedule, store) {
+        Ok(run) => run,
+        Err(fault) => return Err(ReplayFault::Run(fault)),
+    };
+    match write_report(&report, out) {
+        Ok(()) => Ok(left),
+        Err(fault) => Err(ReplayFault::Write(fault)),
+    }
+}
