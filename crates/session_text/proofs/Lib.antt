@@ -10,3 +10,4 @@ pub mod TextLines
 pub mod WholeTexts
 pub mod Feeds
 pub mod ReadBack
+pub mod FirstFaults

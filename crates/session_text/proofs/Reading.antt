@@ -134,14 +134,14 @@ two_reads : (ws : Words) (p : List ℕ × List ℕ) → two ws ≡ Ok p → ws �
 two_reads [] p h = cc
 two_reads (a ∷ ws) p h =
     let s = bind_ok (one ws) (λ b. Ok (a, b)) p h in
-    let same : (a, s.0) ≡ p = same_ok _ p s.2 in
+    let same : (a, s.0) ≡ p = same_ok (a, s.0) p s.2 in
     ap (λ vs. a ∷ vs) (one_reads ws s.0 s.1) ∙ ap (λ (q : List ℕ × List ℕ). q.0 ∷ q.1 ∷ []) same
 
 three_reads : (ws : Words) (p : List ℕ × List ℕ × List ℕ) → three ws ≡ Ok p → ws ≡ p.0 ∷ p.1 ∷ p.2 ∷ []
 three_reads [] p h = cc
 three_reads (a ∷ ws) p h =
     let s = bind_ok (two ws) (λ b. Ok (a, b.0, b.1)) p h in
-    let same : (a, s.0.0, s.0.1) ≡ p = same_ok _ p s.2 in
+    let same : (a, s.0.0, s.0.1) ≡ p = same_ok (a, s.0.0, s.0.1) p s.2 in
     ap (λ vs. a ∷ vs) (two_reads ws s.0 s.1) ∙ ap (λ (q : List ℕ × List ℕ × List ℕ). q.0 ∷ q.1 ∷ q.2 ∷ []) same
 
 named_reads : (ws : Words) (n : Path) → named ws ≡ Ok n → IsName n × (ws ≡ spelled_name n ∷ [])
@@ -155,7 +155,7 @@ keyed_reads ws p h =
     let w = bind_ok (two ws) (λ w. name_in w.0 >>= λ n. key_in w.1 >>= λ k. Ok (n, k)) p h in
     let n = bind_ok (name_in w.0.0) (λ n. key_in w.0.1 >>= λ k. Ok (n, k)) p w.2 in
     let k = bind_ok (key_in w.0.1) (λ k. Ok (n.0, k)) p n.2 in
-    let same : (n.0, k.0) ≡ p = same_ok _ p k.2 in
+    let same : (n.0, k.0) ≡ p = same_ok (n.0, k.0) p k.2 in
     let rn = name_reads w.0.0 n.0 n.1 in
     let rk = key_reads w.0.1 k.0 k.1 in
     subst (λ (q : Path × List ℕ). IsName q.0 × IsKey q.1 × (ws ≡ spelled_name q.0 ∷ q.1 ∷ [])) same
@@ -170,7 +170,7 @@ valued_reads ws p h =
     let n = bind_ok (name_in w.0.0) (λ n. key_in w.0.1 >>= λ k. number_in w.0.2 >>= λ v. Ok (n, k, v)) p w.2 in
     let k = bind_ok (key_in w.0.1) (λ k. number_in w.0.2 >>= λ v. Ok (n.0, k, v)) p n.2 in
     let v = bind_ok (number_in w.0.2) (λ v. Ok (n.0, k.0, v)) p k.2 in
-    let same : (n.0, k.0, v.0) ≡ p = same_ok _ p v.2 in
+    let same : (n.0, k.0, v.0) ≡ p = same_ok (n.0, k.0, v.0) p v.2 in
     let rn = name_reads w.0.0 n.0 n.1 in
     let rk = key_reads w.0.1 k.0 k.1 in
     let rv = value_reads w.0.2 v.0 v.1 in
@@ -186,7 +186,7 @@ timed_reads ws p h =
     let w = bind_ok (two ws) (λ w. name_in w.0 >>= λ n. when_in w.1 >>= λ t. Ok (n, t)) p h in
     let n = bind_ok (name_in w.0.0) (λ n. when_in w.0.1 >>= λ t. Ok (n, t)) p w.2 in
     let t = bind_ok (when_in w.0.1) (λ t. Ok (n.0, t)) p n.2 in
-    let same : (n.0, t.0) ≡ p = same_ok _ p t.2 in
+    let same : (n.0, t.0) ≡ p = same_ok (n.0, t.0) p t.2 in
     let rn = name_reads w.0.0 n.0 n.1 in
     let rt = when_reads w.0.1 t.0 t.1 in
     subst (λ (q : Path × When). IsName q.0 × (ws ≡ spelled_name q.0 ∷ spelled_when q.1 ∷ [])) same

@@ -63,12 +63,12 @@ kept_grown : (ss : List Session) (l : TextLine) → IsKept ss → IsTextLine l �
 kept_grown ss (Header l) h k placed served = (text_with_header ss l h.0 k placed, served_with_header ss l h.1 served)
 kept_grown ss (Command e) h k placed served = (text_with_line ss e h.0 k placed, served_with_line ss e h.1 (some_placed ss e placed) served)
 
-faultless : (a b : Option LineKind) (x y : List Session) → unless (option_or a b) x ≡ Ok y → (a ≡ None) × (b ≡ None) × (x ≡ y)
+pub faultless : (a b : Option LineKind) (x y : List Session) → unless (option_or a b) x ≡ Ok y → (a ≡ None) × (b ≡ None) × (x ≡ y)
 faultless None None x y h = (refl, refl, cc)
 faultless None (Some k) x y h = cc
 faultless (Some k) b x y h = cc
 
-with_bytes_reads : (ss more : List Session) (p : List ℕ) → IsKept ss → with_bytes ss p ≡ Ok more → IsKept more × (spelled_text more ≡ spelled_text ss ++ (p ++ 10 ∷ []))
+pub with_bytes_reads : (ss more : List Session) (p : List ℕ) → IsKept ss → with_bytes ss p ≡ Ok more → IsKept more × (spelled_text more ≡ spelled_text ss ++ (p ++ 10 ∷ []))
 with_bytes_reads ss more p h e =
     let l = bind_ok (line_of p) (λ l. unless (option_or (misplaced ss l) (refusal ss l)) (grown ss l)) more e in
     let f = faultless (misplaced ss l.0) (refusal ss l.0) (grown ss l.0) more l.2 in
@@ -106,7 +106,7 @@ read_reads (p ∷ q ∷ ps) n ss ts h e =
           ∙ ap (λ bs. spelled_text ss ++ bs) (append_assoc p (10 ∷ []) (join_with_byte 10 (q ∷ ps))),
     )
 
-empty : IsKept []
+pub empty : IsKept []
 empty = (record { few = omega arith; sessions = tt; apart = tt }, tt)
 
 pub text_reads : (bs : List ℕ) (ss : List Session) → sessions_of bs ≡ Ok ss → IsKept ss × (bs ≡ spelled_text ss)

@@ -1,6 +1,6 @@
 //! The laws of session texts, each as the contract of a function that does nothing.
 
-ghost use Rattle.session_text.specs.Laws.{LinesReadBack, NumbersReadBack, TextsReadBack};
+ghost use Rattle.session_text.specs.Laws.{FirstFaultsTold, LinesReadBack, NumbersReadBack, TextsReadBack};
 
 /// Bytes are read as a number exactly where they spell it.
 pub fn numbers_read_back()
@@ -15,4 +15,9 @@ pub fn lines_read_back()
 /// Bytes are read as sessions exactly where they spell them, and they are served.
 pub fn texts_read_back()
     ensures { TextsReadBack }
+{}
+
+/// Where a text is refused, the lines before the one that is told are a text, and that line may not stand behind them.
+pub fn first_faults_told()
+    ensures { FirstFaultsTold }
 {}

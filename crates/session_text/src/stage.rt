@@ -33,9 +33,8 @@ fn step_refusal(begun: &Name, event: &Event) -> Option<LineKind>
     ensures { result ≡ step_refusal begun.now event.now }
 {
     match event {
-        Event::Access(name, _, Op::Get | Op::Set(_)) | Event::Commit(name) => other_name(
-            begun, name,
-        ),
+        Event::Access(name, _, Op::Get | Op::Set(_)) => other_name(begun, name),
+        Event::Commit(name) => other_name(begun, name),
         _ => Some(LineKind::Word),
     }
 }

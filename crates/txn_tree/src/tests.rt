@@ -10,9 +10,17 @@ fn name(text: &str) -> Result<Name, Fail> {
     Ok(Name::parse(text.as_bytes())?)
 }
 
+fn begin(tree: &mut Tree, text: &str) -> Result<TxnNo, Fail> {
+    match tree.begin(&name(text)?) {
+        Ok(number) => Ok(number),
+        Err(TreeFault::Refused(_)) => Err("refused")?,
+        Err(TreeFault::NoMemory) => Err("no memory")?,
+    }
+}
+
 fn begun(tree: &mut Tree, names: &[&str]) -> Result<(), Fail> {
     for text in names {
-        let _ = tree.begin(&name(text)?)?;
+        let _ = begin(tree, text)?;
     }
     Ok(())
 }
@@ -42,7 +50,7 @@ fn numbers_in_order_of_beginning(rt: HostRuntime) -> Result<(), Fail> {
     assert!(rt; tree.is_empty());
     for (place, text) in ["a", "b", "a/l", "b/l"].iter().enumerate() {
         let number = TxnNo::new(place as u32);
-        assert_eq!(rt; tree.begin(&name(text)?)?, number);
+        assert_eq!(rt; begin(&mut tree, text)?, number);
         assert!(rt; tree.no_of(&name(text)?) == Some(number), "{text}");
         assert!(rt;
             tree.name_of(number).copied() == Some(name(text)?),
