@@ -1,16 +1,16 @@
 -- A line added to the sessions in memory.
-use Rattle.std.proofs.Common.{◌≡◌, ℕ, ◌+◌, ◌-◌, ◌<◌, List, [], ◌∷◌, ◌++◌, length, get_or, Option, Some, None, refl, sym, ap, ap₂, ◌∙◌, subst, arith, true, false, nat_eq, Bool, cond}
+use Rattle.std.proofs.Common.{◌≡◌, ℕ, ◌-◌, ◌<◌, List, [], ◌∷◌, ◌++◌, length, get_or, None, sym, ap, ap₂, ◌∙◌, subst, arith, nat_eq}
 use Rattle.std.specs.Prelude.{nat_le}
 use Rattle.std.proofs.Math.ListN.{set}
 use Rattle.std.proofs.lemmas.Bool.{eqb-false}
 use Rattle.serial_spec.specs.Interleaving.{Session}
 use Rattle.serial_spec.specs.declared.event.Event.{Event}
 use Rattle.session_text.specs.declared.text_line.TextLine.{TextLine}
-use Rattle.session_text.specs.declared.text_line.TextLine.TheVariants.{Header, Command}
-use Rattle.session_text.specs.Grammar.{IsEvent, IsText}
+use Rattle.session_text.specs.declared.text_line.TextLine.TheVariants.{Command}
+use Rattle.session_text.specs.Grammar.{IsText}
 use Rattle.session_text.specs.Stage.{IsFirstPath}
-use Rattle.session_text.specs.Texts.{IsTextLine, open_lines, with_line, with_header, misplaced, refusal, grown}
-use Rattle.session_text.proofs.Growth.{longer, push_last, text_with_line, header_placed}
+use Rattle.session_text.specs.Texts.{IsTextLine, open_lines, misplaced, refusal, grown}
+use Rattle.session_text.proofs.Growth.{push_last, text_with_line, header_placed}
 use Rattle.session_text.proofs.Served.{served_with_line}
 
 -- what keeps: the sessions are a text, and one that is served

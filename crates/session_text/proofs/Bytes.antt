@@ -1,8 +1,7 @@
 -- Bytes without a given one, and parts that are joined by it.
-use Rattle.std.proofs.Common.{◌≡◌, ℕ, suc, ◌<◌, List, [], ◌∷◌, ◌++◌, length, true, false, Bool, cond, not, nat_eq, ◌&&◌, refl, sym, ap, ◌∙◌, arith}
-use Rattle.std.specs.List.{list_all, slice_split, onto_first, join_with_byte, AllByRecursion}
+use Rattle.std.proofs.Common.{◌≡◌, ℕ, List, [], ◌∷◌, ◌++◌, true, false, Bool, not, nat_eq, refl, sym, ap, ◌∙◌}
+use Rattle.std.specs.List.{list_all, onto_first, join_with_byte, AllByRecursion}
 use Rattle.std.proofs.lemmas.Bool.{and_parts, and_from, not-true, not_from_false, eq-eqb, eqb-true, true≢false}
-use Rattle.std.proofs.lemmas.Bool.Decides.{nat_tests}
 use Rattle.std.proofs.lemmas.List.Splits.{join_with_byte-slice_split}
 use Rattle.session_text.specs.Words.{cut_at}
 

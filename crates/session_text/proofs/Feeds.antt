@@ -1,15 +1,14 @@
 -- A text read line by line, each up to its line feed.
-use Rattle.std.proofs.Common.{◌≡◌, ℕ, ◌+◌, List, [], ◌∷◌, length, nat_eq, false, Result, Ok, Err, Option, Some, None, refl, sym, ap, ◌∙◌}
+use Rattle.std.proofs.Common.{◌≡◌, ℕ, ◌+◌, List, [], ◌∷◌, length, nat_eq, false, Err, refl, sym, ap, ◌∙◌}
 use Rattle.std.specs.List.{join_with_byte}
 use Rattle.std.proofs.lemmas.Bool.{ne_eqb}
 use Rattle.serial_spec.specs.Interleaving.{Session}
-use Rattle.session_text.specs.declared.fault.LineKind.{LineKind}
 use Rattle.session_text.specs.declared.fault.LineKind.TheVariants as kind
 use Rattle.session_text.specs.declared.fault.TextFault.{TextFault}
 use Rattle.session_text.specs.declared.fault.TextFault.TheVariants as fault
 use Rattle.session_text.specs.Steps.{◌>>=◌}
 use Rattle.session_text.specs.Texts.{Read, Tells, at_line, read_from, with_bytes}
-use Rattle.session_text.specs.Words.{cut_at, parts_left}
+use Rattle.session_text.specs.Words.{cut_at}
 use Rattle.session_text.proofs.Bytes.{cut_some, joined_cut}
 
 -- bytes without a line feed

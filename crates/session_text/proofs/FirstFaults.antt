@@ -1,5 +1,5 @@
 -- The first fault of a text.
-use Rattle.std.proofs.Common.{◌≡◌, ℕ, suc, ◌+◌, ◌<◌, List, [], ◌∷◌, ◌++◌, length, true, false, Bool, cond, nat_eq, ◌||◌, inl, inr, None, Result, Ok, Err, refl, sym, ap, ap₂, ◌∙◌, subst, arith, append_assoc, length-append}
+use Rattle.std.proofs.Common.{◌≡◌, ℕ, ◌+◌, ◌<◌, List, [], ◌∷◌, ◌++◌, length, true, false, Bool, cond, nat_eq, inl, inr, None, Result, Ok, Err, refl, sym, ap, ◌∙◌, subst, arith, append_assoc, length-append}
 use Rattle.std.specs.List.{join_with_byte, list_any, onto_first, AllByRecursion}
 use Rattle.std.specs.Option.{option_or}
 use Rattle.std.proofs.lemmas.Bool.{or_from, eqb-false}
@@ -12,7 +12,7 @@ use Rattle.session_text.specs.declared.text_line.TextLine.TheVariants.{Header, C
 use Rattle.session_text.specs.Grammar.{spelled_text}
 use Rattle.session_text.specs.Laws.{line_count, IsFirstFault, FirstFaultsTold}
 use Rattle.session_text.specs.Steps.{◌>>=◌, unless}
-use Rattle.session_text.specs.Texts.{Read, grown, misplaced, refusal, line_of, with_line, with_header, with_bytes, at_line, read_from, sessions_of}
+use Rattle.session_text.specs.Texts.{Read, grown, misplaced, refusal, line_of, with_line, with_bytes, at_line, read_from}
 use Rattle.session_text.specs.Words.{cut_at}
 use Rattle.session_text.proofs.Adding.{IsKept, some_placed}
 use Rattle.session_text.proofs.Bytes.{joined_cut}

@@ -1,16 +1,15 @@
 -- Sessions that grow by a line.
-use Rattle.std.proofs.Common.{◌≡◌, ℕ, zero, suc, ◌+◌, ◌-◌, ◌<◌, ◌≤◌, List, [], ◌∷◌, ◌++◌, length, get_or, true, false, Bool, cond, not, nat_eq, nat_lt, ◌&&◌, ◌||◌, Option, Some, None, refl, sym, ap, ap₂, ◌∙◌, subst, arith, length-append, append_assoc, inl, inr, ⊎_elim, true≢false}
-use Rattle.std.specs.Prelude.{nat_le, IsFalse, ◌==◌}
-use Rattle.std.specs.List.{AllByRecursion, list_any}
+use Rattle.std.proofs.Common.{◌≡◌, ℕ, suc, ◌-◌, ◌<◌, List, [], ◌∷◌, ◌++◌, length, get_or, true, false, Bool, cond, nat_eq, Some, None, refl, sym, ap, ◌∙◌, subst, arith, length-append, true≢false}
+use Rattle.std.specs.Prelude.{nat_le}
+use Rattle.std.specs.List.{AllByRecursion}
 use Rattle.std.proofs.Math.ListN.{set}
-use Rattle.std.proofs.lemmas.Bool.{or_parts, or_from, leb-false, lt-leb}
+use Rattle.std.proofs.lemmas.Bool.{or_parts, or_from, leb-false}
 use Rattle.std.proofs.lemmas.Bool.Decides.{nat_tests}
 use Rattle.txn_names.specs.Path.{label_eq}
 use Rattle.txn_names.specs.Text.{IsLabel}
 use Rattle.txn_names.proofs.Names.{label_eq_self, same_label}
 use Rattle.serial_spec.specs.Interleaving.{Session}
 use Rattle.serial_spec.specs.declared.event.Event.{Event}
-use Rattle.session_text.specs.declared.fault.LineKind.{LineKind}
 use Rattle.session_text.specs.declared.fault.LineKind.TheVariants as kind
 use Rattle.session_text.specs.declared.text_line.TextLine.TheVariants.{Header, Command}
 use Rattle.session_text.specs.Grammar.{IsEvent, IsSession, IsText, AreApart, is_taken}

@@ -1,14 +1,14 @@
 -- Numbers and their spelling.
-use Rattle.std.proofs.Common.{◌≡◌, ℕ, ◌<◌, ◌≤◌, ◌^◌, suc, List, [], ◌∷◌, ◌++◌, length, drop, get_or, true, false, Bool, cond, not, nat_eq, ◌&&◌, ◌||◌, ℤ, pos, negsuc, neg_ℤ, Option, Some, None, Result, Ok, Err, refl, sym, ap, ◌∙◌, subst, arith, rules, ⊎_elim, true≢false, zero, lit<}
-use Rattle.std.specs.Prelude.{codes, decimal, ◌==◌}
-use Rattle.std.specs.Char.{is_ascii_digit, digit_value}
+use Rattle.std.proofs.Common.{◌≡◌, ℕ, ◌<◌, ◌^◌, suc, List, [], ◌∷◌, length, get_or, true, false, Bool, cond, not, nat_eq, ◌&&◌, ◌||◌, ℤ, pos, negsuc, neg_ℤ, Some, None, Result, Ok, Err, refl, sym, ap, ◌∙◌, subst, arith, rules, ⊎_elim, true≢false, zero, lit<}
+use Rattle.std.specs.Prelude.{codes, decimal}
+use Rattle.std.specs.Char.{is_ascii_digit}
 use Rattle.std.specs.Int.{w64}
 use Rattle.std.specs.Prelude.{FitsSigned}
 use Rattle.std.specs.List.{list_all}
-use Rattle.std.specs.Result.{result_ok, OkIff}
+use Rattle.std.specs.Result.{result_ok}
 use Rattle.std.specs.Str.{bytes_eq, IsUtf8, IsAscii}
-use Rattle.std.specs.Str.Parse.{signed_digits_value, starts_with_minus, without_leading_sign, ParsesSigned, IsNumeral, digits_value, AllDigits}
-use Rattle.std.proofs.lemmas.Bool.{and_parts, and_from, or_cases, or_left, or_right, not-true, ltb-true, lt-ltb, eq-eqb, eqb-true}
+use Rattle.std.specs.Str.Parse.{signed_digits_value, without_leading_sign, ParsesSigned, digits_value}
+use Rattle.std.proofs.lemmas.Bool.{and_parts, and_from, or_cases, or_right, not-true, ltb-true, lt-ltb, eq-eqb, eqb-true}
 use Rattle.std.proofs.lemmas.Option.{same_Some}
 use Rattle.std.proofs.lemmas.Fmt.{IsAscii-from_digits, decimal_digit, decimal-digits_value, digits_decimal, first_decimal, digits_value-decimal}
 use Rattle.std.proofs.lemmas.Str.{IsUtf8-from_ascii}

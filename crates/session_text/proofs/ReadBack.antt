@@ -1,5 +1,5 @@
 -- The laws of session texts.
-use Rattle.std.proofs.Common.{◌≡◌, sym, ap, ◌∙◌}
+use Rattle.std.proofs.Common.{ap, ◌∙◌}
 use Rattle.session_text.specs.Numbers.{number_of}
 use Rattle.session_text.specs.Commands.{event_of}
 use Rattle.session_text.specs.Texts.{sessions_of}

@@ -1,7 +1,7 @@
 -- Commands read from their words, and their words spelled again.
-use Rattle.std.proofs.Common.{◌≡◌, ℕ, ℤ, pos, negsuc, List, [], ◌∷◌, ◌++◌, length, ◌<◌, ◌≤◌, true, false, Bool, cond, not, nat_eq, nat_lt, ◌⊎◌, inl, inr, ⊎_elim, Result, Ok, Err, Option, Some, None, refl, sym, ap, ap₂, ◌∙◌, subst, arith, append_assoc, append-nil}
+use Rattle.std.proofs.Common.{◌≡◌, ℕ, ℤ, List, [], ◌∷◌, length, true, false, Bool, cond, not, nat_eq, nat_lt, Result, Ok, Err, Option, Some, None, refl, sym, ap, ap₂, ◌∙◌, subst, arith, append_assoc}
 use Rattle.std.specs.Prelude.{codes, IsTrue}
-use Rattle.std.specs.List.{list_all, join_with_byte, AllByRecursion}
+use Rattle.std.specs.List.{list_all, join_with_byte}
 use Rattle.std.specs.Option.{ok_or}
 use Rattle.std.specs.Str.{bytes_eq}
 use Rattle.std.proofs.lemmas.Bool.{eqb-false, ltb-false, ne_eqb, le-ltb}
@@ -23,12 +23,12 @@ use Rattle.serial_spec.specs.declared.event.Event.TheVariants.{Begin, Access, Co
 use Rattle.session_text.specs.declared.fault.LineKind.{LineKind}
 use Rattle.session_text.specs.declared.fault.LineKind.TheVariants as kind
 use Rattle.session_text.specs.Commands.{Words, one, two, three, name_in, key_in, number_in, when_in, named, keyed, valued, timed, begin_of, get_of, set_of, add_of, del_of, commit_of, abort_of, after_of, command_of, event_of}
-use Rattle.session_text.specs.Grammar.{IsEvent, IsOp}
+use Rattle.session_text.specs.Grammar.{IsEvent}
 use Rattle.session_text.specs.Numbers.{number_of}
 use Rattle.session_text.specs.Steps.{◌>>=◌, or_fault}
 use Rattle.session_text.specs.Texts.{label_in}
 use Rattle.session_text.specs.Words.{cut_at}
-use Rattle.session_text.proofs.Bytes.{cut_some, Lacks, cut_joined, joined_cut}
+use Rattle.session_text.proofs.Bytes.{cut_some, joined_cut}
 use Rattle.session_text.proofs.Numerals.{number_reads, number_again}
 
 -- two words or more are not one

@@ -1,5 +1,5 @@
 -- Command lines as they are spelled: where they can be cut, that they are read again, and how long they are.
-use Rattle.std.proofs.Common.{◌≡◌, ℕ, ℤ, pos, negsuc, zero, suc, ◌+◌, ◌*◌, ◌^◌, ◌<◌, ◌≤◌, List, [], ◌∷◌, ◌++◌, length, true, false, Bool, cond, not, nat_eq, Result, Ok, Err, refl, sym, ap, ◌∙◌, subst, arith, lit<, length-append}
+use Rattle.std.proofs.Common.{◌≡◌, ℕ, ℤ, pos, negsuc, suc, ◌*◌, ◌^◌, ◌<◌, ◌≤◌, List, [], ◌∷◌, length, true, false, Bool, cond, not, nat_eq, Result, Ok, Err, refl, sym, ap, ◌∙◌, subst, arith, lit<, length-append}
 use Rattle.std.specs.Prelude.{codes, decimal}
 use Rattle.std.specs.Char.{is_ascii_digit}
 use Rattle.std.specs.List.{list_all, list_any, join_with_byte, AllByRecursion}
@@ -7,7 +7,7 @@ use Rattle.std.proofs.lemmas.Bool.{and_from, ne_eqb, ltb-true, not_from_false}
 use Rattle.std.proofs.lemmas.Fmt.{digits_decimal, length-decimal-le}
 use Rattle.txn_names.specs.Path.{Path}
 use Rattle.txn_names.specs.Text.{IsName, IsKey, IsLabel, is_label_byte, is_key_byte, slashed, spelled_name}
-use Rattle.txn_names.specs.Reading.{name_of, pieces, is_empty, is_long, is_name_byte}
+use Rattle.txn_names.specs.Reading.{pieces, is_empty, is_name_byte}
 use Rattle.txn_names.specs.declared.name.NameFault.TheVariants as name
 use Rattle.txn_names.proofs.ReadBack.{name_of-spelled}
 use Rattle.serial_spec.specs.Operations.{is_i64}
@@ -17,8 +17,6 @@ use Rattle.serial_spec.specs.declared.event.When.{When}
 use Rattle.serial_spec.specs.declared.event.When.TheVariants.{Begun, Done}
 use Rattle.serial_spec.specs.declared.event.Event.{Event}
 use Rattle.serial_spec.specs.declared.event.Event.TheVariants.{Begin, Access, Commit, Abort, After}
-use Rattle.session_text.specs.declared.fault.LineKind.{LineKind}
-use Rattle.session_text.specs.declared.fault.LineKind.TheVariants as kind
 use Rattle.session_text.specs.Commands.{Words, command_of, event_of}
 use Rattle.session_text.specs.Grammar.{IsEvent}
 use Rattle.session_text.specs.Words.{cut_at}

@@ -1,5 +1,5 @@
 -- Whole texts: what is read is spelled so, and what is spelled so is read.
-use Rattle.std.proofs.Common.{◌≡◌, ℕ, suc, ◌+◌, ◌<◌, ◌≤◌, List, [], ◌∷◌, ◌++◌, length, true, false, Bool, cond, nat_eq, Option, Some, None, Result, Ok, Err, refl, sym, ap, ap₂, ◌∙◌, subst, arith, append_assoc, append-nil, length-append}
+use Rattle.std.proofs.Common.{◌≡◌, ℕ, ◌+◌, ◌<◌, List, [], ◌∷◌, ◌++◌, length, true, false, Bool, cond, nat_eq, Option, Some, None, Result, Ok, Err, refl, sym, ap, ap₂, ◌∙◌, subst, arith, append_assoc, append-nil, length-append}
 use Rattle.std.specs.Prelude.{codes, nat_le}
 use Rattle.std.specs.List.{join_with_byte}
 use Rattle.std.specs.Option.{option_or}
@@ -11,14 +11,14 @@ use Rattle.session_text.specs.declared.fault.LineKind.{LineKind}
 use Rattle.session_text.specs.declared.fault.LineKind.TheVariants as kind
 use Rattle.session_text.specs.declared.text_line.TextLine.{TextLine}
 use Rattle.session_text.specs.declared.text_line.TextLine.TheVariants.{Header, Command}
-use Rattle.session_text.specs.Grammar.{IsEvent, IsSession, IsText, AreApart, is_taken, spelled_lines, spelled_session, spelled_text}
-use Rattle.session_text.specs.Stage.{IsFirstPath, header_refusal, command_refusal}
+use Rattle.session_text.specs.Grammar.{IsEvent, IsSession, IsText, spelled_lines, spelled_session, spelled_text}
+use Rattle.session_text.specs.Stage.{command_refusal}
 use Rattle.session_text.specs.Steps.{◌>>=◌, unless}
-use Rattle.session_text.specs.Texts.{IsTextLine, open_lines, with_line, with_header, grown, misplaced, refusal, with_bytes, at_line, read_from, sessions_of, Read, line_of}
+use Rattle.session_text.specs.Texts.{IsTextLine, with_line, grown, misplaced, refusal, with_bytes, at_line, read_from, sessions_of, Read, line_of}
 use Rattle.session_text.specs.Words.{cut_at}
-use Rattle.session_text.proofs.Bytes.{Lacks, cut_behind, cut_some, joined_cut}
-use Rattle.session_text.proofs.Growth.{longer, open_lines-last, with_line-last, parted, all_front, all_at, all_pushed, apart_front, apart_pushed, last_apart, text_with_header, text_with_line, header_placed}
-use Rattle.session_text.proofs.Served.{served_with_header, served_with_line, served_front, served_lines, header_unrefused, command_unrefused}
+use Rattle.session_text.proofs.Bytes.{cut_behind, cut_some, joined_cut}
+use Rattle.session_text.proofs.Growth.{longer, open_lines-last, with_line-last, parted, all_front, all_at, all_pushed, apart_front, apart_pushed, last_apart, text_with_header, text_with_line}
+use Rattle.session_text.proofs.Served.{served_with_header, served_with_line, served_front, header_unrefused, command_unrefused}
 use Rattle.session_text.proofs.Adding.{IsKept, some_placed}
 use Rattle.session_text.proofs.Reading.{bind_ok}
 use Rattle.session_text.proofs.TextLines.{spelled_line, line_reads, line_again, line_lacks}

@@ -124,7 +124,7 @@ after_of ws = do
   a ← timed ws
   Ok (After a.0 a.1)
 
--- by its first word
+-- by its first word, of which there is one at least
 abbrev pub command_of : Words → Result Event LineKind
 command_of [] = Err kind.Word
 command_of (w ∷ ws) =

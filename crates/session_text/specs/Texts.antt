@@ -33,7 +33,7 @@ header_of ws = do
   l ← labelled ws
   Ok (Header l)
 
--- by the first of the words of a line
+-- by the first of the words of a line, of which there is one at least
 abbrev pub line_by : Words → List ℕ → Result TextLine LineKind
 line_by [] bs = Err kind.Word
 line_by (w ∷ ws) bs =

@@ -1,5 +1,5 @@
 -- Bytes that are cut at each of one byte: a text at its line feeds, a line at its spaces.
-use Rattle.std.specs.Prelude.{ℕ, ◌==◌, List, [], ◌∷◌, Option, Some, None}
+use Rattle.std.specs.Prelude.{ℕ, ◌==◌, List, [], Option, Some, None}
 use Rattle.std.specs.List.{slice_split}
 
 -- the parts around the bytes c: one more than there are such bytes, so two of them in a row have an empty part between them

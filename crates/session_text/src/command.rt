@@ -3,7 +3,7 @@ ghost use Rattle.std.specs.Prelude.{◌≡◌};
 ghost use Rattle.std.specs.Option.{option_copied};
 ghost use Rattle.session_text.specs.Steps.{Gives};
 ghost use Rattle.session_text.specs.Words.{parts_left};
-ghost use Rattle.session_text.specs.Commands.{Words, event_of, key_in, keyed, name_in, named, number_in, one, three, timed, two, valued, when_in};
+ghost use Rattle.session_text.specs.Commands.{event_of, key_in, keyed, name_in, named, number_in, one, three, timed, two, valued, when_in};
 
 use crate::cut::cut;
 use crate::fault::LineKind;

@@ -1,5 +1,5 @@
 //! Command lines.
-ghost use Rattle.std.specs.Prelude.{◌≡◌, IfOk, Ok};
+ghost use Rattle.std.specs.Prelude.{◌≡◌, IfOk};
 ghost use Rattle.serial_spec.specs.Printing.{spelled_event};
 ghost use Rattle.session_text.specs.Commands.{event_of};
 ghost use Rattle.session_text.specs.Grammar.{IsEvent};

@@ -1,9 +1,9 @@
 //! The sessions of a text.
-ghost use Rattle.std.specs.Prelude.{◌≡◌, ◌≤◌, ◌==◌, ◌++◌, List, [], ◌∷◌, length, IsTrue, MatchResult, None, OnErr, OnOk, Ok};
+ghost use Rattle.std.specs.Prelude.{◌≡◌, ◌==◌, ◌++◌, [], ◌∷◌, length, MatchResult, OnErr, OnOk};
 ghost use Rattle.std.specs.Option.{option_copied, option_or};
-ghost use Rattle.session_text.specs.Grammar.{IsEvent, IsText, is_taken};
+ghost use Rattle.session_text.specs.Grammar.{IsText, is_taken};
 ghost use Rattle.session_text.specs.Stage.{IsFirstPath};
-ghost use Rattle.session_text.specs.Texts.{IsTextLine, Tells, at_line, grown, label_at, line_at, misplaced, open_lines, refusal, sessions_of, with_bytes, with_header, with_line};
+ghost use Rattle.session_text.specs.Texts.{IsTextLine, Tells, at_line, grown, label_at, line_at, misplaced, open_lines, refusal, sessions_of, with_bytes};
 
 use crate::cut::cut;
 use crate::fault::{LineKind, TextFault};
@@ -56,7 +56,7 @@ impl Model for Sessions {
 }
 
 impl Sessions {
-    /// Reads a text. Its first fault is told, or that a growth was refused.
+    /// Reads a text. Of one that is refused the first faulty line is told, and its kind; or that a growth was refused.
     pub fn parse(alloc: Global, bytes: &[u8]) -> Result<Sessions, TextFault>
         ensures { let read = sessions_of bytes.now in MatchResult result (λ sessions. read ≡ Ok sessions) (λ fault. Tells fault read) }
     {
@@ -96,7 +96,8 @@ impl Sessions {
         self.sessions.is_empty()
     }
 
-    /// A line of a session: sessions count from 0 in order of their headers, lines from 1 without the header.
+    /// A line of a session, where there is one: sessions count from 0 in order of their headers, lines from 1
+    /// without the header.
     pub fn line(&self, session: u32, line: u32) -> Option<&Line>
         ensures { option_copied result ≡ line_at self.now session line }
     {
@@ -105,7 +106,7 @@ impl Sessions {
         session.lines.get(place as usize)
     }
 
-    /// The label of a session: sessions count from 0.
+    /// The label of a session, where there is one: sessions count from 0.
     pub fn label(&self, session: u32) -> Option<&Label>
         ensures { option_copied result ≡ label_at self.now session }
     {

@@ -161,18 +161,19 @@ fn lines_of_faults(rt: HostRuntime) -> Result<(), Fail> {
     Ok(())
 }
 
+// Whether the words are told as no command line.
+fn is_misuse(rt: &HostRuntime, words: &[&str]) -> Result<bool, Fail> {
+    let (status, out, err) = told(rt, words)?;
+    Ok(status == 2 && out.is_empty() && !err.is_empty())
+}
+
 #[test]
 fn words_that_are_no_command_line(rt: HostRuntime) -> Result<(), Fail> {
-    for words in [
-        [].as_slice(),
-        ["--help"].as_slice(),
-        ["run", "first.tx"].as_slice(),
-        ["replay"].as_slice(),
-        ["replay", "a", "b"].as_slice(),
-        ["replay", "a", "--workers", "2"].as_slice(),
-    ] {
-        let (status, out, err) = told(&rt, words)?;
-        assert!(rt; status == 2 && out.is_empty() && !err.is_empty());
-    }
+    assert!(rt; is_misuse(&rt, &[])?);
+    assert!(rt; is_misuse(&rt, &["--help"])?);
+    assert!(rt; is_misuse(&rt, &["run", "first.tx"])?);
+    assert!(rt; is_misuse(&rt, &["replay"])?);
+    assert!(rt; is_misuse(&rt, &["replay", "a", "b"])?);
+    assert!(rt; is_misuse(&rt, &["replay", "a", "--workers", "2"])?);
     Ok(())
 }

@@ -1,5 +1,5 @@
 -- What it tells that there is no cause to refuse.
-use Rattle.std.proofs.Common.{◌≡◌, ◌≢◌, ℕ, ◌<◌, Bool, true, false, not, nat_le, List, [], ◌∷◌, length, Option, Some, None, unwrap_or, refl, ap, subst, ◌∙◌, true≢false, arith}
+use Rattle.std.proofs.Common.{◌≡◌, ◌≢◌, ◌<◌, Bool, true, false, not, nat_le, [], ◌∷◌, length, Option, Some, None, unwrap_or, refl, true≢false, arith}
 use Rattle.std.specs.Prelude.{IfSome}
 use Rattle.std.specs.Map.{lookup}
 use Rattle.std.proofs.lemmas.Bool.{leb-false}
@@ -9,12 +9,12 @@ use Rattle.txn_names.specs.Text.{IsName}
 use Rattle.serial_spec.specs.History.{or_else}
 use Rattle.serial_spec.specs.Allowed.{when, most_transactions}
 use Rattle.serial_spec.specs.declared.entry.Refusal.{Refusal}
-use Rattle.serial_spec.specs.declared.entry.Refusal.TheVariants.{Unknown, Used, NoParent, Done, Full}
+use Rattle.serial_spec.specs.declared.entry.Refusal.TheVariants.{Used, NoParent, Full}
 use Rattle.txn_tree.specs.declared.status.Status.{Status}
 use Rattle.txn_tree.specs.declared.status.Status.TheVariants.{Absent}
-use Rattle.txn_tree.specs.States.{States, IsTree, status_in, is_absent}
+use Rattle.txn_tree.specs.States.{States, IsTree, is_absent}
 use Rattle.txn_tree.specs.Asked.{is_absent_in, has_committed_in}
-use Rattle.txn_tree.specs.Causes.{orphaned, cause_at_begin, cause_at_abort, cause_at_commit}
+use Rattle.txn_tree.specs.Causes.{orphaned, cause_at_begin}
 
 no_cause_at_begin : (a b : Bool) (o : Option Refusal) (d e : Bool)
     → or_else (when (not a) Used) (or_else (when b NoParent) (or_else o (or_else (when d NoParent) (when e Full)))) ≡ None

@@ -1,5 +1,5 @@
 -- The topmost front of a path that passes a test is the first among those of 1, 2, .. labels.
-use Rattle.std.proofs.Common.{◌≡◌, ◌<◌, ◌+◌, ℕ, zero, suc, add-one, length, take, Bool, true, false, cond, List, [], ◌∷◌, Option, Some, None, option_map, refl, sym, ap, subst, ◌∙◌, arith}
+use Rattle.std.proofs.Common.{◌≡◌, ◌<◌, ◌+◌, ℕ, zero, suc, add-one, length, take, Bool, true, false, cond, List, [], ◌∷◌, Some, None, option_map, refl, sym, ap, subst, ◌∙◌, arith}
 use Rattle.txn_names.specs.Path.{Path, top_of}
 
 -- the shortest front does not pass, so it is the one found below, with the first label

@@ -1,5 +1,5 @@
 -- Why a begin, a commit or an abort is refused: the first cause that holds.
-use Rattle.std.specs.Prelude.{ℕ, not, nat_le, length, Option, Some, None, Result, Ok, Err, option_map}
+use Rattle.std.specs.Prelude.{ℕ, not, nat_le, length, Option, Some, None, Result, Err, option_map}
 use Rattle.std.specs.List.{list_any}
 use Rattle.txn_names.specs.Path.{Path, parent}
 use Rattle.serial_spec.specs.History.{or_else}
@@ -7,7 +7,7 @@ use Rattle.serial_spec.specs.Allowed.{when, most_transactions}
 use Rattle.serial_spec.specs.declared.entry.Refusal.{Refusal}
 use Rattle.serial_spec.specs.declared.entry.Refusal.TheVariants.{Unknown, Used, NoParent, Done, Orphan, Children, Full}
 use Rattle.txn_tree.specs.declared.fault.TreeFault.{TreeFault}
-use Rattle.txn_tree.specs.declared.fault.TreeFault.TheVariants.{Refused, NoMemory}
+use Rattle.txn_tree.specs.declared.fault.TreeFault.TheVariants.{Refused}
 use Rattle.txn_tree.specs.States.{States, names}
 use Rattle.txn_tree.specs.Asked.{is_absent_in, has_committed_in, top_aborted_in, is_live_child_in}
 

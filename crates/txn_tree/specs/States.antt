@@ -1,5 +1,5 @@
 -- The transactions that have begun, in order of beginning, each with its own state.
-use Rattle.std.specs.Prelude.{◌≡◌, ◌≢◌, ◌≤◌, Bool, true, false, All, List, [], ◌∷◌, length, unwrap_or}
+use Rattle.std.specs.Prelude.{◌≢◌, ◌≤◌, Bool, true, false, All, List, [], ◌∷◌, length, unwrap_or}
 use Rattle.std.specs.List.{IsDistinct}
 use Rattle.std.specs.Map.{keys_of, values_of, lookup}
 use Rattle.txn_names.specs.Path.{Path, path_eq}

@@ -1,13 +1,12 @@
 //! The tree of transactions.
-ghost use Rattle.std.specs.Prelude.{◌≡◌, ◌≢◌, ℕ, ◌↔◌, [], ◌∷◌, ◌++◌, None, length, position, slice_get, if◌then◌else◌, IsTrue, IfOk, OnErr, OnOk};
-ghost use Rattle.std.specs.List.{list_any};
+ghost use Rattle.std.specs.Prelude.{◌≡◌, ◌≢◌, ◌↔◌, [], ◌∷◌, ◌++◌, length, position, slice_get, if◌then◌else◌, IsTrue, IfOk, OnErr, OnOk};
 ghost use Rattle.std.specs.Option.{option_copied};
 ghost use Rattle.std.specs.Result.{result_err};
 ghost use Rattle.txn_names.specs.Path.{Path, parent, path_eq};
 ghost use Rattle.txn_names.specs.Text.{IsName};
 ghost use Rattle.txn_tree.specs.States.{IsTree, names, status_in};
 ghost use Rattle.txn_tree.specs.Asked.{ended_by_abort, is_active_in, live_children_of, top_aborted_in};
-ghost use Rattle.txn_tree.specs.Causes.{cause_at_abort, cause_at_begin, cause_at_commit, cause_at_parent, orphaned, refusal_of};
+ghost use Rattle.txn_tree.specs.Causes.{cause_at_abort, cause_at_begin, cause_at_commit, cause_at_parent, refusal_of};
 
 use crate::fault::TreeFault;
 use crate::number::TxnNo;
@@ -77,7 +76,7 @@ impl Tree {
         ensures status { result ≡ status_in self.now name.now }
         ensures name { IsName name.now }
     {
-        // Asked for what it tells: a name has a label, so it is never the root's.
+        // Asked for what it tells: a name has a label, so it is not the root's.
         let _ = name.depth();
         match self.states.get(name) {
             Some(status) => *status,

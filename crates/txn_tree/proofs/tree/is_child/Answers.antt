@@ -1,4 +1,4 @@
-use Rattle.std.proofs.Common.{◌≡◌, ◌+◌, length, ◌∙◌, arith}
+use Rattle.std.proofs.Common.{◌∙◌, arith}
 use Rattle.txn_tree.proofs.Children.{front-parent}
 use Rattle.txn_tree.proofs.tree.is_child.Goals as goal
 

@@ -1,4 +1,4 @@
-use Rattle.std.proofs.Common.{◌≡◌, ◌-◌, List, length, get_or, rules, None, sym, ap, ◌∙◌, subst}
+use Rattle.std.proofs.Common.{◌≡◌, ◌-◌, List, length, rules, None, sym, subst}
 use Rattle.std.proofs.Math.ListN.{set}
 use Rattle.serial_spec.specs.Interleaving.{Session}
 use Rattle.session_text.specs.Texts.{grown, misplaced, refusal}

@@ -1,4 +1,4 @@
-use Rattle.std.proofs.Common.{◌≡◌, ◌+◌, ◌<◌, ℕ, true, false, take, length, sym, ap, ◌∙◌, arith, rules, Some}
+use Rattle.std.proofs.Common.{◌≡◌, ◌+◌, true, take, sym, ap, ◌∙◌, arith, rules, Some}
 use Rattle.txn_tree.specs.Asked.{has_aborted_in}
 use Rattle.txn_tree.proofs.Tops.{first_passes, none_passes}
 use Rattle.txn_tree.proofs.tree.Tree.top_aborted.Goals as goal
