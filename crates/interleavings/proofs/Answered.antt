@@ -1,23 +1,21 @@
 -- Lines of the one session, answered one after another.
-use Rattle.std.proofs.Common.{◌≡◌, ℕ, ◌+◌, ◌-◌, ◌<◌, ◌≤◌, zero, suc, inl, Bool, true, false, not, cond, ◌&&◌, ◌||◌, eqb, List, [], ◌∷◌, ◌++◌, length, filter, Option, Some, None, refl, sym, ap, subst, ◌∙◌, arith, IsTrue, Result, Ok, Err, OnOk}
-use Rattle.std.specs.Prelude.{slice_get, IsFalse}
-use Rattle.std.specs.List.{AllByRecursion, list_any}
-use Rattle.std.proofs.lemmas.Bool.{false≢true, true≢false, or_cases, and_parts, eqb-true, eq-eqb}
+use Rattle.std.proofs.Common.{◌≡◌, ℕ, ◌+◌, ◌-◌, ◌<◌, ◌≤◌, zero, suc, inl, Bool, true, false, not, cond, ◌&&◌, ◌||◌, eqb, List, [], ◌∷◌, ◌++◌, length, Some, None, refl, sym, ap, subst, ◌∙◌, arith, Result, Ok, Err, OnOk}
+use Rattle.std.specs.Prelude.{slice_get}
+use Rattle.std.specs.List.{AllByRecursion}
+use Rattle.std.proofs.lemmas.Bool.{true≢false, eqb-true, eq-eqb}
 use Rattle.std.proofs.lemmas.Bool.Decides.{nat_tests}
 use Rattle.txn_names.specs.Path.{Path}
 use Rattle.txn_names.proofs.Names.{on_test}
-use Rattle.serial_spec.specs.declared.operation.Op.TheVariants.{Get, Set, Add, Del}
 use Rattle.serial_spec.specs.declared.event.Event.{Event}
 use Rattle.serial_spec.specs.declared.event.Event.TheVariants.{Begin, Access, Commit, Abort, After}
 use Rattle.serial_spec.specs.declared.entry.By.{By}
 use Rattle.serial_spec.specs.declared.entry.By.TheVariants.{Line, Victim, Close}
 use Rattle.serial_spec.specs.declared.entry.Answer.{Answer}
-use Rattle.serial_spec.specs.declared.entry.Entry.{Entry}
 use Rattle.serial_spec.specs.History.{History, Name}
 use Rattle.serial_spec.specs.Rows.{Rows}
 use Rattle.serial_spec.specs.Waits.{is_waits, same_line}
-use Rattle.serial_spec.specs.Interleaving.{Session, lines_of, is_answer_in, answered, next_event, AllAnswered, FitsMoment, IsInTurn, IsInterleaving, IsFinished, closing}
-use Rattle.session_text.specs.Grammar.{IsSession, IsText}
+use Rattle.serial_spec.specs.Interleaving.{Session, lines_of, is_answer_in, answered, next_event, AllAnswered, FitsMoment, IsInTurn, IsInterleaving}
+use Rattle.session_text.specs.Grammar.{IsText}
 use Rattle.session_text.specs.Stage.{IsStepOf, AreFirstPath, IsFirstPath}
 use Rattle.session_text.specs.Texts.{line_at}
 use Rattle.manager_core.specs.declared.store.TopStore.{Ghosts}

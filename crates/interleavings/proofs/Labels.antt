@@ -1,6 +1,5 @@
 -- The labels of sessions, one after another.
-use Rattle.std.proofs.Common.{◌≡◌, ℕ, ◌+◌, ◌<◌, ◌≤◌, zero, suc, List, [], ◌∷◌, ◌++◌, length, map, take, Option, Some, None, refl, sym, ap, ◌∙◌, arith}
-use Rattle.std.specs.Prelude.{slice_get}
+use Rattle.std.proofs.Common.{◌≡◌, ℕ, ◌+◌, ◌<◌, zero, suc, List, [], ◌∷◌, ◌++◌, length, map, take, Some, None, refl, ap, arith}
 use Rattle.serial_spec.specs.Interleaving.{Session}
 use Rattle.session_text.specs.Texts.{label_at}
 

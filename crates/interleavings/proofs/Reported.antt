@@ -1,14 +1,13 @@
 -- What a sound manager whose top-level transactions have ended has to report.
-use Rattle.std.proofs.Common.{◌≡◌, ℕ, List, [], ◌∷◌, None, sym, true}
+use Rattle.std.proofs.Common.{◌≡◌, ℕ, List, [], ◌∷◌, None, sym}
 use Rattle.std.specs.Prelude.{IsFalse}
-use Rattle.serial_spec.specs.History.{History, Name, begun, is_live}
+use Rattle.serial_spec.specs.History.{begun, is_live}
 use Rattle.serial_spec.specs.Legal.{first_live}
-use Rattle.serial_spec.specs.Rows.{Rows, IsRising, value_in}
+use Rattle.serial_spec.specs.Rows.{IsRising}
 use Rattle.txn_history.proofs.Theorems.{finished_correctness, table_correctness}
 use Rattle.manager_core.specs.declared.store.TopStore.{Ghosts}
 use Rattle.manager_core.specs.State.{State}
 use Rattle.manager_core.specs.Sound.{IsSound}
-use Rattle.interleavings.specs.Told.{Told}
 use Rattle.interleavings.specs.Reports.{IsReport}
 
 pub reported : {S : Type 0} (g : Ghosts S) (m : State S) (labels : List (List ℕ)) → IsSound g m → IsRising m.table

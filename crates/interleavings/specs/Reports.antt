@@ -1,6 +1,6 @@
 -- What every report says.
-use Rattle.std.specs.Prelude.{◌≡◌, ℕ, IsTrue, IsFalse, List, [], ◌∷◌, None}
-use Rattle.serial_spec.specs.History.{Name, has_begun, is_orphan, is_live, is_committed, status, begun}
+use Rattle.std.specs.Prelude.{◌≡◌, IsTrue, IsFalse, [], None}
+use Rattle.serial_spec.specs.History.{Name, has_begun, is_orphan, is_committed, status, begun}
 use Rattle.serial_spec.specs.Items.{items}
 use Rattle.serial_spec.specs.Serial.{Right, Runs}
 use Rattle.serial_spec.specs.Rows.{IsRising, value_in}

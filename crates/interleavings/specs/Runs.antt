@@ -1,9 +1,8 @@
 -- What a run of sessions comes to.
-use Rattle.std.specs.Prelude.{◌≡◌, ◌+◌, ℕ, List, map, IsTrue, false}
+use Rattle.std.specs.Prelude.{◌≡◌, ◌+◌, List, map}
 use Rattle.serial_spec.specs.Interleaving.{Session, IsInterleaving, IsFinished}
 use Rattle.serial_spec.specs.Rows.{value_in}
 use Rattle.manager_core.specs.declared.store.TopStore.{Ghosts}
-use Rattle.manager_core.specs.declared.outcome.OpenFault.{OpenFault}
 use Rattle.manager_core.specs.Store.{counted}
 use Rattle.manager_core.specs.Sound.{IsTrusted, store_refusals}
 use Rattle.manager_core.specs.Opening.{HasCause}

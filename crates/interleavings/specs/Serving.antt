@@ -1,5 +1,5 @@
 -- One line of the one session, and what it adds.
-use Rattle.std.specs.Prelude.{◌≡◌, ℕ, IsFalse, [], ◌∷◌, length, false}
+use Rattle.std.specs.Prelude.{◌≡◌, ℕ, IsFalse, [], ◌∷◌, length}
 use Rattle.serial_spec.specs.declared.entry.By.TheVariants.{Line}
 use Rattle.serial_spec.specs.declared.event.Event.{Event}
 use Rattle.serial_spec.specs.declared.event.Event.TheVariants.{Begin, Access, Commit, Abort, After}

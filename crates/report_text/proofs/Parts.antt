@@ -1,11 +1,10 @@
 -- A report's lines, one after another.
 use Rattle.std.proofs.Common.{◌≡◌, ℕ, ℤ, ◌+◌, ◌<◌, zero, suc, List, [], ◌∷◌, ◌++◌, length, take, drop, get_or, reverse, Some, refl, sym, ap, ◌∙◌, append_assoc, append-nil, arith, take-append-drop}
-use Rattle.std.specs.Prelude.{codes, slice_get}
+use Rattle.std.specs.Prelude.{slice_get}
 use Rattle.std.proofs.lemmas.List.{reverse-append}
 use Rattle.serial_spec.specs.declared.entry.Entry.{Entry}
 use Rattle.serial_spec.specs.Rows.{Rows}
-use Rattle.serial_spec.specs.Printing.{spelled_number}
-use Rattle.serial_spec.specs.Report.{line, spelled_history, spelled_rows}
+use Rattle.serial_spec.specs.Report.{spelled_history, spelled_rows}
 use Rattle.manager_core.specs.declared.store.Row.{Row}
 use Rattle.manager_core.specs.Store.{plain}
 use Rattle.report_text.specs.Lines.{entry_line, row_line, row_lines}

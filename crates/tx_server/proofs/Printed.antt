@@ -1,5 +1,5 @@
 -- A report that was written whole, and a writer that then failed to pass it on.
-use Rattle.std.proofs.Common.{◌≡◌, ℕ, List, [], Option, None, Result, Ok, Err, OnErr, sym, inr, append-nil, ◌⊎◌}
+use Rattle.std.proofs.Common.{◌≡◌, ℕ, List, [], Option, None, Result, Ok, Err, OnErr, sym, inr, append-nil}
 use Rattle.std.specs.Io.KnownBytes.{Keeps}
 use Rattle.txn_bytes.proofs.Appending.{kept}
 use Rattle.manager_core.specs.declared.store.TopStore.{Ghosts}

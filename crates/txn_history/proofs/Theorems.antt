@@ -2,7 +2,7 @@
 pub use Rattle.txn_history.proofs.Runs.{child_as_block}
 pub use Rattle.txn_history.proofs.Swaps.{neighbours_swap}
 pub use Rattle.txn_history.proofs.Left.{left_is_written}
-pub use Rattle.txn_history.proofs.Tops.{top_by_parent, top_by_depth}
+pub use Rattle.txn_history.proofs.Tops.{top_by_parent}
 pub use Rattle.txn_history.proofs.Live.{ancestors_act, locks_separate, live_correctness, table_correctness, value_seen, value_stored}
 pub use Rattle.txn_history.proofs.Homes.{home_by_parent, block_of_parent, serial_correctness, place_in_run, finished_correctness}
 pub use Rattle.txn_history.proofs.Pairs.{pairs_stay, quiet_stays}

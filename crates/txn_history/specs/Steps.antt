@@ -1,7 +1,7 @@
 -- What each entry does to what is read off a history, a transaction and a key at a time, as statements.
-use Rattle.std.specs.Prelude.{◌≡◌, ◌↔◌, ◌⊎◌, ◌<◌, ℕ, suc, length, take, ℤ, Bool, not, ◌&&◌, ◌||◌, if◌then◌else◌, IsTrue, IsFalse, List, [], ◌∷◌, Option, Some}
+use Rattle.std.specs.Prelude.{◌≡◌, ◌↔◌, ◌⊎◌, ℕ, ℤ, Bool, not, ◌&&◌, ◌||◌, if◌then◌else◌, IsTrue, IsFalse, List, [], ◌∷◌, Option, Some}
 use Rattle.std.specs.Prelude.{None as Nothing}
-use Rattle.txn_names.specs.Path.{label_eq, path_eq, is_front, parent, top_of}
+use Rattle.txn_names.specs.Path.{label_eq, path_eq, is_front, parent}
 use Rattle.serial_spec.specs.declared.entry.By.{By}
 use Rattle.serial_spec.specs.declared.entry.Entry.{Entry}
 use Rattle.serial_spec.specs.Operations.{kind, leaves}
@@ -132,13 +132,6 @@ abbrev pub TopByParent : Type 0
 TopByParent =
     (h : History) (l : List ℕ) (ls : Name)
     → top_aborted h (l ∷ ls) ≡ or_else (top_aborted h (parent (l ∷ ls))) (if has_aborted h (l ∷ ls) then Some (l ∷ ls) else Nothing)
-
--- the first that passes among the fronts of 1, 2, .. labels
-abbrev pub TopByDepth : Type 0
-TopByDepth =
-    (passes : Name → Bool) (t : Name)
-    → ((n : ℕ) → n < length t → ((k : ℕ) → k < n → IsFalse (passes (take (suc k) t))) → IsTrue (passes (take (suc n) t)) → top_of passes t ≡ Some (take (suc n) t))
-    × (((k : ℕ) → k < length t → IsFalse (passes (take (suc k) t))) → top_of passes t ≡ Nothing)
 
 -- a parent sees after a commit what the child saw before; the parent of a top-level one is the root, which sees the table
 abbrev pub SeenAfterCommit : Type 0

@@ -5,3 +5,4 @@ pub mod Pieces
 pub mod Valid
 pub mod Slashed
 pub mod ReadBack
+pub mod Tops

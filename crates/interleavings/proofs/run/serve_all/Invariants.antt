@@ -1,4 +1,4 @@
-use Rattle.std.proofs.Common.{◌≡◌, ℕ, ◌-◌, ◌≤◌}
+use Rattle.std.proofs.Common.{◌-◌, ◌≤◌}
 use Rattle.session_text.specs.Grammar.{IsText}
 use Rattle.session_text.specs.Stage.{IsFirstPath}
 use Rattle.interleavings.proofs.Answered.{AreServed}

@@ -1,4 +1,4 @@
-use Rattle.std.proofs.Common.{[], ◌∷◌, ◌++◌}
+use Rattle.std.proofs.Common.{[], ◌∷◌}
 use Rattle.std.specs.Prelude.{codes}
 use Rattle.txn_bytes.proofs.Appending.{front_of, on_err, then, then_front, then_on_err}
 use Rattle.report_text.proofs.entries.put_answered.Goals as goal

@@ -1,4 +1,4 @@
-use Rattle.std.proofs.Common.{◌≡◌, ◌+◌, List, ℕ, take, drop, reverse, subst}
+use Rattle.std.proofs.Common.{◌+◌, List, ℕ, drop, reverse, subst}
 use Rattle.txn_bytes.specs.Written.{AppendsFront}
 use Rattle.txn_bytes.proofs.Appending.{front_of, on_err, then, then_front}
 use Rattle.serial_spec.specs.declared.entry.Entry.{Entry}

@@ -1,4 +1,4 @@
-use Rattle.std.proofs.Common.{◌≡◌, ◌+◌, ◌++◌, List, ℕ, take, drop, subst}
+use Rattle.std.proofs.Common.{◌+◌, ℕ, drop, subst}
 use Rattle.std.specs.Prelude.{slice_get}
 use Rattle.txn_bytes.specs.Written.{AppendsFront}
 use Rattle.txn_bytes.proofs.Appending.{front_of, on_err, then, then_front}
