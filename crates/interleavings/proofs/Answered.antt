@@ -1,5 +1,5 @@
 -- Lines of the one session, answered one after another.
-use Rattle.std.proofs.Common.{◌≡◌, ℕ, ◌+◌, ◌-◌, ◌<◌, ◌≤◌, zero, suc, inl, Bool, true, false, not, cond, ◌&&◌, ◌||◌, eqb, List, [], ◌∷◌, ◌++◌, length, Some, None, refl, sym, ap, subst, ◌∙◌, arith, Result, Ok, Err, OnOk}
+use Rattle.std.proofs.Common.{◌≡◌, ℕ, ◌+◌, ◌-◌, ◌<◌, ◌≤◌, zero, suc, inl, Bool, true, false, not, cond, ◌&&◌, ◌||◌, eqb, List, [], ◌∷◌, ◌++◌, length, Some, refl, sym, ap, subst, ◌∙◌, arith, Result, Ok, Err, OnOk}
 use Rattle.std.specs.Prelude.{slice_get}
 use Rattle.std.specs.List.{AllByRecursion}
 use Rattle.std.proofs.lemmas.Bool.{true≢false, eqb-true, eq-eqb}
@@ -14,7 +14,7 @@ use Rattle.serial_spec.specs.declared.entry.Answer.{Answer}
 use Rattle.serial_spec.specs.History.{History, Name}
 use Rattle.serial_spec.specs.Rows.{Rows}
 use Rattle.serial_spec.specs.Waits.{is_waits, same_line}
-use Rattle.serial_spec.specs.Interleaving.{Session, lines_of, is_answer_in, answered, next_event, AllAnswered, FitsMoment, IsInTurn, IsInterleaving}
+use Rattle.serial_spec.specs.Interleaving.{Session, lines_of, is_answer_in, answered, AllAnswered, FitsMoment, IsInTurn, IsInterleaving}
 use Rattle.session_text.specs.Grammar.{IsText}
 use Rattle.session_text.specs.Stage.{IsStepOf, AreFirstPath, IsFirstPath}
 use Rattle.session_text.specs.Texts.{line_at}
@@ -101,16 +101,6 @@ short_at (s ∷ ss) i e t f = omega (arith, t.sessions.0.short, within s.lines i
     within (d ∷ es) zero e f = omega arith
     within (d ∷ es) (suc i) e f = omega (arith, within es i e f)
 
--- no session but the first has lines
-pub all_answered : (ss : List Session) (h : History) → IsFirstPath ss → next_event ss h 0 ≡ None → AllAnswered ss h
-all_answered [] h p e = λ s. refl
-all_answered (s ∷ []) h p e = go
-  where
-    go : (n : ℕ) → next_event (s ∷ []) h n ≡ None
-    go zero = e
-    go (suc n) = refl
-all_answered (s ∷ t ∷ ss) h p e = absurd p
-
 -- ---- so far
 
 pub record AreServed {S : Type 0} (g : Ghosts S) (ss : List Session) (old new : State S) (n : ℕ) : Type 0 where
@@ -129,17 +119,6 @@ fits_moment : (rows : Rows) (ss : List Session) (h : History) (s : ℕ) (o : Out
 fits_moment rows ss h s (Done r) e = tt
 fits_moment rows ss h s Waits e = absurd (true≢false e)
 fits_moment rows ss h s (Refused r) e = tt
-
-pub none_served : {S : Type 0} (g : Ghosts S) (ss : List Session) (m : State S) → m.history ≡ [] → AreServed g ss m m 0
-none_served g ss m e = record {
-  interleaving = subst (IsInterleaving m.rows ss) (sym e) tt;
-  count = ap (λ h. answered h 0) e;
-  silent = ap has_waits e;
-  fresh = λ _. e;
-  rows = refl;
-  opened = refl;
-  later = record { doubt = omega arith; failures = omega arith };
-}
 
 pub one_more : {S : Type 0} (g : Ghosts S) (ss : List Session) (old mid new : State S) (n : ℕ) (e : Event) → AreServed g ss old mid n → Some e ≡ slice_get (lines_of (slice_get ss 0)) n → Answers g mid new (suc n) e → AreServed g ss old new (suc n)
 one_more g ss old mid new n e so_far next told =
@@ -161,15 +140,6 @@ one_more g ss old mid new n e so_far next told =
 
 pub free_next : {S : Type 0} (g : Ghosts S) (ss : List Session) (old new : State S) (n : ℕ) (e : Event) → AreServed g ss old new n → IsFree new.history (Line 0 (suc n)) e
 free_next g ss old new n e so_far = record { line = tt; unused = inl (none_later new.rows ss new.history 0 (suc n) so_far.interleaving so_far.silent (omega (arith, so_far.count))) }
-
-pub all_served : {S : Type 0} (g : Ghosts S) (ss : List Session) (old new : State S) (n : ℕ) → IsFirstPath ss → AreServed g ss old new n → slice_get (lines_of (slice_get ss 0)) n ≡ None → AreAnswered g ss old new
-all_served g ss old new n p so_far e = record {
-  interleaving = so_far.interleaving;
-  answered = all_answered ss new.history p (ap (slice_get (lines_of (slice_get ss 0))) so_far.count ∙ e);
-  rows = so_far.rows;
-  opened = so_far.opened;
-  later = so_far.later;
-}
 
 -- ---- the close
 
@@ -202,9 +172,6 @@ serves_line g ss old new l e h p so_far next = served_at ss (l - 1) e new.histor
 
 pub line_within : (ss : List Session) (l : ℕ) (e : Event) → 1 ≤ l → IsText ss → Some e ≡ line_at ss 0 l → l ≤ 1024
 line_within ss l e h t next = omega (arith, h, short_at ss (l - 1) e t (next ∙ line_there ss l h))
-
-pub served_whole : {S : Type 0} (g : Ghosts S) (ss : List Session) (old new : State S) (l : ℕ) → 1 ≤ l → IsFirstPath ss → AreServed g ss old new (l - 1) → None ≡ line_at ss 0 l → AreAnswered g ss old new
-served_whole g ss old new l h p so_far none = all_served g ss old new (l - 1) p so_far (sym (none ∙ line_there ss l h))
 
 -- all lines, and then the close
 pub done : {S : Type 0} (g : Ghosts S) (ss : List Session) (old mid new : State S) → AreAnswered g ss old mid → Closed mid new → AreDone g ss old new

@@ -71,10 +71,6 @@ pub record AreWritten (h : History) (t : Name) (keys collected : List (List ℕ)
   pub rising : AreRisingKeys collected
   pub each : (k : List ℕ) → list_any (label_eq k) collected ≡ list_any (label_eq k) keys && wrote h t k
 
--- before the first
-pub none_written : (h : History) (t : Name) → AreWritten h t [] []
-none_written h t = record { rising = tt; each = λ k. refl }
-
 -- whether a key is among some keys and one more
 any_push : (k q : List ℕ) (keys : List (List ℕ)) → list_any (label_eq k) (keys ++ q ∷ []) ≡ list_any (label_eq k) keys || label_eq k q
 any_push k q keys = list_any-append (label_eq k) keys (q ∷ []) ∙ ap (λ b. list_any (label_eq k) keys || b) (or_false (label_eq k q))

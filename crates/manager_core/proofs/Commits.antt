@@ -163,7 +163,3 @@ backed_refused g h table opened before after by t backed refuses later = record 
       refuses.faults ∙ ap (λ n. counted (n + 1)) backed.refusals
       ∙ rw (sum_by-cons (λ (e : Entry). cond (is_store_refusal e.answer) 1 0) (entry by (Commit t) (Refused Store)) h) (omega arith);
 }
-
--- a store that was not asked is as it was
-pub same_later : {S : Type 0} (g : Ghosts S) (store : S) → IsLater g store store
-same_later g store = record { doubt = omega arith; failures = omega arith }

@@ -137,9 +137,6 @@ value ds = digits_value 10 ds
 plain_value : (b : ℕ) (bs : List ℕ) → AreDigits (b ∷ bs) → signed_digits_value 10 (b ∷ bs) ≡ pos (value (b ∷ bs))
 plain_value b bs h = let p = not_sign b bs h in rw (p.1, p.0) refl
 
-minus_value : (bs : List ℕ) → signed_digits_value 10 (45 ∷ bs) ≡ neg_ℤ (pos (value bs))
-minus_value bs = refl
-
 reads_zero : (bs : List ℕ) (z : ℤ) → bs ≡ 48 ∷ [] → signed_digits_value 10 bs ≡ z → bs ≡ spelled_number z
 reads_zero bs z e v = e ∙ sym decimal_zero ∙ ap spelled_number (ap (signed_digits_value 10) (sym e) ∙ v)
 

@@ -119,10 +119,6 @@ when_reads w t h =
     (λ b e. is_word w _ b ∙ ap spelled_when (same_ok Done t e))
     (λ _ e. not_word kind.Word t e))
 
-when_again : (t : When) → when_in (spelled_when t) ≡ Ok t
-when_again Begun = refl
-when_again Done = refl
-
 -- ---- operands, as many as are asked
 
 pub one_reads : (ws : Words) (a : List ℕ) → one ws ≡ Ok a → ws ≡ a ∷ []

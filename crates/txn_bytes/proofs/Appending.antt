@@ -1,5 +1,5 @@
 -- Bytes that are written one part after another.
-use Rattle.std.proofs.Common.{◌≡◌, ℕ, List, [], ◌++◌, Option, Some, None, take, drop, append_assoc, append-nil, sym, ◌∙◌, ap, subst, take-append-drop, Result, Ok, Err, OnErr, OnOk}
+use Rattle.std.proofs.Common.{ℕ, List, [], ◌++◌, Option, Some, None, take, drop, append_assoc, append-nil, sym, ◌∙◌, ap, take-append-drop, Result, Ok, Err, OnErr, OnOk}
 use Rattle.std.specs.Io.KnownBytes.{Appends, Keeps}
 use Rattle.txn_bytes.specs.Written.{AppendsFront}
 
@@ -50,20 +50,6 @@ on_err (Err e) q = q
 pub then_on_err : {T E : Type 0} (a b c : Option (List ℕ)) (x y : List ℕ) (r : Result T E) → Appends a b x → OnErr r (AppendsFront b c y) → OnErr r (AppendsFront a c (x ++ y))
 then_on_err a b c x y (Ok v) h k = tt
 then_on_err a b c x y (Err e) h k = then_front a b c x y h k
-
--- bytes that were written whole, then others of which a beginning was, and more that was to come
-pub stopped : (a b c : Option (List ℕ)) (done next rest whole : List ℕ) → Appends a b done → AppendsFront b c next → (done ++ next) ++ rest ≡ whole → AppendsFront a c whole
-stopped a b c done next rest whole h k e =
-    subst (λ bs. AppendsFront a c bs) e (front_of a c (done ++ next) rest (then_front a b c done next h k))
-
--- the same at the first call
-pub stopped_first : (b c : Option (List ℕ)) (next rest whole : List ℕ) → AppendsFront b c next → next ++ rest ≡ whole → AppendsFront b c whole
-stopped_first b c next rest whole k e = subst (λ bs. AppendsFront b c bs) e (front_of b c next rest k)
-
--- and at the last, whatever it answered
-pub stopped_last : {T E : Type 0} (a b c : Option (List ℕ)) (done next whole : List ℕ) (r : Result T E) → Appends a b done → OnErr r (AppendsFront b c next) → done ++ next ≡ whole → OnErr r (AppendsFront a c whole)
-stopped_last a b c done next whole (Ok v) h k e = tt
-stopped_last a b c done next whole (Err x) h k e = subst (λ bs. AppendsFront a c bs) e (then_front a b c done next h k)
 
 pub then_on_ok : {T E : Type 0} (a b c : Option (List ℕ)) (x y : List ℕ) (r : Result T E) → Appends a b x → OnOk r (Appends b c y) → OnOk r (Appends a c (x ++ y))
 then_on_ok a b c x y (Ok v) h k = then a b c x y h k
