@@ -1,5 +1,5 @@
 -- Keys collected in byte order, and the changes that are made of them.
-use Rattle.std.proofs.Common.{◌≡◌, ℕ, ℤ, Bool, true, false, cond, ◌&&◌, ◌||◌, List, [], ◌∷◌, ◌++◌, append_assoc, length, reverse, map, Option, Some, None, refl, sym, ap, subst, ◌∙◌}
+use Rattle.std.proofs.Common.{◌≡◌, ℕ, ℤ, Bool, true, false, cond, ◌&&◌, ◌||◌, List, [], ◌∷◌, ◌++◌, append_assoc, reverse, map, Option, Some, None, refl, sym, ap, subst, ◌∙◌}
 use Rattle.std.proofs.lemmas.Bool.{false≢true}
 use Rattle.std.proofs.lemmas.List.Folds.{list_any-append}
 use Rattle.std.specs.BTreeSet.{insert_key}
@@ -15,7 +15,6 @@ use Rattle.serial_spec.specs.Values.{seen}
 use Rattle.serial_spec.specs.Rows.{Rows, value_in, AreRisingKeys}
 use Rattle.serial_spec.specs.Changes.{change_at, IsChanges}
 use Rattle.serial_spec.specs.Allowed.{known}
-use Rattle.manager_core.specs.Kept.{IsAlone}
 use Rattle.manager_core.specs.Written.{wrote, change_of}
 use Rattle.manager_core.proofs.Writing.{wrote_known}
 use Rattle.manager_core.proofs.Reversed.{any_reversed, or_false}
@@ -125,13 +124,13 @@ both false true h = absurd (false≢true (h refl))
 both false false h = refl
 
 -- what was written is known
-pub written_all : (rows : Rows) (h : History) (t : Name) (keys collected : List (List ℕ)) → length t ≡ 1 → IsAlone h t
+pub written_all : (rows : Rows) (h : History) (t : Name) (keys collected : List (List ℕ))
     → reverse keys ≡ known rows h → AreWritten h t keys collected
     → (k : List ℕ) → list_any (label_eq k) collected ≡ wrote h t k
-written_all rows h t keys collected one a all far k =
+written_all rows h t keys collected all far k =
     far.each k
     ∙ both (list_any (label_eq k) keys) (wrote h t k)
-    (λ w. sym (any_reversed (label_eq k) keys) ∙ ap (list_any (label_eq k)) all ∙ wrote_known rows h t k one a w)
+    (λ w. sym (any_reversed (label_eq k) keys) ∙ ap (list_any (label_eq k)) all ∙ wrote_known rows h t k w)
 
 -- ---- the changes made of them
 

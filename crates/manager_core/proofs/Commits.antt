@@ -1,54 +1,51 @@
--- The commit of the one transaction.
-use Rattle.std.proofs.Common.{◌≡◌, ℕ, ℤ, ◌+◌, Bool, true, false, cond, ◌&&◌, List, [], ◌∷◌, length, Option, Some, None, refl, sym, ap, ◌∙◌, arith}
-use Rattle.std.proofs.lemmas.Bool.{false≢true, and_from}
+-- Commits: what is handed to the store, the tables afterwards, and the store.
+use Rattle.std.proofs.Common.{◌≡◌, ℕ, ℤ, ◌+◌, ◌<◌, Bool, true, false, cond, List, [], ◌∷◌, length, Option, Some, None, Result, Ok, Err, OnOk, refl, sym, ap, ◌∙◌, arith}
+use Rattle.std.specs.Result.{IsOk, result_err}
+use Rattle.std.proofs.lemmas.Bool.{false≢true}
 use Rattle.std.proofs.lemmas.List.Sums.{sum_by-cons}
-use Rattle.txn_names.specs.Path.{path_eq, parent}
-use Rattle.txn_names.proofs.Names.{path_eq_self, label_eq_self, on_test}
+use Rattle.txn_names.specs.Path.{path_eq}
+use Rattle.txn_names.proofs.Names.{label_eq_self}
+use Rattle.txn_names.specs.declared.change.Change.{Change}
+use Rattle.txn_tree.specs.States.{States, names, status_in}
+use Rattle.txn_tree.specs.Causes as tree
+use Rattle.txn_tree.specs.declared.status.Status.TheVariants.{Committed}
+use Rattle.orphans.specs.Marked.{Marked}
 use Rattle.serial_spec.specs.declared.entry.By.{By}
 use Rattle.serial_spec.specs.declared.operation.Reply.TheVariants.{Ok}
-use Rattle.serial_spec.specs.declared.entry.Refusal.{Refusal}
 use Rattle.serial_spec.specs.declared.entry.Refusal.TheVariants.{Store}
 use Rattle.serial_spec.specs.declared.event.Event.TheVariants.{Commit}
 use Rattle.serial_spec.specs.declared.entry.Answer.TheVariants.{Done, Refused}
 use Rattle.serial_spec.specs.declared.entry.Entry.{Entry}
-use Rattle.serial_spec.specs.History.{Name, History, or_else, is_live}
+use Rattle.serial_spec.specs.History.{Name, History, or_else}
 use Rattle.serial_spec.specs.Items.{items}
-use Rattle.serial_spec.specs.Serial.{Map}
-use Rattle.serial_spec.specs.Locks.{foot, Mode, Free, Shared, Exclusive, is_exclusive}
-use Rattle.serial_spec.specs.Values.{last_left, value_or, seen}
+use Rattle.serial_spec.specs.Serial.{Map, stored}
+use Rattle.serial_spec.specs.Values.{seen}
 use Rattle.serial_spec.specs.Rows.{Rows, value_in}
-use Rattle.serial_spec.specs.Allowed.{Allowed, answer, cause_at_end, has_live_child, asks_store, writes}
-use Rattle.txn_history.proofs.Tables.{left_is_written}
-use Rattle.txn_names.specs.declared.change.Change.{Change}
-use Rattle.manager_core.specs.declared.store.TopStore.{Ghosts}
 use Rattle.serial_spec.specs.Changes.{change_at, overlay, IsChanges}
+use Rattle.serial_spec.specs.Allowed.{cause_at_commit, asks_store, writes}
+use Rattle.serial_spec.specs.Legal.{AreAllowed}
+use Rattle.txn_history.proofs.Causes.{neither}
+use Rattle.txn_history.proofs.Theorems.{changes_made, value_stored, writes_somewhere}
+use Rattle.manager_core.specs.declared.store.TopStore.{Ghosts}
 use Rattle.manager_core.specs.Store.{counted}
 use Rattle.manager_core.specs.State.{entry}
 use Rattle.manager_core.specs.Lines.{IsLine}
-use Rattle.manager_core.specs.Kept.{IsAlone, IsKept, has_waits}
+use Rattle.manager_core.specs.Kept.{IsKept, IsTreeOf}
 use Rattle.manager_core.specs.Sound.{is_store_refusal, IsBacked, IsTrusted}
 use Rattle.manager_core.specs.Written.{wrote}
 use Rattle.manager_core.specs.Asked.{IsLater, Takes, Refuses}
-use Rattle.manager_core.proofs.Waitless.{no_wait}
-use Rattle.manager_core.proofs.Single.{alone, any_alone, begun_at_end, one_label, refused_allowed}
-use Rattle.manager_core.proofs.Kept.{kept_next, kept_nothing}
-use Rattle.manager_core.proofs.Writing.{wrote_writes}
+use Rattle.manager_core.proofs.Answers.{allowed_next, commit_allowed}
+use Rattle.manager_core.proofs.Kept.{kept_same}
+use Rattle.manager_core.proofs.Steps.{kept_commits, table_same}
+use Rattle.manager_core.proofs.Trees.{same_at_abort, same_children}
+use Rattle.manager_core.proofs.Writing.{exclusive_is}
 
--- ---- what is answered
+-- ---- what is handed to the store
 
--- the one has no live child
-childless : (h : History) (t : Name) → length t ≡ 1 → IsAlone h t → has_live_child h t ≡ false
-childless h [] one a = absurd (omega arith)
-childless h (l ∷ []) one a = any_alone (λ u. path_eq (parent u) (l ∷ []) && is_live h u) h (l ∷ []) a refl
-childless h (l ∷ m ∷ ls) one a = absurd (omega arith)
-
--- its commit is answered ok
-pub commit_done : (rows : Rows) (h : History) (by : By) (t : Name) → has_waits h ≡ false → length t ≡ 1 → IsAlone h t → None ≡ cause_at_end h t → answer rows h by (Commit t) ≡ Some (Done Ok)
-commit_done rows h by t silent one a none = rw (← none, childless h t one a, no_wait h t silent) refl
-
--- a cause that is found refuses the commit
-pub commit_refused : (rows : Rows) (h : History) (by : By) (t : Name) (r : Refusal) → is_store_refusal (Refused r) ≡ false → Some r ≡ cause_at_end h t → Allowed rows h by (Commit t) (Refused r)
-commit_refused rows h by t r n e = refused_allowed rows h by (Commit t) r n (rw (← e) refl)
+-- the root sees the table
+pub sees_table : (rows table : Rows) (h : History) → AreAllowed rows h → ((k : List ℕ) → value_in table k ≡ stored (value_in rows) h k)
+    → (k : List ℕ) → value_in table k ≡ seen (value_in rows) h [] k
+sees_table rows table h allowed current k = current k ∙ value_stored rows h allowed k
 
 -- where something is changed it was written
 is_some_change : (b : Bool) (v w : Option ℤ) (x : Option (Option ℤ)) → or_else x (Some v) ≡ cond b (Some w) None → b ≡ true
@@ -61,7 +58,7 @@ changed : (opening : Map) (h : History) (t : Name) (c : Change) (cs : List Chang
 changed opening h t c cs are =
     let here : or_else (change_at cs c.key) (Some c.value) ≡ cond (wrote h t c.key) (Some (seen opening h t c.key)) None =
     ap (λ b. or_else (change_at cs c.key) (cond b (Some c.value) None)) (sym (label_eq_self c.key)) ∙ are.each c.key in
-    wrote_writes (items h t) c.key (is_some_change (wrote h t c.key) c.value (seen opening h t c.key) (change_at cs c.key) here)
+    (writes_somewhere (items h t)).1 (c.key, exclusive_is _ (is_some_change (wrote h t c.key) c.value (seen opening h t c.key) (change_at cs c.key) here))
 
 -- where there are changes the store is asked
 pub asked : (opening : Map) (h : History) (t : Name) (changes : List Change) → length t ≡ 1 → IsChanges opening h t changes → (changes ≡ [] → ⊥) → asks_store h (Commit t) ≡ true
@@ -76,62 +73,64 @@ unasked opening h t [] one are n = refl
 unasked opening h t (c ∷ cs) one are n =
     absurd (false≢true (sym n ∙ asked opening h t (c ∷ cs) one are (λ e. cc)))
 
--- ---- the table afterwards
+-- ---- the tables afterwards
 
--- a mode that is not exclusive is no exclusive one
-not_exclusive : (m : Mode) → is_exclusive m ≡ false → m ≡ Exclusive → ⊥
-not_exclusive Free n e = cc
-not_exclusive Shared n e = cc
-not_exclusive Exclusive n e = false≢true (sym n)
+-- the tree does not refuse what no cause refuses
+pub tree_commits : (rows : Rows) (h : History) (states : States) (by : By) (t : Name) → AreAllowed rows h → IsTreeOf h states → 0 < length t → None ≡ cause_at_commit h by t
+    → None ≡ tree.cause_at_commit states t
+tree_commits rows h states by t allowed is some none =
+    let p = neither _ _ (sym none) in
+    let q = neither _ _ p.1 in
+    let at_end : tree.cause_at_abort states t ≡ None = same_at_abort rows h states allowed is t some ∙ p.0 in
+    sym (rw (at_end, same_children rows h states allowed is t) q.0)
 
--- what is not written is seen as the table has it
-unwritten : (rows old : Rows) (h : History) (t : Name) (k : List ℕ) → length t ≡ 1 → value_in old k ≡ seen (value_in rows) h [] k → wrote h t k ≡ false → seen (value_in rows) h t k ≡ value_in old k
-unwritten rows old h [] k one e n = absurd (omega arith)
-unwritten rows old h (l ∷ []) k one e n =
-    ap (λ v. value_or v (seen (value_in rows) h [] k)) (left_is_written (items h (l ∷ [])) k (not_exclusive (foot h (l ∷ []) k) n)) ∙ sym e
-unwritten rows old h (l ∷ m ∷ ls) k one e n = absurd (omega arith)
+-- so its commit is done
+pub commits : {A E : Type 0} (r : Result A E) (c : Option E) → result_err r ≡ c → None ≡ c → IsOk r
+commits (Ok x) c e none = refl
+commits (Err x) c e none = cc
 
--- the table with the changes made is what the one sees
-sees_changes : (rows old : Rows) (h : History) (t : Name) (changes : List Change) (k : List ℕ) → length t ≡ 1 → value_in old k ≡ seen (value_in rows) h [] k → IsChanges (value_in rows) h t changes
-    → overlay changes (value_in old) k ≡ seen (value_in rows) h t k
-sees_changes rows old h t changes k one e are =
-    ap (λ x. value_or x (value_in old k)) (are.each k)
-    ∙ on_test (wrote h t k) (λ b. value_or (cond b (Some (seen (value_in rows) h t k)) None) (value_in old k) ≡ seen (value_in rows) h t k)
-    (λ _. refl) (λ n. sym (unwritten rows old h t k one e n))
+pub on_commit : {A E : Type 0} (r : Result A E) (P : Type 0) → IsOk r → OnOk r P → P
+on_commit (Ok x) P ok p = p
+on_commit (Err x) P ok p = absurd (false≢true ok)
 
--- one choice after another
-value_or_else : (a b : Option (Option ℤ)) (v : Option ℤ) → value_or (or_else a b) v ≡ value_or a (value_or b v)
-value_or_else None b v = refl
-value_or_else (Some w) b v = refl
+-- a subtransaction's commit
+pub kept_child : (rows : Rows) (h : History) (old new : States) (marks : Marked) (table : Rows) (by : By) (t : Name)
+    → IsKept rows h old marks table → IsLine by → 1 < length t → None ≡ cause_at_commit h by t
+    → names new ≡ names old → ((u : Name) → status_in new u ≡ cond (path_eq t u) Committed (status_in old u))
+    → IsKept rows (entry by (Commit t) (Done Ok) ∷ h) new marks table
+kept_child rows h old new marks table by [] kept line below none same sets = absurd (omega (arith, below))
+kept_child rows h old new marks table by (l ∷ []) kept line below none same sets = absurd (omega (arith, below))
+kept_child rows h old new marks table by (l ∷ m ∷ ls) kept line below none same sets =
+    let t = l ∷ m ∷ ls in
+    let e : Entry = entry by (Commit t) (Done Ok) in
+    let allowed = allowed_next rows h by _ _ kept.allowed line (commit_allowed rows h by t None none) in
+    kept_commits rows e h allowed old new marks table table t kept refl same sets
+    (λ k. kept.current k ∙ sym (table_same rows e h allowed k refl))
 
--- the root sees after the commit what the one saw before
-seen_committed : (rows : Rows) (h : History) (by : By) (t : Name) (k : List ℕ) → length t ≡ 1
-    → seen (value_in rows) h t k ≡ seen (value_in rows) (entry by (Commit t) (Done Ok) ∷ h) [] k
-seen_committed rows h by [] k one = absurd (omega arith)
-seen_committed rows h by (l ∷ []) k one = sym (value_or_else (last_left (items h (l ∷ [])) k) (last_left (items h []) k) (value_in rows k))
-seen_committed rows h by (l ∷ m ∷ ls) k one = absurd (omega arith)
+-- a top-level one's that the store took
+pub kept_top : (rows : Rows) (h : History) (old new : States) (marks : Marked) (before after : Rows) (by : By) (t : Name) (changes : List Change)
+    → IsKept rows h old marks before → IsLine by → length t ≡ 1 → None ≡ cause_at_commit h by t
+    → IsChanges (value_in rows) h t changes → value_in after ≡ overlay changes (value_in before)
+    → names new ≡ names old → ((u : Name) → status_in new u ≡ cond (path_eq t u) Committed (status_in old u))
+    → IsKept rows (entry by (Commit t) (Done Ok) ∷ h) new marks after
+kept_top rows h old new marks before after by [] changes kept line top none are overlays same sets = absurd (omega arith)
+kept_top rows h old new marks before after by (l ∷ []) changes kept line top none are overlays same sets =
+    let e : Entry = entry by (Commit (l ∷ [])) (Done Ok) in
+    let allowed = allowed_next rows h by _ _ kept.allowed line (commit_allowed rows h by (l ∷ []) None none) in
+    let was : value_in before ≡ stored (value_in rows) h = λ i k. kept.current k i in
+    kept_commits rows e h allowed old new marks before after (l ∷ []) kept refl same sets
+    (λ k.
+    ap (λ (m : Map). m k) overlays ∙ ap (λ (m : Map). overlay changes m k) was
+    ∙ sym (changes_made rows e h allowed l refl changes are k))
+kept_top rows h old new marks before after by (l ∷ m ∷ ls) changes kept line top none are overlays same sets = absurd (omega arith)
 
--- a commit that was done keeps what the type keeps, with the changed table
-pub kept_committed : (rows : Rows) (h : History) (old new : Rows) (by : By) (t : Name) (changes : List Change)
-    → IsKept rows h old → IsLine by → None ≡ cause_at_end h t → IsChanges (value_in rows) h t changes → value_in new ≡ overlay changes (value_in old)
-    → IsKept rows (entry by (Commit t) (Done Ok) ∷ h) new
-kept_committed rows h old new by t changes kept line none are overlays =
-    let begun = begun_at_end h t none in
-    let one = one_label h t kept.single begun in
-    let mine = alone h t kept.single begun in
-    kept_next rows h old new by (Commit t) (Done Ok) kept line (commit_done rows h by t kept.silent one mine none) refl
-    (t, one, and_from _ _ (path_eq_self t) mine)
-    (λ k. ap (λ (m : Map). m k) overlays ∙ sees_changes rows old h t changes k one (kept.current k) are ∙ seen_committed rows h by t k one)
-
--- and one that the store refused, with the table as it was
-pub kept_unstored : (rows : Rows) (h : History) (table : Rows) (by : By) (t : Name) (changes : List Change)
-    → IsKept rows h table → IsLine by → None ≡ cause_at_end h t → IsChanges (value_in rows) h t changes → (changes ≡ [] → ⊥)
-    → IsKept rows (entry by (Commit t) (Refused Store) ∷ h) table
-kept_unstored rows h table by t changes kept line none are some =
-    let begun = begun_at_end h t none in
-    let one = one_label h t kept.single begun in
-    kept_nothing rows h table by (Commit t) (Refused Store) kept line
-    (commit_done rows h by t kept.silent one (alone h t kept.single begun) none, asked (value_in rows) h t changes one are some) refl refl
+-- and one that the store refused, with the tables as they were
+pub kept_unstored : (rows : Rows) (h : History) (states : States) (marks : Marked) (table : Rows) (by : By) (t : Name) (changes : List Change)
+    → IsKept rows h states marks table → IsLine by → length t ≡ 1 → None ≡ cause_at_commit h by t → IsChanges (value_in rows) h t changes → (changes ≡ [] → ⊥)
+    → IsKept rows (entry by (Commit t) (Refused Store) ∷ h) states marks table
+kept_unstored rows h states marks table by t changes kept line top none are some =
+    kept_same rows h states marks table by (Commit t) (Refused Store) kept line
+    (commit_allowed rows h by t None none, asked (value_in rows) h t changes top are some) refl
 
 -- ---- the store afterwards
 

@@ -1,5 +1,5 @@
 -- What callers are told of the manager, from what its type keeps.
-use Rattle.std.proofs.Common.{◌≡◌, ℕ, ◌∙◌, sym, ◌∷◌, false, cond, zero-add}
+use Rattle.std.proofs.Common.{◌≡◌, ℕ, ◌∷◌, false, cond, zero-add}
 use Rattle.std.proofs.lemmas.List.Sums.{sum_by-cons}
 use Rattle.serial_spec.specs.declared.entry.By.{By}
 use Rattle.serial_spec.specs.declared.event.Event.{Event}
@@ -7,7 +7,9 @@ use Rattle.serial_spec.specs.declared.entry.Answer.{Answer}
 use Rattle.serial_spec.specs.declared.entry.Entry.{Entry}
 use Rattle.serial_spec.specs.Rows.{Rows}
 use Rattle.serial_spec.specs.History.{History}
-use Rattle.txn_history.proofs.Theorems.{table_correctness, value_stored}
+use Rattle.txn_tree.specs.States.{States}
+use Rattle.orphans.specs.Marked.{Marked}
+use Rattle.txn_history.proofs.Theorems.{table_correctness}
 use Rattle.txn_history.proofs.Theorems as theorems
 use Rattle.manager_core.specs.declared.store.TopStore.{Ghosts}
 use Rattle.manager_core.specs.State.{State, entry}
@@ -15,14 +17,14 @@ use Rattle.manager_core.specs.Kept.{IsKept}
 use Rattle.manager_core.specs.Sound.{is_store_refusal, IsBacked, IsSound}
 
 -- all that callers are told
-pub sound : {S : Type 0} (g : Ghosts S) (m : State S) → IsKept m.rows m.history m.table → IsBacked g m.history m.table m.opened m.store → IsSound g m
-sound g m kept backed = record {
+pub sound : {S : Type 0} (g : Ghosts S) (m : State S) (tree : States) (marks : Marked)
+    → IsKept m.rows m.history tree marks m.table → IsBacked g m.history m.table m.opened m.store → IsSound g m
+sound g m tree marks kept backed = record {
   rising = kept.rising;
-  legal = kept.legal;
-  quiet = kept.quiet;
-  right = theorems.serial_correctness m.rows m.history kept.legal;
-  root = (table_correctness m.rows m.history kept.legal).0;
-  stored = λ k. kept.current k ∙ sym (value_stored m.rows m.history kept.legal k);
+  allowed = kept.allowed;
+  right = theorems.serial_correctness m.rows m.history kept.allowed;
+  root = (table_correctness m.rows m.history kept.allowed).0;
+  stored = kept.current;
   backed = backed;
 }
 

@@ -1,108 +1,78 @@
--- How a new entry keeps what the manager's type says.
-use Rattle.std.proofs.Common.{◌≡◌, ℕ, false, List, [], ◌∷◌, length, refl, sym, subst, arith}
-use Rattle.std.proofs.lemmas.Bool.{false≢true, and_from}
-use Rattle.txn_names.proofs.Names.{path_eq_self}
+-- How each call keeps what the manager's type says.
+use Rattle.std.proofs.Common.{◌≡◌, ℕ, ◌<◌, true, List, ◌∷◌, Option, Some, None, length, refl, sym, subst, ◌∙◌}
+use Rattle.txn_tree.specs.States.{States}
+use Rattle.txn_tree.specs.Causes as tree
+use Rattle.orphans.specs.Marked.{Marked}
 use Rattle.serial_spec.specs.declared.entry.By.{By}
-use Rattle.serial_spec.specs.declared.entry.By.TheVariants.{Line, Victim, Close}
-use Rattle.serial_spec.specs.declared.operation.Reply.TheVariants.{Ok, Value, Absent, New, Overflow}
+use Rattle.serial_spec.specs.declared.entry.Refusal.{Refusal}
 use Rattle.serial_spec.specs.declared.event.Event.{Event}
-use Rattle.serial_spec.specs.declared.event.Event.TheVariants.{Begin, Access}
-use Rattle.serial_spec.specs.declared.operation.Op.{Op}
-use Rattle.serial_spec.specs.declared.operation.Reply.{Reply}
+use Rattle.serial_spec.specs.declared.event.Event.TheVariants.{Begin, Access, Commit, Abort}
 use Rattle.serial_spec.specs.declared.entry.Answer.{Answer}
-use Rattle.serial_spec.specs.History.{Name, History, Nothing, effect_of}
-use Rattle.serial_spec.specs.Values.{seen}
-use Rattle.serial_spec.specs.Waits.{is_waits, Quiet}
-use Rattle.serial_spec.specs.Rows.{Rows, value_in}
-use Rattle.serial_spec.specs.Allowed.{Allowed}
-use Rattle.serial_spec.specs.Legal.{MayStand}
+use Rattle.serial_spec.specs.declared.entry.Answer.TheVariants.{Refused as Refuses, Stuck}
+use Rattle.serial_spec.specs.declared.operation.Op.{Op}
+use Rattle.serial_spec.specs.History.{Name, History, effect_of}
+use Rattle.serial_spec.specs.Rows.{Rows}
+use Rattle.serial_spec.specs.Allowed.{Allowed, cause_at_begin, cause_at_end}
 use Rattle.manager_core.specs.declared.outcome.Outcome.{Outcome}
 use Rattle.manager_core.specs.declared.outcome.Outcome.TheVariants.{Done, Waits, Refused}
-use Rattle.manager_core.specs.Outcomes.{answer_of}
-use Rattle.manager_core.proofs.Waitless.{or_neither, quiet}
-use Rattle.manager_core.proofs.Single.{is_the_one, one_label, answered_begun}
+use Rattle.manager_core.specs.Outcomes.{answer_of, outcome_of}
 use Rattle.manager_core.specs.State.{entry}
-use Rattle.manager_core.specs.Lines.{IsLine}
-use Rattle.manager_core.specs.Kept.{IsAlone, IsSingle, has_waits, IsKept}
+use Rattle.manager_core.specs.Lines.{IsLine, IsWaitOf}
+use Rattle.manager_core.specs.Kept.{IsKept}
+use Rattle.manager_core.specs.Tables.{BeginsIn, AbortsIn}
+use Rattle.manager_core.proofs.Trees.{same_at_begin, same_at_abort}
+use Rattle.manager_core.proofs.Answers.{allowed_next, begin_allowed, abort_allowed, stuck_allowed, line_of_wait}
+use Rattle.manager_core.proofs.Steps.{is_plain, kept_plain, kept_begins, kept_aborts}
 
--- ---- an entry of a line
+-- an allowed entry that begins and ends nobody
+pub kept_same : (rows : Rows) (h : History) (states : States) (marks : Marked) (table : Rows) (by : By) (event : Event) (a : Answer)
+    → IsKept rows h states marks table → IsLine by → Allowed rows h by event a → is_plain (effect_of event a) ≡ true
+    → IsKept rows (entry by event a ∷ h) states marks table
+kept_same rows h states marks table by event a kept line allowed p =
+    kept_plain rows (entry by event a) h (allowed_next rows h by event a kept.allowed line allowed) states marks table (effect_of event a) kept refl p
 
--- an allowed entry of a line may stand where no cycle does
-may_stand : (rows : Rows) (h : History) (by : By) (event : Event) (answer : Answer) → IsLine by → Allowed rows h by event answer → Quiet h → MayStand rows h by event answer
-may_stand rows h (Line s l) event answer line allowed q = (allowed, q)
-may_stand rows h Victim event answer line allowed q = absurd line
-may_stand rows h Close event answer line allowed q = absurd line
+module _ (rows : Rows) (h : History) (old : States) (marks : Marked) (table : Rows) (by : By) (t : Name) (kept : IsKept rows h old marks table) where
+  -- a begin, by why it is refused
+  pub begin_cause : (o : Option Refusal) → o ≡ tree.cause_at_begin old t → o ≡ cause_at_begin h t
+  begin_cause o e = e ∙ same_at_begin rows h old kept.allowed kept.in_tree t
 
--- what is left to show of an entry that does not wait
-pub kept_next : (rows : Rows) (h : History) (old new : Rows) (by : By) (event : Event) (answer : Answer)
-    → IsKept rows h old → IsLine by → Allowed rows h by event answer → is_waits answer ≡ false
-    → IsSingle (entry by event answer ∷ h)
-    → ((k : List ℕ) → value_in new k ≡ seen (value_in rows) (entry by event answer ∷ h) [] k)
-    → IsKept rows (entry by event answer ∷ h) new
-kept_next rows h old new by event answer kept line allowed speaks single current =
-    let silent : has_waits (entry by event answer ∷ h) ≡ false = or_neither (is_waits answer) (has_waits h) speaks kept.silent in
-    record {
-      rising = kept.rising;
-      legal = (kept.legal, may_stand rows h by event answer line allowed kept.quiet);
-      quiet = quiet (entry by event answer ∷ h) silent;
-      current = current;
-      single = single;
-      silent = silent;
-    }
+  pub kept_begin : (new : States) (o : Option Refusal) → IsLine by → o ≡ tree.cause_at_begin old t → BeginsIn old new t o
+      → IsKept rows (entry by (Begin t) (answer_of (outcome_of o)) ∷ h) new marks table
+  kept_begin new None line e begins =
+      kept_begins rows _ h (allowed_next rows h by _ _ kept.allowed line (begin_allowed rows h by t None (begin_cause None e)))
+      old new marks table t kept refl begins
+  kept_begin new (Some r) line e same =
+      subst (λ s. IsKept rows (entry by (Begin t) (Refuses r) ∷ h) s marks table) (sym same)
+      (kept_same rows h old marks table by (Begin t) (Refuses r) kept line (begin_allowed rows h by t (Some r) (begin_cause (Some r) e)) refl)
 
--- an entry that does nothing
-pub kept_nothing : (rows : Rows) (h : History) (table : Rows) (by : By) (event : Event) (answer : Answer)
-    → IsKept rows h table → IsLine by → Allowed rows h by event answer → is_waits answer ≡ false
-    → effect_of event answer ≡ Nothing
-    → IsKept rows (entry by event answer ∷ h) table
-kept_nothing rows h table by event answer kept line allowed speaks nothing =
-    kept_next rows h table table by event answer kept line allowed speaks
-    (kept.single.0, kept.single.1, rw nothing kept.single.2)
-    (λ k. rw nothing (kept.current k))
+  -- an abort
+  pub abort_cause : (o : Option Refusal) → 0 < length t → o ≡ tree.cause_at_abort old t → o ≡ cause_at_end h t
+  abort_cause o some e = e ∙ same_at_abort rows h old kept.allowed kept.in_tree t some
 
--- the begin of the one
-kept_begun : (rows : Rows) (h : History) (table : Rows) (by : By) (t : Name)
-    → IsKept rows h table → IsLine by → length t ≡ 1 → IsAlone h t
-    → Allowed rows h by (Begin t) (answer_of (Done Ok))
-    → IsKept rows (entry by (Begin t) (answer_of (Done Ok)) ∷ h) table
-kept_begun rows h table by t kept line one alone allowed =
-    kept_next rows h table table by (Begin t) (answer_of (Done Ok)) kept line allowed refl
-    (t, one, and_from _ _ (path_eq_self t) alone)
-    kept.current
+  pub kept_abort : (new : States) (new_marks : Marked) (o : Option Refusal) → IsLine by → 0 < length t → o ≡ tree.cause_at_abort old t
+      → AbortsIn old new marks new_marks t o
+      → IsKept rows (entry by (Abort t) (answer_of (outcome_of o)) ∷ h) new new_marks table
+  kept_abort new new_marks None line some e aborts =
+      kept_aborts rows _ h (allowed_next rows h by _ _ kept.allowed line (abort_allowed rows h by t None (abort_cause None some e)))
+      old new marks new_marks table t kept refl aborts
+  kept_abort new new_marks (Some r) line some e same =
+      subst (λ s. IsKept rows (entry by (Abort t) (Refuses r) ∷ h) s new_marks table) (sym same.0)
+      (subst (λ m. IsKept rows (entry by (Abort t) (Refuses r) ∷ h) old m table) (sym same.1)
+      (kept_same rows h old marks table by (Abort t) (Refuses r) kept line (abort_allowed rows h by t (Some r) (abort_cause (Some r) some e)) refl))
 
--- a begin however it is answered
-pub kept_begin : (rows : Rows) (h : History) (table : Rows) (by : By) (t : Name) (outcome : Outcome)
-    → IsKept rows h table → IsLine by → length t ≡ 1 → IsAlone h t
-    → Allowed rows h by (Begin t) (answer_of outcome) → is_waits (answer_of outcome) ≡ false
-    → IsKept rows (entry by (Begin t) (answer_of outcome) ∷ h) table
-kept_begin rows h table by t (Done Ok) kept line one alone allowed speaks = kept_begun rows h table by t kept line one alone allowed
-kept_begin rows h table by t (Done (Value v)) kept line one alone allowed speaks = kept_nothing _ _ _ _ _ _ kept line allowed speaks refl
-kept_begin rows h table by t (Done Absent) kept line one alone allowed speaks = kept_nothing _ _ _ _ _ _ kept line allowed speaks refl
-kept_begin rows h table by t (Done (New v)) kept line one alone allowed speaks = kept_nothing _ _ _ _ _ _ kept line allowed speaks refl
-kept_begin rows h table by t (Done Overflow) kept line one alone allowed speaks = kept_nothing _ _ _ _ _ _ kept line allowed speaks refl
-kept_begin rows h table by t Waits kept line one alone allowed speaks = absurd (false≢true (sym speaks))
-kept_begin rows h table by t (Refused r) kept line one alone allowed speaks = kept_nothing _ _ _ _ _ _ kept line allowed speaks refl
+  -- an access however it is answered
+  pub kept_access : (k : List ℕ) (op : Op) (outcome : Outcome) → IsLine by → Allowed rows h by (Access t k op) (answer_of outcome)
+      → IsKept rows (entry by (Access t k op) (answer_of outcome) ∷ h) old marks table
+  kept_access k op (Done r) line allowed = kept_same _ _ _ _ _ _ _ _ kept line allowed refl
+  kept_access k op Waits line allowed = kept_same _ _ _ _ _ _ _ _ kept line allowed refl
+  kept_access k op (Refused r) line allowed = kept_same _ _ _ _ _ _ _ _ kept line allowed refl
 
--- an answered access of the one transaction
-kept_answered : (rows : Rows) (h : History) (table : Rows) (by : By) (t : Name) (k : List ℕ) (op : Op) (r : Reply)
-    → IsKept rows h table → IsLine by → Allowed rows h by (Access t k op) (answer_of (Done r)) → length t ≡ 1 → IsAlone h t
-    → IsKept rows (entry by (Access t k op) (answer_of (Done r)) ∷ h) table
-kept_answered rows h table by [] k op r kept line allowed one alone = absurd (omega arith)
-kept_answered rows h table by (l ∷ []) k op r kept line allowed one alone =
-    kept_next rows h table table by (Access (l ∷ []) k op) (answer_of (Done r)) kept line allowed refl
-    (l ∷ [], refl, and_from _ _ (path_eq_self (l ∷ [])) alone)
-    kept.current
-kept_answered rows h table by (l ∷ m ∷ ls) k op r kept line allowed one alone = absurd (omega arith)
-
--- an access however it is answered
-pub kept_access : (rows : Rows) (h : History) (table : Rows) (by : By) (t : Name) (k : List ℕ) (op : Op) (outcome : Outcome)
-    → IsKept rows h table → IsLine by → Allowed rows h by (Access t k op) (answer_of outcome) → is_waits (answer_of outcome) ≡ false
-    → IsKept rows (entry by (Access t k op) (answer_of outcome) ∷ h) table
-kept_access rows h table by t k op (Done r) kept line allowed speaks =
-    let begun = answered_begun rows h by t k op r allowed in
-    let same : t ≡ kept.single.0 = is_the_one h kept.single.0 t kept.single.2 begun in
-    kept_answered rows h table by t k op r kept line allowed
-    (one_label h t kept.single begun)
-    (subst (IsAlone h) (sym same) kept.single.2)
-kept_access rows h table by t k op Waits kept line allowed speaks = absurd (false≢true (sym speaks))
-kept_access rows h table by t k op (Refused r) kept line allowed speaks = kept_nothing _ _ _ _ _ _ kept line allowed speaks refl
+-- an access that is given up
+pub kept_stuck : (rows : Rows) (h : History) (states : States) (marks : Marked) (table : Rows) (by : By) (event : Event) → IsKept rows h states marks table → IsWaitOf h by event
+    → IsKept rows (entry by event Stuck ∷ h) states marks table
+kept_stuck rows h states marks table by (Access t k o) kept waits =
+    kept_same rows h states marks table by (Access t k o) Stuck kept (line_of_wait h by (Access t k o) waits) (stuck_allowed rows h by (Access t k o) waits) refl
+kept_stuck rows h states marks table by (Begin t) kept waits = absurd waits
+kept_stuck rows h states marks table by (Commit t) kept waits = absurd waits
+kept_stuck rows h states marks table by (Abort t) kept waits = absurd waits
+kept_stuck rows h states marks table by event kept waits = absurd waits

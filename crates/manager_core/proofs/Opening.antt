@@ -1,21 +1,44 @@
 -- The rows of the opening.
-use Rattle.std.proofs.Common.{◌≡◌, ℕ, ◌<◌, ◌^◌, [], ◌∷◌, refl, ap, sym, ◌∙◌, arith}
+use Rattle.std.proofs.Common.{◌≡◌, ℕ, ◌<◌, ◌^◌, List, [], ◌∷◌, length, refl, ap, sym, ◌∙◌, arith}
+use Rattle.std.specs.List.{list_any}
+use Rattle.txn_names.specs.Path.{path_eq}
+use Rattle.txn_tree.specs.States.{States}
+use Rattle.orphans.specs.Marked.{Marked}
+use Rattle.serial_spec.specs.History.{Name, status}
 use Rattle.serial_spec.specs.Serial.{Map}
 use Rattle.serial_spec.specs.Rows.{Rows, value_in, IsRising}
+use Rattle.txn_tree.specs.States.{status_in}
+use Rattle.manager_core.specs.declared.store.Row.{Row}
+use Rattle.manager_core.specs.Store.{plain}
 use Rattle.manager_core.specs.declared.store.TopStore.{Ghosts}
-use Rattle.manager_core.specs.Kept.{IsKept}
+use Rattle.manager_core.specs.Kept.{IsKept, IsTreeOf, status_of}
 use Rattle.manager_core.specs.Sound.{IsBacked}
-use Rattle.manager_core.proofs.Waitless.{quiet}
+
+-- rows are as many from either form
+pub as_many : (rows : List Row) → length (plain rows) ≡ length rows
+as_many [] = refl
+as_many (r ∷ rows) = omega (arith, as_many rows)
+
+-- nobody has begun
+empty_tree : (states : States) → states ≡ [] → IsTreeOf [] states
+empty_tree states e = record {
+  begun = rw e refl;
+  status = λ t. rw e (absent t);
+}
+  where
+    absent : (t : Name) → status_of (status_in [] t) ≡ status [] t
+    absent [] = refl
+    absent (l ∷ ls) = refl
 
 -- an empty history keeps what the type keeps, over any rows in order
-pub kept_open : (rows table : Rows) → IsRising rows → value_in table ≡ value_in rows → IsKept rows [] table
-kept_open rows table rising e = record {
+pub kept_open : (rows table : Rows) (states : States) (marks : Marked) → IsRising rows → value_in table ≡ value_in rows → states ≡ [] → marks.names ≡ []
+    → IsKept rows [] states marks table
+kept_open rows table states marks rising e empty unmarked = record {
   rising = rising;
-  legal = tt;
-  quiet = quiet [] refl;
+  allowed = tt;
+  in_tree = empty_tree states empty;
+  marked = λ t. ap (list_any (path_eq t)) unmarked;
   current = λ k. ap (λ (m : Map). m k) e;
-  single = ([] ∷ [], refl, refl);
-  silent = refl;
 }
 
 -- the store that gave the rows has them

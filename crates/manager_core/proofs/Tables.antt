@@ -34,8 +34,8 @@ plain_more table rows i r e at =
     ∙ ap (λ x. take i table ++ x ∷ []) (sym (get_or_from_slice_get table i (r.key, r.value) (r.key, r.value) at))
     ∙ sym (take_more table i (r.key, r.value) (slice_get_within table i (r.key, r.value) at))
 
--- there is a row at each place of a table
-pub row_within : (table : Rows) (i : ℕ) → i < length table → None ≡ slice_get table i → ⊥
+-- there is something at each place of a list
+pub row_within : {X : Type 0} (xs : List X) (i : ℕ) → i < length xs → None ≡ slice_get xs i → ⊥
 row_within [] i h e = absurd (omega arith)
 row_within (r ∷ rs) zero h e = cc
 row_within (r ∷ rs) (suc i) h e = row_within rs i (omega arith) e

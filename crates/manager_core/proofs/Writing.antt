@@ -1,20 +1,19 @@
 -- What a transaction wrote.
-use Rattle.std.proofs.Common.{◌≡◌, ℕ, Bool, true, false, cond, ◌&&◌, ◌||◌, List, [], ◌∷◌, length, ⊎_elim, refl, sym, ap, ◌∙◌, arith}
-use Rattle.std.proofs.lemmas.Bool.{false≢true, and_parts, or_left, or_right, or_cases}
-use Rattle.std.specs.List.{list_any, list_all}
-use Rattle.txn_names.specs.Path.{path_eq, label_eq}
-use Rattle.txn_names.proofs.Names.{same_path, same_label, on_test, label_eq_self}
+use Rattle.std.proofs.Common.{◌≡◌, ℕ, true, cond, ◌||◌, List, [], ◌∷◌, ⊎_elim, refl, sym, ◌∙◌}
+use Rattle.std.proofs.lemmas.Bool.{false≢true, or_left, or_right, or_cases}
+use Rattle.std.specs.List.{list_any}
+use Rattle.txn_names.specs.Path.{path_eq, label_eq, parent}
+use Rattle.txn_names.proofs.Names.{same_label, on_test, label_eq_self}
 use Rattle.serial_spec.specs.declared.operation.Op.{Op}
-use Rattle.serial_spec.specs.declared.operation.Op.TheVariants.{Get, Set, Add, Del}
 use Rattle.serial_spec.specs.declared.operation.Reply.{Reply}
+use Rattle.serial_spec.specs.declared.operation.Kind.TheVariants.{Read}
 use Rattle.serial_spec.specs.Operations.{kind}
 use Rattle.serial_spec.specs.History.{Name, History, Effect, Begins, Accesses, Commits, Aborts, Nothing as NoEffect, effect}
-use Rattle.serial_spec.specs.Items.{Items, None, Access, Block, items, with_item}
-use Rattle.serial_spec.specs.Locks.{Mode, Free, Shared, Exclusive, mode_of, greater, footprint, is_exclusive}
+use Rattle.serial_spec.specs.Items.{Items, Access, Block, items, with_item}
+use Rattle.serial_spec.specs.Locks.{Mode, Free, Shared, Exclusive, mode_of, greater, footprint, is_exclusive, conflicts}
 use Rattle.serial_spec.specs.Rows.{Rows}
-use Rattle.serial_spec.specs.Allowed.{known, with_key, writes, is_write}
-use Rattle.manager_core.specs.Kept.{is_on, IsAlone}
-use Rattle.manager_core.specs.Written.{wrote, writes_at}
+use Rattle.serial_spec.specs.Allowed.{known, with_key}
+use Rattle.manager_core.specs.Written.{wrote}
 
 -- ---- modes
 
@@ -26,60 +25,17 @@ greater_exclusive Shared Shared = refl
 greater_exclusive Shared Exclusive = refl
 greater_exclusive Exclusive n = refl
 
--- an access holds its key to write where it writes
-exclusive_op : (o : Op) → is_exclusive (mode_of (kind o)) ≡ is_write (kind o)
-exclusive_op Get = refl
-exclusive_op (Set v) = refl
-exclusive_op (Add d) = refl
-exclusive_op Del = refl
+-- a mode that is to write is exclusive
+pub exclusive_is : (m : Mode) → is_exclusive m ≡ true → m ≡ Exclusive
+exclusive_is Free e = absurd (false≢true e)
+exclusive_is Shared e = absurd (false≢true e)
+exclusive_is Exclusive e = refl
 
--- ---- entry by entry
-
--- an access adds a write of its key, if it is one
-access_writes : (a b : Bool) (o : Op) (r : Reply) (q : List ℕ) (xs : Items) (k : List ℕ) → label_eq q k ≡ b
-    → is_exclusive (footprint (cond a (Access q o r xs) xs) k) ≡ (a && (b && is_write (kind o))) || is_exclusive (footprint xs k)
-access_writes true true o r q xs k e = rw (e, greater_exclusive, exclusive_op) refl
-access_writes true false o r q xs k e = rw e refl
-access_writes false b o r q xs k e = refl
-
--- the same of any effect
-writes_next : (l : List ℕ) (own : Name → Items) (k : List ℕ) (x : Effect) → is_on (l ∷ []) x ≡ true
-    → is_exclusive (footprint (with_item (l ∷ []) x own) k) ≡ writes_at (l ∷ []) k x || is_exclusive (footprint (own (l ∷ [])) k)
-writes_next l own k (Begins t) on = refl
-writes_next l own k (Accesses t q o r) on = access_writes (path_eq t (l ∷ [])) (label_eq q k) o r q (own (l ∷ [])) k refl
-writes_next l own k (Commits t) on =
-    let e : t ≡ l ∷ [] = same_path t (l ∷ []) on in
-    rw e refl
-writes_next l own k (Aborts t) on = refl
-writes_next l own k NoEffect on = refl
-
--- so the writes of the one are found entry by entry
-wrote_one : (h : History) (l : List ℕ) (k : List ℕ) → IsAlone h (l ∷ []) → list_any (λ e. writes_at (l ∷ []) k (effect e)) h ≡ wrote h (l ∷ []) k
-wrote_one [] l k a = refl
-wrote_one (e ∷ h) l k a =
-    let p = and_parts (is_on (l ∷ []) (effect e)) (list_all (λ e. is_on (l ∷ []) (effect e)) h) a in
-    ap (λ b. writes_at (l ∷ []) k (effect e) || b) (wrote_one h l k p.1) ∙ sym (writes_next l (items h) k (effect e) p.0)
-
--- by its name
-pub wrote_scan : (h : History) (t : Name) (k : List ℕ) → length t ≡ 1 → IsAlone h t → list_any (λ e. writes_at t k (effect e)) h ≡ wrote h t k
-wrote_scan h [] k one a = absurd (omega arith)
-wrote_scan h (l ∷ []) k one a = wrote_one h l k a
-wrote_scan h (l ∷ m ∷ ls) k one a = absurd (omega arith)
-
--- ---- whoever wrote a key somewhere wrote
-
--- a key held to write was written
-pub wrote_writes : (xs : Items) (k : List ℕ) → is_exclusive (footprint xs k) ≡ true → writes xs ≡ true
-wrote_writes None k e = absurd (false≢true e)
-wrote_writes (Access q o r xs) k e =
-    on_test (label_eq q k) (λ b. is_exclusive (cond b (greater (mode_of (kind o)) (footprint xs k)) (footprint xs k)) ≡ true → is_write (kind o) || writes xs ≡ true)
-    (λ _ g. ⊎_elim (λ (w : is_exclusive (mode_of (kind o)) ≡ true). or_left (is_write (kind o)) (writes xs) (sym (exclusive_op o) ∙ w)) (λ (w : is_exclusive (footprint xs k) ≡ true). or_right (is_write (kind o)) (writes xs) (wrote_writes xs k w))
-    (or_cases (is_exclusive (mode_of (kind o))) (is_exclusive (footprint xs k)) (sym (greater_exclusive (mode_of (kind o)) (footprint xs k)) ∙ g)))
-    (λ _ g. or_right (is_write (kind o)) (writes xs) (wrote_writes xs k g))
-    e
-wrote_writes (Block b xs) k e =
-    ⊎_elim (λ (w : is_exclusive (footprint b k) ≡ true). or_left (writes b) (writes xs) (wrote_writes b k w)) (λ (w : is_exclusive (footprint xs k) ≡ true). or_right (writes b) (writes xs) (wrote_writes xs k w))
-    (or_cases (is_exclusive (footprint b k)) (is_exclusive (footprint xs k)) (sym (greater_exclusive (footprint b k) (footprint xs k)) ∙ e))
+-- whoever keeps readers out has written
+pub exclusive_by_reads : (m : Mode) → conflicts m Read ≡ is_exclusive m
+exclusive_by_reads Free = refl
+exclusive_by_reads Shared = refl
+exclusive_by_reads Exclusive = refl
 
 -- ---- what is written is known
 
@@ -97,23 +53,27 @@ known_now : (t : Name) (o : Op) (r : Reply) (ks : List (List ℕ)) (k : List ℕ
 known_now t o r ks k =
     on_test (list_any (label_eq k) ks) (λ b. list_any (label_eq k) (cond b ks (k ∷ ks)) ≡ true) (λ e. e) (λ _. or_left (label_eq k k) (list_any (label_eq k) ks) (label_eq_self k))
 
--- so is the key of a write
-writes_known : (x : Effect) (t : Name) (ks : List (List ℕ)) (k : List ℕ) → writes_at t k x ≡ true → list_any (label_eq k) (with_key x ks) ≡ true
-writes_known (Begins u) t ks k e = absurd (false≢true e)
-writes_known (Accesses u q o r) t ks k e =
-    let same : q ≡ k = same_label q k (and_parts (label_eq q k) (is_write (kind o)) (and_parts (path_eq u t) (label_eq q k && is_write (kind o)) e).1).0 in
-    rw same (known_now u o r ks k)
-writes_known (Commits u) t ks k e = absurd (false≢true e)
-writes_known (Aborts u) t ks k e = absurd (false≢true e)
-writes_known NoEffect t ks k e = absurd (false≢true e)
+-- so each entry keeps it that what is written is known
+known_next : (x : Effect) (own : Name → Items) (ks : List (List ℕ)) (t : Name) (k : List ℕ)
+    → ((u : Name) → is_exclusive (footprint (own u) k) ≡ true → list_any (label_eq k) ks ≡ true)
+    → is_exclusive (footprint (with_item t x own) k) ≡ true → list_any (label_eq k) (with_key x ks) ≡ true
+known_next (Begins u) own ks t k before e = before t e
+known_next (Accesses u q o r) own ks t k before e =
+    on_test (path_eq u t) (λ b. is_exclusive (footprint (cond b (Access q o r (own t)) (own t)) k) ≡ true → list_any (label_eq k) (with_key (Accesses u q o r) ks) ≡ true)
+    (λ _. on_test (label_eq q k) (λ b. is_exclusive (cond b (greater (mode_of (kind o)) (footprint (own t) k)) (footprint (own t) k)) ≡ true → list_any (label_eq k) (with_key (Accesses u q o r) ks) ≡ true)
+    (λ s _. let same : q ≡ k = same_label q k s in rw same (known_now u o r ks k))
+    (λ _ f. known_more (Accesses u q o r) ks k (before t f)))
+    (λ _ f. known_more (Accesses u q o r) ks k (before t f))
+    e
+known_next (Commits u) own ks t k before e =
+    on_test (path_eq (parent u) t) (λ b. is_exclusive (footprint (cond b (Block (own u) (own t)) (own t)) k) ≡ true → list_any (label_eq k) ks ≡ true)
+    (λ _ f. ⊎_elim (before u) (before t)
+    (or_cases (is_exclusive (footprint (own u) k)) (is_exclusive (footprint (own t) k)) (sym (greater_exclusive (footprint (own u) k) (footprint (own t) k)) ∙ f)))
+    (λ _ f. before t f)
+    e
+known_next (Aborts u) own ks t k before e = before t e
+known_next NoEffect own ks t k before e = before t e
 
--- in any history
-any_known : (rows : Rows) (h : History) (t : Name) (k : List ℕ) → list_any (λ e. writes_at t k (effect e)) h ≡ true → list_any (label_eq k) (known rows h) ≡ true
-any_known rows [] t k e = absurd (false≢true e)
-any_known rows (x ∷ h) t k e =
-    ⊎_elim (λ (w : writes_at t k (effect x) ≡ true). writes_known (effect x) t (known rows h) k w) (λ (w : list_any (λ e. writes_at t k (effect e)) h ≡ true). known_more (effect x) (known rows h) k (any_known rows h t k w))
-    (or_cases (writes_at t k (effect x)) (list_any (λ e. writes_at t k (effect e)) h) e)
-
--- so whatever the one wrote is known
-pub wrote_known : (rows : Rows) (h : History) (t : Name) (k : List ℕ) → length t ≡ 1 → IsAlone h t → wrote h t k ≡ true → list_any (label_eq k) (known rows h) ≡ true
-wrote_known rows h t k one a w = any_known rows h t k (wrote_scan h t k one a ∙ w)
+pub wrote_known : (rows : Rows) (h : History) (t : Name) (k : List ℕ) → wrote h t k ≡ true → list_any (label_eq k) (known rows h) ≡ true
+wrote_known rows [] t k e = absurd (false≢true e)
+wrote_known rows (x ∷ h) t k e = known_next (effect x) (items h) (known rows h) t k (λ u. wrote_known rows h u k) e

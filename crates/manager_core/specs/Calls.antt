@@ -1,16 +1,16 @@
 -- What each call does to the manager.
-use Rattle.std.specs.Prelude.{◌≡◌, ℕ, ◌&&◌, IsFalse, List, [], ◌∷◌, ◌++◌, map, None}
+use Rattle.std.specs.Prelude.{◌≡◌, ℕ, ◌&&◌, IsFalse, List, [], ◌∷◌, ◌++◌, None}
 use Rattle.serial_spec.specs.declared.entry.By.{By}
 use Rattle.serial_spec.specs.declared.event.Event.{Event}
 use Rattle.serial_spec.specs.declared.event.Event.TheVariants.{Commit}
-use Rattle.serial_spec.specs.History.{Name, History, is_live, begun}
+use Rattle.serial_spec.specs.History.{Name, is_live, begun}
 use Rattle.serial_spec.specs.Allowed.{Allowed, asks_store}
 use Rattle.serial_spec.specs.Legal.{first_live}
-use Rattle.serial_spec.specs.Interleaving.{closing}
 use Rattle.manager_core.specs.declared.store.TopStore.{Ghosts}
 use Rattle.manager_core.specs.declared.outcome.Outcome.{Outcome}
 use Rattle.manager_core.specs.Outcomes.{answer_of, is_done, is_of_store}
 use Rattle.manager_core.specs.State.{State, entry}
+use Rattle.manager_core.specs.Closing.{closings}
 use Rattle.manager_core.specs.Asked.{IsLater}
 
 -- the call's entry was allowed, and nothing changed but that the history has it
@@ -28,10 +28,6 @@ pub record Committed {S : Type 0} (g : Ghosts S) (old new : State S) (by : By) (
   -- both only where the store was asked: where there are changes, and no cause refuses the commit
   pub unasked : IsFalse (asks_store old.history (Commit t) && is_of_store outcome) → (new.table ≡ old.table) × (new.store ≡ old.store)
   pub later : IsLater g old.store new.store
-
--- the entries by which these transactions are closed, the last closed first
-abbrev pub closings : List Name → History
-closings names = map closing names
 
 -- only closing entries were added, and no top-level transaction is live any more
 pub record Closed {S : Type 0} (old new : State S) : Type 0 where

@@ -1,38 +1,33 @@
--- What the manager's type keeps of its history and its table.
-use Rattle.std.specs.Prelude.{◌≡◌, ℕ, Bool, true, IsTrue, IsFalse, List, [], length}
-use Rattle.std.specs.List.{list_any, list_all}
-use Rattle.txn_names.specs.Path.{path_eq}
-use Rattle.serial_spec.specs.History.{Name, History, Effect, Begins, Accesses, Commits, Aborts, Nothing, effect}
-use Rattle.serial_spec.specs.Values.{seen}
-use Rattle.serial_spec.specs.Waits.{Quiet, is_waits}
+-- What the manager's type keeps of its history and of the tables that are read off it.
+use Rattle.std.specs.Prelude.{◌≡◌, ℕ, List, reverse}
+use Rattle.txn_tree.specs.States.{States, names, status_in}
+use Rattle.txn_tree.specs.declared.status.Status.{Status as State}
+use Rattle.txn_tree.specs.declared.status.Status.TheVariants as state
+use Rattle.orphans.specs.Marked.{Marked, is_marked}
+use Rattle.serial_spec.specs.History.{Name, History, Status, Absent, Live, Committed, Aborted, status, begun, has_aborted}
+use Rattle.serial_spec.specs.Serial.{stored}
 use Rattle.serial_spec.specs.Rows.{Rows, value_in, IsRising}
-use Rattle.serial_spec.specs.Legal.{Legal}
+use Rattle.serial_spec.specs.Legal.{AreAllowed}
 
--- whether an effect is on this transaction
-abbrev pub is_on : Name → Effect → Bool
-is_on n (Begins t) = path_eq t n
-is_on n (Accesses t k o r) = path_eq t n
-is_on n (Commits t) = path_eq t n
-is_on n (Aborts t) = path_eq t n
-is_on n Nothing = true
+-- a state of the tree, as the definitions call it
+abbrev pub status_of : State → Status
+status_of state.Absent = Absent
+status_of state.Live = Live
+status_of state.Committed = Committed
+status_of state.Aborted = Aborted
 
--- no other transaction has done anything
-abbrev pub IsAlone : History → Name → Type 0
-IsAlone h n = IsTrue (list_all (λ e. is_on n (effect e)) h)
+-- the tree is what the history says
+pub record IsTreeOf (h : History) (tree : States) : Type 0 where
+  pub begun : names tree ≡ reverse (begun h)
+  pub status : (t : Name) → status_of (status_in tree t) ≡ status h t
 
--- one top-level transaction has done all that was done
-abbrev pub IsSingle : History → Type 0
-IsSingle h = (n : Name) × (length n ≡ 1) × IsAlone h n
+-- so are the marks
+abbrev pub AreMarksOf : History → Marked → Type 0
+AreMarksOf h marks = (t : Name) → is_marked marks t ≡ has_aborted h t
 
-abbrev pub has_waits : History → Bool
-has_waits h = list_any (λ e. is_waits e.answer) h
-
-pub record IsKept (rows : Rows) (h : History) (table : Rows) : Type 0 where
+pub record IsKept (rows : Rows) (h : History) (tree : States) (marks : Marked) (table : Rows) : Type 0 where
   pub rising : IsRising rows
-  pub legal : Legal rows h
-  pub quiet : Quiet h
-  -- the root sees the table
-  pub current : (k : List ℕ) → value_in table k ≡ seen (value_in rows) h [] k
-  -- so far one top-level transaction runs, and so nobody waits
-  pub single : IsSingle h
-  pub silent : IsFalse (has_waits h)
+  pub allowed : AreAllowed rows h
+  pub in_tree : IsTreeOf h tree
+  pub marked : AreMarksOf h marks
+  pub current : (k : List ℕ) → value_in table k ≡ stored (value_in rows) h k

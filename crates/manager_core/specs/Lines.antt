@@ -28,15 +28,24 @@ abbrev pub waits_no_more : History → Option Name → Bool
 waits_no_more h None = true
 waits_no_more h (Some t) = not (is_some (wait_of h t))
 
--- the line has one entry alone, that it waits with this event, and the transaction waits no more
-pub record IsRetried (h : History) (by : By) (event : Event) : Type 0 where
+-- the line has one entry alone, that it waits with this event
+pub record OnlyWaits (h : History) (by : By) (event : Event) : Type 0 where
   pub waited : Entry
   pub alone : entries_of h by ≡ waited ∷ []
   pub waits : waited.answer ≡ Waits
   pub event_is : waited.event ≡ event
+
+-- the line has waited with this event, and the transaction waits no more
+pub record IsRetried (h : History) (by : By) (event : Event) : Type 0 where
+  pub only : OnlyWaits h by event
   pub ended : IsTrue (waits_no_more h (accessor event))
 
 -- a call may add an entry of this line for this event
 pub record IsFree (h : History) (by : By) (event : Event) : Type 0 where
   pub line : IsLine by
   pub unused : (entries_of h by ≡ []) ⊎ IsRetried h by event
+
+-- the access of this event waits, and by this line
+abbrev pub IsWaitOf : History → By → Event → Type 0
+IsWaitOf h by (Access t k o) = (w : Entry) × (wait_of h t ≡ Some w) × IsTrue (same_line w.by by) × (w.event ≡ Access t k o)
+IsWaitOf h by e = ⊥

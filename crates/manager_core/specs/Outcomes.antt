@@ -1,5 +1,7 @@
 -- An outcome as the history keeps it.
-use Rattle.std.specs.Prelude.{Bool, true, false}
+use Rattle.std.specs.Prelude.{Bool, true, false, Option, Some, None}
+use Rattle.serial_spec.specs.declared.entry.Refusal.{Refusal}
+use Rattle.serial_spec.specs.declared.operation.Reply.TheVariants.{Ok}
 use Rattle.serial_spec.specs.declared.entry.Answer.{Answer}
 use Rattle.serial_spec.specs.declared.entry.Answer.TheVariants as answer
 use Rattle.serial_spec.specs.declared.entry.Refusal.TheVariants.{Store}
@@ -20,3 +22,8 @@ abbrev pub is_of_store : Outcome → Bool
 is_of_store (Done reply) = true
 is_of_store (Refused Store) = true
 is_of_store outcome = false
+
+-- refused, or done where nothing refuses it
+abbrev pub outcome_of : Option Refusal → Outcome
+outcome_of (Some refusal) = Refused refusal
+outcome_of None = Done Ok

@@ -3,24 +3,21 @@ ghost use Rattle.std.specs.Prelude.{◌≡◌, ◌≢◌, ℕ, List, [], IsTrue,
 ghost use Rattle.std.specs.List.{list_any};
 ghost use Rattle.txn_names.specs.Path.{label_eq};
 ghost use Rattle.serial_spec.specs.Changes.{AreRising, IsChanges};
-ghost use Rattle.serial_spec.specs.History.{has_begun};
 ghost use Rattle.serial_spec.specs.Rows.{AreRisingKeys, value_in};
+ghost use Rattle.serial_spec.specs.Values.{seen};
 ghost use Rattle.manager_core.specs.Asked.{IsLater, Refuses, Takes};
-ghost use Rattle.manager_core.specs.Kept.{IsKept, IsSingle};
 ghost use Rattle.manager_core.specs.Written.{wrote};
 
 use crate::deciding::value_for;
 use crate::log::Log;
 use crate::store::TopStore;
-use serial_spec::{NoMemory, PlainTable};
+use serial_spec::{Kind, NoMemory, PlainTable};
 use std::alloc::Global;
 use std::collections::BTreeSet;
 use txn_names::{Change, Key, Name};
 
-// The keys that the transaction wrote, in byte order.
+// The keys that the transaction wrote, its committed inferiors counted in, in byte order.
 fn written_keys(alloc: Global, log: &Log, name: &Name) -> Result<BTreeSet<Key>, NoMemory>
-    requires single { IsSingle log.now.entries }
-    requires begun { IsTrue (has_begun log.now.entries name.now) }
     ensures rising { IfOk result (λ keys. AreRisingKeys keys.keys) }
     ensures each { IfOk result (λ keys.
         (k : List ℕ) → list_any (label_eq k) keys.keys ≡ wrote log.now.entries name.now k) }
@@ -28,22 +25,22 @@ fn written_keys(alloc: Global, log: &Log, name: &Name) -> Result<BTreeSet<Key>, 
     let mut written = BTreeSet::new(alloc);
     let keys = log.keys();
     for key in keys {
-        if log.wrote(name, key) {
+        if log.conflicts(name, key, Kind::Read) {
             written.insert(*key)?;
         }
     }
     Ok(written)
 }
 
-/// The keys that the transaction wrote, in byte order, each with the value that it sees there.
+/// The keys that the transaction wrote, its committed inferiors counted in, in byte order, each with the value that
+/// it sees there.
 pub(crate) fn changes_of(
     alloc: Global,
     log: &Log,
     table: &PlainTable,
     name: &Name,
 ) -> Result<Vec<Change>, NoMemory>
-    requires kept { IsKept log.now.rows log.now.entries table.now }
-    requires begun { IsTrue (has_begun log.now.entries name.now) }
+    requires { (k : List ℕ) → value_in table.now k ≡ seen (value_in log.now.rows) log.now.entries [] k }
     ensures { IfOk result (λ changes. IsChanges (value_in log.now.rows) log.now.entries name.now changes.items) }
 {
     let written = written_keys(alloc, log, name)?;

@@ -1,103 +1,193 @@
-//! Which answer a line gets, read off the history.
-ghost use Rattle.std.specs.Prelude.{◌≡◌, ℕ, length, IsFalse, IsTrue, IfSome};
-ghost use Rattle.serial_spec.specs.declared.event.Event.TheVariants.{Access, Begin};
-ghost use Rattle.serial_spec.specs.declared.entry.Answer.TheVariants.{Refused};
-ghost use Rattle.serial_spec.specs.History.{has_begun};
+//! Which answer a line gets, read off the tables and the history.
+ghost use Rattle.std.specs.Prelude.{◌≡◌, ◌≤◌, ◌<◌, ◌+◌, ℕ, List, [], length, IsFalse, OnErr, IfOk};
+ghost use Rattle.orphans.specs.Marked.{is_marked};
+ghost use Rattle.serial_spec.specs.History.{has_aborted, is_active};
+ghost use Rattle.serial_spec.specs.Locks.{is_blocked, is_blocker};
 ghost use Rattle.serial_spec.specs.Values.{seen};
 ghost use Rattle.serial_spec.specs.Waits.{is_waits};
-ghost use Rattle.serial_spec.specs.Allowed.{Allowed, cause_at_end, is_full_for};
+ghost use Rattle.serial_spec.specs.Allowed.{cause_at_access, cause_at_commit, has_live_child, is_full_for};
+ghost use Rattle.serial_spec.specs.Legal.{AreAllowed};
 ghost use Rattle.serial_spec.specs.Rows.{value_in};
-ghost use Rattle.manager_core.specs.Kept.{IsKept, IsSingle};
-ghost use Rattle.manager_core.specs.Sound.{is_store_refusal};
-ghost use Rattle.manager_core.specs.Outcomes.{answer_of};
+ghost use Rattle.manager_core.specs.Kept.{AreMarksOf, IsTreeOf};
+ghost use Rattle.manager_core.specs.Tables.{AbortsIn, BeginsIn, acts_in, cause_in};
+ghost use Rattle.txn_tree.specs.Causes.{cause_at_abort, cause_at_begin};
 
 use crate::log::Log;
-use crate::outcome::Outcome;
-use serial_spec::{By, Op, PlainTable, Refusal, Reply, act};
+use orphans::Marks;
+use serial_spec::{By, Kind, NoMemory, PlainTable, Refusal};
+use std::alloc::AllocError;
 use txn_names::{Key, Name};
-
-/// The number of transactions that may begin.
-const MOST_TRANSACTIONS: usize = 4096;
+use txn_tree::{Status, Tree, TreeFault, TxnNo};
 
 /// The number of keys that may be known.
 const MOST_KEYS: usize = 4096;
 
-/// The cause that access, commit and abort share.
-pub(crate) fn refusal_at_end(log: &Log, name: &Name) -> Option<Refusal>
-    requires { IsSingle log.now.entries }
-    ensures cause { result ≡ cause_at_end log.now.entries name.now }
-    ensures unasked { IfSome result (λ refusal. IsFalse (is_store_refusal (Refused refusal))) }
+/// Whether the transaction is live and no orphan.
+pub(crate) fn acts(tree: &Tree, marks: &Marks, name: &Name) -> bool
+    ensures { result ≡ acts_in tree.now marks.now name.now }
 {
-    if !log.has_begun(name) {
+    tree.status(name) == Status::Live && marks.top_aborted(name).is_none()
+}
+
+/// The cause that access, commit and abort share.
+fn refusal_at_end(tree: &Tree, marks: &Marks, name: &Name) -> Option<Refusal>
+    ensures cause { result ≡ cause_in tree.now marks.now name.now }
+    ensures some { 0 < length name.now }
+{
+    let status = tree.status(name);
+    if status == Status::Absent {
         Some(Refusal::Unknown)
-    } else if log.has_aborted(name) {
-        Some(Refusal::Orphan(*name))
-    } else if log.has_committed(name) {
+    } else if let Some(top) = marks.top_aborted(name) {
+        Some(Refusal::Orphan(top))
+    } else if status == Status::Committed {
         Some(Refusal::Done)
     } else {
         None
     }
 }
 
-/// Whether the key would be one too many.
+/// Why an access is refused.
+pub(crate) fn refusal_of_access(
+    log: &Log,
+    tree: &Tree,
+    marks: &Marks,
+    by: By,
+    name: &Name,
+    key: &Key,
+) -> Option<Refusal>
+    requires allowed { AreAllowed log.now.rows log.now.entries }
+    requires tree { IsTreeOf log.now.entries tree.now }
+    requires marks { AreMarksOf log.now.entries marks.now }
+    ensures { result ≡ cause_at_access log.now.rows log.now.entries by name.now key.now }
+{
+    if let Some(refusal) = refusal_at_end(tree, marks, name) {
+        Some(refusal)
+    } else if log.waits_elsewhere(name, by) {
+        Some(Refusal::Waiting)
+    } else if is_full_for(log, key) {
+        Some(Refusal::Full)
+    } else {
+        None
+    }
+}
+
+/// Why a commit is refused, the store left aside.
+pub(crate) fn refusal_of_commit(
+    log: &Log,
+    tree: &Tree,
+    marks: &Marks,
+    by: By,
+    name: &Name,
+) -> Option<Refusal>
+    requires allowed { AreAllowed log.now.rows log.now.entries }
+    requires tree { IsTreeOf log.now.entries tree.now }
+    requires marks { AreMarksOf log.now.entries marks.now }
+    ensures { result ≡ cause_at_commit log.now.entries by name.now }
+{
+    if let Some(refusal) = refusal_at_end(tree, marks, name) {
+        Some(refusal)
+    } else if tree.live_children(name) > 0 {
+        Some(Refusal::Children)
+    } else if log.waits_elsewhere(name, by) {
+        Some(Refusal::Waiting)
+    } else {
+        None
+    }
+}
+
+// Whether the key would be one too many.
 fn is_full_for(log: &Log, key: &Key) -> bool
     ensures { result ≡ is_full_for log.now.rows log.now.entries key.now }
 {
     !log.knows(key) && log.known() >= MOST_KEYS
 }
 
-/// What the transaction sees at the key.
-pub(crate) fn value_for(log: &Log, table: &PlainTable, name: &Name, key: &Key) -> Option<i64>
-    requires kept { IsKept log.now.rows log.now.entries table.now }
-    requires begun { IsTrue (has_begun log.now.entries name.now) }
-    ensures { result ≡ seen (value_in log.now.rows) log.now.entries name.now key.now }
-{
-    match log.left_by(name, key) {
-        Some(value) => value,
-        None => table.get(key),
-    }
-}
-
-/// How an access is answered.
-pub(crate) fn outcome_of_access(
+// Whether the other transaction keeps this one from the access.
+fn is_blocker(
     log: &Log,
-    table: &PlainTable,
-    by: By,
+    tree: &Tree,
+    marks: &Marks,
+    other: &Name,
     name: &Name,
     key: &Key,
-    op: Op,
-) -> Outcome
-    requires { IsKept log.now.rows log.now.entries table.now }
-    ensures allowed { Allowed log.now.rows log.now.entries by (Access name.now key.now op) (answer_of result) }
-    ensures at_once { IsFalse (is_waits (answer_of result)) }
-    ensures unasked { IsFalse (is_store_refusal (answer_of result)) }
+    kind: Kind,
+) -> bool
+    requires allowed { AreAllowed log.now.rows log.now.entries }
+    requires tree { IsTreeOf log.now.entries tree.now }
+    requires marks { AreMarksOf log.now.entries marks.now }
+    ensures { result ≡ is_blocker log.now.entries name.now key.now kind other.now }
 {
-    let _line = by;
-    match refusal_at_end(log, name) {
-        Some(refusal) => Outcome::Refused(refusal),
-        None => {
-            if is_full_for(log, key) {
-                return Outcome::Refused(Refusal::Full);
+    if !acts(tree, marks, other) || other.is_ancestor_or_self(name) {
+        return false;
+    }
+    log.conflicts(other, key, kind)
+}
+
+/// Whether a live transaction that is neither this one nor above it has touched the key in a mode that keeps the
+/// access out (Moss 1981).
+pub(crate) fn is_blocked(
+    log: &Log,
+    tree: &Tree,
+    marks: &Marks,
+    name: &Name,
+    key: &Key,
+    kind: Kind,
+) -> bool
+    requires allowed { AreAllowed log.now.rows log.now.entries }
+    requires tree { IsTreeOf log.now.entries tree.now }
+    requires marks { AreMarksOf log.now.entries marks.now }
+    ensures { result ≡ is_blocked log.now.entries name.now key.now kind }
+{
+    for place in 0..tree.len() {
+        if let Some(other) = tree.name_of(TxnNo::new(place as u32)) {
+            if is_blocker(log, tree, marks, other, name, key, kind) {
+                return true;
             }
-            let (_, reply) = act(value_for(log, table, name, key), &op);
-            Outcome::Done(reply)
         }
+    }
+    false
+}
+
+/// What the transaction sees at the key: what the deepest of itself and its ancestors left there, else the table's.
+pub(crate) fn value_for(log: &Log, table: &PlainTable, name: &Name, key: &Key) -> Option<i64>
+    requires { (k : List ℕ) → value_in table.now k ≡ seen (value_in log.now.rows) log.now.entries [] k }
+    ensures { result ≡ seen (value_in log.now.rows) log.now.entries name.now key.now }
+{
+    let mut depth = name.depth();
+    while depth > 0 {
+        if let Some(value) = log.left_by(&name.front(depth), key) {
+            return value;
+        }
+        depth -= 1;
+    }
+    table.get(key)
+}
+
+/// Begins the transaction in the tree, or tells why it is refused.
+pub(crate) fn begin_in(tree: &mut Tree, name: &Name) -> Result<Option<Refusal>, NoMemory>
+    ensures cause { IfOk result (λ refusal. refusal ≡ cause_at_begin tree.old name.now) }
+    ensures begins { IfOk result (λ refusal. BeginsIn tree.old tree.new name.now refusal) }
+    ensures err { OnErr result (tree.new ≡ tree.old) }
+{
+    match tree.begin(name) {
+        Ok(_) => Ok(None),
+        Err(TreeFault::Refused(refusal)) => Ok(Some(refusal)),
+        Err(TreeFault::NoMemory) => Err(AllocError),
     }
 }
 
-/// How the begin of a top-level transaction is answered.
-pub(crate) fn outcome_of_begin(log: &Log, by: By, name: &Name) -> Outcome
-    requires { length name.now ≡ 1 }
-    ensures allowed { Allowed log.now.rows log.now.entries by (Begin name.now) (answer_of result) }
-    ensures at_once { IsFalse (is_waits (answer_of result)) }
-    ensures unasked { IsFalse (is_store_refusal (answer_of result)) }
+/// Aborts the transaction in the tree and marks it, or tells why it is refused.
+pub(crate) fn abort_in(tree: &mut Tree, marks: &mut Marks, name: &Name) -> Option<Refusal>
+    requires { 0 < marks.old.room }
+    ensures cause { result ≡ cause_at_abort tree.old name.now }
+    ensures aborts { AbortsIn tree.old tree.new marks.old marks.new name.now result }
+    ensures room { marks.old.room ≤ marks.new.room + 1 }
 {
-    let _line = by;
-    if log.has_begun(name) {
-        Outcome::Refused(Refusal::Used)
-    } else if log.begun() >= MOST_TRANSACTIONS {
-        Outcome::Refused(Refusal::Full)
-    } else {
-        Outcome::Done(Reply::Ok)
+    match tree.abort(name) {
+        Ok(_) => {
+            marks.mark(name);
+            None
+        }
+        Err(refusal) => Some(refusal),
     }
 }

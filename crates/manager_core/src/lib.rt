@@ -1,13 +1,17 @@
-//! The manager of nested transactions. So far one top-level transaction runs at a time.
+//! The manager of nested transactions (Moss 1981; Lynch, Merritt, Weihl, Fekete 1994). Which names have begun and what
+//! became of them stand in tables; locks, values and waits are still read off the history.
 #![tactic(auto)]
 
 mod changes;
+mod closing;
 mod deciding;
 mod log;
 mod manager;
 mod outcome;
 mod reading;
 pub mod store;
+mod touched;
+mod waiting;
 
 pub use manager::{Manager, Parts};
 pub use outcome::{OpenFault, Outcome};

@@ -1,26 +1,25 @@
 //! The history, and what is read off it.
-ghost use Rattle.std.specs.Prelude.{◌≡◌, ℕ, ◌+◌, ◌<◌, ◌≤◌, List, [], ◌∷◌, length, map, reverse, OnOk, IfOk, IfSome, IsTrue, vec_len, vec_capacity};
+ghost use Rattle.std.specs.Prelude.{◌≡◌, ℕ, ◌+◌, ◌-◌, ◌<◌, ◌≤◌, List, [], ◌∷◌, length, map, reverse, OnOk, IfOk, IsTrue, is_some, find, ◌↔◌, vec_len, vec_capacity};
 ghost use Rattle.std.specs.List.{list_any};
 ghost use Rattle.txn_names.specs.Path.{label_eq};
-ghost use Rattle.serial_spec.specs.History.{begun, effect, has_begun, has_committed, has_aborted};
-ghost use Rattle.serial_spec.specs.Allowed.{known, with_key};
+ghost use Rattle.serial_spec.specs.declared.entry.Answer.TheVariants.{Stuck};
+ghost use Rattle.serial_spec.specs.History.{effect};
+ghost use Rattle.serial_spec.specs.Allowed.{is_other_line, known, with_key};
 ghost use Rattle.serial_spec.specs.Items.{items};
-ghost use Rattle.serial_spec.specs.Waits.{same_line};
+ghost use Rattle.serial_spec.specs.Locks.{conflicts, foot};
+ghost use Rattle.serial_spec.specs.Waits.{accesses, open_waits};
 ghost use Rattle.serial_spec.specs.Values.{last_left};
-ghost use Rattle.manager_core.specs.Kept.{IsAlone, IsSingle};
+ghost use Rattle.manager_core.specs.Lines.{OnlyWaits, entries_of};
 ghost use Rattle.manager_core.specs.State.{entry};
 ghost use Rattle.manager_core.specs.Outcomes.{answer_of};
-ghost use Rattle.serial_spec.specs.Legal.{first_live};
 ghost use Rattle.manager_core.specs.Store.{plain};
-ghost use Rattle.manager_core.specs.Written.{wrote};
 
 use crate::outcome::Outcome;
-use crate::reading::{
-    any_aborts, any_begins, any_commits, any_of, any_writes, count_begins, first_begun, key_in,
-    left_by,
-};
+use crate::reading::{key_in, same_line};
 use crate::store::Row;
-use serial_spec::{By, Entry, Event, NoMemory};
+use crate::touched::{conflicts, left_by};
+use crate::waiting::{is_unused, only_waits, open_wait};
+use serial_spec::{Answer, By, Entry, Event, Kind, NoMemory};
 use std::alloc::Global;
 use std::marker::Model;
 use txn_names::{Key, Name};
@@ -62,7 +61,8 @@ fn has_key(keys: &[Key], key: &Key) -> bool
 #[tactic(auto, using(crate::proofs::Keys::keys))]
 fn note_key(keys: &mut Vec<Key>, entry: &Entry)
     requires { vec_len keys.old < vec_capacity keys.old }
-    ensures { reverse keys.new.items ≡ with_key (effect entry.now) (reverse keys.old.items) }
+    ensures known { reverse keys.new.items ≡ with_key (effect entry.now) (reverse keys.old.items) }
+    ensures room { vec_capacity keys.old - vec_len keys.old ≤ vec_capacity keys.new - vec_len keys.new + 1 }
 {
     if let Some(key) = key_in(entry) {
         if !has_key(keys, &key) {
@@ -135,17 +135,37 @@ impl Log {
         self.keys.reserve(additional)
     }
 
-    /// Adds the entry of an outcome.
+    // Adds an entry.
     #[tactic(auto, using(crate::proofs::Reversed::newest))]
+    fn push(&mut self, entry: &Entry)
+        requires { 0 < self.old.room }
+        ensures rows { self.new.rows ≡ self.old.rows }
+        ensures entries { self.new.entries ≡ entry.now ∷ self.old.entries }
+        ensures room { self.old.room ≤ self.new.room + 1 }
+    {
+        note_key(&mut self.keys, entry);
+        entry.add_to(&mut self.entries);
+    }
+
+    /// Adds the entry of an outcome.
     pub(crate) fn add(&mut self, by: By, event: Event, outcome: &Outcome)
         requires { 0 < self.old.room }
         ensures rows { self.new.rows ≡ self.old.rows }
         ensures entries { self.new.entries ≡ entry by event (answer_of outcome.now) ∷ self.old.entries }
+        ensures room { self.old.room ≤ self.new.room + 1 }
     {
         let answer = outcome.answer();
-        let entry = Entry { by, event, answer };
-        note_key(&mut self.keys, &entry);
-        entry.add_to(&mut self.entries);
+        self.push(&Entry { by, event, answer });
+    }
+
+    /// Adds the entry of a line that is given up.
+    pub(crate) fn add_stuck(&mut self, by: By, event: Event)
+        requires { 0 < self.old.room }
+        ensures rows { self.new.rows ≡ self.old.rows }
+        ensures entries { self.new.entries ≡ entry by event Stuck ∷ self.old.entries }
+    {
+        let answer = Answer::Stuck;
+        self.push(&Entry { by, event, answer });
     }
 
     /// Whether the key is in an opening row or in an answered access.
@@ -163,56 +183,6 @@ impl Log {
         self.keys.len()
     }
 
-    /// Whether the transaction has begun.
-    #[tactic(auto, using(crate::proofs::Reversed::any_reversed))]
-    pub(crate) fn has_begun(&self, name: &Name) -> bool
-        ensures { result ≡ has_begun self.now.entries name.now }
-    {
-        any_begins(&self.entries, name)
-    }
-
-    /// Whether the transaction has committed.
-    #[tactic(auto, using(crate::proofs::Reversed::any_reversed))]
-    pub(crate) fn has_committed(&self, name: &Name) -> bool
-        ensures { result ≡ has_committed self.now.entries name.now }
-    {
-        any_commits(&self.entries, name)
-    }
-
-    /// Whether the transaction has aborted.
-    #[tactic(auto, using(crate::proofs::Reversed::any_reversed))]
-    pub(crate) fn has_aborted(&self, name: &Name) -> bool
-        ensures { result ≡ has_aborted self.now.entries name.now }
-    {
-        any_aborts(&self.entries, name)
-    }
-
-    /// How many transactions have begun.
-    #[tactic(auto, using(crate::proofs::Reversed::begun_counted))]
-    pub(crate) fn begun(&self) -> usize
-        ensures { result ≡ length (begun self.now.entries) }
-    {
-        count_begins(&self.entries)
-    }
-
-    /// What the one transaction leaves at the key.
-    pub(crate) fn left_by(&self, name: &Name, key: &Key) -> Option<Option<i64>>
-        requires one { length name.now ≡ 1 }
-        requires alone { IsAlone self.now.entries name.now }
-        ensures { result ≡ last_left (items self.now.entries name.now) key.now }
-    {
-        left_by(&self.entries, name, key)
-    }
-
-    /// Whether the one transaction wrote the key.
-    pub(crate) fn wrote(&self, name: &Name, key: &Key) -> bool
-        requires one { length name.now ≡ 1 }
-        requires alone { IsAlone self.now.entries name.now }
-        ensures { result ≡ wrote self.now.entries name.now key.now }
-    {
-        any_writes(&self.entries, name, key)
-    }
-
     /// The known keys.
     pub(crate) fn keys(&self) -> &[Key]
         ensures { reverse result.now ≡ known self.now.rows self.now.entries }
@@ -220,31 +190,49 @@ impl Log {
         self.keys.as_slice()
     }
 
-    /// The one transaction, if it is live.
-    pub(crate) fn live_top(&self) -> Option<Name>
-        requires { IsSingle self.now.entries }
-        ensures first { result ≡ first_live self.now.entries (begun self.now.entries) }
-        ensures begun { IfSome result (λ name. IsTrue (has_begun self.now.entries name)) }
+    /// Whether the transaction, its committed inferiors counted in, has touched the key in a mode that keeps an
+    /// access of this kind out.
+    pub(crate) fn conflicts(&self, name: &Name, key: &Key, kind: Kind) -> bool
+        ensures { result ≡ conflicts (foot self.now.entries name.now key.now) kind }
     {
-        match first_begun(&self.entries) {
-            Some(name) => {
-                if self.has_aborted(&name) {
-                    None
-                } else if self.has_committed(&name) {
-                    None
-                } else {
-                    Some(name)
-                }
-            }
-            None => None,
+        conflicts(&self.entries, name, key, kind)
+    }
+
+    /// What the transaction, its committed inferiors counted in, left at the key.
+    pub(crate) fn left_by(&self, name: &Name, key: &Key) -> Option<Option<i64>>
+        ensures { result ≡ last_left (items self.now.entries name.now) key.now }
+    {
+        left_by(&self.entries, name, key)
+    }
+
+    /// Whether an access of the transaction waits, if it acts.
+    pub(crate) fn has_open_wait(&self, name: &Name) -> bool
+        ensures { result ≡ is_some (find (λ w. accesses name.now w.event) (open_waits self.now.entries)) }
+    {
+        open_wait(&self.entries, name).is_some()
+    }
+
+    /// Whether an access of the transaction waits by another line, if it acts.
+    pub(crate) fn waits_elsewhere(&self, name: &Name, by: By) -> bool
+        ensures { result ≡ is_other_line by (find (λ w. accesses name.now w.event) (open_waits self.now.entries)) }
+    {
+        match open_wait(&self.entries, name) {
+            Some(line) => !same_line(line, by),
+            None => false,
         }
     }
 
-    /// Whether the line has an entry.
-    #[tactic(auto, using(crate::proofs::Reversed::any_reversed))]
-    pub(crate) fn has_entry(&self, by: By) -> bool
-        ensures { result ≡ list_any (λ e. same_line e.by by) self.now.entries }
+    /// Whether the line has no entry.
+    pub(crate) fn is_unused(&self, by: By) -> bool
+        ensures { IsTrue result ↔ (entries_of self.now.entries by ≡ []) }
     {
-        any_of(&self.entries, by)
+        is_unused(&self.entries, by)
+    }
+
+    /// Whether the line has one entry alone, that it waits with this event.
+    pub(crate) fn only_waits(&self, by: By, event: &Event) -> bool
+        ensures { IsTrue result ↔ OnlyWaits self.now.entries by event.now }
+    {
+        only_waits(&self.entries, by, event)
     }
 }

@@ -1,24 +1,29 @@
 //! The manager.
-ghost use Rattle.std.specs.Prelude.{◌≡◌, ◌≤◌, ◌↔◌, ℕ, [], length, reverse, IfOk, IfErr, OnOk, OnErr, IsFalse, IsTrue, Some, None};
-ghost use Rattle.serial_spec.specs.declared.event.Event.TheVariants.{Access, Begin, Commit};
-ghost use Rattle.serial_spec.specs.declared.entry.Answer.TheVariants.{Refused};
-ghost use Rattle.serial_spec.specs.Allowed.{cause_at_end};
+ghost use Rattle.std.specs.Prelude.{◌≡◌, ◌≤◌, ◌<◌, ◌↔◌, ℕ, [], ◌∷◌, length, reverse, IfOk, IfErr, OnOk, OnErr, IsFalse, IsTrue, is_some, Some, None};
+ghost use Rattle.serial_spec.specs.declared.event.Event.TheVariants.{Abort, Access, Begin, Commit};
+ghost use Rattle.serial_spec.specs.declared.entry.Answer.TheVariants.{Refused, Stuck};
+ghost use Rattle.serial_spec.specs.Allowed.{Allowed, cause_at_commit};
 ghost use Rattle.serial_spec.specs.Rows.{IsRising, value_in};
-ghost use Rattle.serial_spec.specs.Waits.{is_waits};
+ghost use Rattle.serial_spec.specs.Waits.{is_waits, wait_of};
 ghost use Rattle.manager_core.specs.Store.{plain};
-ghost use Rattle.manager_core.specs.Kept.{IsAlone};
-ghost use Rattle.manager_core.specs.Lines.{IsFree, IsLine};
+ghost use Rattle.manager_core.specs.Lines.{IsFree, IsLine, IsWaitOf, waits_no_more, accessor};
 ghost use Rattle.manager_core.specs.Outcomes.{answer_of};
+ghost use Rattle.manager_core.specs.State.{entry};
 
 use crate::changes::{changes_of, stores};
-use crate::deciding::{outcome_of_access, outcome_of_begin, refusal_at_end};
+use crate::closing::{close_tops, count_live_tops};
+use crate::deciding::{
+    abort_in, acts, begin_in, is_blocked, refusal_of_access, refusal_of_commit, value_for,
+};
 use crate::log::Log;
 use crate::outcome::{OpenFault, Outcome};
 use crate::store::{Row, TopStore, table_after, table_of};
-use serial_spec::{By, Entry, Event, NoMemory, Op, PlainTable, Refusal, Reply};
+use orphans::Marks;
+use serial_spec::{By, Entry, Event, NoMemory, Op, PlainTable, Refusal, Reply, act};
 use std::alloc::Global;
 use std::marker::Model;
 use txn_names::{Key, Name};
+use txn_tree::Tree;
 
 /// Runs nested transactions over a store, by locks that are inherited (Moss 1981). Each call that takes a line
 /// asks that the line is free for its event (`free` tells), and adds one entry to the history. After want of
@@ -27,6 +32,8 @@ use txn_names::{Key, Name};
 pub struct Manager<S: TopStore> {
     alloc: Global,
     log: Log,
+    tree: Tree,
+    marks: Marks,
     table: PlainTable,
     store: S,
     // How many faults the store had counted when it was opened.
@@ -49,7 +56,7 @@ impl<S: TopStore> Model for Manager<S> {
     } };
 
     ghost invariant = { λ m.
-        IsKept m.log.rows m.log.entries m.table
+        IsKept m.log.rows m.log.entries m.tree m.marks m.table
         × IsBacked S.TopStore m.log.entries m.table m.opened m.store };
 }
 
@@ -117,46 +124,66 @@ impl<S: TopStore> Manager<S> {
         Ok(Manager {
             alloc,
             log,
+            tree: Tree::new(alloc),
+            marks: Marks::new(alloc),
             table,
             store,
             opened,
         })
     }
 
-    /// Begins a top-level transaction.
+    /// Begins a transaction in its parent, which is the root where the name has one label. It is refused by the
+    /// first of these that holds: the name began before (Used); the parent never began (NoParent), has an aborted
+    /// ancestor, itself included (Orphan), or has committed (NoParent); 4,096 have begun (Full).
     pub fn begin(&mut self, by: By, name: &Name) -> Result<Outcome, NoMemory>
         requires free { IsFree self.old.history by (Begin name.now) }
-        // So far one top-level transaction runs.
-        requires top { length name.now ≡ 1 }
-        requires alone { IsAlone self.old.history name.now }
         ensures ok { IfOk result (λ outcome. Answered self.old self.new by (Begin name.now) outcome) }
         ensures at_once { IfOk result (λ outcome. IsFalse (is_waits (answer_of outcome))) }
         ensures err { OnErr result (self.new ≡ self.old) }
         ensures sound { OnOk result (IsSound S.TopStore self.new) }
     {
         self.log.reserve(1)?;
-        let outcome = outcome_of_begin(&self.log, by, name);
-        let event = Event::Begin(*name);
-        self.log.add(by, event, &outcome);
+        let outcome = Outcome::of(begin_in(&mut self.tree, name)?);
+        self.log.add(by, Event::Begin(*name), &outcome);
         Ok(outcome)
     }
 
-    /// Reads or writes a key.
+    // How an access is answered.
+    fn outcome_of_access(&self, by: By, name: &Name, key: &Key, op: Op) -> Outcome
+        requires free { IsFree self.now.history by (Access name.now key.now op) }
+        ensures allowed { Allowed self.now.rows self.now.history by (Access name.now key.now op) (answer_of result) }
+        ensures unasked { IsFalse (is_store_refusal (answer_of result)) }
+    {
+        let Manager { log, tree, marks, table, .. } = self;
+        if let Some(refusal) = refusal_of_access(log, tree, marks, by, name, key) {
+            Outcome::Refused(refusal)
+        } else if is_blocked(log, tree, marks, name, key, op.kind()) {
+            Outcome::Waits
+        } else {
+            let (_, reply) = act(value_for(log, table, name, key), &op);
+            Outcome::Done(reply)
+        }
+    }
+
+    /// Reads or writes a key. It is refused by the first of these that holds: the transaction never began
+    /// (Unknown), has an aborted ancestor, itself included (Orphan), or has committed (Done); it waits by another
+    /// line (Waiting); the key is new where 4,096 are known (Full). Else it waits where a lock keeps it out.
     pub fn access(&mut self, by: By, name: &Name, key: &Key, op: Op) -> Result<Outcome, NoMemory>
         requires free { IsFree self.old.history by (Access name.now key.now op) }
         ensures ok { IfOk result (λ outcome. Answered self.old self.new by (Access name.now key.now op) outcome) }
-        ensures at_once { IfOk result (λ outcome. IsFalse (is_waits (answer_of outcome))) }
         ensures err { OnErr result (self.new ≡ self.old) }
         ensures sound { OnOk result (IsSound S.TopStore self.new) }
     {
+        let outcome = self.outcome_of_access(by, name, key, op);
         self.log.reserve(1)?;
-        let outcome = outcome_of_access(&self.log, &self.table, by, name, key, op);
-        let event = Event::Access(*name, *key, op);
-        self.log.add(by, event, &outcome);
+        self.log.add(by, Event::Access(*name, *key, op), &outcome);
         Ok(outcome)
     }
 
-    /// Commits a transaction. A top-level one that wrote is done only where the store took its changes.
+    /// Commits a transaction into its parent. It is refused by the first of these that holds: it never began
+    /// (Unknown), has an aborted ancestor, itself included (Orphan), or has committed (Done); a child is live
+    /// (Children); an access of it waits (Waiting). A top-level one that wrote is done only where the store took
+    /// its changes (else Store).
     pub fn commit(&mut self, by: By, name: &Name) -> Result<Outcome, NoMemory>
         requires free { IsFree self.old.history by (Commit name.now) }
         ensures ok { IfOk result (λ outcome. Committed S.TopStore self.old self.new by name.now outcome) }
@@ -164,16 +191,21 @@ impl<S: TopStore> Manager<S> {
         ensures err { OnErr result (self.new ≡ self.old) }
         ensures sound { OnOk result (IsSound S.TopStore self.new) }
     {
-        match refusal_at_end(&self.log, name) {
+        match refusal_of_commit(&self.log, &self.tree, &self.marks, by, name) {
             Some(refusal) => self.refuse_commit(by, name, refusal),
-            None => self.commit_live(by, name),
+            None => {
+                if name.depth() > 1 {
+                    self.commit_child(by, name)
+                } else {
+                    self.commit_top(by, name)
+                }
+            }
         }
     }
 
     fn refuse_commit(&mut self, by: By, name: &Name, refusal: Refusal) -> Result<Outcome, NoMemory>
         requires free { IsFree self.old.history by (Commit name.now) }
-        requires cause { Some refusal ≡ cause_at_end self.old.history name.now }
-        requires unasked { IsFalse (is_store_refusal (Refused refusal)) }
+        requires cause { Some refusal ≡ cause_at_commit self.old.history by name.now }
         ensures ok { IfOk result (λ outcome. Committed S.TopStore self.old self.new by name.now outcome) }
         ensures at_once { IfOk result (λ outcome. IsFalse (is_waits (answer_of outcome))) }
         ensures err { OnErr result (self.new ≡ self.old) }
@@ -181,15 +213,31 @@ impl<S: TopStore> Manager<S> {
     {
         self.log.reserve(1)?;
         let outcome = Outcome::Refused(refusal);
-        let event = Event::Commit(*name);
-        self.log.add(by, event, &outcome);
+        self.log.add(by, Event::Commit(*name), &outcome);
+        Ok(outcome)
+    }
+
+    fn commit_child(&mut self, by: By, name: &Name) -> Result<Outcome, NoMemory>
+        requires free { IsFree self.old.history by (Commit name.now) }
+        requires live { None ≡ cause_at_commit self.old.history by name.now }
+        requires below { 1 < length name.now }
+        ensures ok { IfOk result (λ outcome. Committed S.TopStore self.old self.new by name.now outcome) }
+        ensures at_once { IfOk result (λ outcome. IsFalse (is_waits (answer_of outcome))) }
+        ensures err { OnErr result (self.new ≡ self.old) }
+        ensures sound { OnOk result (IsSound S.TopStore self.new) }
+    {
+        self.log.reserve(1)?;
+        self.tree.commit(name).unwrap();
+        let outcome = Outcome::Done(Reply::Ok);
+        self.log.add(by, Event::Commit(*name), &outcome);
         Ok(outcome)
     }
 
     // All growths come before the store's call.
-    fn commit_live(&mut self, by: By, name: &Name) -> Result<Outcome, NoMemory>
+    fn commit_top(&mut self, by: By, name: &Name) -> Result<Outcome, NoMemory>
         requires free { IsFree self.old.history by (Commit name.now) }
-        requires live { None ≡ cause_at_end self.old.history name.now }
+        requires live { None ≡ cause_at_commit self.old.history by name.now }
+        requires top { length name.now ≡ 1 }
         ensures ok { IfOk result (λ outcome. Committed S.TopStore self.old self.new by name.now outcome) }
         ensures at_once { IfOk result (λ outcome. IsFalse (is_waits (answer_of outcome))) }
         ensures err { OnErr result (self.new ≡ self.old) }
@@ -198,18 +246,49 @@ impl<S: TopStore> Manager<S> {
         self.log.reserve(1)?;
         let changes = changes_of(self.alloc, &self.log, &self.table, name)?;
         let next = table_after(&self.table, &changes)?;
-        let event = Event::Commit(*name);
         if stores(&mut self.store, changes) {
+            self.tree.commit(name).unwrap();
             self.table = next;
             let outcome = Outcome::Done(Reply::Ok);
-            self.log.add(by, event, &outcome);
+            self.log.add(by, Event::Commit(*name), &outcome);
             Ok(outcome)
         } else {
             drop(next);
             let outcome = Outcome::Refused(Refusal::Store);
-            self.log.add(by, event, &outcome);
+            self.log.add(by, Event::Commit(*name), &outcome);
             Ok(outcome)
         }
+    }
+
+    /// Aborts a transaction with all below it, those that have committed into it too. It is refused by the first of
+    /// these that holds: it never began (Unknown), has an aborted ancestor, itself included (Orphan), or has
+    /// committed (Done).
+    pub fn abort(&mut self, by: By, name: &Name) -> Result<Outcome, NoMemory>
+        requires free { IsFree self.old.history by (Abort name.now) }
+        ensures ok { IfOk result (λ outcome. Answered self.old self.new by (Abort name.now) outcome) }
+        ensures at_once { IfOk result (λ outcome. IsFalse (is_waits (answer_of outcome))) }
+        ensures err { OnErr result (self.new ≡ self.old) }
+        ensures sound { OnOk result (IsSound S.TopStore self.new) }
+    {
+        self.log.reserve(1)?;
+        self.marks.reserve(1)?;
+        // Asked for what it tells: that a name has a label.
+        let _ = name.depth();
+        let outcome = Outcome::of(abort_in(&mut self.tree, &mut self.marks, name));
+        self.log.add(by, Event::Abort(*name), &outcome);
+        Ok(outcome)
+    }
+
+    /// Gives up an access that waits by this line: it is answered `Stuck`, and its transaction waits no more.
+    pub fn cancel(&mut self, by: By, event: &Event) -> Result<(), NoMemory>
+        requires waits { IsWaitOf self.old.history by event.now }
+        ensures ok { OnOk result (self.new ≡ record self.old { history = entry by event.now Stuck ∷ self.old.history }) }
+        ensures err { OnErr result (self.new ≡ self.old) }
+        ensures sound { OnOk result (IsSound S.TopStore self.new) }
+    {
+        self.log.reserve(1)?;
+        self.log.add_stuck(by, *event);
+        Ok(())
     }
 
     /// Aborts the live top-level transactions, in the order in which they began.
@@ -218,14 +297,27 @@ impl<S: TopStore> Manager<S> {
         ensures err { OnErr result (self.new ≡ self.old) }
         ensures sound { OnOk result (IsSound S.TopStore self.new) }
     {
-        self.log.reserve(1)?;
-        match self.log.live_top() {
-            Some(name) => {
-                let aborted = Outcome::Done(Reply::Ok);
-                self.log.add(By::Close, Event::Abort(name), &aborted);
-                Ok(())
-            }
-            None => Ok(()),
+        let live = count_live_tops(&self.tree);
+        self.log.reserve(live)?;
+        self.marks.reserve(live)?;
+        close_tops(&mut self.log, &mut self.tree, &mut self.marks);
+        Ok(())
+    }
+
+    /// Whether an access of the transaction waits.
+    pub fn waiting(&self, name: &Name) -> bool
+        ensures { result ≡ is_some (wait_of self.now.history name.now) }
+    {
+        acts(&self.tree, &self.marks, name) && self.log.has_open_wait(name)
+    }
+
+    // Whether no access of the event's transaction waits.
+    fn waits_no_more(&self, event: &Event) -> bool
+        ensures { result ≡ waits_no_more self.now.history (accessor event.now) }
+    {
+        match event {
+            Event::Access(name, _, _) => !self.waiting(name),
+            _ => true,
         }
     }
 
@@ -234,9 +326,10 @@ impl<S: TopStore> Manager<S> {
     pub fn free(&self, by: By, event: &Event) -> bool
         ensures { IsTrue result ↔ IsFree self.now.history by event.now }
     {
-        // Nobody waits so far.
-        let _event = event;
-        is_line(by) && !self.log.has_entry(by)
+        if !is_line(by) {
+            return false;
+        }
+        self.log.is_unused(by) || (self.log.only_waits(by, event) && self.waits_no_more(event))
     }
 
     /// The entries, the oldest first.
@@ -269,11 +362,7 @@ impl<S: TopStore> Manager<S> {
         ensures store { result.store ≡ self.store }
     {
         let Manager {
-            alloc: _,
-            log,
-            table,
-            store,
-            opened: _,
+            log, table, store, ..
         } = self;
         let (opening, history) = log.into_parts();
         Parts {

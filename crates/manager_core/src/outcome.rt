@@ -1,6 +1,6 @@
 //! What a call comes to.
 ghost use Rattle.std.specs.Prelude.{◌≡◌};
-ghost use Rattle.manager_core.specs.Outcomes.{answer_of};
+ghost use Rattle.manager_core.specs.Outcomes.{answer_of, outcome_of};
 
 use crate::store::StoreFault;
 use serial_spec::{Answer, Refusal, Reply};
@@ -24,6 +24,16 @@ pub enum OpenFault {
 }
 
 impl Outcome {
+    /// Refused, or done where nothing refuses it.
+    pub(crate) fn of(refusal: Option<Refusal>) -> Outcome
+        ensures { result ≡ outcome_of refusal }
+    {
+        match refusal {
+            Some(refusal) => Outcome::Refused(refusal),
+            None => Outcome::Done(Reply::Ok),
+        }
+    }
+
     /// The answer that the history keeps.
     pub(crate) fn answer(&self) -> Answer
         ensures { result ≡ answer_of self.now }

@@ -8,14 +8,14 @@ use Rattle.serial_spec.specs.declared.event.Event.{Event}
 use Rattle.session_text.specs.declared.text_line.TextLine.{TextLine}
 use Rattle.session_text.specs.declared.text_line.TextLine.TheVariants.{Command}
 use Rattle.session_text.specs.Grammar.{IsText}
-use Rattle.session_text.specs.Stage.{IsFirstPath}
+use Rattle.session_text.specs.Stage.{IsServedText}
 use Rattle.session_text.specs.Texts.{IsTextLine, open_lines, misplaced, refusal, grown}
 use Rattle.session_text.proofs.Growth.{push_last, text_with_line, header_placed}
 use Rattle.session_text.proofs.Served.{served_with_line}
 
 -- what keeps: the sessions are a text, and one that is served
 abbrev pub IsKept : List Session → Type 0
-IsKept ss = IsText ss × IsFirstPath ss
+IsKept ss = IsText ss × IsServedText ss
 
 pub some_placed : (ss : List Session) (e : Event) → misplaced ss (Command e) ≡ None → 0 < length ss
 some_placed ss e h = omega (arith, eqb-false (length ss) 0 (header_placed (nat_eq (length ss) 0) (nat_le 1024 (length (open_lines ss))) h).0)
@@ -35,4 +35,4 @@ kept ss e l h valid is placed served =
     let placed2 : misplaced ss (Command e) ≡ None = subst (λ (x : TextLine). misplaced ss x ≡ None) is placed in
     let served2 : refusal ss (Command e) ≡ None = subst (λ (x : TextLine). refusal ss x ≡ None) is served in
     subst (λ (x : TextLine). IsKept (grown ss x)) (sym is)
-    (text_with_line ss e h.0 (subst IsTextLine is valid) placed2, served_with_line ss e h.1 (some_placed ss e placed2) served2)
+    (text_with_line ss e h.0 (subst IsTextLine is valid) placed2, served_with_line ss e h.1 served2)

@@ -12,7 +12,6 @@ use Rattle.session_text.specs.declared.fault.LineKind.TheVariants as kind
 use Rattle.session_text.specs.declared.text_line.TextLine.{TextLine}
 use Rattle.session_text.specs.declared.text_line.TextLine.TheVariants.{Header, Command}
 use Rattle.session_text.specs.Grammar.{IsEvent, IsSession, IsText, spelled_lines, spelled_session, spelled_text}
-use Rattle.session_text.specs.Stage.{command_refusal}
 use Rattle.session_text.specs.Steps.{◌>>=◌, unless}
 use Rattle.session_text.specs.Texts.{IsTextLine, with_line, grown, misplaced, refusal, with_bytes, at_line, read_from, sessions_of, Read, line_of}
 use Rattle.session_text.specs.Words.{cut_at}
@@ -61,7 +60,7 @@ spelled_grown ss (Command e) h = spelled_with_line ss e (some_placed ss e h)
 
 kept_grown : (ss : List Session) (l : TextLine) → IsKept ss → IsTextLine l → misplaced ss l ≡ None → refusal ss l ≡ None → IsKept (grown ss l)
 kept_grown ss (Header l) h k placed served = (text_with_header ss l h.0 k placed, served_with_header ss l h.1 served)
-kept_grown ss (Command e) h k placed served = (text_with_line ss e h.0 k placed, served_with_line ss e h.1 (some_placed ss e placed) served)
+kept_grown ss (Command e) h k placed served = (text_with_line ss e h.0 k placed, served_with_line ss e h.1 served)
 
 pub faultless : (a b : Option LineKind) (x y : List Session) → unless (option_or a b) x ≡ Ok y → (a ≡ None) × (b ≡ None) × (x ≡ y)
 faultless None None x y h = (refl, refl, cc)
@@ -177,7 +176,7 @@ lines_again (e ∷ fs) es n xs l rest h =
     let whole : IsSession (session l (es ++ e ∷ fs)) = all_at IsSession xs (session l (es ++ e ∷ fs)) [] h.0.sessions in
     let here = step n ss (Command e) (spelled_lines fs ++ rest) (all_at IsEvent es e fs whole.events)
     (command_fits xs l es e fs h.0)
-    (ap (λ ds. command_refusal ds e) (open_lines-last xs (session l es)) ∙ command_unrefused xs l es e fs h.1) in
+    (command_unrefused xs l es e fs h.1) in
     let on = lines_again fs (es ++ e ∷ []) (n + 1) xs l rest (subst (λ ds. IsKept (xs ++ session l ds ∷ [])) (sym (append_assoc es (e ∷ []) fs)) h) in (
       on.0,
       ap (λ bs. read_from n ss (cut_at 10 bs)) (append_assoc (spelled_event e) (10 ∷ spelled_lines fs) rest)

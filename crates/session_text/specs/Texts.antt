@@ -85,7 +85,7 @@ misplaced ss (Command e) =
 
 abbrev pub refusal : List Session → TextLine → Option LineKind
 refusal ss (Header l) = header_refusal (length ss)
-refusal ss (Command e) = command_refusal (open_lines ss) e
+refusal ss (Command e) = command_refusal e
 
 -- the sessions with this line, or its first fault
 abbrev pub with_bytes : List Session → List ℕ → Result (List Session) LineKind

@@ -5,7 +5,8 @@
 //! `begin N`, `get N K`, `set N K V`, `add N K V`, `del N K`, `commit N`, `abort N`, `after N begun` and
 //! `after N done`, where N is a name, K a key and V a number. Words stand one space apart. Each line has one spelling.
 //!
-//! At present only the texts of one short transaction are served (`stage`); every other line is refused.
+//! At present one session is served, without `after` lines (`stage`): an `after` line that is right by the above is
+//! refused as `Word`, and a second header as `Header`.
 #![tactic(auto)]
 
 mod command;

@@ -2,7 +2,7 @@
 ghost use Rattle.std.specs.Prelude.{◌≡◌, ◌==◌, ◌++◌, [], ◌∷◌, length, MatchResult, OnErr, OnOk};
 ghost use Rattle.std.specs.Option.{option_copied, option_or};
 ghost use Rattle.session_text.specs.Grammar.{IsText, is_taken};
-ghost use Rattle.session_text.specs.Stage.{IsFirstPath};
+ghost use Rattle.session_text.specs.Stage.{IsServedText};
 ghost use Rattle.session_text.specs.Texts.{IsTextLine, Tells, at_line, grown, label_at, line_at, misplaced, open_lines, refusal, sessions_of, with_bytes};
 
 use crate::cut::cut;
@@ -46,13 +46,13 @@ impl Model for Sessions {
     ghost use Rattle.std.specs.Prelude.{List};
     ghost use Rattle.serial_spec.specs.Interleaving.{Session};
     ghost use Rattle.session_text.specs.Grammar.{IsText};
-    ghost use Rattle.session_text.specs.Stage.{IsFirstPath};
+    ghost use Rattle.session_text.specs.Stage.{IsServedText};
 
     ghost Value = { List Session };
 
     ghost view = { λ s. s.sessions.items };
 
-    ghost invariant = { λ s. IsText s.sessions.items × IsFirstPath s.sessions.items };
+    ghost invariant = { λ s. IsText s.sessions.items × IsServedText s.sessions.items };
 }
 
 impl Sessions {
@@ -84,7 +84,7 @@ impl Sessions {
     pub fn len(&self) -> usize
         ensures len { result ≡ length self.now }
         ensures text { IsText self.now }
-        ensures served { IsFirstPath self.now }
+        ensures served { IsServedText self.now }
     {
         self.sessions.len()
     }
@@ -152,7 +152,7 @@ impl Sessions {
                 } else if lines.len() >= MOST_LINES {
                     Some(LineKind::Limit)
                 } else {
-                    command_refusal(lines, line.event())
+                    command_refusal(line.event())
                 }
             }
         }

@@ -47,6 +47,10 @@ fn texts_and_their_faults(rt: HostRuntime) -> Result<(), Fail> {
         ("\n", Some((1, LineKind::Empty))),
         ("session s\r\n", Some((1, LineKind::Label))),
         (
+            "session s\nbegin a\nset b x 01\n",
+            Some((3, LineKind::Number)),
+        ),
+        (
             "session s\nbegin a\nget a x\nput\nget\n",
             Some((4, LineKind::Word)),
         ),
@@ -56,23 +60,32 @@ fn texts_and_their_faults(rt: HostRuntime) -> Result<(), Fail> {
     Ok(())
 }
 
+// A text says what is asked, in any order: what may be done is for the run to answer.
+#[test]
+fn every_command_but_after_is_served(rt: HostRuntime) -> Result<(), Fail> {
+    for text in [
+        "session s\nget a x\n",
+        "session s\nbegin a/b/c/d/e/f/g/h\n",
+        "session s\nbegin a\nbegin a\nbegin b\nbegin a/b\n",
+        "session s\nbegin a\nget a/b x\nget b x\nset c/d x 1\n",
+        "session s\nadd a x 1\ndel b x\nabort a/b\ncommit c\nbegin a\n",
+    ] {
+        assert_eq!(rt; fault_of(rt.alloc(), text.as_bytes())?, None, "{text}");
+    }
+    Ok(())
+}
+
 #[test]
 fn lines_that_are_not_served_yet(rt: HostRuntime) -> Result<(), Fail> {
     for (text, fault) in [
         ("session s\nsession q\n", (2, LineKind::Header)),
         ("session s\nsession Q\n", (2, LineKind::Label)),
-        ("session s\nbegin a\nabort a\n", (3, LineKind::Word)),
-        ("session s\nbegin a\nadd a x 1\n", (3, LineKind::Word)),
-        ("session s\nbegin a\ndel a x\n", (3, LineKind::Word)),
+        ("session s\nget a x\nsession q\n", (3, LineKind::Header)),
+        ("session s\nafter a begun\n", (2, LineKind::Word)),
         ("session s\nbegin a\nafter a done\n", (3, LineKind::Word)),
         ("session s\nbegin a\nafter a\n", (3, LineKind::Shape)),
-        ("session s\nbegin a\nbegin b\n", (3, LineKind::Word)),
-        ("session s\nbegin a\nbegin a/b\n", (3, LineKind::Word)),
-        ("session s\nget a x\n", (2, LineKind::Word)),
-        ("session s\nbegin a/b\n", (2, LineKind::Name)),
-        ("session s\nbegin a\nget a/b x\n", (3, LineKind::Name)),
-        ("session s\nbegin a\nget b x\n", (3, LineKind::Name)),
-        ("session s\nbegin a\nset b x 01\n", (3, LineKind::Number)),
+        ("session s\nafter A begun\n", (2, LineKind::Name)),
+        ("after a begun\n", (1, LineKind::Header)),
     ] {
         assert_eq!(rt;
             fault_of(rt.alloc(), text.as_bytes())?,
@@ -84,7 +97,7 @@ fn lines_that_are_not_served_yet(rt: HostRuntime) -> Result<(), Fail> {
 }
 
 #[test]
-fn limits(rt: HostRuntime) -> Result<(), Fail> {
+fn many_headers(rt: HostRuntime) -> Result<(), Fail> {
     let mut headers = String::new(rt.alloc());
     for i in 0..65 {
         headers.push_str(&format!(in rt.alloc(); "session s{i}\n")?)?;
@@ -93,19 +106,32 @@ fn limits(rt: HostRuntime) -> Result<(), Fail> {
         fault_of(rt.alloc(), headers.as_bytes())?,
         Some((2, LineKind::Header))
     );
+    Ok(())
+}
 
+#[test]
+fn one_line_too_many(rt: HostRuntime) -> Result<(), Fail> {
     let mut lines = String::new(rt.alloc());
     lines.push_str("session s\nbegin a\n")?;
     for _ in 0..1023 {
         lines.push_str("get a x\n")?;
     }
     assert_eq!(rt; fault_of(rt.alloc(), lines.as_bytes())?, None);
-    lines.push_str("get a x\n")?;
-    assert_eq!(rt;
-        fault_of(rt.alloc(), lines.as_bytes())?,
-        Some((1026, LineKind::Limit))
-    );
-    lines.push_str("get a x\n")?;
+    for (last, kind) in [
+        ("get a x", LineKind::Limit),
+        ("after a done", LineKind::Limit),
+        ("after a", LineKind::Shape),
+        ("set a x 01", LineKind::Number),
+        ("session q", LineKind::Header),
+    ] {
+        let text = format!(in rt.alloc(); "{lines}{last}\n")?;
+        assert_eq!(rt;
+            fault_of(rt.alloc(), text.as_bytes())?,
+            Some((1026, kind)),
+            "{last}"
+        );
+    }
+    lines.push_str("get a x\nget a x\n")?;
     assert_eq!(rt;
         fault_of(rt.alloc(), lines.as_bytes())?,
         Some((1026, LineKind::Limit))
@@ -157,6 +183,30 @@ fn lines_are_looked_up(rt: HostRuntime) -> Result<(), Fail> {
     for (session, line) in [(0, 0), (0, 5), (1, 1), (u32::MAX, u32::MAX)] {
         assert!(rt; sessions.line(session, line).is_none());
     }
+    Ok(())
+}
+
+#[test]
+fn lines_of_several_transactions_are_looked_up(rt: HostRuntime) -> Result<(), Fail> {
+    let (deep, b, x) = (
+        Name::parse(b"a/b/c/d/e/f/g/h")?,
+        Name::parse(b"b")?,
+        Key::parse(b"x")?,
+    );
+    let text =
+        "session s\nadd b x 1\nbegin a/b/c/d/e/f/g/h\ndel a/b/c/d/e/f/g/h x\nabort b\ncommit a/b/c/d/e/f/g/h\n";
+    let sessions = Sessions::parse(rt.alloc(), text.as_bytes())?;
+    for (line, event) in [
+        (1, Event::Access(b, x, Op::Add(1))),
+        (2, Event::Begin(deep)),
+        (3, Event::Access(deep, x, Op::Del)),
+        (4, Event::Abort(b)),
+        (5, Event::Commit(deep)),
+    ] {
+        let found = sessions.line(0, line);
+        assert_eq!(rt; found.map(|l| *l.event()), Some(event), "{line}");
+    }
+    assert!(rt; sessions.line(0, 6).is_none());
     Ok(())
 }
 

@@ -19,8 +19,8 @@ use Rattle.serial_spec.specs.Locks.{is_blocked}
 use Rattle.serial_spec.specs.Values.{seen}
 use Rattle.serial_spec.specs.Rows.{Rows, value_in}
 use Rattle.serial_spec.specs.Allowed.{when, has_live_child, cause_at_begin, cause_at_end, refused_or, Allowed}
-use Rattle.serial_spec.specs.Waits.{Quiet, IsVictim}
-use Rattle.serial_spec.specs.Legal.{first_live, IsAbortOf, MayStand}
+use Rattle.serial_spec.specs.Waits.{IsVictim}
+use Rattle.serial_spec.specs.Legal.{first_live, IsAbortOf, MayCome}
 use Rattle.txn_history.proofs.Activity.{acts}
 use Rattle.txn_history.proofs.StatusTests.{begun_not_absent, acts_by_status}
 
@@ -133,7 +133,7 @@ sound_abort rows h P (Abort t) (Done Ok) p = tt
 sound_abort rows h P e a p = absurd p
 
 -- so each entry that may stand is sound
-pub sound : (rows : Rows) (h : History) (by : By) (e : Event) (a : Answer) → MayStand rows h by e a → Sound rows h (effect_of e a)
-sound rows h (Line s l) e a m = sound_line rows h (Line s l) e a m.0
+pub sound : (rows : Rows) (h : History) (by : By) (e : Event) (a : Answer) → MayCome rows h by e a → Sound rows h (effect_of e a)
+sound rows h (Line s l) e a m = sound_line rows h (Line s l) e a m
 sound rows h Victim e a m = sound_abort rows h (IsVictim h) e a m
-sound rows h Close e a m = sound_abort rows h (λ t. (first_live h (begun h) ≡ Some t) × Quiet h) e a m
+sound rows h Close e a m = sound_abort rows h (λ t. first_live h (begun h) ≡ Some t) e a m

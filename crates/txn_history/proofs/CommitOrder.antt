@@ -7,7 +7,7 @@ use Rattle.serial_spec.specs.declared.entry.Entry.{Entry}
 use Rattle.serial_spec.specs.History.{Name, History, Effect, Begins, Accesses, Commits, Aborts, Nothing, effect, is_commit, has_committed}
 use Rattle.serial_spec.specs.Items.{Items, Block, items, with_item}
 use Rattle.serial_spec.specs.Rows.{Rows}
-use Rattle.serial_spec.specs.Legal.{Legal}
+use Rattle.serial_spec.specs.Legal.{AreAllowed}
 use Rattle.txn_history.specs.Laws.{committed_by, committed_tops, blocks_of, CommitOrder}
 use Rattle.txn_history.proofs.Tests.{clash}
 use Rattle.txn_history.proofs.Activity.{acting, acts-is_active}
@@ -45,7 +45,7 @@ all_committed [] = tt
 all_committed (e ∷ h) = all_committed_by h (effect e) (committed_tops h) (all_committed h)
 
 -- they act no more, so what they have done stays
-committed_stays : (rows : Rows) (e : Entry) (h : History) → Legal rows (e ∷ h) → (t : Name) → has_committed h t ≡ true → items (e ∷ h) t ≡ items h t
+committed_stays : (rows : Rows) (e : Entry) (h : History) → AreAllowed rows (e ∷ h) → (t : Name) → has_committed h t ≡ true → items (e ∷ h) t ≡ items h t
 committed_stays rows e h l [] c = clash ((ended_begun rows h l.0 []).0 c) (kept rows h l.0).rootless
 committed_stays rows e h l (k ∷ ks) c =
     items_stay rows e h l (k ∷ ks) (acts-is_active h (k ∷ ks) ∙ false_from_ne_true _ (λ a. clash c (acting h k ks a).uncommitted))
@@ -56,7 +56,7 @@ blocks-cong own new [] all = refl
 blocks-cong own new (t ∷ ts) all = ap₂ Block all.0 (blocks-cong own new ts all.1)
 
 -- an entry leaves the blocks of those that had committed as they are
-blocks_stay : (rows : Rows) (e : Entry) (h : History) → Legal rows (e ∷ h)
+blocks_stay : (rows : Rows) (e : Entry) (h : History) → AreAllowed rows (e ∷ h)
     → blocks_of (items (e ∷ h)) (committed_tops h) ≡ blocks_of (items h) (committed_tops h)
 blocks_stay rows e h l =
     blocks-cong (items h) (items (e ∷ h)) (committed_tops h) (all-map _ _ (λ t c. committed_stays rows e h l t c) (committed_tops h) (all_committed h))

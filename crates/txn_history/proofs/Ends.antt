@@ -17,10 +17,10 @@ use Rattle.serial_spec.specs.declared.entry.Answer.TheVariants.{Done}
 use Rattle.serial_spec.specs.declared.entry.Entry.{Entry}
 use Rattle.serial_spec.specs.History.{Name, History, Effect, Begins, Accesses, Commits, Aborts, Nothing as NoEffect, effect, effect_of, or_else, is_live, is_active, is_begin, is_commit, is_abort, has_begun, has_committed, has_aborted, begun}
 use Rattle.serial_spec.specs.Items.{items, with_item}
-use Rattle.serial_spec.specs.Waits.{open_waits, wait_of, waits_by, WaitInTurn, IsVictim, Quiet}
+use Rattle.serial_spec.specs.Waits.{open_waits, wait_of, waits_by, WaitInTurn, IsVictim}
 use Rattle.serial_spec.specs.Rows.{Rows}
 use Rattle.serial_spec.specs.Allowed.{Allowed}
-use Rattle.serial_spec.specs.Legal.{MayStand, is_top_level, first_live, IsAbortOf}
+use Rattle.serial_spec.specs.Legal.{MayCome, is_top_level, first_live, IsAbortOf}
 use Rattle.txn_history.specs.Steps.{EndedBegun, BegunDown, ItemsStay}
 use Rattle.txn_history.proofs.Tests.{clash, differ}
 use Rattle.txn_history.proofs.Lists.{any-find, found_passes}
@@ -96,13 +96,13 @@ abort_by_manager h P b (Abort t) (Done Ok) p = b t p
 abort_by_manager h P b e a p = absurd p
 
 -- so it is with each entry that may stand
-pub abort_begun : (rows : Rows) (h : History) (by : By) (e : Event) (a : Answer) → WaitsKept (has_begun h) (open_waits h) → MayStand rows h by e a
+pub abort_begun : (rows : Rows) (h : History) (by : By) (e : Event) (a : Answer) → WaitsKept (has_begun h) (open_waits h) → MayCome rows h by e a
     → AbortOf h (effect_of e a)
-abort_begun rows h (Line s l) e a k m = abort_by_line rows h (Line s l) e a m.0
+abort_begun rows h (Line s l) e a k m = abort_by_line rows h (Line s l) e a m
 abort_begun rows h Victim e a k m =
     abort_by_manager h (IsVictim h) (λ t v. ∥∥₁_elim v.0 (Bool-set (has_begun h t) true) (λ c. cycle_begun h k t c.0 c.2)) e a m
 abort_begun rows h Close e a k m =
-    abort_by_manager h (λ t. (first_live h (begun h) ≡ Some t) × Quiet h) (λ t f. first_live_begun h t f.0) e a m
+    abort_by_manager h (λ t. first_live h (begun h) ≡ Some t) (λ t f. first_live_begun h t f) e a m
 
 -- ---- whoever has ended had begun
 

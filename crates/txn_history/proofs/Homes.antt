@@ -9,7 +9,7 @@ use Rattle.serial_spec.specs.History.{Name, History, is_committed, is_live, is_o
 use Rattle.serial_spec.specs.Items.{Items, None, Access, Block, items, HasBlock}
 use Rattle.serial_spec.specs.Serial.{home_within, home}
 use Rattle.serial_spec.specs.Rows.{Rows}
-use Rattle.serial_spec.specs.Legal.{Legal}
+use Rattle.serial_spec.specs.Legal.{AreAllowed}
 use Rattle.txn_history.specs.Laws.{HomeByParent, SerialCorrectness, BlockOfParent, Stands, PlaceInRun, FinishedCorrectness}
 use Rattle.txn_history.proofs.Tests.{clash}
 use Rattle.txn_history.proofs.Tops.{none_passes, none_passes_from}
@@ -62,7 +62,7 @@ home_acts rows h k (suc n) (l ∷ ls) b s o =
     (λ c. acts_by_status h (l ∷ ls) (begun_not_absent h (l ∷ ls) begun) c o)
 
 -- with as many steps as labels
-home_of_begun : (rows : Rows) (h : History) → Legal rows h → (t : Name) → has_begun h t ≡ true → is_orphan h t ≡ false → acts h (home h t) ≡ true
+home_of_begun : (rows : Rows) (h : History) → AreAllowed rows h → (t : Name) → has_begun h t ≡ true → is_orphan h t ≡ false → acts h (home h t) ≡ true
 home_of_begun rows h l t b o = home_acts rows h (kept rows h l) (length t) t (omega arith) (inr b) o
 
 -- what the one at home sees is a run
@@ -86,7 +86,7 @@ stands-below b c (Block d xs) h s = ⊎_elim
     (λ (e : Stands c d ⊎ Stands c xs). inr (⊎_map (stands-below b c d h) (stands-below b c xs h) e)) s
 
 -- each step up puts it into a block
-stands_within : (rows : Rows) (h : History) → Legal rows h → (n : ℕ) (t : Name)
+stands_within : (rows : Rows) (h : History) → AreAllowed rows h → (n : ℕ) (t : Name)
     → (home_within h t n ≡ t) ⊎ Stands (items h t) (items h (home_within h t n))
 stands_within rows h l zero t = inl refl
 stands_within rows h l (suc n) t =
@@ -108,7 +108,7 @@ place_in_run rows h l t b o = stands_within rows h l (length t) t
 -- ---- once no top-level transaction is live
 
 -- nobody but the root acts
-only_root : (rows : Rows) (h : History) → Legal rows h → ((k : List ℕ) → is_live h (k ∷ []) ≡ false) → (t : Name) → acts h t ≡ true → t ≡ []
+only_root : (rows : Rows) (h : History) → AreAllowed rows h → ((k : List ℕ) → is_live h (k ∷ []) ≡ false) → (t : Name) → acts h t ≡ true → t ≡ []
 only_root rows h l none [] a = refl
 only_root rows h l none (k ∷ ks) a =
     let top : acts h (k ∷ []) ≡ true = (kept rows h l).steady.down (k ∷ ks) (k ∷ []) a (and_from _ _ (label_eq_self k) refl) in

@@ -5,7 +5,7 @@ use Rattle.serial_spec.specs.History.{Name, History, Effect, Begins, Accesses, C
 use Rattle.serial_spec.specs.Items.{None, chain_of}
 use Rattle.serial_spec.specs.Serial.{Map, Replies}
 use Rattle.serial_spec.specs.Rows.{Rows, value_in}
-use Rattle.serial_spec.specs.Legal.{Legal}
+use Rattle.serial_spec.specs.Legal.{AreAllowed}
 use Rattle.txn_history.proofs.Tests.{clash}
 use Rattle.txn_history.proofs.Runs.{Replies-join}
 use Rattle.txn_history.proofs.Growth.{ActsDown}
@@ -54,6 +54,6 @@ kept_nothing rows = record {
 }
 
 -- so every legal history does
-pub kept : (rows : Rows) (h : History) → Legal rows h → KeptAt rows h
+pub kept : (rows : Rows) (h : History) → AreAllowed rows h → KeptAt rows h
 kept rows [] l = kept_nothing rows
 kept rows (e ∷ h) l = kept_after rows h (kept rows h l.0) (effect e) (sound rows h e.by e.event e.answer l.1)

@@ -16,7 +16,7 @@ use Rattle.serial_spec.specs.History.{Name, History, Effect, Begins, Accesses, C
 use Rattle.serial_spec.specs.Locks.{is_blocker}
 use Rattle.serial_spec.specs.Waits.{accesses, is_waits, open_waits, wait_of, blocks_event, branch_of, waits_by, waits_for, WaitInTurn, Quiet}
 use Rattle.serial_spec.specs.Rows.{Rows}
-use Rattle.serial_spec.specs.Legal.{Legal}
+use Rattle.serial_spec.specs.Legal.{AreAllowed}
 use Rattle.txn_history.specs.Laws.{may_add_pair, PairsStay, QuietStays}
 use Rattle.txn_history.proofs.Tests.{clash}
 use Rattle.txn_history.proofs.Lists.{any-find, found_passes}
@@ -55,7 +55,7 @@ acted_before rows h (Commits c) s t b a = commits-fewer (has_begun h) (has_commi
 acted_before rows h (Aborts c) s t b a = aborts-fewer (has_begun h) (has_committed h) (has_aborted h) c t a
 acted_before rows h NoEffect s t b a = a
 
-module _ (rows : Rows) (e : Entry) (h : History) (legal : Legal rows (e ∷ h)) (none : may_add_pair e.event e.answer ≡ false) where
+module _ (rows : Rows) (e : Entry) (h : History) (legal : AreAllowed rows (e ∷ h)) (none : may_add_pair e.event e.answer ≡ false) where
   -- no cause of refusal held
   effect_sound : Sound rows h (effect e)
   effect_sound = sound rows h e.by e.event e.answer legal.1

@@ -10,7 +10,7 @@ use Rattle.serial_spec.specs.declared.entry.Entry.{Entry}
 use Rattle.serial_spec.specs.History.{Name, History, Effect, Begins, Accesses, Commits, Aborts, Nothing as NoEffect, effect, Absent, Live, Committed, Aborted, status, is_active, is_begin, is_commit, is_abort, has_begun, has_committed, has_aborted}
 use Rattle.serial_spec.specs.Waits.{is_waits, accesses, open_waits, wait_of}
 use Rattle.serial_spec.specs.Rows.{Rows}
-use Rattle.serial_spec.specs.Legal.{Legal}
+use Rattle.serial_spec.specs.Legal.{AreAllowed}
 use Rattle.txn_history.specs.Steps.{sets_status, StatusAfter, acts_next, ActiveAfter, unless_by, WaitAfter}
 use Rattle.txn_history.proofs.Tests.{clash, same_tests}
 use Rattle.txn_history.proofs.Tops.{NonePasses}
@@ -33,7 +33,7 @@ pub record Told (rows : Rows) (h : History) (x : Effect) : Type 0 where
   pub unaborted : (t : Name) → has_begun h t ≡ false → has_aborted h t ≡ false
 
 -- of an entry that may stand
-pub told : (rows : Rows) (e : Entry) (h : History) → Legal rows (e ∷ h) → Told rows h (effect e)
+pub told : (rows : Rows) (e : Entry) (h : History) → AreAllowed rows (e ∷ h) → Told rows h (effect e)
 told rows e h l = record {
   kept = kept rows h l.0;
   sound = sound rows h e.by e.event e.answer l.1;

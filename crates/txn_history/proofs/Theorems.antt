@@ -12,3 +12,5 @@ pub use Rattle.txn_history.proofs.Tables.{foot_is_greater, locks_after, left_aft
 pub use Rattle.txn_history.proofs.Parents.{chain_by_parent, seen_by_parent, seen_after_commit}
 pub use Rattle.txn_history.proofs.Table.{table_after, changes_made}
 pub use Rattle.txn_history.proofs.CommitOrder.{commit_order}
+pub use Rattle.txn_history.proofs.Lone.{lone_quiet}
+pub use Rattle.txn_history.proofs.Quietness.{quiet_legal, legal_allowed}

@@ -17,10 +17,10 @@ use Rattle.serial_spec.specs.declared.entry.Entry.{Entry}
 use Rattle.serial_spec.specs.Operations.{kind}
 use Rattle.serial_spec.specs.History.{Name, History, begun, has_begun, is_begin, effect}
 use Rattle.serial_spec.specs.Locks.{is_blocked}
-use Rattle.serial_spec.specs.Waits.{same_line, is_waits, open_waits, accesses, wait_of, Quiet, IsVictim}
+use Rattle.serial_spec.specs.Waits.{same_line, is_waits, open_waits, accesses, wait_of, IsVictim}
 use Rattle.serial_spec.specs.Rows.{Rows}
 use Rattle.serial_spec.specs.Allowed.{is_other_line, waits_elsewhere, has_waited, has_come, refused_or, cause_at_begin, cause_at_commit, cause_at_end, Allowed}
-use Rattle.serial_spec.specs.Legal.{first_live, Legal, MayStand}
+use Rattle.serial_spec.specs.Legal.{first_live, AreAllowed, MayCome}
 use Rattle.txn_history.specs.Steps.{unless_by}
 use Rattle.txn_history.proofs.Tests.{clash}
 use Rattle.txn_history.proofs.Lists.{any_cases, any-filter, none-filter, any-find, not_found, none_found}
@@ -129,10 +129,10 @@ new_wait rows h by (Abort u) q t f = absurd (no_wait (cause_at_end h u) Ok q)
 new_wait rows h by (After u w) q t f = absurd (no_wait_after (has_come h u w) q)
 
 -- neither a victim's entry nor one of the close waits
-may_wait : (rows : Rows) (h : History) (by : By) (e : Event) → MayStand rows h by e Waits → NewWait h by e
-may_wait rows h (Line s l) e m = new_wait rows h (Line s l) e m.0
+may_wait : (rows : Rows) (h : History) (by : By) (e : Event) → MayCome rows h by e Waits → NewWait h by e
+may_wait rows h (Line s l) e m = new_wait rows h (Line s l) e m
 may_wait rows h Victim e m = absurd (waits_not_done (abort_of (IsVictim h) e Waits m).2)
-may_wait rows h Close e m = absurd (waits_not_done (abort_of (λ t. (first_live h (begun h) ≡ Some t) × Quiet h) e Waits m).2)
+may_wait rows h Close e m = absurd (waits_not_done (abort_of (λ t. first_live h (begun h) ≡ Some t) e Waits m).2)
 
 -- an open wait is an entry that waits
 waited : (f : Entry → Bool) (h : History) → list_any f (open_waits h) ≡ true → list_any (λ e. f e && is_waits e.answer) h ≡ true
@@ -191,7 +191,7 @@ one_wait_more h e n k = record {
 }
 
 -- one or the other, by the answer
-waits_kept_after : (rows : Rows) (h : History) (e : Entry) (a : Answer) → MayStand rows h e.by e.event a → WaitsKept (has_begun h) (open_waits h)
+waits_kept_after : (rows : Rows) (h : History) (e : Entry) (a : Answer) → MayCome rows h e.by e.event a → WaitsKept (has_begun h) (open_waits h)
     → WaitsKept (has_begun (e ∷ h)) (opened a e (open_waits h))
 waits_kept_after rows h e Waits m k = one_wait_more h e (may_wait rows h e.by e.event m) k
 waits_kept_after rows h e (Done r) m k = fewer_waits h e k
@@ -199,6 +199,6 @@ waits_kept_after rows h e Stuck m k = fewer_waits h e k
 waits_kept_after rows h e (Refused r) m k = fewer_waits h e k
 
 -- so every legal history keeps it
-pub waits_kept : (rows : Rows) (h : History) → Legal rows h → WaitsKept (has_begun h) (open_waits h)
+pub waits_kept : (rows : Rows) (h : History) → AreAllowed rows h → WaitsKept (has_begun h) (open_waits h)
 waits_kept rows [] l = record { one = tt; begun = λ t f. absurd (false≢true f) }
 waits_kept rows (e ∷ h) l = waits_kept_after rows h e e.answer l.1 (waits_kept rows h l.0)

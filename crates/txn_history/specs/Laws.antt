@@ -1,5 +1,6 @@
--- The laws of legal histories, as statements.
-use Rattle.std.specs.Prelude.{◌≡◌, ◌⊎◌, Bool, true, false, IsTrue, IsFalse, List, [], ◌∷◌, ℕ, ℤ, Option, if◌then◌else◌}
+-- The laws of histories, as statements. Most ask that each entry is allowed where it stands; that no cycle of waits stood
+-- they do not ask.
+use Rattle.std.specs.Prelude.{◌≡◌, ◌⊎◌, Bool, true, false, IsTrue, IsFalse, List, [], ◌∷◌, ℕ, ℤ, Option, is_some, if◌then◌else◌}
 use Rattle.txn_names.specs.Path.{is_front, parent}
 use Rattle.serial_spec.specs.declared.event.Event.{Event}
 use Rattle.serial_spec.specs.declared.event.Event.TheVariants.{Access as AccessOf}
@@ -14,14 +15,14 @@ use Rattle.serial_spec.specs.Changes.{overlay, IsChanges}
 use Rattle.txn_names.specs.declared.change.Change.{Change}
 use Rattle.serial_spec.specs.Values.{seen}
 use Rattle.serial_spec.specs.Rows.{Rows, value_in}
-use Rattle.serial_spec.specs.Legal.{Legal}
-use Rattle.serial_spec.specs.Waits.{waits_for, Quiet}
+use Rattle.serial_spec.specs.Legal.{AreAllowed, Legal}
+use Rattle.serial_spec.specs.Waits.{wait_of, waits_for, Quiet}
 use Rattle.txn_history.specs.Apart.{Apart}
 
 -- every transaction that has begun and has no aborted ancestor, itself included, was replied what a serial run replies
 abbrev pub SerialCorrectness : Type 0
 SerialCorrectness =
-    (rows : Rows) (h : History) → Legal rows h
+    (rows : Rows) (h : History) → AreAllowed rows h
     → (t : Name) → IsTrue (has_begun h t) → IsFalse (is_orphan h t) → Right (value_in rows) h t
 
 -- a committed one is right where its parent is, and any other where what it sees is a run
@@ -33,7 +34,7 @@ HomeByParent =
 -- the root is right too, and its run makes the table
 abbrev pub TableCorrectness : Type 0
 TableCorrectness =
-    (rows : Rows) (h : History) → Legal rows h → Runs (value_in rows) (items h []) (stored (value_in rows) h)
+    (rows : Rows) (h : History) → AreAllowed rows h → Runs (value_in rows) (items h []) (stored (value_in rows) h)
 
 -- the top-level transactions that have committed, the last committed first
 abbrev pub committed_by : Effect → List Name → List Name
@@ -51,18 +52,18 @@ blocks_of own (t ∷ ts) = Block (own t) (blocks_of own ts)
 
 -- the run that makes the table is that of the committed top-level transactions, whole and one at a time, in the order in which they committed
 abbrev pub CommitOrder : Type 0
-CommitOrder = (rows : Rows) (h : History) → Legal rows h → items h [] ≡ blocks_of (items h) (committed_tops h)
+CommitOrder = (rows : Rows) (h : History) → AreAllowed rows h → items h [] ≡ blocks_of (items h) (committed_tops h)
 
 -- what a live one sees is itself a run
 abbrev pub LiveCorrectness : Type 0
 LiveCorrectness =
-    (rows : Rows) (h : History) → Legal rows h
+    (rows : Rows) (h : History) → AreAllowed rows h
     → (t : Name) → IsTrue (is_active h t) → Replies (value_in rows) (chain h t)
 
 -- what a committed one has done stands as one block in its parent's items, and so in the run that makes the parent right
 abbrev pub BlockOfParent : Type 0
 BlockOfParent =
-    (rows : Rows) (h : History) → Legal rows h
+    (rows : Rows) (h : History) → AreAllowed rows h
     → (t : Name) → IsTrue (is_committed (status h t)) → HasBlock (items h t) (items h (parent t))
 
 -- the first stands in the second as a block, or in one of its blocks
@@ -74,14 +75,14 @@ Stands b (Block c xs) = (b ≡ c) ⊎ (Stands b c ⊎ Stands b xs)
 -- what one has done is what its home has done, or stands there as a block or in a block
 abbrev pub PlaceInRun : Type 0
 PlaceInRun =
-    (rows : Rows) (h : History) → Legal rows h
+    (rows : Rows) (h : History) → AreAllowed rows h
     → (t : Name) → IsTrue (has_begun h t) → IsFalse (is_orphan h t)
     → (home h t ≡ t) ⊎ Stands (items h t) (items h (home h t))
 
 -- once no top-level transaction is live, all that are no orphans have committed, and the one run of the root's items serves them all
 abbrev pub FinishedCorrectness : Type 0
 FinishedCorrectness =
-    (rows : Rows) (h : History) → Legal rows h
+    (rows : Rows) (h : History) → AreAllowed rows h
     → ((l : List ℕ) → IsFalse (is_live h (l ∷ [])))
     → (t : Name) → IsTrue (has_begun h t) → IsFalse (is_orphan h t)
     → IsTrue (is_committed (status h t)) × Stands (items h t) (items h []) × Replies (value_in rows) (items h [])
@@ -89,13 +90,13 @@ FinishedCorrectness =
 -- the value seen is the one that the run of what is seen leaves; at the root it is the table's
 abbrev pub ValueSeen : Type 0
 ValueSeen =
-    (rows : Rows) (h : History) → Legal rows h
+    (rows : Rows) (h : History) → AreAllowed rows h
     → (t : Name) (k : List ℕ) → IsTrue (is_active h t)
     → seen (value_in rows) h t k ≡ map_after (value_in rows) (chain h t) k
 
 abbrev pub ValueStored : Type 0
 ValueStored =
-    (rows : Rows) (h : History) → Legal rows h
+    (rows : Rows) (h : History) → AreAllowed rows h
     → (k : List ℕ) → stored (value_in rows) h k ≡ seen (value_in rows) h [] k
 
 -- a top-level commit puts what it saw at each key that it held to write into the table, and nothing else changes the table
@@ -106,26 +107,26 @@ table_next opening h x k = stored opening h k
 
 abbrev pub TableAfter : Type 0
 TableAfter =
-    (rows : Rows) (e : Entry) (h : History) → Legal rows (e ∷ h)
+    (rows : Rows) (e : Entry) (h : History) → AreAllowed rows (e ∷ h)
     → (k : List ℕ) → stored (value_in rows) (e ∷ h) k ≡ table_next (value_in rows) h (effect e) k
 
 -- so the table after a top-level commit is the one before, with that transaction's changes made
 abbrev pub ChangesMade : Type 0
 ChangesMade =
-    (rows : Rows) (e : Entry) (h : History) → Legal rows (e ∷ h)
+    (rows : Rows) (e : Entry) (h : History) → AreAllowed rows (e ∷ h)
     → (l : List ℕ) → effect e ≡ Commits (l ∷ []) → (cs : List Change) → IsChanges (value_in rows) h (l ∷ []) cs
     → (k : List ℕ) → stored (value_in rows) (e ∷ h) k ≡ overlay cs (stored (value_in rows) h) k
 
 -- the ancestors of one that acts act
 abbrev pub AncestorsAct : Type 0
 AncestorsAct =
-    (rows : Rows) (h : History) → Legal rows h
+    (rows : Rows) (h : History) → AreAllowed rows h
     → (t u : Name) → IsTrue (is_active h t) → IsTrue (is_front u t) → IsTrue (is_active h u)
 
 -- of two that act, neither above the other, no key has footprints that conflict
 abbrev pub LocksSeparate : Type 0
 LocksSeparate =
-    (rows : Rows) (h : History) → Legal rows h
+    (rows : Rows) (h : History) → AreAllowed rows h
     → (t u : Name) → IsTrue (is_active h t) → IsTrue (is_active h u) → IsFalse (is_front t u) → IsFalse (is_front u t)
     → Apart (items h t) (items h u)
 
@@ -147,11 +148,28 @@ may_add_pair e a = false
 
 abbrev pub PairsStay : Type 0
 PairsStay =
-    (rows : Rows) (e : Entry) (h : History) → Legal rows (e ∷ h) → IsFalse (may_add_pair e.event e.answer)
+    (rows : Rows) (e : Entry) (h : History) → AreAllowed rows (e ∷ h) → IsFalse (may_add_pair e.event e.answer)
     → (t u : Name) → IsTrue (waits_for (e ∷ h) t u) → IsTrue (waits_for h t u)
 
 -- so no other entry makes a cycle
 abbrev pub QuietStays : Type 0
 QuietStays =
-    (rows : Rows) (e : Entry) (h : History) → Legal rows (e ∷ h) → IsFalse (may_add_pair e.event e.answer)
+    (rows : Rows) (e : Entry) (h : History) → AreAllowed rows (e ∷ h) → IsFalse (may_add_pair e.event e.answer)
     → Quiet h → Quiet (e ∷ h)
+
+-- one that waits while nobody else does closes no cycle
+abbrev pub LoneQuiet : Type 0
+LoneQuiet = (h : History) (n : Name) → ((u : Name) → IsTrue (is_some (wait_of h u)) → u ≡ n) → Quiet h
+
+-- no cycle stood before any of these entries
+abbrev pub WasQuiet : History → Type 0
+WasQuiet [] = Unit {0}
+WasQuiet (e ∷ h) = WasQuiet h × Quiet h
+
+-- a history whose entries are all allowed is legal where no cycle ever stood
+abbrev pub QuietLegal : Type 0
+QuietLegal = (rows : Rows) (h : History) → AreAllowed rows h → WasQuiet h → Legal rows h
+
+-- and each entry of a legal one is allowed
+abbrev pub LegalAllowed : Type 0
+LegalAllowed = (rows : Rows) (h : History) → Legal rows h → AreAllowed rows h

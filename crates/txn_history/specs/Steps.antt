@@ -13,7 +13,7 @@ use Rattle.serial_spec.specs.Values.{value_or, last_left, seen}
 use Rattle.serial_spec.specs.Waits.{same_line, is_waits, accesses, wait_of}
 use Rattle.serial_spec.specs.Rows.{Rows}
 use Rattle.serial_spec.specs.Allowed.{writes}
-use Rattle.serial_spec.specs.Legal.{Legal}
+use Rattle.serial_spec.specs.Legal.{AreAllowed}
 
 -- ---- statuses
 
@@ -26,7 +26,7 @@ sets_status x u s = s
 
 abbrev pub StatusAfter : Type 0
 StatusAfter =
-    (rows : Rows) (e : Entry) (h : History) → Legal rows (e ∷ h)
+    (rows : Rows) (e : Entry) (h : History) → AreAllowed rows (e ∷ h)
     → (u : Name) → status (e ∷ h) u ≡ sets_status (effect e) u (status h u)
 
 -- who acts afterwards: one that begins too, one that commits no more, nor whoever is under one that aborts
@@ -38,7 +38,7 @@ acts_next x u b = b
 
 abbrev pub ActiveAfter : Type 0
 ActiveAfter =
-    (rows : Rows) (e : Entry) (h : History) → Legal rows (e ∷ h)
+    (rows : Rows) (e : Entry) (h : History) → AreAllowed rows (e ∷ h)
     → (u : Name) → is_active (e ∷ h) u ≡ acts_next (effect e) u (is_active h u)
 
 -- ---- begun and ended
@@ -46,19 +46,19 @@ ActiveAfter =
 -- whoever has committed or aborted had begun, so a name that begins is live
 abbrev pub EndedBegun : Type 0
 EndedBegun =
-    (rows : Rows) (h : History) → Legal rows h
+    (rows : Rows) (h : History) → AreAllowed rows h
     → (t : Name) → (IsTrue (has_committed h t) → IsTrue (has_begun h t)) × (IsTrue (has_aborted h t) → IsTrue (has_begun h t))
 
 -- the parent of whoever has begun is the root or has begun
 abbrev pub BegunDown : Type 0
 BegunDown =
-    (rows : Rows) (h : History) → Legal rows h
+    (rows : Rows) (h : History) → AreAllowed rows h
     → (t : Name) → IsTrue (has_begun h t) → (parent t ≡ []) ⊎ IsTrue (has_begun h (parent t))
 
 -- no entry changes the items of one that does not act
 abbrev pub ItemsStay : Type 0
 ItemsStay =
-    (rows : Rows) (e : Entry) (h : History) → Legal rows (e ∷ h)
+    (rows : Rows) (e : Entry) (h : History) → AreAllowed rows (e ∷ h)
     → (t : Name) → IsFalse (is_active h t) → items (e ∷ h) t ≡ items h t
 
 -- ---- waits
@@ -71,7 +71,7 @@ unless_by by (Some w) = if same_line w.by by then Nothing else Some w
 -- a new wait is its transaction's; else a wait lasts until its own line goes on, or its transaction acts no more
 abbrev pub WaitAfter : Type 0
 WaitAfter =
-    (rows : Rows) (e : Entry) (h : History) → Legal rows (e ∷ h)
+    (rows : Rows) (e : Entry) (h : History) → AreAllowed rows (e ∷ h)
     → (u : Name) → wait_of (e ∷ h) u ≡ (if is_active (e ∷ h) u then (if is_waits e.answer && accesses u e.event then Some e else unless_by e.by (wait_of h u)) else Nothing)
 
 -- ---- locks

@@ -28,7 +28,7 @@ front-parent t u deeper = same_tests (is_front t u) (path_eq (parent u) t)
     (λ e. subst (λ (p : Path). is_front p u ≡ true) (same_path (parent u) t e) (is_front-parent u))
 
 -- some pass exactly where more than none do
-any_counted : {X : Type 0} (p : X → Bool) (xs : List X) → list_any p xs ≡ nat_lt 0 (count_by p xs)
+pub any_counted : {X : Type 0} (p : X → Bool) (xs : List X) → list_any p xs ≡ nat_lt 0 (count_by p xs)
 any_counted p [] = refl
 any_counted p (x ∷ xs) = by (p x) (any_counted p xs) ∙ ap (nat_lt 0) (sym (sum_by-cons (λ y. cond (p y) 1 0) x xs))
   where

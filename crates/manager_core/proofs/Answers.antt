@@ -1,0 +1,160 @@
+-- Which answers are allowed: the first cause that holds, else the reply or the wait.
+use Rattle.std.proofs.Common.{◌≡◌, ℕ, Bool, true, false, nat_le, length, List, ◌∷◌, Option, Some, None, option_map, refl, sym, ap, ◌∙◌}
+use Rattle.std.proofs.lemmas.Bool.{false≢true}
+use Rattle.txn_names.specs.Path.{parent}
+use Rattle.serial_spec.specs.declared.entry.By.{By}
+use Rattle.serial_spec.specs.declared.entry.By.TheVariants.{Line, Victim, Close}
+use Rattle.serial_spec.specs.declared.entry.Refusal.{Refusal}
+use Rattle.serial_spec.specs.declared.entry.Refusal.TheVariants.{Unknown, Used, NoParent, Done as HasCommitted, Orphan, Children, Waiting, Full, Store}
+use Rattle.serial_spec.specs.declared.operation.Op.{Op}
+use Rattle.serial_spec.specs.declared.event.Event.{Event}
+use Rattle.serial_spec.specs.declared.event.Event.TheVariants.{Begin, Access, Commit, Abort}
+use Rattle.serial_spec.specs.declared.entry.Answer.{Answer}
+use Rattle.serial_spec.specs.declared.entry.Answer.TheVariants.{Done, Waits, Stuck, Refused}
+use Rattle.serial_spec.specs.History.{Name, History, or_else, status, is_absent, is_committed, begun, top_aborted, is_active}
+use Rattle.serial_spec.specs.Operations.{kind, reply_of}
+use Rattle.serial_spec.specs.Locks.{is_blocked}
+use Rattle.serial_spec.specs.Values.{seen}
+use Rattle.serial_spec.specs.Rows.{Rows, value_in}
+use Rattle.serial_spec.specs.Legal.{AreAllowed}
+use Rattle.serial_spec.specs.Allowed.{Allowed, most_transactions, answer, when, cause_at_begin, cause_at_end, cause_at_access, cause_at_commit}
+use Rattle.txn_history.proofs.Activity.{acts_active}
+use Rattle.txn_history.proofs.Causes.{neither, acts_at_end}
+use Rattle.serial_spec.specs.Waits.{same_line}
+use Rattle.manager_core.specs.Lines.{IsLine, IsFree, IsWaitOf}
+use Rattle.manager_core.specs.Sound.{is_store_refusal}
+use Rattle.manager_core.specs.Outcomes.{answer_of, outcome_of}
+use Rattle.manager_core.specs.State.{entry}
+use Rattle.manager_core.proofs.Waits.{not_waited}
+
+-- an allowed entry of a line may come
+pub allowed_next : (rows : Rows) (h : History) (by : By) (event : Event) (a : Answer) → AreAllowed rows h → IsLine by → Allowed rows h by event a
+    → AreAllowed rows (entry by event a ∷ h)
+allowed_next rows h (Line s l) event a before line allowed = (before, allowed)
+allowed_next rows h Victim event a before line allowed = absurd line
+allowed_next rows h Close event a before line allowed = absurd line
+
+-- ---- no cause is a refusal of the store
+
+record NoStore (o : Option Refusal) : Type 0 where
+  pub other : (r : Refusal) → o ≡ Some r → is_store_refusal (Refused r) ≡ false
+
+none_of_two : {a b : Option Refusal} → NoStore a → NoStore b → NoStore (or_else a b)
+none_of_two {a} {b} p q = record { other = by a p }
+  where
+    by : (a : Option Refusal) → NoStore a → (r : Refusal) → or_else a b ≡ Some r → is_store_refusal (Refused r) ≡ false
+    by None p r e = q.other r e
+    by (Some x) p r e = p.other r e
+
+when_other : (b : Bool) (x : Refusal) → is_store_refusal (Refused x) ≡ false → NoStore (when b x)
+when_other b x n = record { other = by b }
+  where
+    by : (b : Bool) (r : Refusal) → when b x ≡ Some r → is_store_refusal (Refused r) ≡ false
+    by true r e = let same : x ≡ r = cc in ap (λ y. is_store_refusal (Refused y)) (sym same) ∙ n
+    by false r e = cc
+
+orphan_other : (o : Option Name) → NoStore (option_map (λ a. Orphan a) o)
+orphan_other o = record { other = by o }
+  where
+    by : (o : Option Name) (r : Refusal) → option_map (λ a. Orphan a) o ≡ Some r → is_store_refusal (Refused r) ≡ false
+    by None r e = cc
+    by (Some t) r e = let same : Orphan t ≡ r = cc in ap (λ y. is_store_refusal (Refused y)) (sym same)
+
+no_store_at_begin : (h : History) (t : Name) → NoStore (cause_at_begin h t)
+no_store_at_begin h t =
+    none_of_two (when_other _ Used refl)
+    (none_of_two (when_other (is_absent (status h (parent t))) NoParent refl)
+    (none_of_two (orphan_other (top_aborted h (parent t)))
+    (none_of_two (when_other (is_committed (status h (parent t))) NoParent refl)
+    (when_other (nat_le most_transactions (length (begun h))) Full refl))))
+
+no_store_at_end : (h : History) (t : Name) → NoStore (cause_at_end h t)
+no_store_at_end h t = none_of_two (when_other _ Unknown refl) (none_of_two (orphan_other _) (when_other _ HasCommitted refl))
+
+no_store_at_access : (rows : Rows) (h : History) (by : By) (t : Name) (k : List ℕ) → NoStore (cause_at_access rows h by t k)
+no_store_at_access rows h by t k = none_of_two (no_store_at_end h t) (none_of_two (when_other _ Waiting refl) (when_other _ Full refl))
+
+no_store_at_commit : (h : History) (by : By) (t : Name) → NoStore (cause_at_commit h by t)
+no_store_at_commit h by t = none_of_two (no_store_at_end h t) (none_of_two (when_other _ Children refl) (when_other _ Waiting refl))
+
+-- so nor is an outcome that comes of one
+other_than_store : (o c : Option Refusal) → NoStore c → o ≡ c → is_store_refusal (answer_of (outcome_of o)) ≡ false
+other_than_store None c n e = refl
+other_than_store (Some r) c n e = n.other r (sym e)
+
+pub begin_other : (h : History) (t : Name) (o : Option Refusal) → o ≡ cause_at_begin h t → is_store_refusal (answer_of (outcome_of o)) ≡ false
+begin_other h t o e = other_than_store o _ (no_store_at_begin h t) e
+
+pub abort_other : (h : History) (t : Name) (o : Option Refusal) → o ≡ cause_at_end h t → is_store_refusal (answer_of (outcome_of o)) ≡ false
+abort_other h t o e = other_than_store o _ (no_store_at_end h t) e
+
+pub access_other : (rows : Rows) (h : History) (by : By) (t : Name) (k : List ℕ) (r : Refusal) → Some r ≡ cause_at_access rows h by t k → is_store_refusal (Refused r) ≡ false
+access_other rows h by t k r e = (no_store_at_access rows h by t k).other r (sym e)
+
+pub commit_other : (h : History) (by : By) (t : Name) (o : Option Refusal) → o ≡ cause_at_commit h by t → is_store_refusal (answer_of (outcome_of o)) ≡ false
+commit_other h by t o e = other_than_store o _ (no_store_at_commit h by t) e
+
+-- a cause that is found is the answer
+refused_allowed : (rows : Rows) (h : History) (by : By) (e : Event) (r : Refusal) → is_store_refusal (Refused r) ≡ false → answer rows h by e ≡ Some (Refused r)
+    → Allowed rows h by e (Refused r)
+refused_allowed rows h by e Unknown n a = a
+refused_allowed rows h by e Used n a = a
+refused_allowed rows h by e NoParent n a = a
+refused_allowed rows h by e HasCommitted n a = a
+refused_allowed rows h by e (Orphan t) n a = a
+refused_allowed rows h by e Children n a = a
+refused_allowed rows h by e Waiting n a = a
+refused_allowed rows h by e Full n a = a
+refused_allowed rows h by e Store n a = absurd (false≢true (sym n))
+
+-- ---- begins, commits and aborts
+
+pub begin_allowed : (rows : Rows) (h : History) (by : By) (t : Name) (o : Option Refusal) → o ≡ cause_at_begin h t → Allowed rows h by (Begin t) (answer_of (outcome_of o))
+begin_allowed rows h by t None e = rw (← e) refl
+begin_allowed rows h by t (Some r) e = refused_allowed rows h by (Begin t) r (begin_other h t (Some r) e) (rw (← e) refl)
+
+pub abort_allowed : (rows : Rows) (h : History) (by : By) (t : Name) (o : Option Refusal) → o ≡ cause_at_end h t → Allowed rows h by (Abort t) (answer_of (outcome_of o))
+abort_allowed rows h by t None e = rw (← e) refl
+abort_allowed rows h by t (Some r) e = refused_allowed rows h by (Abort t) r (abort_other h t (Some r) e) (rw (← e) refl)
+
+pub commit_allowed : (rows : Rows) (h : History) (by : By) (t : Name) (o : Option Refusal) → o ≡ cause_at_commit h by t → Allowed rows h by (Commit t) (answer_of (outcome_of o))
+commit_allowed rows h by t None e = rw (← e) refl
+commit_allowed rows h by t (Some r) e = refused_allowed rows h by (Commit t) r (commit_other h by t (Some r) e) (rw (← e) refl)
+
+-- ---- accesses
+
+pub access_refused : (rows : Rows) (h : History) (by : By) (t : Name) (k : List ℕ) (op : Op) (r : Refusal) → Some r ≡ cause_at_access rows h by t k
+    → Allowed rows h by (Access t k op) (Refused r)
+access_refused rows h by t k op r e = refused_allowed rows h by (Access t k op) r (access_other rows h by t k r e) (rw (← e) refl)
+
+-- one whose access has no cause acts
+active_at_access : (rows : Rows) (h : History) (by : By) (t : Name) (k : List ℕ) → None ≡ cause_at_access rows h by t k → is_active h t ≡ true
+active_at_access rows h by t k e = acts_active h t (acts_at_end h t (neither _ _ (sym e)).0).1
+
+pub access_waits : (rows : Rows) (h : History) (by : By) (t : Name) (k : List ℕ) (op : Op) → IsFree h by (Access t k op) → None ≡ cause_at_access rows h by t k
+    → is_blocked h t k (kind op) ≡ true → Allowed rows h by (Access t k op) Waits
+access_waits rows h by t k op free e blocked =
+    rw (← e, blocked, not_waited h by t k op free (active_at_access rows h by t k e)) refl
+
+pub access_done : (rows : Rows) (h : History) (by : By) (t : Name) (k : List ℕ) (op : Op) → None ≡ cause_at_access rows h by t k
+    → is_blocked h t k (kind op) ≡ false → Allowed rows h by (Access t k op) (Done (reply_of (seen (value_in rows) h t k) op))
+access_done rows h by t k op e free = rw (← e, free) refl
+
+-- ---- lines that are given up
+
+-- whatever waits by a line is of a line
+same_line_is : (a by : By) → same_line a by ≡ true → IsLine by
+same_line_is (Line s l) (Line s2 l2) e = tt
+same_line_is (Line s l) Victim e = absurd (false≢true e)
+same_line_is (Line s l) Close e = absurd (false≢true e)
+same_line_is Victim by e = absurd (false≢true e)
+same_line_is Close by e = absurd (false≢true e)
+
+pub line_of_wait : (h : History) (by : By) (event : Event) → IsWaitOf h by event → IsLine by
+line_of_wait h by (Access t k o) waits = same_line_is waits.0.by by waits.2
+line_of_wait h by event waits = absurd waits
+
+-- an access may give up the wait that its own line made
+pub stuck_allowed : (rows : Rows) (h : History) (by : By) (event : Event) → IsWaitOf h by event → Allowed rows h by event Stuck
+stuck_allowed rows h by (Access t k o) waits = rw (waits.1, waits.2) refl
+stuck_allowed rows h by event waits = absurd waits

@@ -1,0 +1,29 @@
+use Rattle.std.proofs.Common.{◌<◌, length, refl, arith}
+use Rattle.manager_core.proofs.Commits.{tree_commits, commits, on_commit, kept_child}
+use Rattle.manager_core.proofs.Facts.{sound, backed_next}
+use Rattle.manager_core.proofs.manager.Manager.commit_child.Goals as goal
+
+pub unwrap-requires : goal.unwrap-requires
+unwrap-requires g c =
+    let m = c.self.inside in
+    let kept = c.self.invariant.0 in
+    let none = rw (← c.self.view_is) at c.requires.live in
+    let some : 0 < length c.args.name.now = omega (arith, c.requires.below) in
+    commits c.commit.result _ c.commit.ensures.refused (tree_commits m.log.rows m.log.entries m.tree c.args.by c.args.name.now kept.allowed kept.in_tree some none)
+
+pub invariant_of-self-2 : goal.invariant_of-self-2
+invariant_of-self-2 g c =
+    let m = c.self.inside in
+    let kept = c.self.invariant.0 in
+    let none = rw (← c.self.view_is) at c.requires.live in
+    let done = commits c.commit.result _ c.commit.ensures.refused (tree_commits m.log.rows m.log.entries m.tree c.args.by c.args.name.now kept.allowed kept.in_tree (omega (arith, c.requires.below)) none) in
+    rw (c.add.ensures.rows, c.add.ensures.entries, c.reserve.ensures.rows, c.reserve.ensures.entries) (
+      kept_child m.log.rows m.log.entries m.tree _ m.marks m.table c.args.by c.args.name.now kept c.requires.free.line c.requires.below none
+      (on_commit c.commit.result _ done c.commit.ensures.names) (on_commit c.commit.result _ done c.commit.ensures.committed),
+      backed_next g.S.TopStore _ _ _ _ _ _ _ c.self.invariant.1 refl,
+    )
+
+pub returns-clause-sound : goal.returns-clause-sound
+returns-clause-sound g c =
+    let next = invariant_of-self-2 g c in
+    sound g.S.TopStore _ _ _ next.0 next.1

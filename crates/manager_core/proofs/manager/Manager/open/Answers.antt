@@ -1,0 +1,15 @@
+use Rattle.std.proofs.Common.{rules, length, ap, arith}
+use Rattle.manager_core.proofs.Opening.{as_many}
+use Rattle.manager_core.proofs.manager.Manager.open.Goals as goal
+
+pub returns-in-Ok-over-clause-ok : goal.returns-in-Ok-over-clause-ok
+returns-in-Ok-over-clause-ok g c = record {
+  history = search rules;
+  rows = search rules;
+  rising = search rules;
+  few = omega (arith, ap length c.in-Ok-over.ensures.rows, as_many c.in-Ok.rows.items, c.len.ensures, c.if-len-gt-MOST_ROWS.false);
+  table = search rules;
+  faults = search rules;
+  later = search rules;
+  unfailed = search rules;
+}
