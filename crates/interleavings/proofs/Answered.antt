@@ -1,68 +1,89 @@
 -- Lines of the one session, answered one after another.
-use Rattle.std.proofs.Common.{◌≡◌, ℕ, ◌+◌, ◌-◌, ◌<◌, ◌≤◌, zero, suc, inl, Bool, true, false, not, cond, ◌&&◌, ◌||◌, eqb, List, [], ◌∷◌, ◌++◌, length, Some, refl, sym, ap, subst, ◌∙◌, arith, Result, Ok, Err, OnOk}
+use Rattle.std.proofs.Common.{◌≡◌, ℕ, ◌+◌, ◌-◌, ◌<◌, ◌≤◌, zero, suc, inl, ⊎_elim, Bool, true, false, not, cond, ◌&&◌, ◌||◌, eqb, List, [], ◌∷◌, ◌++◌, length, filter, find, Option, Some, None, is_some, refl, sym, ap, subst, ◌∙◌, arith, Result, Ok, Err, OnOk}
 use Rattle.std.specs.Prelude.{slice_get}
 use Rattle.std.specs.List.{AllByRecursion}
-use Rattle.std.proofs.lemmas.Bool.{true≢false, eqb-true, eq-eqb}
+use Rattle.std.proofs.lemmas.Bool.{true≢false, false≢true, eqb-true, eq-eqb}
 use Rattle.std.proofs.lemmas.Bool.Decides.{nat_tests}
-use Rattle.txn_names.specs.Path.{Path}
-use Rattle.txn_names.proofs.Names.{on_test}
+use Rattle.txn_names.proofs.Names.{on_test, same_path}
+use Rattle.serial_spec.specs.declared.operation.Op.{Op}
 use Rattle.serial_spec.specs.declared.event.Event.{Event}
 use Rattle.serial_spec.specs.declared.event.Event.TheVariants.{Begin, Access, Commit, Abort, After}
 use Rattle.serial_spec.specs.declared.entry.By.{By}
 use Rattle.serial_spec.specs.declared.entry.By.TheVariants.{Line, Victim, Close}
 use Rattle.serial_spec.specs.declared.entry.Answer.{Answer}
-use Rattle.serial_spec.specs.History.{History, Name}
+use Rattle.serial_spec.specs.declared.entry.Answer.TheVariants.{Waits as IsWaiting, Stuck}
+use Rattle.serial_spec.specs.declared.entry.Entry.{Entry}
+use Rattle.serial_spec.specs.History.{History, Name, is_active}
 use Rattle.serial_spec.specs.Rows.{Rows}
-use Rattle.serial_spec.specs.Waits.{is_waits, same_line}
-use Rattle.serial_spec.specs.Interleaving.{Session, lines_of, is_answer_in, answered, AllAnswered, FitsMoment, IsInTurn, IsInterleaving}
+use Rattle.serial_spec.specs.Waits.{is_waits, same_line, open_waits, wait_of, accesses, Quiet}
+use Rattle.serial_spec.specs.Allowed.{answer, has_waited}
+use Rattle.serial_spec.specs.Interleaving.{Session, lines_of, next_event, next_line, answered, AllAnswered, FitsMoment, IsStuckAt, IsInterleaving}
 use Rattle.session_text.specs.Grammar.{IsText}
-use Rattle.session_text.specs.Stage.{IsStepOf, AreFirstPath, IsFirstPath}
+use Rattle.session_text.specs.Stage.{IsServedLine, IsServedText}
 use Rattle.session_text.specs.Texts.{line_at}
+use Rattle.txn_history.specs.Laws.{WasQuiet}
+use Rattle.txn_history.proofs.Theorems.{lone_quiet, wait_holds}
 use Rattle.manager_core.specs.declared.store.TopStore.{Ghosts}
 use Rattle.manager_core.specs.declared.outcome.Outcome.{Outcome}
 use Rattle.manager_core.specs.declared.outcome.Outcome.TheVariants.{Done, Waits, Refused}
 use Rattle.manager_core.specs.Outcomes.{answer_of}
 use Rattle.manager_core.specs.State.{State, entry}
-use Rattle.manager_core.specs.Kept.{has_waits}
 use Rattle.manager_core.specs.Lines.{entries_of, IsFree}
 use Rattle.manager_core.specs.Asked.{IsLater}
-use Rattle.manager_core.specs.Calls.{Closed, closings}
-use Rattle.interleavings.specs.Serving.{Answers, IsServed}
-use Rattle.interleavings.specs.Lines.{AreAnswered, AreDone}
+use Rattle.manager_core.specs.Closing.{closings}
+use Rattle.manager_core.specs.Calls.{Closed}
+use Rattle.interleavings.specs.Serving.{GoesOn, Answers, GivesUp, Serves}
+use Rattle.interleavings.specs.Lines.{NoCycles, AreAnswered, AreDone}
 
--- ---- a line behind those answered has no entry
+-- ---- no cycle stands where nobody waits, or one alone
 
-same_number : (a b : ℕ) → eqb a b ≡ true → eqb b a ≡ true
-same_number a b e = eq-eqb b a (sym (eqb-true a b e))
+none_waits : (b : Bool) → is_some (cond {A = Option Entry} b None None) ≡ false
+none_waits true = refl
+none_waits false = refl
 
--- the newest entry is of another line than this, which comes later
-other_line : (rows : Rows) (ss : List Session) (h : History) (by : By) (ev : Event) (a : Answer) (s l : ℕ) → IsInTurn rows ss h by ev a → is_waits a ≡ false
-    → cond (is_answer_in s by a) (suc (answered h s)) (answered h s) < l → same_line by (Line s l) ≡ false
-other_line rows ss h (Line s2 l2) ev a s l turn silent later =
-    on_test (eqb s2 s) (λ b. eqb s2 s ≡ b → b && eqb l2 l ≡ false)
-    (λ e _.
-    let counted : eqb s s2 && not (is_waits a) ≡ true = rw (same_number s2 s e, silent) refl in
-    let mine : suc (answered h s) < l = subst (λ b. cond b (suc (answered h s)) (answered h s) < l) counted later in
-    let number : l2 ≡ suc (answered h s) = turn.0 ∙ ap (λ n. suc (answered h n)) (eqb-true s2 s e) in
-    on_test (eqb l2 l) (λ b. b ≡ false) (λ f. absurd (omega (arith, mine, number, eqb-true l2 l f))) (λ _. refl))
-    (λ _ _. refl) refl
-other_line rows ss h Victim ev a s l turn silent later = refl
-other_line rows ss h Close ev a s l turn silent later = refl
+pub quiet_where_nobody : (h : History) → open_waits h ≡ [] → Quiet h
+quiet_where_nobody h nobody = lone_quiet h [] (λ u e. absurd (false≢true (sym (none u) ∙ e)))
+  where
+    none : (u : Name) → is_some (wait_of h u) ≡ false
+    none u = ap (λ ws. is_some (cond (is_active h u) (find (λ w. accesses u w.event) ws) None)) nobody ∙ none_waits (is_active h u)
 
-fewer : (b : Bool) (n l : ℕ) → cond b (suc n) n < l → n < l
-fewer true n l h = omega arith
-fewer false n l h = h
+-- whose access an event is
+abbrev waiter : Event → Name
+waiter (Access t k o) = t
+waiter e = []
 
-quiet_parts : (a b : Bool) → a || b ≡ false → (a ≡ false) × (b ≡ false)
-quiet_parts true b e = absurd (true≢false e)
-quiet_parts false b e = (refl, e)
+is_waiter : (e : Event) (u : Name) → accesses u e ≡ true → u ≡ waiter e
+is_waiter (Access t k o) u a = sym (same_path t u a)
+is_waiter (Begin t) u a = absurd (false≢true a)
+is_waiter (Commit t) u a = absurd (false≢true a)
+is_waiter (Abort t) u a = absurd (false≢true a)
+is_waiter (After t w) u a = absurd (false≢true a)
 
-pub none_later : (rows : Rows) (ss : List Session) (h : History) (s l : ℕ) → IsInterleaving rows ss h → has_waits h ≡ false → answered h s < l → entries_of h (Line s l) ≡ []
-none_later rows ss [] s l turns silent later = refl
-none_later rows ss (e ∷ h) s l turns silent later =
-    let parts = quiet_parts (is_waits e.answer) (has_waits h) silent in
-    rw (other_line rows ss h e.by e.event e.answer s l turns.1 parts.0 later)
-    (none_later rows ss h s l turns.0 parts.1 (fewer (is_answer_in s e.by e.answer) (answered h s) l later))
+some_by : (b c : Bool) (w : Entry) → is_some (cond b (cond c (Some w) None) None) ≡ true → c ≡ true
+some_by true true w e = refl
+some_by true false w e = absurd (false≢true e)
+some_by false c w e = absurd (false≢true e)
+
+quiet_where_one : (h : History) (w : Entry) → open_waits h ≡ w ∷ [] → Quiet h
+quiet_where_one h w one = lone_quiet h (waiter w.event) (λ u e. is_waiter w.event u (some_by (is_active h u) (accesses u w.event) w (sym (found u) ∙ e)))
+  where
+    found : (u : Name) → is_some (wait_of h u) ≡ is_some (cond (is_active h u) (cond (accesses u w.event) (Some w) None) None)
+    found u = ap (λ ws. is_some (cond (is_active h u) (find (λ w. accesses u w.event) ws) None)) one
+
+-- ---- lines of one session
+
+line_self : (l : ℕ) → same_line (Line 0 l) (Line 0 l) ≡ true
+line_self l = eq-eqb l l refl
+
+other_line : (l m : ℕ) → l < m → same_line (Line 0 l) (Line 0 m) ≡ false
+other_line l m less = on_test (eqb l m) (λ b. b ≡ false) (λ e. absurd (omega (arith, less, eqb-true l m e))) (λ _. refl)
+
+-- a line without entries has not waited
+not_waited : (h : History) (by : By) → entries_of h by ≡ [] → has_waited h by ≡ false
+not_waited [] by none = refl
+not_waited (e ∷ h) by none =
+    on_test (same_line e.by by) (λ b. cond b (e ∷ entries_of h by) (entries_of h by) ≡ [] → (b && is_waits e.answer) || has_waited h by ≡ false)
+    (λ _ f. cc) (λ _ f. not_waited h by f) none
 
 -- ---- what the lines of a text are like
 
@@ -71,28 +92,18 @@ at_place P [] i e h f = cc
 at_place P (d ∷ es) zero e h f = let same : d ≡ e = cc in subst P same h.0
 at_place P (d ∷ es) (suc i) e h f = at_place P es i e h.1 f
 
-step_served : (n : Path) (h : History) (e : Event) → IsStepOf n e → IsServed h e
-step_served n h (Begin m) s = absurd s
-step_served n h (Access m k o) s = tt
-step_served n h (Commit m) s = tt
-step_served n h (Abort m) s = absurd s
-step_served n h (After m t) s = absurd s
+served_at : (ss : List Session) (i : ℕ) (e : Event) → IsServedText ss → Some e ≡ slice_get (lines_of (slice_get ss 0)) i → IsServedLine e
+served_at [] i e p f = cc
+served_at (s ∷ []) i e p f = at_place IsServedLine s.lines i e p f
+served_at (s ∷ t ∷ ss) i e p f = absurd p
 
-path_served : (es : List Event) (i : ℕ) (e : Event) (h : History) → AreFirstPath es → Some e ≡ slice_get es i → (i ≡ 0 → h ≡ []) → IsServed h e
-path_served [] i e h p f g = cc
-path_served (Begin n ∷ es) zero e h p f g = let same : Begin n ≡ e = cc in subst (IsServed h) same (p.0, g refl)
-path_served (Begin n ∷ es) (suc i) e h p f g = step_served n h e (at_place (IsStepOf n) es i e p.1 f)
-path_served (Access n k o ∷ es) i e h p f g = absurd p
-path_served (Commit n ∷ es) i e h p f g = absurd p
-path_served (Abort n ∷ es) i e h p f g = absurd p
-path_served (After n t ∷ es) i e h p f g = absurd p
+-- there is no second session
+no_second : (ss : List Session) (u i : ℕ) → IsServedText ss → slice_get (lines_of (slice_get ss (suc u))) i ≡ None
+no_second [] u i p = refl
+no_second (s ∷ []) u i p = refl
+no_second (s ∷ t ∷ ss) u i p = absurd p
 
-pub served_at : (ss : List Session) (i : ℕ) (e : Event) (h : History) → IsFirstPath ss → Some e ≡ slice_get (lines_of (slice_get ss 0)) i → (i ≡ 0 → h ≡ []) → IsServed h e
-served_at [] i e h p f g = cc
-served_at (s ∷ []) i e h p f g = path_served s.lines i e h p f g
-served_at (s ∷ t ∷ ss) i e h p f g = absurd p
-
-pub short_at : (ss : List Session) (i : ℕ) (e : Event) → IsText ss → Some e ≡ slice_get (lines_of (slice_get ss 0)) i → i < 1024
+short_at : (ss : List Session) (i : ℕ) (e : Event) → IsText ss → Some e ≡ slice_get (lines_of (slice_get ss 0)) i → i < 1024
 short_at [] i e t f = cc
 short_at (s ∷ ss) i e t f = omega (arith, t.sessions.0.short, within s.lines i e f)
   where
@@ -103,75 +114,179 @@ short_at (s ∷ ss) i e t f = omega (arith, t.sessions.0.short, within s.lines i
 
 -- ---- so far
 
+-- what holds of a history in which n lines of the one session have been answered
+pub record IsServedSoFar (rows : Rows) (ss : List Session) (h : History) (n : ℕ) : Type 0 where
+  pub interleaving : IsInterleaving rows ss h
+  pub count : answered h 0 ≡ n
+  pub nobody : open_waits h ≡ []
+  pub was_quiet : WasQuiet h
+  pub unused : (l : ℕ) → n < l → entries_of h (Line 0 l) ≡ []
+
 pub record AreServed {S : Type 0} (g : Ghosts S) (ss : List Session) (old new : State S) (n : ℕ) : Type 0 where
-  pub interleaving : IsInterleaving new.rows ss new.history
-  pub count : answered new.history 0 ≡ n
-  pub silent : has_waits new.history ≡ false
-  pub fresh : n ≡ 0 → new.history ≡ []
-  pub rows : new.rows ≡ old.rows
-  pub opened : new.opened ≡ old.opened
-  pub later : IsLater g old.store new.store
+  pub so_far : IsServedSoFar new.rows ss new.history n
+  pub on : GoesOn g old new
 
 later_still : {S : Type 0} (g : Ghosts S) (a b c : S) → IsLater g a b → IsLater g b c → IsLater g a c
 later_still g a b c h k = record { doubt = omega (arith, h.doubt, k.doubt); failures = omega (arith, h.failures, k.failures) }
 
+on_still : {S : Type 0} (g : Ghosts S) (old mid new : State S) → GoesOn g old mid → GoesOn g mid new → GoesOn g old new
+on_still g old mid new a b = record {
+  rows = b.rows ∙ a.rows;
+  opened = b.opened ∙ a.opened;
+  later = later_still g old.store mid.store new.store a.later b.later;
+}
+
+module _ (rows : Rows) (ss : List Session) (h : History) (n : ℕ) (e : Event) (far : IsServedSoFar rows ss h n) (next : Some e ≡ slice_get (lines_of (slice_get ss 0)) n) where
+  -- the line is the next one
+  number : suc n ≡ suc (answered h 0)
+  number = ap suc (sym far.count)
+
+  event_due : next_event ss h 0 ≡ Some e
+  event_due = ap (slice_get (lines_of (slice_get ss 0))) far.count ∙ sym next
+
+  -- a line that is answered at once
+  answered_more : (a : Answer) → is_waits a ≡ false → FitsMoment rows ss h 0 a → IsServedSoFar rows ss (entry (Line 0 (suc n)) e a ∷ h) (suc n)
+  answered_more a at_once fits = record {
+    interleaving = (far.interleaving, (number, event_due, fits));
+    count = rw (at_once, far.count) refl;
+    nobody = rw (at_once, far.nobody) refl;
+    was_quiet = (far.was_quiet, quiet_where_nobody h far.nobody);
+    unused = λ l less. rw (other_line (suc n) l less) (far.unused l (omega (arith, less)));
+  }
+
+  -- ---- a line that is given up
+
+  module _ (text : IsServedText ss) (t : Name) (k : List ℕ) (o : Op) (access : e ≡ Access t k o) (due : answer rows h (Line 0 (suc n)) (Access t k o) ≡ Some IsWaiting) where
+    abbrev waiting : Entry
+    waiting = entry (Line 0 (suc n)) (Access t k o) IsWaiting
+
+    access_due : next_event ss h 0 ≡ Some (Access t k o)
+    access_due = event_due ∙ ap (λ x. Some x) access
+
+    one_waits : open_waits (waiting ∷ h) ≡ waiting ∷ []
+    one_waits = ap (λ ws. waiting ∷ filter (λ w. not (same_line w.by (Line 0 (suc n)))) ws) far.nobody
+
+    -- nobody can go on
+    stuck_at : IsStuckAt rows ss (waiting ∷ h) 0
+    stuck_at = record { none_goes_on = none; first = λ u less. absurd (omega (arith, less)) }
+      where
+        none : (u : ℕ) (d : Event) → next_event ss (waiting ∷ h) u ≡ Some d → answer rows (waiting ∷ h) (next_line (waiting ∷ h) u) d ≡ None
+        none zero d f =
+            let same : Access t k o ≡ d = cc in
+            subst (λ x. answer rows (waiting ∷ h) (Line 0 (suc (answered h 0))) x ≡ None) same
+            (subst (λ m. answer rows (waiting ∷ h) (Line 0 m) (Access t k o) ≡ None) number (wait_holds rows waiting h 0 (suc n) t k o refl due).1)
+        none (suc u) d f = let no : next_event ss (waiting ∷ h) (suc u) ≡ None = no_second ss u (answered (waiting ∷ h) (suc u)) text in cc
+
+    given_up : IsServedSoFar rows ss (entry (Line 0 (suc n)) (Access t k o) Stuck ∷ waiting ∷ h) (suc n)
+    given_up = record {
+      interleaving = (
+        (far.interleaving, (number, access_due, subst (λ m. has_waited h (Line 0 m) ≡ false) number (not_waited h (Line 0 (suc n)) (far.unused (suc n) (omega arith))))),
+        (number, access_due, stuck_at),
+      );
+      count = ap suc far.count;
+      nobody = ap (filter (λ w. not (same_line w.by (Line 0 (suc n))))) one_waits ∙ rw (line_self (suc n)) refl;
+      was_quiet = ((far.was_quiet, quiet_where_nobody h far.nobody), quiet_where_one (waiting ∷ h) waiting one_waits);
+      unused = λ l less. rw (other_line (suc n) l less) (far.unused l (omega (arith, less)));
+    }
+
+-- an outcome that is no wait fits any moment
 fits_moment : (rows : Rows) (ss : List Session) (h : History) (s : ℕ) (o : Outcome) → is_waits (answer_of o) ≡ false → FitsMoment rows ss h s (answer_of o)
 fits_moment rows ss h s (Done r) e = tt
 fits_moment rows ss h s Waits e = absurd (true≢false e)
 fits_moment rows ss h s (Refused r) e = tt
 
-pub one_more : {S : Type 0} (g : Ghosts S) (ss : List Session) (old mid new : State S) (n : ℕ) (e : Event) → AreServed g ss old mid n → Some e ≡ slice_get (lines_of (slice_get ss 0)) n → Answers g mid new (suc n) e → AreServed g ss old new (suc n)
-one_more g ss old mid new n e so_far next told =
-    let a : Answer = answer_of told.outcome in
-    let h2 : History = entry (Line 0 (suc n)) e a ∷ mid.history in
-    let counted : cond (not (is_waits a)) (suc (answered mid.history 0)) (answered mid.history 0) ≡ suc n = rw (told.at_once, so_far.count) refl in
-    let turn : IsInTurn mid.rows ss mid.history (Line 0 (suc n)) e a =
-    (ap suc (sym so_far.count), ap (slice_get (lines_of (slice_get ss 0))) so_far.count ∙ sym next, fits_moment mid.rows ss mid.history 0 told.outcome told.at_once) in
-    let whole : IsInterleaving mid.rows ss h2 = (so_far.interleaving, turn) in
-    record {
-      interleaving = subst (λ h. IsInterleaving new.rows ss h) (sym told.history) (subst (λ r. IsInterleaving r ss h2) (sym told.rows) whole);
-      count = ap (λ h. answered h 0) told.history ∙ counted;
-      silent = ap has_waits told.history ∙ ap (λ b. b || has_waits mid.history) told.at_once ∙ so_far.silent;
-      fresh = λ z. absurd (omega (arith, z));
-      rows = told.rows ∙ so_far.rows;
-      opened = told.opened ∙ so_far.opened;
-      later = later_still g old.store mid.store new.store so_far.later told.later;
+-- one line more
+one_more : {S : Type 0} (g : Ghosts S) (ss : List Session) (old mid new : State S) (n : ℕ) (e : Event) → IsServedText ss → AreServed g ss old mid n
+    → Some e ≡ slice_get (lines_of (slice_get ss 0)) n → Serves g mid new (suc n) e → AreServed g ss old new (suc n)
+one_more {S} g ss old mid new n e text so_far next serves = ⊎_elim at_once waited serves
+  where
+    told : (h : History) → new.history ≡ h → GoesOn g mid new → IsServedSoFar mid.rows ss h (suc n) → AreServed g ss old new (suc n)
+    told h is on far = record {
+      so_far = subst (λ x. IsServedSoFar new.rows ss x (suc n)) (sym is) (subst (λ r. IsServedSoFar r ss h (suc n)) (sym on.rows) far);
+      on = on_still g old mid new so_far.on on;
     }
 
-pub free_next : {S : Type 0} (g : Ghosts S) (ss : List Session) (old new : State S) (n : ℕ) (e : Event) → AreServed g ss old new n → IsFree new.history (Line 0 (suc n)) e
-free_next g ss old new n e so_far = record { line = tt; unused = inl (none_later new.rows ss new.history 0 (suc n) so_far.interleaving so_far.silent (omega (arith, so_far.count))) }
+    at_once : Answers g mid new (suc n) e → AreServed g ss old new (suc n)
+    at_once a = told _ a.history a.on
+        (answered_more mid.rows ss mid.history n e so_far.so_far next (answer_of a.outcome) a.at_once (fits_moment mid.rows ss mid.history 0 a.outcome a.at_once))
+
+    waited : GivesUp g mid new (suc n) e → AreServed g ss old new (suc n)
+    waited u = told _ (u.history ∙ ap (λ x. entry (Line 0 (suc n)) x Stuck ∷ entry (Line 0 (suc n)) x IsWaiting ∷ mid.history) u.access) u.on
+        (given_up mid.rows ss mid.history n e so_far.so_far next text u.name u.key u.op u.access
+        (ap (answer mid.rows mid.history (Line 0 (suc n))) (sym u.access) ∙ u.waits))
+
+free_next : {S : Type 0} (g : Ghosts S) (ss : List Session) (old new : State S) (n : ℕ) (e : Event) → AreServed g ss old new n → IsFree new.history (Line 0 (suc n)) e
+free_next g ss old new n e far = record { line = tt; unused = inl (far.so_far.unused (suc n) (omega arith)) }
 
 -- ---- the close
 
-pub closed : (rows : Rows) (ss : List Session) (h : History) (names : List Name) → IsInterleaving rows ss h → AllAnswered ss h → IsInterleaving rows ss (closings names ++ h) × AllAnswered ss (closings names ++ h)
+closed : (rows : Rows) (ss : List Session) (h : History) (names : List Name) → IsInterleaving rows ss h → AllAnswered ss h → IsInterleaving rows ss (closings names ++ h) × AllAnswered ss (closings names ++ h)
 closed rows ss h [] i a = (i, a)
 closed rows ss h (t ∷ names) i a = let rest = closed rows ss h names i a in ((rest.0, rest.1), rest.1)
 
+-- closing entries end nobody's wait, and where nobody waits they make no cycle
+close_ends : (a : By) → same_line a Close ≡ false
+close_ends (Line s l) = refl
+close_ends Victim = refl
+close_ends Close = refl
+
+closed_quiet : (h : History) (names : List Name) → open_waits h ≡ [] → WasQuiet h → (open_waits (closings names ++ h) ≡ []) × WasQuiet (closings names ++ h)
+closed_quiet h [] nobody quiet = (nobody, quiet)
+closed_quiet h (t ∷ names) nobody quiet =
+    let rest = closed_quiet h names nobody quiet in
+    (ap (filter (λ w. not (same_line w.by Close))) rest.0, (rest.1, quiet_where_nobody (closings names ++ h) rest.0))
+
 -- ---- at a line of the loop
 
-pub line_there : (ss : List Session) (l : ℕ) → 1 ≤ l → line_at ss 0 l ≡ slice_get (lines_of (slice_get ss 0)) (l - 1)
+line_there : (ss : List Session) (l : ℕ) → 1 ≤ l → line_at ss 0 l ≡ slice_get (lines_of (slice_get ss 0)) (l - 1)
 line_there ss zero h = absurd (omega (arith, h))
 line_there ss (suc k) h = let some : eqb (suc k) 0 ≡ false = grind (arith, nat_tests) in rw some refl
 
 -- the line before this is the last that is answered
-pub number_of_next : (l : ℕ) → 1 ≤ l → suc (l - 1) ≡ l
+number_of_next : (l : ℕ) → 1 ≤ l → suc (l - 1) ≡ l
 number_of_next l h = omega (arith, h)
 
-pub so_far_next : {S : Type 0} (g : Ghosts S) (ss : List Session) (old mid new : State S) (l : ℕ) (e : Event) → 1 ≤ l → AreServed g ss old mid (l - 1) → Some e ≡ line_at ss 0 l → Answers g mid new l e → AreServed g ss old new ((l + 1) - 1)
-so_far_next g ss old mid new l e h so_far next told =
+pub first_so_far : {S : Type 0} (g : Ghosts S) (ss : List Session) (m : State S) → m.history ≡ [] → AreServed g ss m m 0
+first_so_far g ss m is = record {
+  so_far = subst (λ h. IsServedSoFar m.rows ss h 0) (sym is) record { interleaving = tt; count = refl; nobody = refl; was_quiet = tt; unused = λ l less. refl };
+  on = record { rows = refl; opened = refl; later = record { doubt = omega arith; failures = omega arith } };
+}
+
+pub so_far_next : {S : Type 0} (g : Ghosts S) (ss : List Session) (old mid new : State S) (l : ℕ) (e : Event) → 1 ≤ l → IsServedText ss → AreServed g ss old mid (l - 1)
+    → Some e ≡ line_at ss 0 l → Serves g mid new l e → AreServed g ss old new ((l + 1) - 1)
+so_far_next g ss old mid new l e h text so_far next told =
     let number : suc (l - 1) ≡ l = number_of_next l h in
     let after : suc (l - 1) ≡ (l + 1) - 1 = omega (arith, h) in
     subst (AreServed g ss old new) after
-    (one_more g ss old mid new (l - 1) e so_far (next ∙ line_there ss l h) (subst (λ n. Answers g mid new n e) (sym number) told))
+    (one_more g ss old mid new (l - 1) e text so_far (next ∙ line_there ss l h) (subst (λ n. Serves g mid new n e) (sym number) told))
 
 pub free_line : {S : Type 0} (g : Ghosts S) (ss : List Session) (old new : State S) (l : ℕ) (e : Event) → 1 ≤ l → AreServed g ss old new (l - 1) → IsFree new.history (Line 0 l) e
 free_line g ss old new l e h so_far = subst (λ n. IsFree new.history (Line 0 n) e) (number_of_next l h) (free_next g ss old new (l - 1) e so_far)
 
-pub serves_line : {S : Type 0} (g : Ghosts S) (ss : List Session) (old new : State S) (l : ℕ) (e : Event) → 1 ≤ l → IsFirstPath ss → AreServed g ss old new (l - 1) → Some e ≡ line_at ss 0 l → IsServed new.history e
-serves_line g ss old new l e h p so_far next = served_at ss (l - 1) e new.history p (next ∙ line_there ss l h) so_far.fresh
+pub serves_line : (ss : List Session) (l : ℕ) (e : Event) → 1 ≤ l → IsServedText ss → Some e ≡ line_at ss 0 l → IsServedLine e
+serves_line ss l e h p next = served_at ss (l - 1) e p (next ∙ line_there ss l h)
 
 pub line_within : (ss : List Session) (l : ℕ) (e : Event) → 1 ≤ l → IsText ss → Some e ≡ line_at ss 0 l → l ≤ 1024
 line_within ss l e h t next = omega (arith, h, short_at ss (l - 1) e t (next ∙ line_there ss l h))
+
+-- ---- at its end
+
+-- where the one session has no line left all are answered
+all_answered : (ss : List Session) (h : History) (n : ℕ) → IsServedText ss → answered h 0 ≡ n → None ≡ slice_get (lines_of (slice_get ss 0)) n → AllAnswered ss h
+all_answered ss h n text count none zero = ap (slice_get (lines_of (slice_get ss 0))) count ∙ sym none
+all_answered ss h n text count none (suc u) = no_second ss u (answered h (suc u)) text
+
+pub all_served : {S : Type 0} (g : Ghosts S) (ss : List Session) (old new : State S) (l : ℕ) → 1 ≤ l → IsServedText ss → AreServed g ss old new (l - 1)
+    → None ≡ line_at ss 0 l → AreAnswered g ss old new
+all_served g ss old new l h text far none = record {
+  interleaving = far.so_far.interleaving;
+  answered = all_answered ss new.history (l - 1) text far.so_far.count (none ∙ line_there ss l h);
+  no_cycles = (far.so_far.was_quiet, quiet_where_nobody new.history far.so_far.nobody);
+  nobody = far.so_far.nobody;
+  rows = far.on.rows;
+  opened = far.on.opened;
+  later = far.on.later;
+}
 
 -- all lines, and then the close
 pub done : {S : Type 0} (g : Ghosts S) (ss : List Session) (old mid new : State S) → AreAnswered g ss old mid → Closed mid new → AreDone g ss old new
@@ -180,9 +295,11 @@ done {S} g ss old mid new a k =
     let history : new.history ≡ closings names ++ mid.history = ap (λ (m : State S). m.history) k.added in
     let rows : new.rows ≡ mid.rows = ap (λ (m : State S). m.rows) k.added in
     let both = closed mid.rows ss mid.history names a.interleaving a.answered in
+    let quiet = closed_quiet mid.history names a.nobody a.no_cycles.0 in
     record {
       interleaving = subst (IsInterleaving new.rows ss) (sym history) (subst (λ r. IsInterleaving r ss (closings names ++ mid.history)) (sym rows) both.0);
       finished = record { answered = subst (AllAnswered ss) (sym history) both.1; closed = k.none_left };
+      no_cycles = subst NoCycles (sym history) (quiet.1, quiet_where_nobody (closings names ++ mid.history) quiet.0);
       ended = k.ended;
       rows = rows ∙ a.rows;
       opened = ap (λ (m : State S). m.opened) k.added ∙ a.opened;

@@ -5,17 +5,19 @@ ghost use Rattle.serial_spec.specs.Legal.{first_live};
 ghost use Rattle.serial_spec.specs.declared.entry.By.TheVariants.{Line};
 ghost use Rattle.manager_core.specs.Lines.{IsFree};
 ghost use Rattle.manager_core.specs.Sound.{IsSound};
-ghost use Rattle.interleavings.specs.Serving.{Answers, IsServed};
-ghost use Rattle.interleavings.specs.Lines.{AreAnswered, AreDone};
+ghost use Rattle.serial_spec.specs.declared.event.Event.TheVariants.{Access};
+ghost use Rattle.session_text.specs.Stage.{IsServedLine};
+ghost use Rattle.interleavings.specs.Serving.{Serves};
+ghost use Rattle.interleavings.specs.Lines.{AreAnswered, AreDone, NoCycles};
 ghost use Rattle.interleavings.specs.Runs.{HasRunCause, IsRun};
 
 use crate::report::Report;
 use manager_core::store::TopStore;
-use manager_core::{Manager, OpenFault};
-use serial_spec::{By, Event, NoMemory};
+use manager_core::{Manager, OpenFault, Outcome};
+use serial_spec::{By, Event, NoMemory, Op};
 use session_text::Sessions;
 use std::alloc::Global;
-use txn_names::Label;
+use txn_names::{Key, Label, Name};
 
 /// Why a run gave no report. Its store is dropped, and nothing is said of what it holds.
 #[derive(Clone, Copy, Debug, PartialEq, Eq)]
@@ -38,19 +40,44 @@ fn labels_of(alloc: Global, sessions: &Sessions) -> Result<Vec<Label>, NoMemory>
     Ok(labels)
 }
 
+// Answers an access. One that has to wait is given up: with one session nobody else can go on.
+fn serve_access<S: TopStore>(
+    manager: &mut Manager<S>,
+    line: u32,
+    name: &Name,
+    key: &Key,
+    op: Op,
+) -> Result<(), NoMemory>
+    requires free { IsFree manager.old.history (Line 0 line) (Access name.now key.now op) }
+    ensures { OnOk result (Serves S.TopStore manager.old manager.new line (Access name.now key.now op)) }
+{
+    let by = By::Line { session: 0, line };
+    match manager.access(by, name, key, op)? {
+        Outcome::Waits => manager.cancel(by, &Event::Access(*name, *key, op)),
+        _ => Ok(()),
+    }
+}
+
 // Answers a line of the one session.
 fn serve<S: TopStore>(manager: &mut Manager<S>, line: u32, event: &Event) -> Result<(), NoMemory>
     requires free { IsFree manager.old.history (Line 0 line) event.now }
-    requires served { IsServed manager.old.history event.now }
-    ensures { OnOk result (Answers S.TopStore manager.old manager.new line event.now) }
+    requires served { IsServedLine event.now }
+    ensures { OnOk result (Serves S.TopStore manager.old manager.new line event.now) }
 {
     let by = By::Line { session: 0, line };
-    let _outcome = match event {
-        Event::Begin(name) => manager.begin(by, name)?,
-        Event::Access(name, key, op) => manager.access(by, name, key, *op)?,
-        Event::Commit(name) => manager.commit(by, name)?,
-        _ => unreachable!(),
-    };
+    match event {
+        Event::Begin(name) => {
+            manager.begin(by, name)?;
+        }
+        Event::Access(name, key, op) => serve_access(manager, line, name, key, *op)?,
+        Event::Commit(name) => {
+            manager.commit(by, name)?;
+        }
+        Event::Abort(name) => {
+            manager.abort(by, name)?;
+        }
+        Event::After(_, _) => unreachable!(),
+    }
     Ok(())
 }
 
@@ -82,6 +109,7 @@ fn run_opened<S: TopStore>(manager: &mut Manager<S>, sessions: &Sessions) -> Res
 // The report of a manager whose top-level transactions have ended, and its store.
 fn report_of<S: TopStore>(manager: Manager<S>, labels: Vec<Label>) -> (Report, S)
     requires sound { IsSound S.TopStore manager }
+    requires no_cycles { NoCycles manager.history }
     requires closed { first_live manager.history (begun manager.history) ≡ None }
     requires ended { (l : List ℕ) → IsFalse (is_live manager.history (l ∷ [])) }
     ensures report { result.0 ≡ record { opening = manager.rows; labels = labels.items; history = manager.history; table = manager.table } }

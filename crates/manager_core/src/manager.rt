@@ -171,6 +171,7 @@ impl<S: TopStore> Manager<S> {
     pub fn access(&mut self, by: By, name: &Name, key: &Key, op: Op) -> Result<Outcome, NoMemory>
         requires free { IsFree self.old.history by (Access name.now key.now op) }
         ensures ok { IfOk result (λ outcome. Answered self.old self.new by (Access name.now key.now op) outcome) }
+        ensures waits { IfOk result (λ outcome. outcome ≡ Outcome.Waits → IsWaitOf self.new.history by (Access name.now key.now op)) }
         ensures err { OnErr result (self.new ≡ self.old) }
         ensures sound { OnOk result (IsSound S.TopStore self.new) }
     {

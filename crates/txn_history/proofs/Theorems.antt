@@ -14,3 +14,4 @@ pub use Rattle.txn_history.proofs.Table.{table_after, changes_made}
 pub use Rattle.txn_history.proofs.CommitOrder.{commit_order}
 pub use Rattle.txn_history.proofs.Lone.{lone_quiet}
 pub use Rattle.txn_history.proofs.Quietness.{quiet_legal, legal_allowed}
+pub use Rattle.txn_history.proofs.Parked.{wait_holds}

@@ -1,7 +1,10 @@
 -- The laws of histories, as statements. Most ask that each entry is allowed where it stands; that no cycle of waits stood
 -- they do not ask.
-use Rattle.std.specs.Prelude.{◌≡◌, ◌⊎◌, Bool, true, false, IsTrue, IsFalse, List, [], ◌∷◌, ℕ, ℤ, Option, is_some, if◌then◌else◌}
+use Rattle.std.specs.Prelude.{◌≡◌, ◌⊎◌, Bool, true, false, IsTrue, IsFalse, List, [], ◌∷◌, ℕ, ℤ, Option, Some, is_some, if◌then◌else◌}
+use Rattle.std.specs.Prelude.{None as Nothing}
 use Rattle.txn_names.specs.Path.{is_front, parent}
+use Rattle.serial_spec.specs.declared.operation.Op.{Op}
+use Rattle.serial_spec.specs.declared.entry.By.TheVariants.{Line}
 use Rattle.serial_spec.specs.declared.event.Event.{Event}
 use Rattle.serial_spec.specs.declared.event.Event.TheVariants.{Access as AccessOf}
 use Rattle.serial_spec.specs.declared.entry.Answer.{Answer}
@@ -15,6 +18,7 @@ use Rattle.serial_spec.specs.Changes.{overlay, IsChanges}
 use Rattle.txn_names.specs.declared.change.Change.{Change}
 use Rattle.serial_spec.specs.Values.{seen}
 use Rattle.serial_spec.specs.Rows.{Rows, value_in}
+use Rattle.serial_spec.specs.Allowed.{answer}
 use Rattle.serial_spec.specs.Legal.{AreAllowed, Legal}
 use Rattle.serial_spec.specs.Waits.{wait_of, waits_for, Quiet}
 use Rattle.txn_history.specs.Apart.{Apart}
@@ -173,3 +177,11 @@ QuietLegal = (rows : Rows) (h : History) → AreAllowed rows h → WasQuiet h �
 -- and each entry of a legal one is allowed
 abbrev pub LegalAllowed : Type 0
 LegalAllowed = (rows : Rows) (h : History) → Legal rows h → AreAllowed rows h
+
+-- a new wait is its transaction's, and its line has no answer as long as nothing else happens
+abbrev pub WaitHolds : Type 0
+WaitHolds =
+    (rows : Rows) (e : Entry) (h : History) (s l : ℕ) (t : Name) (k : List ℕ) (o : Op)
+    → e ≡ record { by = Line s l; event = AccessOf t k o; answer = Waits }
+    → answer rows h (Line s l) (AccessOf t k o) ≡ Some Waits
+    → (wait_of (e ∷ h) t ≡ Some e) × (answer rows (e ∷ h) (Line s l) (AccessOf t k o) ≡ Nothing)
