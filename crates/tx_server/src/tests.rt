@@ -1,4 +1,6 @@
 //! Texts with their reports, by `replay_text` and by the program's words.
+mod runs;
+
 use crate::program::tx_main;
 use crate::replay::{ReplayFault, replay_text};
 use manager_core::store::MemStore;

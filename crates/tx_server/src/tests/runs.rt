@@ -1,0 +1,248 @@
+//! Runs of one session: each report is the one that is due to the texts of its own entries.
+use crate::replay::replay_text;
+use manager_core::store::{MemStore, Row};
+use std::alloc::Global;
+use std::test::Fail;
+use txn_names::Key;
+
+/// A committed child is undone with its parent: over the row x=9.
+const UNDONE_WITH_PARENT: &str = "\
+open
+x=9
+s 1 begin a -> ok
+s 2 set a x 1 -> ok
+s 3 begin a/l -> ok
+s 4 set a/l x 2 -> ok
+s 5 commit a/l -> ok
+s 6 get a x -> value 2
+s 7 abort a -> ok
+s 8 begin b -> ok
+s 9 get b x -> value 9
+s 10 get a/l x -> orphan a
+s 11 commit b -> ok
+table
+x=9
+end
+";
+
+/// The parent's own version lies beneath the aborted child's.
+const UNDONE_ALONE: &str = "\
+open
+s 1 begin a -> ok
+s 2 set a x 1 -> ok
+s 3 begin a/l -> ok
+s 4 set a/l x 2 -> ok
+s 5 abort a/l -> ok
+s 6 begin a/r -> ok
+s 7 get a/r x -> value 1
+s 8 commit a/r -> ok
+s 9 commit a -> ok
+table
+x=1
+end
+";
+
+/// The topmost aborted ancestor, not the nearest.
+const TOPMOST: &str = "\
+open
+s 1 begin a -> ok
+s 2 begin a/l -> ok
+s 3 begin a/l/m -> ok
+s 4 abort a/l -> ok
+s 5 get a/l/m x -> orphan a/l
+s 6 abort a -> ok
+s 7 get a/l/m x -> orphan a
+s 8 begin a/l/n -> orphan a
+table
+end
+";
+
+const REFUSALS: &str = "\
+open
+s 1 begin a -> ok
+s 2 begin a/l -> ok
+s 3 commit a -> refused children
+s 4 begin a -> refused used
+s 5 begin q/r -> refused no-parent
+s 6 get z x -> refused unknown
+s 7 commit a/l -> ok
+s 8 get a/l x -> refused done
+s 9 begin a/l/m -> refused no-parent
+s 10 commit a -> ok
+s 11 abort a -> refused done
+table
+end
+";
+
+/// A line that has to wait while nobody else can go on is given up; its transaction goes on.
+const GIVEN_UP: &str = "\
+open
+s 1 begin a -> ok
+s 2 set a x 1 -> ok
+s 3 begin b -> ok
+s 4 get b x -> waits
+s 4 get b x -> stuck
+s 5 commit b -> ok
+s 6 commit a -> ok
+table
+x=1
+end
+";
+
+/// A parent retains its child's lock until it ends itself.
+const RETAINED: &str = "\
+open
+s 1 begin a -> ok
+s 2 begin a/l -> ok
+s 3 set a/l x 7 -> ok
+s 4 commit a/l -> ok
+s 5 begin b -> ok
+s 6 get b x -> waits
+s 6 get b x -> stuck
+s 7 begin a/r -> ok
+s 8 add a/r x 1 -> new 8
+s 9 commit a/r -> ok
+s 10 commit a -> ok
+s 11 get b x -> value 8
+s 12 commit b -> ok
+table
+x=8
+end
+";
+
+/// A live child keeps its own parent out, and a parent no child.
+const KEPT_OUT: &str = "\
+open
+s 1 begin a -> ok
+s 2 set a y 1 -> ok
+s 3 begin a/l -> ok
+s 4 add a/l y 1 -> new 2
+s 5 get a/l x -> none
+s 6 get a x -> none
+s 7 set a x 3 -> waits
+s 7 set a x 3 -> stuck
+s 8 get a y -> waits
+s 8 get a y -> stuck
+s 9 commit a/l -> ok
+s 10 set a x 3 -> ok
+s 11 get a y -> value 2
+s 12 commit a -> ok
+table
+x=3
+y=2
+end
+";
+
+/// Several readers, and a writer among them.
+const SHARED: &str = "\
+open
+s 1 begin a -> ok
+s 2 begin b -> ok
+s 3 get a x -> none
+s 4 get b x -> none
+s 5 set b x 1 -> waits
+s 5 set b x 1 -> stuck
+s 6 abort a -> ok
+s 7 set b x 1 -> ok
+s 8 commit b -> ok
+table
+x=1
+end
+";
+
+/// What is live at the end is aborted in the order of beginning; an inferior has no entry of its own.
+const LEFT_OPEN: &str = "\
+open
+s 1 begin a -> ok
+s 2 begin b -> ok
+s 3 begin b/c -> ok
+s 4 set b/c y 1 -> ok
+s 5 begin d -> ok
+s 6 commit d -> ok
+s 7 begin e -> ok
+s 8 abort e -> ok
+s 9 commit b/c -> ok
+* close a
+* close b
+table
+end
+";
+
+/// An overflow is a write that leaves the value, and a removal leaves none.
+const REMOVED: &str = "\
+open
+x=9
+s 1 begin a -> ok
+s 2 add a x 9223372036854775807 -> overflow
+s 3 del a x -> ok
+s 4 get a x -> none
+s 5 commit a -> ok
+s 6 begin b -> ok
+s 7 get b x -> none
+s 8 commit b -> ok
+table
+end
+";
+
+/// Names at their bounds, and the least number.
+const BOUNDS: &str = "\
+open
+s 1 begin aaaaaaaaaaaaaaaa/aaaaaaaaaaaaaaaa/aaaaaaaaaaaaaaaa/aaaaaaaaaaaaaaaa/aaaaaaaaaaaaaaaa/aaaaaaaaaaaaaaaa/aaaaaaaaaaaaaaaa/aaaaaaaaaaaaaaaa -> refused no-parent
+s 2 set a x -9223372036854775808 -> refused unknown
+table
+end
+";
+
+// The session whose lines are the texts of the report's entries. A line that waits has two entries.
+fn text_of(alloc: Global, report: &str) -> Result<String, Fail> {
+    let mut text = String::from_str(alloc, "session s\n")?;
+    for entry in report.lines() {
+        if let Some((line, reply)) = entry.split_once(" -> ") {
+            let (_, numbered) = line.split_once(' ').ok_or("no label")?;
+            let (_, command) = numbered.split_once(' ').ok_or("no number")?;
+            if reply != "stuck" {
+                text.push_str(command)?;
+                text.push_str("\n")?;
+            }
+        }
+    }
+    Ok(text)
+}
+
+// Runs the report's own texts over the row x=9 or none, and gives what is written.
+fn run_again(alloc: Global, report: &str) -> Result<Vec<u8>, Fail> {
+    let text = text_of(alloc, report)?;
+    let rows = [Row {
+        key: Key::parse(b"x")?,
+        value: 9,
+    }];
+    let store = if report.starts_with("open\nx=9\n") {
+        MemStore::new(alloc, &rows)?
+    } else {
+        MemStore::new(alloc, &[])?
+    };
+    let mut out = Vec::new(alloc);
+    replay_text(alloc, text.as_bytes(), &[], store, &mut out)?;
+    Ok(out)
+}
+
+#[test]
+fn reports_of_their_own_texts(rt: HostRuntime) -> Result<(), Fail> {
+    for report in [
+        UNDONE_WITH_PARENT,
+        UNDONE_ALONE,
+        TOPMOST,
+        REFUSALS,
+        GIVEN_UP,
+        RETAINED,
+        KEPT_OUT,
+        SHARED,
+        LEFT_OPEN,
+        REMOVED,
+        BOUNDS,
+    ] {
+        let out = run_again(rt.alloc(), report)?;
+        assert!(rt; out.as_slice() == report.as_bytes(), "{report}");
+    }
+    Ok(())
+}
