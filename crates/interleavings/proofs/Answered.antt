@@ -225,11 +225,6 @@ closed rows ss h [] i a = (i, a)
 closed rows ss h (t ∷ names) i a = let rest = closed rows ss h names i a in ((rest.0, rest.1), rest.1)
 
 -- closing entries end nobody's wait, and where nobody waits they make no cycle
-close_ends : (a : By) → same_line a Close ≡ false
-close_ends (Line s l) = refl
-close_ends Victim = refl
-close_ends Close = refl
-
 closed_quiet : (h : History) (names : List Name) → open_waits h ≡ [] → WasQuiet h → (open_waits (closings names ++ h) ≡ []) × WasQuiet (closings names ++ h)
 closed_quiet h [] nobody quiet = (nobody, quiet)
 closed_quiet h (t ∷ names) nobody quiet =
@@ -245,12 +240,6 @@ line_there ss (suc k) h = let some : eqb (suc k) 0 ≡ false = grind (arith, nat
 -- the line before this is the last that is answered
 number_of_next : (l : ℕ) → 1 ≤ l → suc (l - 1) ≡ l
 number_of_next l h = omega (arith, h)
-
-pub first_so_far : {S : Type 0} (g : Ghosts S) (ss : List Session) (m : State S) → m.history ≡ [] → AreServed g ss m m 0
-first_so_far g ss m is = record {
-  so_far = subst (λ h. IsServedSoFar m.rows ss h 0) (sym is) record { interleaving = tt; count = refl; nobody = refl; was_quiet = tt; unused = λ l less. refl };
-  on = record { rows = refl; opened = refl; later = record { doubt = omega arith; failures = omega arith } };
-}
 
 pub so_far_next : {S : Type 0} (g : Ghosts S) (ss : List Session) (old mid new : State S) (l : ℕ) (e : Event) → 1 ≤ l → IsServedText ss → AreServed g ss old mid (l - 1)
     → Some e ≡ line_at ss 0 l → Serves g mid new l e → AreServed g ss old new ((l + 1) - 1)

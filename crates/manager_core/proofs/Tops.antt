@@ -101,23 +101,6 @@ pub record ClosingAt (rows : Rows) (old new : History) (before states : States) 
   pub enough : count_by (is_live_top_in before) (drop i (names before)) ≤ room
   pub enough_marks : count_by (is_live_top_in before) (drop i (names before)) ≤ marks_room
 
-pub closing_first : (rows : Rows) (h : History) (states : States) (marks : Marked) (room marks_room : ℕ) → AreAllowed rows h → IsTreeOf h states → AreMarksOf h marks
-    → count_by (is_live_top_in states) (names states) ≤ room → count_by (is_live_top_in states) (names states) ≤ marks_room
-    → ClosingAt rows h h states states marks room marks_room 0
-closing_first rows h states marks room marks_room allowed is are enough enough_marks = record {
-  closed = [];
-  added = refl;
-  allowed = allowed;
-  in_tree = is;
-  marked = are;
-  same_table = λ k. refl;
-  same_names = refl;
-  gone = refl;
-  lasting = λ u e. e;
-  enough = enough;
-  enough_marks = enough_marks;
-}
-
 -- an abort leaves nobody live who was not
 still_live : (b : Bool) (s : State) → is_live_state (cond b state.Aborted s) ≡ true → is_live_state s ≡ true
 still_live true s e = absurd (false≢true e)

@@ -16,7 +16,7 @@ use Rattle.session_text.specs.Steps.{◌>>=◌, unless}
 use Rattle.session_text.specs.Texts.{IsTextLine, with_line, grown, misplaced, refusal, with_bytes, at_line, read_from, sessions_of, Read, line_of}
 use Rattle.session_text.specs.Words.{cut_at}
 use Rattle.session_text.proofs.Bytes.{cut_behind, cut_some, joined_cut}
-use Rattle.session_text.proofs.Growth.{longer, open_lines-last, with_line-last, parted, all_front, all_at, all_pushed, apart_front, apart_pushed, last_apart, text_with_header, text_with_line}
+use Rattle.session_text.proofs.Growth.{longer, open_lines-last, with_line-last, parted, all_front, all_at, apart_front, last_apart, text_with_header, text_with_line}
 use Rattle.session_text.proofs.Served.{served_with_header, served_with_line, served_front, header_unrefused, command_unrefused}
 use Rattle.session_text.proofs.Adding.{IsKept, some_placed}
 use Rattle.session_text.proofs.Reading.{bind_ok}
@@ -137,20 +137,6 @@ text_front xs ys h = record {
 
 abbrev session : List ℕ → List Event → Session
 session l es = record { label = l; lines = es }
-
-text_lines : (xs : List Session) (l : List ℕ) (es fs : List Event) → IsText (xs ++ session l (es ++ fs) ∷ []) → IsText (xs ++ session l es ∷ [])
-text_lines xs l es fs h =
-    let old : IsSession (session l (es ++ fs)) = all_at IsSession xs (session l (es ++ fs)) [] h.sessions in
-    let new : IsSession (session l es) = record {
-      label = old.label;
-      short = omega (arith, old.short, length-append {A = Event} es fs);
-      events = all_front IsEvent es fs old.events;
-    } in
-    record {
-      few = omega (arith, h.few, length-append {A = Session} xs (session l (es ++ fs) ∷ []), length-append {A = Session} xs (session l es ∷ []));
-      sessions = all_pushed IsSession xs (session l es) (all_front IsSession xs (session l (es ++ fs) ∷ []) h.sessions) new;
-      apart = apart_pushed xs (session l es) (apart_front xs (session l (es ++ fs) ∷ []) h.apart) (last_apart xs (session l (es ++ fs)) h.apart);
-    }
 
 header_fits : (xs : List Session) (s : Session) → IsText (xs ++ s ∷ []) → misplaced xs (Header s.label) ≡ None
 header_fits xs s h =

@@ -1,13 +1,12 @@
 //! Who waits for whom, and how long.
-use crate::tests::watched::{
-    OK, STUCK, WAITS, event, leaves, line, name, open, orphan, refused, row, tell, value,
-};
+use crate::tests::watched::{OK, STUCK, WAITS, leaves, open, orphan, refused, row, tell, value};
 use serial_spec::{Answer, Refusal, Reply};
 use std::test::Fail;
 
 #[test]
 fn one_that_waits_asks_nothing_else(rt: HostRuntime) -> Result<(), Fail> {
     let mut watched = open(&rt, rt.alloc(), &[])?;
+    let gone = orphan("b")?;
     tell(
         &rt,
         &mut watched,
@@ -16,28 +15,14 @@ fn one_that_waits_asks_nothing_else(rt: HostRuntime) -> Result<(), Fail> {
             (2, "set a x 1", OK),
             (3, "begin b", OK),
             (4, "get b x", WAITS),
-        ],
-    )?;
-    assert!(rt; watched.manager.waiting(&name("b")?));
-    assert!(rt; !watched.manager.waiting(&name("a")?));
-    for text in ["get b x", "get b y", "commit b"] {
-        assert!(rt; !watched.manager.free(line(4), &event(text)?), "{text}");
-    }
-    tell(
-        &rt,
-        &mut watched,
-        &[
             (5, "get b y", refused(Refusal::Waiting)),
-            (6, "commit b", refused(Refusal::Waiting)),
-            (7, "abort b", OK),
+            (6, "get a x", value(1)),
+            (7, "commit a", OK),
+            (8, "commit b", refused(Refusal::Waiting)),
+            (9, "abort b", OK),
+            // Now the line that waited is answered.
+            (4, "get b x", gone),
         ],
-    )?;
-    assert!(rt; !watched.manager.waiting(&name("b")?));
-    // The line that waited gets its answer now.
-    tell(
-        &rt,
-        &mut watched,
-        &[(4, "get b x", orphan("b")?), (8, "commit a", OK)],
     )?;
     leaves(&rt, rt.alloc(), watched, &[row("x", 1)?])
 }

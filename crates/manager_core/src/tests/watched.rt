@@ -186,6 +186,25 @@ fn note(rt: &impl Abort, due: &mut Vec<Entry>, by: By, event: &Event, answer: An
     entry.add_to(due);
 }
 
+// After a call its line has no other, and its transaction waits where the call waits or is refused for that.
+fn check_line<S: TopStore>(
+    rt: &impl Abort,
+    manager: &Manager<S>,
+    by: By,
+    event: &Event,
+    outcome: Outcome,
+) {
+    let name = name_of(event);
+    assert!(rt; !manager.free(by, event));
+    assert!(rt; !manager.free(by, &Event::Begin(*name)));
+    match outcome {
+        Outcome::Waits => assert!(rt; manager.waiting(name)),
+        Outcome::Refused(Refusal::Waiting) => assert!(rt; manager.waiting(name)),
+        Outcome::Done(_) => assert!(rt; !manager.waiting(name)),
+        Outcome::Refused(_) => {}
+    }
+}
+
 // Makes a call, by a line that has to be free.
 fn ask<S: TopStore>(
     rt: &impl Abort,
@@ -207,7 +226,7 @@ fn ask<S: TopStore>(
     };
     note(rt, &mut watched.due, by, event, outcome.answer());
     assert!(rt; watched.manager.history() == watched.due.as_slice());
-    assert!(rt; !watched.manager.free(by, event));
+    check_line(rt, &watched.manager, by, event, outcome);
     Ok(outcome)
 }
 
