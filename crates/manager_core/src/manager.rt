@@ -154,7 +154,13 @@ impl<S: TopStore> Manager<S> {
         ensures allowed { Allowed self.now.rows self.now.history by (Access name.now key.now op) (answer_of result) }
         ensures unasked { IsFalse (is_store_refusal (answer_of result)) }
     {
-        let Manager { log, tree, marks, table, .. } = self;
+        let Manager {
+            log,
+            tree,
+            marks,
+            table,
+            ..
+        } = self;
         if let Some(refusal) = refusal_of_access(log, tree, marks, by, name, key) {
             Outcome::Refused(refusal)
         } else if is_blocked(log, tree, marks, name, key, op.kind()) {
@@ -363,7 +369,10 @@ impl<S: TopStore> Manager<S> {
         ensures store { result.store ≡ self.store }
     {
         let Manager {
-            log, table, store, ..
+            log,
+            table,
+            store,
+            ..
         } = self;
         let (opening, history) = log.into_parts();
         Parts {

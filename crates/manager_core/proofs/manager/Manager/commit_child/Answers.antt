@@ -19,7 +19,7 @@ invariant_of-self-2 g c =
     let done = commits c.commit.result _ c.commit.ensures.refused (tree_commits m.log.rows m.log.entries m.tree c.args.by c.args.name.now kept.allowed kept.in_tree (omega (arith, c.requires.below)) none) in
     rw (c.add.ensures.rows, c.add.ensures.entries, c.reserve.ensures.rows, c.reserve.ensures.entries) (
       kept_child m.log.rows m.log.entries m.tree _ m.marks m.table c.args.by c.args.name.now kept c.requires.free.line c.requires.below none
-      (on_commit c.commit.result _ done c.commit.ensures.names) (on_commit c.commit.result _ done c.commit.ensures.committed),
+          (on_commit c.commit.result _ done c.commit.ensures.names) (on_commit c.commit.result _ done c.commit.ensures.committed),
       backed_next g.S.TopStore _ _ _ _ _ _ _ c.self.invariant.1 refl,
     )
 

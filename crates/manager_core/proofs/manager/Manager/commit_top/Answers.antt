@@ -35,7 +35,7 @@ invariant_of-self-then-stores g c =
     let done = commits c.commit.result _ c.commit.ensures.refused (tree_commits m.log.rows m.log.entries m.tree c.args.by c.args.name.now kept.allowed kept.in_tree (omega (arith, c.requires.top)) none) in
     rw (c.add.ensures.rows, c.add.ensures.entries, c.reserve.ensures.rows, c.reserve.ensures.entries) (
       kept_top m.log.rows m.log.entries m.tree _ m.marks m.table _ c.args.by c.args.name.now _ kept c.requires.free.line c.requires.top none are overlays
-      (on_commit c.commit.result _ done c.commit.ensures.names) (on_commit c.commit.result _ done c.commit.ensures.committed),
+          (on_commit c.commit.result _ done c.commit.ensures.names) (on_commit c.commit.result _ done c.commit.ensures.committed),
       backed_taken g.S.TopStore _ _ _ _ _ _ _ _ _ c.self.invariant.1 takes c.stores.ensures.later overlays,
     )
 
