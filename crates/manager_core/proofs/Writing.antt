@@ -10,7 +10,9 @@ use Rattle.serial_spec.specs.declared.operation.Kind.TheVariants.{Read}
 use Rattle.serial_spec.specs.Operations.{kind}
 use Rattle.serial_spec.specs.History.{Name, History, Effect, Begins, Accesses, Commits, Aborts, Nothing as NoEffect, effect}
 use Rattle.serial_spec.specs.Items.{Items, Access, Block, items, with_item}
-use Rattle.serial_spec.specs.Locks.{Mode, Free, Shared, Exclusive, mode_of, greater, footprint, is_exclusive, conflicts}
+use Rattle.serial_spec.specs.declared.mode.Mode.{Mode}
+use Rattle.serial_spec.specs.declared.mode.Mode.TheVariants as mode
+use Rattle.serial_spec.specs.Locks.{mode_of, greater, footprint, is_exclusive, conflicts}
 use Rattle.serial_spec.specs.Rows.{Rows}
 use Rattle.serial_spec.specs.Allowed.{known, with_key}
 use Rattle.manager_core.specs.Written.{wrote}
@@ -19,23 +21,23 @@ use Rattle.manager_core.specs.Written.{wrote}
 
 -- the greater of two modes is exclusive where one of them is
 greater_exclusive : (m n : Mode) → is_exclusive (greater m n) ≡ is_exclusive m || is_exclusive n
-greater_exclusive Free n = refl
-greater_exclusive Shared Free = refl
-greater_exclusive Shared Shared = refl
-greater_exclusive Shared Exclusive = refl
-greater_exclusive Exclusive n = refl
+greater_exclusive mode.None n = refl
+greater_exclusive mode.Read mode.None = refl
+greater_exclusive mode.Read mode.Read = refl
+greater_exclusive mode.Read mode.Write = refl
+greater_exclusive mode.Write n = refl
 
 -- a mode that is to write is exclusive
-pub exclusive_is : (m : Mode) → is_exclusive m ≡ true → m ≡ Exclusive
-exclusive_is Free e = absurd (false≢true e)
-exclusive_is Shared e = absurd (false≢true e)
-exclusive_is Exclusive e = refl
+pub exclusive_is : (m : Mode) → is_exclusive m ≡ true → m ≡ mode.Write
+exclusive_is mode.None e = absurd (false≢true e)
+exclusive_is mode.Read e = absurd (false≢true e)
+exclusive_is mode.Write e = refl
 
 -- whoever keeps readers out has written
 pub exclusive_by_reads : (m : Mode) → conflicts m Read ≡ is_exclusive m
-exclusive_by_reads Free = refl
-exclusive_by_reads Shared = refl
-exclusive_by_reads Exclusive = refl
+exclusive_by_reads mode.None = refl
+exclusive_by_reads mode.Read = refl
+exclusive_by_reads mode.Write = refl
 
 -- ---- what is written is known
 

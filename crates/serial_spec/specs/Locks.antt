@@ -4,45 +4,42 @@ use Rattle.std.specs.List.{list_any}
 use Rattle.txn_names.specs.Path.{label_eq, is_front}
 use Rattle.serial_spec.specs.declared.operation.Kind.{Kind}
 use Rattle.serial_spec.specs.declared.operation.Kind.TheVariants.{Read, Write}
+use Rattle.serial_spec.specs.declared.mode.Mode.{Mode}
+use Rattle.serial_spec.specs.declared.mode.Mode.TheVariants as mode
 use Rattle.serial_spec.specs.Operations.{kind}
 use Rattle.serial_spec.specs.History.{Name, History, is_active, begun}
 use Rattle.serial_spec.specs.Items.{Items, None, Access, Block, items}
 
--- None is below Read, and Read below Write
-pub data Mode : Type 0 where
-  Free : Mode
-  Shared : Mode
-  Exclusive : Mode
-
+-- the mode that an access of this kind needs
 abbrev pub mode_of : Kind → Mode
-mode_of Read = Shared
-mode_of Write = Exclusive
+mode_of Read = mode.Read
+mode_of Write = mode.Write
 
 abbrev pub greater : Mode → Mode → Mode
-greater Free n = n
-greater Shared Free = Shared
-greater Shared n = n
-greater Exclusive n = Exclusive
+greater mode.None n = n
+greater mode.Read mode.None = mode.Read
+greater mode.Read n = n
+greater mode.Write n = mode.Write
 
 abbrev pub is_exclusive : Mode → Bool
-is_exclusive Exclusive = true
+is_exclusive mode.Write = true
 is_exclusive m = false
 
 -- the mode in which all these accesses together touch k, blocks taken apart
 abbrev pub footprint : Items → List ℕ → Mode
-footprint None k = Free
+footprint None k = mode.None
 footprint (Access q o r xs) k = if label_eq q k then greater (mode_of (kind o)) (footprint xs k) else footprint xs k
 footprint (Block b xs) k = greater (footprint b k) (footprint xs k)
 
 -- the same of the accesses that stand in no block
 abbrev pub own_footprint : Items → List ℕ → Mode
-own_footprint None k = Free
+own_footprint None k = mode.None
 own_footprint (Access q o r xs) k = if label_eq q k then greater (mode_of (kind o)) (own_footprint xs k) else own_footprint xs k
 own_footprint (Block b xs) k = own_footprint xs k
 
 -- and of those that stand in blocks
 abbrev pub block_footprint : Items → List ℕ → Mode
-block_footprint None k = Free
+block_footprint None k = mode.None
 block_footprint (Access q o r xs) k = block_footprint xs k
 block_footprint (Block b xs) k = greater (footprint b k) (block_footprint xs k)
 
@@ -57,10 +54,10 @@ foot h t k = footprint (items h t) k
 
 -- whether a lock in this mode keeps an access of the other kind out
 abbrev pub conflicts : Mode → Kind → Bool
-conflicts Free x = false
-conflicts Shared Read = false
-conflicts Shared Write = true
-conflicts Exclusive x = true
+conflicts mode.None x = false
+conflicts mode.Read Read = false
+conflicts mode.Read Write = true
+conflicts mode.Write x = true
 
 -- whether u keeps t from an access of k: u acts, is neither t nor an ancestor of t, and has touched k in a mode that conflicts
 abbrev pub is_blocker : History → Name → List ℕ → Kind → Name → Bool

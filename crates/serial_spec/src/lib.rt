@@ -5,12 +5,14 @@
 mod entry;
 mod event;
 mod item;
+mod mode;
 mod operation;
 mod table;
 
 pub use entry::{Answer, By, Entry, Refusal};
 pub use event::{Event, When};
 pub use item::{Item, run_items};
+pub use mode::Mode;
 pub use operation::{Kind, Op, Reply, act};
 pub use table::PlainTable;
 

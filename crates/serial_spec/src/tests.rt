@@ -1,6 +1,6 @@
 //! The worked values of operations, that each call can succeed, and a run of nested items.
 use crate::{
-    Answer, By, Entry, Event, Item, Kind, NoMemory, Op, PlainTable, Reply, act, run_items,
+    Answer, By, Entry, Event, Item, Kind, Mode, NoMemory, Op, PlainTable, Reply, act, run_items,
 };
 use std::alloc::Global;
 use std::test::Fail;
@@ -45,6 +45,20 @@ fn acts(rt: HostRuntime) {
         assert!(rt; act(old, &op) == want, "{op:?} at {old:?}");
     }
     assert!(rt; Op::Get.kind() == Kind::Read && Op::Add(0).kind() == Kind::Write);
+}
+
+#[test]
+fn modes_keep_out(rt: HostRuntime) {
+    let kinds = [Kind::Read, Kind::Write];
+    for (mode, out) in [
+        (Mode::None, [false, false]),
+        (Mode::of(Kind::Read), [false, true]),
+        (Mode::of(Kind::Write), [true, true]),
+    ] {
+        assert!(rt; kinds.map(|kind| mode.conflicts(kind)) == out, "{mode:?}");
+    }
+    assert!(rt; Mode::Read.greater(Mode::Write) == Mode::Write);
+    assert!(rt; Mode::Read.greater(Mode::None) == Mode::Read);
 }
 
 #[test]

@@ -21,11 +21,12 @@ use Rattle.serial_spec.specs.Waits.{open_waits, wait_of, waits_by, WaitInTurn, I
 use Rattle.serial_spec.specs.Rows.{Rows}
 use Rattle.serial_spec.specs.Allowed.{Allowed}
 use Rattle.serial_spec.specs.Legal.{MayCome, is_top_level, first_live, IsAbortOf}
-use Rattle.txn_history.specs.Steps.{EndedBegun, BegunDown, ItemsStay}
+use Rattle.txn_history.specs.Steps.{EndedBegun, BegunDown, ItemsStay, NothingBefore, Before, BeforeEach}
 use Rattle.txn_history.proofs.Tests.{clash, differ}
 use Rattle.txn_history.proofs.Lists.{any-find, found_passes}
-use Rattle.txn_history.proofs.Activity.{acts, acts-is_active}
+use Rattle.txn_history.proofs.Activity.{acts, acts-is_active, acts_active}
 use Rattle.txn_history.proofs.Causes.{Sound, sound, not_refused, done_not_refused, acts_at_end}
+use Rattle.txn_history.proofs.StatusTests.{absent_not_begun}
 use Rattle.txn_history.proofs.Begun.{some_begun}
 use Rattle.txn_history.proofs.Added.{access_else, commit_else}
 use Rattle.txn_history.proofs.Kept.{KeptAt}
@@ -152,3 +153,20 @@ items_after rows h kept NoEffect s t a = refl
 pub items_stay : ItemsStay
 items_stay rows e h l t a =
     items_after rows h (kept rows h l.0) (effect e) (sound rows h e.by e.event e.answer l.1) t (sym (acts-is_active h t) ∙ a)
+
+-- ---- what holds before
+
+-- kept by every history whose entries are allowed
+pub nothing_before : NothingBefore
+nothing_before rows h a l ls new = (kept rows h a).unused l ls new
+
+before_effect : (rows : Rows) (h : History) (x : Effect) → Sound rows h x → AbortOf h x → Before h x
+before_effect rows h (Begins t) s a = (s.new, absent_not_begun h t s.new, acts_active h (parent t) s.parent_acts)
+before_effect rows h (Accesses t k o r) s a = acts_active h t s.acting
+before_effect rows h (Commits t) s a = acts_active h t s.acting
+before_effect rows h (Aborts t) s a = a
+before_effect rows h NoEffect s a = tt
+
+pub before_each : BeforeEach
+before_each rows e h a =
+    before_effect rows h (effect e) (sound rows h e.by e.event e.answer a.1) (abort_begun rows h e.by e.event e.answer (waits_kept rows h a.0) a.1)

@@ -8,7 +8,8 @@ use Rattle.serial_spec.specs.declared.operation.Op.TheVariants.{Get, Set, Add, D
 use Rattle.serial_spec.specs.Operations.{kind, value_after}
 use Rattle.serial_spec.specs.Items.{Items, None, Access, Block, after}
 use Rattle.serial_spec.specs.Serial.{Map, map_after}
-use Rattle.serial_spec.specs.Locks.{Mode, mode_of, greater, footprint, own_footprint, block_footprint, is_exclusive}
+use Rattle.serial_spec.specs.declared.mode.Mode.{Mode}
+use Rattle.serial_spec.specs.Locks.{mode_of, greater, footprint, own_footprint, block_footprint, is_exclusive}
 use Rattle.txn_history.specs.Apart.{Apart}
 use Rattle.txn_history.proofs.Modes.{greater_assoc, greater_comm, shared_parts, is_apart_comm, is_apart-greater}
 

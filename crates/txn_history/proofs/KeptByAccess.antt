@@ -9,7 +9,8 @@ use Rattle.serial_spec.specs.declared.operation.Reply.{Reply}
 use Rattle.serial_spec.specs.Operations.{kind, reply_of}
 use Rattle.serial_spec.specs.History.{Name, History, Accesses, is_active}
 use Rattle.serial_spec.specs.Items.{Items, None, Access, with_item, items, HasBlock}
-use Rattle.serial_spec.specs.Locks.{Free, mode_of, greater, footprint, foot, conflicts, is_blocker, is_blocked}
+use Rattle.serial_spec.specs.declared.mode.Mode.TheVariants as mode
+use Rattle.serial_spec.specs.Locks.{mode_of, greater, footprint, foot, conflicts, is_blocker, is_blocked}
 use Rattle.serial_spec.specs.Rows.{Rows, value_in}
 use Rattle.txn_history.specs.Apart.{is_apart, Apart}
 use Rattle.txn_history.proofs.Modes.{is_apart-mode}
@@ -24,8 +25,8 @@ use Rattle.txn_history.proofs.Kept.{KeptAt, KeptAfter, not_committed, not_unbegu
 -- an access whose key is locked in no mode that keeps it out disturbs nobody
 apart_access : (k : List ℕ) (o : Op) (r : Reply) (xs : Items) → conflicts (footprint xs k) (kind o) ≡ false → Apart (Access k o r None) xs
 apart_access k o r xs free q =
-    on_label k q (λ b. is_apart (cond b (greater (mode_of (kind o)) Free) Free) (footprint xs q) ≡ true)
-    (λ e. subst (λ (w : List ℕ). is_apart (greater (mode_of (kind o)) Free) (footprint xs w) ≡ true) e (is_apart-mode (kind o) (footprint xs k) free))
+    on_label k q (λ b. is_apart (cond b (greater (mode_of (kind o)) mode.None) mode.None) (footprint xs q) ≡ true)
+    (λ e. subst (λ (w : List ℕ). is_apart (greater (mode_of (kind o)) mode.None) (footprint xs w) ≡ true) e (is_apart-mode (kind o) (footprint xs k) free))
     (λ _. refl)
 
 -- one that acts and is not above p, and yet does not block, has no lock in such a mode

@@ -6,7 +6,8 @@ use Rattle.txn_names.specs.Path.{path_eq, is_front, parent}
 use Rattle.txn_names.proofs.Names.{path_eq-from, same_path, is_front_self, is_front-parent, not_front-parent, front_cases}
 use Rattle.serial_spec.specs.History.{Name, History, Commits, is_live, has_begun, has_committed, has_aborted}
 use Rattle.serial_spec.specs.Items.{Items, None, Block, with_item, items, chain_of, HasBlock}
-use Rattle.serial_spec.specs.Locks.{Mode, footprint}
+use Rattle.serial_spec.specs.declared.mode.Mode.{Mode}
+use Rattle.serial_spec.specs.Locks.{footprint}
 use Rattle.serial_spec.specs.Serial.{Replies}
 use Rattle.serial_spec.specs.Rows.{Rows, value_in}
 use Rattle.txn_history.specs.Apart.{is_apart, Apart}

@@ -7,7 +7,8 @@ use Rattle.txn_names.proofs.Names.{label_eq_self, on_test}
 use Rattle.serial_spec.specs.Operations.{kind, reply_of}
 use Rattle.serial_spec.specs.Items.{Items, None, Access, Block, after}
 use Rattle.serial_spec.specs.Serial.{Map, map_after, Replies}
-use Rattle.serial_spec.specs.Locks.{Mode, mode_of, greater, footprint, is_exclusive}
+use Rattle.serial_spec.specs.declared.mode.Mode.{Mode}
+use Rattle.serial_spec.specs.Locks.{mode_of, greater, footprint, is_exclusive}
 use Rattle.txn_history.specs.Apart.{Apart}
 use Rattle.txn_history.specs.Laws.{NeighboursSwap}
 use Rattle.txn_history.proofs.Tests.{clash}

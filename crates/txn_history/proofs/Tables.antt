@@ -6,7 +6,9 @@ use Rattle.txn_names.proofs.Names.{on_test, label_eq_self}
 use Rattle.serial_spec.specs.Operations.{kind, leaves}
 use Rattle.serial_spec.specs.History.{Name, Effect, Begins, Accesses, Commits, Aborts, Nothing, effect, or_else}
 use Rattle.serial_spec.specs.Items.{Items, None, Access, Block, items, with_item}
-use Rattle.serial_spec.specs.Locks.{Mode, Exclusive, mode_of, greater, footprint, own_footprint, block_footprint}
+use Rattle.serial_spec.specs.declared.mode.Mode.{Mode}
+use Rattle.serial_spec.specs.declared.mode.Mode.TheVariants as mode
+use Rattle.serial_spec.specs.Locks.{mode_of, greater, footprint, own_footprint, block_footprint}
 use Rattle.serial_spec.specs.Values.{last_left}
 use Rattle.serial_spec.specs.Allowed.{is_write, writes}
 use Rattle.txn_history.specs.Steps.{FootIsGreater, LocksAfter, held_next, retained_next, LeftAfter, left_next, WritesSomewhere}
@@ -71,13 +73,13 @@ left_after e h u k = left_after_effect (effect e) (items h) u k
 
 -- some key is held to write
 Exclusively : Items → Type 0
-Exclusively xs = (k : List ℕ) × (footprint xs k ≡ Exclusive)
+Exclusively xs = (k : List ℕ) × (footprint xs k ≡ mode.Write)
 
 -- an item more keeps the keys that are held to write
-one_more : (q : List ℕ) (m : Mode) (xs : Items) (k : List ℕ) → footprint xs k ≡ Exclusive
-    → cond (label_eq q k) (greater m (footprint xs k)) (footprint xs k) ≡ Exclusive
+one_more : (q : List ℕ) (m : Mode) (xs : Items) (k : List ℕ) → footprint xs k ≡ mode.Write
+    → cond (label_eq q k) (greater m (footprint xs k)) (footprint xs k) ≡ mode.Write
 one_more q m xs k e =
-    on_test (label_eq q k) (λ b. cond b (greater m (footprint xs k)) (footprint xs k) ≡ Exclusive) (λ _. ap (greater m) e ∙ greater-exclusive m) (λ _. e)
+    on_test (label_eq q k) (λ b. cond b (greater m (footprint xs k)) (footprint xs k) ≡ mode.Write) (λ _. ap (greater m) e ∙ greater-exclusive m) (λ _. e)
 
 -- items that write hold the key that they write
 some_key : (xs : Items) → writes xs ≡ true → Exclusively xs
@@ -93,19 +95,19 @@ some_key (Block b xs) h = ⊎_elim
     (or_cases (writes b) (writes xs) h)
 
 -- items that hold a key to write, write
-writes_key : (xs : Items) (k : List ℕ) → footprint xs k ≡ Exclusive → writes xs ≡ true
+writes_key : (xs : Items) (k : List ℕ) → footprint xs k ≡ mode.Write → writes xs ≡ true
 writes_key None k h = cc
 writes_key (Access q o r xs) k h =
-    on_test (label_eq q k) (λ b. cond b (greater (mode_of (kind o)) (footprint xs k)) (footprint xs k) ≡ Exclusive → (is_write (kind o) || writes xs) ≡ true)
+    on_test (label_eq q k) (λ b. cond b (greater (mode_of (kind o)) (footprint xs k)) (footprint xs k) ≡ mode.Write → (is_write (kind o) || writes xs) ≡ true)
     (λ _ g. ⊎_elim
-    (λ (e : mode_of (kind o) ≡ Exclusive). or_left _ _ (is_write-mode (kind o) e))
-    (λ (e : footprint xs k ≡ Exclusive). or_right _ _ (writes_key xs k e))
+    (λ (e : mode_of (kind o) ≡ mode.Write). or_left _ _ (is_write-mode (kind o) e))
+    (λ (e : footprint xs k ≡ mode.Write). or_right _ _ (writes_key xs k e))
     (exclusive_parts (mode_of (kind o)) (footprint xs k) g))
     (λ _ g. or_right _ _ (writes_key xs k g))
     h
 writes_key (Block b xs) k h = ⊎_elim
-    (λ (e : footprint b k ≡ Exclusive). or_left _ _ (writes_key b k e))
-    (λ (e : footprint xs k ≡ Exclusive). or_right _ _ (writes_key xs k e))
+    (λ (e : footprint b k ≡ mode.Write). or_left _ _ (writes_key b k e))
+    (λ (e : footprint xs k ≡ mode.Write). or_right _ _ (writes_key xs k e))
     (exclusive_parts (footprint b k) (footprint xs k) h)
 
 -- both ways

@@ -5,10 +5,12 @@ use Rattle.txn_names.specs.Path.{label_eq, path_eq, is_front, parent}
 use Rattle.serial_spec.specs.declared.entry.By.{By}
 use Rattle.serial_spec.specs.declared.entry.Entry.{Entry}
 use Rattle.serial_spec.specs.Operations.{kind, leaves}
-use Rattle.serial_spec.specs.History.{Name, History, Effect, Begins, Accesses, Commits, Aborts, effect, or_else, Status, Live, Committed, Aborted, status, is_active, has_begun, has_committed, has_aborted, top_aborted}
-use Rattle.serial_spec.specs.Items.{Items, after, items, chain}
+use Rattle.serial_spec.specs.History.{Name, History, Effect, Begins, Accesses, Commits, Aborts, Nothing as NoEffect, effect, or_else, Status, Live, Committed, Aborted, status, is_absent, is_active, has_begun, has_committed, has_aborted, top_aborted}
+use Rattle.serial_spec.specs.Items.{Items, None as NoItems, after, items, chain}
 use Rattle.serial_spec.specs.Serial.{Map}
-use Rattle.serial_spec.specs.Locks.{Mode, Exclusive, mode_of, greater, footprint, held, retained, foot}
+use Rattle.serial_spec.specs.declared.mode.Mode.{Mode}
+use Rattle.serial_spec.specs.declared.mode.Mode.TheVariants as mode
+use Rattle.serial_spec.specs.Locks.{mode_of, greater, footprint, held, retained, foot}
 use Rattle.serial_spec.specs.Values.{value_or, last_left, seen}
 use Rattle.serial_spec.specs.Waits.{same_line, is_waits, accesses, wait_of}
 use Rattle.serial_spec.specs.Rows.{Rows}
@@ -60,6 +62,24 @@ abbrev pub ItemsStay : Type 0
 ItemsStay =
     (rows : Rows) (e : Entry) (h : History) → AreAllowed rows (e ∷ h)
     → (t : Name) → IsFalse (is_active h t) → items (e ∷ h) t ≡ items h t
+
+-- one that has not begun has done nothing
+abbrev pub NothingBefore : Type 0
+NothingBefore =
+    (rows : Rows) (h : History) → AreAllowed rows h
+    → (l : List ℕ) (ls : Name) → IsFalse (has_begun h (l ∷ ls)) → items h (l ∷ ls) ≡ NoItems
+
+-- what holds before an effect: whoever begins is new, and its parent acts; whoever accesses or commits acts;
+-- whoever is aborted had begun
+abbrev pub Before : History → Effect → Type 0
+Before h (Begins t) = IsTrue (is_absent (status h t)) × IsFalse (has_begun h t) × IsTrue (is_active h (parent t))
+Before h (Accesses t k o r) = IsTrue (is_active h t)
+Before h (Commits t) = IsTrue (is_active h t)
+Before h (Aborts t) = IsTrue (has_begun h t)
+Before h NoEffect = Unit {0}
+
+abbrev pub BeforeEach : Type 0
+BeforeEach = (rows : Rows) (e : Entry) (h : History) → AreAllowed rows (e ∷ h) → Before h (effect e)
 
 -- ---- waits
 
@@ -113,10 +133,10 @@ LeftAfter =
 
 -- what is left at a key was written there, and a transaction has changes where it holds some key to write
 abbrev pub LeftIsWritten : Type 0
-LeftIsWritten = (xs : Items) (k : List ℕ) → (footprint xs k ≡ Exclusive → ⊥) → last_left xs k ≡ Nothing
+LeftIsWritten = (xs : Items) (k : List ℕ) → (footprint xs k ≡ mode.Write → ⊥) → last_left xs k ≡ Nothing
 
 abbrev pub WritesSomewhere : Type 0
-WritesSomewhere = (xs : Items) → IsTrue (writes xs) ↔ (k : List ℕ) × (footprint xs k ≡ Exclusive)
+WritesSomewhere = (xs : Items) → IsTrue (writes xs) ↔ (k : List ℕ) × (footprint xs k ≡ mode.Write)
 
 -- ---- by the parent
 

@@ -1,0 +1,4 @@
+pub mod Puts
+pub mod Handing
+pub mod Reserving
+pub mod Blockers
