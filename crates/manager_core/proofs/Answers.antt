@@ -1,5 +1,5 @@
 -- Which answers are allowed: the first cause that holds, else the reply or the wait.
-use Rattle.std.proofs.Common.{◌≡◌, ◌==◌, ℕ, Bool, true, false, nat_le, length, List, ◌∷◌, Option, Some, None, option_map, refl, sym, ap, ◌∙◌}
+use Rattle.std.proofs.Common.{◌≡◌, ◌==◌, ℕ, Bool, true, false, nat_le, length, List, ◌∷◌, Option, Some, None, option_map, refl, sym, ap, subst, ◌∙◌}
 use Rattle.std.proofs.lemmas.Bool.{false≢true, and_from, eq-eqb}
 use Rattle.txn_names.specs.Path.{parent}
 use Rattle.serial_spec.specs.declared.entry.By.{By}
@@ -22,6 +22,9 @@ use Rattle.txn_history.proofs.Activity.{acts_active}
 use Rattle.txn_history.proofs.Causes.{neither, acts_at_end}
 use Rattle.txn_history.proofs.Theorems.{wait_holds}
 use Rattle.serial_spec.specs.Waits.{same_line}
+use Rattle.manager_core.specs.declared.outcome.Outcome.{Outcome}
+use Rattle.manager_core.specs.declared.outcome.Outcome.TheVariants as made
+use Rattle.manager_core.specs.Tables.{ComesTo}
 use Rattle.manager_core.specs.Lines.{IsLine, IsFree, IsWaitOf}
 use Rattle.manager_core.specs.Sound.{is_store_refusal}
 use Rattle.manager_core.specs.Outcomes.{answer_of, outcome_of}
@@ -122,6 +125,10 @@ pub commit_allowed : (rows : Rows) (h : History) (by : By) (t : Name) (o : Optio
 commit_allowed rows h by t None e = rw (← e) refl
 commit_allowed rows h by t (Some r) e = refused_allowed rows h by (Commit t) r (commit_other h by t (Some r) e) (rw (← e) refl)
 
+-- one whose commit has no cause acts
+pub active_at_commit : (h : History) (by : By) (t : Name) → None ≡ cause_at_commit h by t → is_active h t ≡ true
+active_at_commit h by t e = acts_active h t (acts_at_end h t (neither _ _ (sym e)).0).1
+
 -- ---- accesses
 
 pub access_refused : (rows : Rows) (h : History) (by : By) (t : Name) (k : List ℕ) (op : Op) (r : Refusal) → Some r ≡ cause_at_access rows h by t k
@@ -129,7 +136,7 @@ pub access_refused : (rows : Rows) (h : History) (by : By) (t : Name) (k : List 
 access_refused rows h by t k op r e = refused_allowed rows h by (Access t k op) r (access_other rows h by t k r e) (rw (← e) refl)
 
 -- one whose access has no cause acts
-active_at_access : (rows : Rows) (h : History) (by : By) (t : Name) (k : List ℕ) → None ≡ cause_at_access rows h by t k → is_active h t ≡ true
+pub active_at_access : (rows : Rows) (h : History) (by : By) (t : Name) (k : List ℕ) → None ≡ cause_at_access rows h by t k → is_active h t ≡ true
 active_at_access rows h by t k e = acts_active h t (acts_at_end h t (neither _ _ (sym e)).0).1
 
 pub access_waits : (rows : Rows) (h : History) (by : By) (t : Name) (k : List ℕ) (op : Op) → IsFree h by (Access t k op) → None ≡ cause_at_access rows h by t k
@@ -140,6 +147,14 @@ access_waits rows h by t k op free e blocked =
 pub access_done : (rows : Rows) (h : History) (by : By) (t : Name) (k : List ℕ) (op : Op) → None ≡ cause_at_access rows h by t k
     → is_blocked h t k (kind op) ≡ false → Allowed rows h by (Access t k op) (Done (reply_of (seen (value_in rows) h t k) op))
 access_done rows h by t k op e free = rw (← e, free) refl
+
+-- so an access that comes to this may be answered so, and it is no refusal of the store
+pub access_comes : (rows : Rows) (h : History) (by : By) (t : Name) (k : List ℕ) (op : Op) → IsFree h by (Access t k op) → (outcome : Outcome)
+    → ComesTo rows h by t k op outcome → Allowed rows h by (Access t k op) (answer_of outcome) × (is_store_refusal (answer_of outcome) ≡ false)
+access_comes rows h by t k op free (made.Done reply) comes =
+    (subst (λ r. Allowed rows h by (Access t k op) (Done r)) (sym comes.2) (access_done rows h by t k op comes.0 comes.1), refl)
+access_comes rows h by t k op free made.Waits comes = (access_waits rows h by t k op free comes.0 comes.1, refl)
+access_comes rows h by t k op free (made.Refused r) comes = (access_refused rows h by t k op r comes, access_other rows h by t k r comes)
 
 -- ---- lines that are given up
 

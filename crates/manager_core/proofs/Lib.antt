@@ -6,6 +6,7 @@ pub mod Keys
 pub mod Trees
 pub mod Named
 pub mod Blocking
+pub mod Locks
 pub mod Causes
 pub mod Seen
 pub mod Steps
@@ -15,6 +16,7 @@ pub mod Collected
 -- An entry more
 pub mod Answers
 pub mod Kept
+pub mod Locked
 pub mod Commits
 pub mod Facts
 pub mod Opening

@@ -9,15 +9,17 @@ ghost use Rattle.serial_spec.specs.Allowed.{cause_at_access, cause_at_commit, ha
 ghost use Rattle.serial_spec.specs.Legal.{AreAllowed};
 ghost use Rattle.serial_spec.specs.Rows.{value_in};
 ghost use Rattle.manager_core.specs.Kept.{AreMarksOf, IsTreeOf};
-ghost use Rattle.manager_core.specs.Tables.{AbortsIn, BeginsIn, acts_in, cause_in};
+ghost use Rattle.manager_core.specs.Tables.{AbortsIn, BeginsIn, DropsIn, acts_in, cause_in};
 ghost use Rattle.txn_tree.specs.Causes.{cause_at_abort, cause_at_begin};
 
+use crate::locking::number_of;
 use crate::log::Log;
+use lock_table::Locks;
 use orphans::Marks;
-use serial_spec::{By, Kind, NoMemory, PlainTable, Refusal};
+use serial_spec::{By, NoMemory, PlainTable, Refusal};
 use std::alloc::AllocError;
 use txn_names::{Key, Name};
-use txn_tree::{Status, Tree, TreeFault, TxnNo};
+use txn_tree::{Status, Tree, TreeFault};
 
 /// The number of keys that may be known.
 const MOST_KEYS: usize = 4096;
@@ -102,52 +104,6 @@ fn is_full_for(log: &Log, key: &Key) -> bool
     !log.knows(key) && log.known() >= MOST_KEYS
 }
 
-// Whether the other transaction keeps this one from the access.
-fn is_blocker(
-    log: &Log,
-    tree: &Tree,
-    marks: &Marks,
-    other: &Name,
-    name: &Name,
-    key: &Key,
-    kind: Kind,
-) -> bool
-    requires allowed { AreAllowed log.now.rows log.now.entries }
-    requires tree { IsTreeOf log.now.entries tree.now }
-    requires marks { AreMarksOf log.now.entries marks.now }
-    ensures { result ≡ is_blocker log.now.entries name.now key.now kind other.now }
-{
-    if !acts(tree, marks, other) || other.is_ancestor_or_self(name) {
-        return false;
-    }
-    log.conflicts(other, key, kind)
-}
-
-/// Whether a live transaction that is neither this one nor above it has touched the key in a mode that keeps the
-/// access out (Moss 1981).
-pub(crate) fn is_blocked(
-    log: &Log,
-    tree: &Tree,
-    marks: &Marks,
-    name: &Name,
-    key: &Key,
-    kind: Kind,
-) -> bool
-    requires allowed { AreAllowed log.now.rows log.now.entries }
-    requires tree { IsTreeOf log.now.entries tree.now }
-    requires marks { AreMarksOf log.now.entries marks.now }
-    ensures { result ≡ is_blocked log.now.entries name.now key.now kind }
-{
-    for place in 0..tree.len() {
-        if let Some(other) = tree.name_of(TxnNo::new(place as u32)) {
-            if is_blocker(log, tree, marks, other, name, key, kind) {
-                return true;
-            }
-        }
-    }
-    false
-}
-
 /// What the transaction sees at the key: what the deepest of itself and its ancestors left there, else the table's.
 pub(crate) fn value_for(log: &Log, table: &PlainTable, name: &Name, key: &Key) -> Option<i64>
     requires { (k : List ℕ) → value_in table.now k ≡ seen (value_in log.now.rows) log.now.entries [] k }
@@ -176,16 +132,23 @@ pub(crate) fn begin_in(tree: &mut Tree, name: &Name) -> Result<Option<Refusal>, 
     }
 }
 
-/// Aborts the transaction in the tree and marks it, or tells why it is refused.
-pub(crate) fn abort_in(tree: &mut Tree, marks: &mut Marks, name: &Name) -> Option<Refusal>
+/// Aborts the transaction in the tree, marks it and drops the locks below it, or tells why it is refused.
+pub(crate) fn abort_in(
+    tree: &mut Tree,
+    marks: &mut Marks,
+    locks: &mut Locks,
+    name: &Name,
+) -> Option<Refusal>
     requires { 0 < marks.old.room }
     ensures cause { result ≡ cause_at_abort tree.old name.now }
     ensures aborts { AbortsIn tree.old tree.new marks.old marks.new name.now result }
+    ensures drops { DropsIn tree.new locks.old locks.new name.now result }
     ensures room { marks.old.room ≤ marks.new.room + 1 }
 {
     match tree.abort(name) {
         Ok(_) => {
             marks.mark(name);
+            locks.drop_under(tree, number_of(tree, name));
             None
         }
         Err(refusal) => Some(refusal),

@@ -1,10 +1,11 @@
 //! The manager of nested transactions (Moss 1981; Lynch, Merritt, Weihl, Fekete 1994). Which names have begun and what
-//! became of them stand in tables; locks, values and waits are still read off the history.
+//! became of them, and who locks what, stand in tables; values and waits are still read off the history.
 #![tactic(auto)]
 
 mod changes;
 mod closing;
 mod deciding;
+mod locking;
 mod log;
 mod manager;
 mod outcome;

@@ -9,15 +9,16 @@ ghost use Rattle.manager_core.specs.Store.{plain};
 ghost use Rattle.manager_core.specs.Lines.{IsFree, IsLine, IsWaitOf, waits_no_more, accessor};
 ghost use Rattle.manager_core.specs.Outcomes.{answer_of};
 ghost use Rattle.manager_core.specs.State.{entry};
+ghost use Rattle.manager_core.specs.Tables.{ComesTo};
 
 use crate::changes::{changes_of, stores};
 use crate::closing::{close_tops, count_live_tops};
-use crate::deciding::{
-    abort_in, acts, begin_in, is_blocked, refusal_of_access, refusal_of_commit, value_for,
-};
+use crate::deciding::{abort_in, acts, begin_in, refusal_of_access, refusal_of_commit, value_for};
+use crate::locking::{Heirs, hold_in, is_blocked, reserve_commit};
 use crate::log::Log;
 use crate::outcome::{OpenFault, Outcome};
 use crate::store::{Row, TopStore, table_after, table_of};
+use lock_table::Locks;
 use orphans::Marks;
 use serial_spec::{By, Entry, Event, NoMemory, Op, PlainTable, Refusal, Reply, act};
 use std::alloc::Global;
@@ -34,6 +35,7 @@ pub struct Manager<S: TopStore> {
     log: Log,
     tree: Tree,
     marks: Marks,
+    locks: Locks,
     table: PlainTable,
     store: S,
     // How many faults the store had counted when it was opened.
@@ -41,7 +43,7 @@ pub struct Manager<S: TopStore> {
 }
 
 impl<S: TopStore> Model for Manager<S> {
-    ghost use Rattle.manager_core.specs.Kept.{IsKept};
+    ghost use Rattle.manager_core.specs.Kept.{AreLocksOf, IsKept};
     ghost use Rattle.manager_core.specs.Sound.{IsBacked};
     ghost use Rattle.manager_core.specs.State.{State};
 
@@ -57,6 +59,7 @@ impl<S: TopStore> Model for Manager<S> {
 
     ghost invariant = { λ m.
         IsKept m.log.rows m.log.entries m.tree m.marks m.table
+        × AreLocksOf m.log.entries m.tree m.locks
         × IsBacked S.TopStore m.log.entries m.table m.opened m.store };
 }
 
@@ -126,6 +129,7 @@ impl<S: TopStore> Manager<S> {
             log,
             tree: Tree::new(alloc),
             marks: Marks::new(alloc),
+            locks: Locks::new(alloc),
             table,
             store,
             opened,
@@ -148,22 +152,21 @@ impl<S: TopStore> Manager<S> {
         Ok(outcome)
     }
 
-    // How an access is answered.
+    // What an access comes to.
     fn outcome_of_access(&self, by: By, name: &Name, key: &Key, op: Op) -> Outcome
-        requires free { IsFree self.now.history by (Access name.now key.now op) }
-        ensures allowed { Allowed self.now.rows self.now.history by (Access name.now key.now op) (answer_of result) }
-        ensures unasked { IsFalse (is_store_refusal (answer_of result)) }
+        ensures { ComesTo self.now.rows self.now.history by name.now key.now op result }
     {
         let Manager {
             log,
             tree,
             marks,
+            locks,
             table,
             ..
         } = self;
         if let Some(refusal) = refusal_of_access(log, tree, marks, by, name, key) {
             Outcome::Refused(refusal)
-        } else if is_blocked(log, tree, marks, name, key, op.kind()) {
+        } else if is_blocked(tree, locks, name, key, op.kind()) {
             Outcome::Waits
         } else {
             let (_, reply) = act(value_for(log, table, name, key), &op);
@@ -183,6 +186,7 @@ impl<S: TopStore> Manager<S> {
     {
         let outcome = self.outcome_of_access(by, name, key, op);
         self.log.reserve(1)?;
+        hold_in(&self.tree, &mut self.locks, name, key, op.kind(), &outcome)?;
         self.log.add(by, Event::Access(*name, *key, op), &outcome);
         Ok(outcome)
     }
@@ -234,7 +238,9 @@ impl<S: TopStore> Manager<S> {
         ensures sound { OnOk result (IsSound S.TopStore self.new) }
     {
         self.log.reserve(1)?;
+        let Heirs { child, parent } = reserve_commit(&self.tree, &mut self.locks, name)?;
         self.tree.commit(name).unwrap();
+        self.locks.hand_up(child, parent);
         let outcome = Outcome::Done(Reply::Ok);
         self.log.add(by, Event::Commit(*name), &outcome);
         Ok(outcome)
@@ -253,8 +259,10 @@ impl<S: TopStore> Manager<S> {
         self.log.reserve(1)?;
         let changes = changes_of(self.alloc, &self.log, &self.table, name)?;
         let next = table_after(&self.table, &changes)?;
+        let Heirs { child, parent } = reserve_commit(&self.tree, &mut self.locks, name)?;
         if stores(&mut self.store, changes) {
             self.tree.commit(name).unwrap();
+            self.locks.hand_up(child, parent);
             self.table = next;
             let outcome = Outcome::Done(Reply::Ok);
             self.log.add(by, Event::Commit(*name), &outcome);
@@ -281,7 +289,7 @@ impl<S: TopStore> Manager<S> {
         self.marks.reserve(1)?;
         // Asked for what it tells: that a name has a label.
         let _ = name.depth();
-        let outcome = Outcome::of(abort_in(&mut self.tree, &mut self.marks, name));
+        let outcome = Outcome::of(abort_in(&mut self.tree, &mut self.marks, &mut self.locks, name));
         self.log.add(by, Event::Abort(*name), &outcome);
         Ok(outcome)
     }
@@ -307,7 +315,12 @@ impl<S: TopStore> Manager<S> {
         let live = count_live_tops(&self.tree);
         self.log.reserve(live)?;
         self.marks.reserve(live)?;
-        close_tops(&mut self.log, &mut self.tree, &mut self.marks);
+        close_tops(
+            &mut self.log,
+            &mut self.tree,
+            &mut self.marks,
+            &mut self.locks,
+        );
         Ok(())
     }
 

@@ -14,7 +14,7 @@ use Rattle.txn_tree.specs.Asked.{is_live_child_in, live_children_of}
 use Rattle.txn_tree.specs.Causes.{cause_at_abort, cause_at_commit}
 
 -- two tests that give each other agree
-same_tests : (a b : Bool) → (a ≡ true → b ≡ true) → (b ≡ true → a ≡ true) → a ≡ b
+pub same_tests : (a b : Bool) → (a ≡ true → b ≡ true) → (b ≡ true → a ≡ true) → a ≡ b
 same_tests true b f g = sym (f refl)
 same_tests false true f g = g refl
 same_tests false false f g = refl

@@ -1,4 +1,5 @@
 pub mod Changes
 pub mod Children
+pub mod Numbers
 pub mod Refusals
 pub mod Tops

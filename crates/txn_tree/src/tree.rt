@@ -1,11 +1,11 @@
 //! The tree of transactions.
-ghost use Rattle.std.specs.Prelude.{◌≡◌, ◌≢◌, ◌↔◌, [], ◌∷◌, ◌++◌, length, position, slice_get, if◌then◌else◌, IsTrue, IfOk, OnErr, OnOk};
+ghost use Rattle.std.specs.Prelude.{◌≡◌, ◌≢◌, ◌↔◌, [], ◌∷◌, ◌++◌, is_some, length, not, position, slice_get, if◌then◌else◌, IsTrue, IfOk, IfSome, OnErr, OnOk};
 ghost use Rattle.std.specs.Option.{option_copied};
 ghost use Rattle.std.specs.Result.{result_err};
 ghost use Rattle.txn_names.specs.Path.{Path, parent, path_eq};
 ghost use Rattle.txn_names.specs.Text.{IsName};
 ghost use Rattle.txn_tree.specs.States.{IsTree, names, status_in};
-ghost use Rattle.txn_tree.specs.Asked.{ended_by_abort, is_active_in, live_children_of, top_aborted_in};
+ghost use Rattle.txn_tree.specs.Asked.{IsNumberOf, IsRootless, ended_by_abort, is_absent_in, is_active_in, live_children_of, top_aborted_in};
 ghost use Rattle.txn_tree.specs.Causes.{cause_at_abort, cause_at_begin, cause_at_commit, cause_at_parent, refusal_of};
 
 use crate::fault::TreeFault;
@@ -86,8 +86,13 @@ impl Tree {
 
     /// The transaction's number, if it has begun.
     pub fn no_of(&self, name: &Name) -> Option<TxnNo>
-        ensures { result ≡ position (path_eq name.now) (names self.now) }
+        ensures place { result ≡ position (path_eq name.now) (names self.now) }
+        ensures number { IfSome result (IsNumberOf self.now name.now) }
+        ensures begun { is_some result ≡ not (is_absent_in self.now name.now) }
+        ensures rootless { IsRootless self.now }
     {
+        // Asked for what it tells: a name has a label.
+        let _ = name.depth();
         let place = self.states.get_index_of(name)?;
         Some(TxnNo::new(place as u32))
     }

@@ -8,18 +8,18 @@ use Rattle.manager_core.proofs.closing.close_tops.Goals.{in-Some, in_default}
 
 pub close_top-requires-clause-room : goal.close_top-requires-clause-room
 close_top-requires-clause-room c =
-    room_for _ _ _ _ _ _ _ _ _ c.loop-place.invariant.far c.in-Some.name c.in-Some.ensures.some.0 c.in-Some.ensures.some.1
+    room_for _ _ _ _ _ _ _ _ _ _ c.loop-place.invariant.far c.in-Some.name c.in-Some.ensures.some.0 c.in-Some.ensures.some.1
 
 pub close_top-requires-clause-marks_room : goal.close_top-requires-clause-marks_room
 close_top-requires-clause-marks_room c =
-    marks_room_for _ _ _ _ _ _ _ _ _ c.loop-place.invariant.far c.in-Some.name c.in-Some.ensures.some.0 c.in-Some.ensures.some.1
+    marks_room_for _ _ _ _ _ _ _ _ _ _ c.loop-place.invariant.far c.in-Some.name c.in-Some.ensures.some.0 c.in-Some.ensures.some.1
 
 pub loop-place-preserved : goal.loop-place-preserved
 loop-place-preserved c = elim c.match-live_top_at.branch [
   | in-Some w ↦
-      let closed = closed_one _ _ _ _ _ _ _ _ _ c.loop-place.invariant.far w.in-Some.name w.in-Some.ensures.some.0 w.in-Some.ensures.some.1
-      w.close_top.new.tree w.close_top.new.marks w.close_top.new.log.room w.close_top.new.marks.room w.close_top.ensures.aborts w.close_top.ensures.room w.close_top.ensures.marks_room in
-      rw (w.log-is, w.tree-is, w.marks-is) record {
+      let closed = closed_one _ _ _ _ _ _ _ _ _ _ c.loop-place.invariant.far w.in-Some.name w.in-Some.ensures.some.0 w.in-Some.ensures.some.1
+      w.close_top.new.tree w.close_top.new.marks w.close_top.new.locks w.close_top.new.log.room w.close_top.new.marks.room w.close_top.ensures.aborts w.close_top.ensures.drops w.close_top.ensures.room w.close_top.ensures.marks_room in
+      rw (w.log-is, w.tree-is, w.marks-is, w.locks-is) record {
         rows = w.close_top.ensures.rows ∙ c.loop-place.invariant.rows;
         far = rw (w.close_top.ensures.entries, w.close_top.ensures.rows) closed;
       }
@@ -27,12 +27,12 @@ loop-place-preserved c = elim c.match-live_top_at.branch [
       let tree = c.loop-place.tree in
       let within : c.loop-place.place < length (names tree) = omega (arith, c.loop-place-test.true, c.len-place-end.ensures.len, ap length c.loop-place.invariant.far.same_names, length-keys_of c.args.tree.now) in
       let here = got (names tree) c.loop-place.place within in
-      rw (w.log-is, w.tree-is, w.marks-is) record {
+      rw (w.log-is, w.tree-is, w.marks-is, w.locks-is) record {
         rows = c.loop-place.invariant.rows;
-        far = passed_one _ _ _ _ _ _ _ _ _ c.loop-place.invariant.far here.0 here.1 (w.in_default.ensures.none here.0 here.1);
+        far = passed_one _ _ _ _ _ _ _ _ _ _ c.loop-place.invariant.far here.0 here.1 (w.in_default.ensures.none here.0 here.1);
       }
 ]
 
 pub returns-clause-closes : goal.returns-clause-closes
 returns-clause-closes c =
-    rw c.loop-place.invariant.rows at (all_closed _ _ _ _ _ _ _ _ _ c.loop-place.invariant.far (omega (arith, c.loop-place-test.false, c.len-place-end.ensures.len, ap length c.loop-place.invariant.far.same_names, length-keys_of c.args.tree.now, length-keys_of c.loop-place.tree)))
+    rw c.loop-place.invariant.rows at (all_closed _ _ _ _ _ _ _ _ _ _ c.loop-place.invariant.far (omega (arith, c.loop-place-test.false, c.len-place-end.ensures.len, ap length c.loop-place.invariant.far.same_names, length-keys_of c.args.tree.now, length-keys_of c.loop-place.tree)))

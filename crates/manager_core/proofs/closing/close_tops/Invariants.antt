@@ -5,5 +5,5 @@ use Rattle.manager_core.proofs.closing.close_tops.Given as goal
 abbrev pub invariant-loop-place : goal.invariant-loop-place
 invariant-loop-place l = record {
   rows : l.log.rows ≡ l.initial.log.rows;
-  far : ClosingAt l.log.rows l.initial.log.entries l.log.entries l.initial.tree l.tree l.marks l.log.room l.marks.room l.place;
+  far : ClosingAt l.log.rows l.initial.log.entries l.log.entries l.initial.tree l.tree l.marks l.locks l.log.room l.marks.room l.place;
 }

@@ -1,6 +1,7 @@
 use Rattle.std.proofs.Common.{◌<◌, length, refl, arith}
 use Rattle.manager_core.proofs.Answers.{abort_allowed, abort_other}
 use Rattle.manager_core.proofs.Kept.{abort_cause, kept_abort}
+use Rattle.manager_core.proofs.Locked.{locked_abort}
 use Rattle.manager_core.proofs.Steps.{kept_with_room}
 use Rattle.manager_core.proofs.Facts.{sound, backed_next}
 use Rattle.manager_core.proofs.manager.Manager.abort.Goals as goal
@@ -16,7 +17,8 @@ invariant_of-self-2 g c =
     let roomy = kept_with_room _ _ _ _ c.reserve-2.new.self _ kept c.reserve-2.ensures.names in
     rw (c.add.ensures.rows, c.add.ensures.entries, c.of-outcome.ensures, c.reserve.ensures.rows, c.reserve.ensures.entries) (
       kept_abort m.log.rows m.log.entries m.tree c.reserve-2.new.self m.table c.args.by name roomy _ _ _ c.requires.free.line some cause c.abort_in.ensures.aborts,
-      backed_next g.S.TopStore _ _ _ _ _ _ _ c.self.invariant.1 (abort_other m.log.entries name _ found),
+      locked_abort m.log.rows m.log.entries kept.allowed m.tree m.locks c.self.invariant.1 c.args.by name _ _ _ _ _ c.requires.free.line found c.abort_in.ensures.aborts c.abort_in.ensures.drops,
+      backed_next g.S.TopStore _ _ _ _ _ _ _ c.self.invariant.2 (abort_other m.log.entries name _ found),
     )
 
 pub returns-clause-ok : goal.returns-clause-ok
@@ -33,4 +35,4 @@ returns-clause-ok g c =
 pub returns-clause-sound : goal.returns-clause-sound
 returns-clause-sound g c =
     let next = invariant_of-self-2 g c in
-    sound g.S.TopStore _ _ _ next.0 next.1
+    sound g.S.TopStore _ _ _ next.0 next.2

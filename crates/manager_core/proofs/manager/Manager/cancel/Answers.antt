@@ -1,5 +1,6 @@
 use Rattle.std.proofs.Common.{refl}
 use Rattle.manager_core.proofs.Kept.{kept_stuck}
+use Rattle.manager_core.proofs.Locked.{locked_stuck}
 use Rattle.manager_core.proofs.Facts.{sound, backed_next}
 use Rattle.manager_core.proofs.manager.Manager.cancel.Goals as goal
 
@@ -9,10 +10,11 @@ invariant_of-self-2 g c =
     let waits = rw (← c.self.view_is) at c.requires.waits in
     rw (c.add_stuck.ensures.rows, c.add_stuck.ensures.entries, c.reserve.ensures.rows, c.reserve.ensures.entries) (
       kept_stuck m.log.rows m.log.entries m.tree m.marks m.table c.args.by c.args.event.now c.self.invariant.0 waits,
-      backed_next g.S.TopStore _ _ _ _ _ _ _ c.self.invariant.1 refl,
+      locked_stuck m.log.rows m.log.entries c.self.invariant.0.allowed m.tree m.locks c.self.invariant.1 c.args.by c.args.event.now waits,
+      backed_next g.S.TopStore _ _ _ _ _ _ _ c.self.invariant.2 refl,
     )
 
 pub returns-clause-sound : goal.returns-clause-sound
 returns-clause-sound g c =
     let next = invariant_of-self-2 g c in
-    sound g.S.TopStore _ _ _ next.0 next.1
+    sound g.S.TopStore _ _ _ next.0 next.2

@@ -1,8 +1,17 @@
-use Rattle.std.proofs.Common.{◌≡◌, ◌<◌, Bool, true, false, ◌&&◌, None, length, refl, arith}
+use Rattle.std.proofs.Common.{◌≡◌, ◌<◌, ◌∷◌, Bool, true, false, ◌&&◌, None, length, refl, arith}
 use Rattle.std.proofs.lemmas.Bool.{true≢false}
 use Rattle.serial_spec.specs.Rows.{value_in}
-use Rattle.manager_core.proofs.Answers.{commit_allowed}
+use Rattle.manager_core.proofs.Answers.{commit_allowed, active_at_commit}
+use Rattle.serial_spec.specs.declared.event.Event.TheVariants.{Commit}
+use Rattle.serial_spec.specs.declared.entry.Answer.TheVariants.{Refused}
+use Rattle.serial_spec.specs.declared.entry.Refusal.TheVariants.{Store}
+use Rattle.manager_core.specs.State.{entry}
 use Rattle.manager_core.proofs.Commits.{sees_table, asked, unasked, tree_commits, commits, on_commit, kept_top, kept_unstored, backed_taken, backed_refused}
+use Rattle.txn_names.specs.Path.{parent}
+use Rattle.txn_names.proofs.Names.{is_front-parent}
+use Rattle.txn_history.proofs.Theorems.{ancestors_act}
+use Rattle.manager_core.proofs.Locked.{locked_commit, locked_same}
+use Rattle.manager_core.proofs.Locks.{present, locks_same}
 use Rattle.manager_core.proofs.Facts.{sound}
 use Rattle.manager_core.proofs.manager.Manager.commit_top.Goals as goal
 
@@ -15,6 +24,20 @@ changes_of-requires g c =
     let m = c.self.inside in
     let kept = c.self.invariant.0 in
     rw (c.reserve.ensures.rows, c.reserve.ensures.entries) (sees_table m.log.rows m.table m.log.entries kept.allowed kept.current)
+
+pub reserve_commit-requires-clause-child : goal.reserve_commit-requires-clause-child
+reserve_commit-requires-clause-child g c =
+    let m = c.self.inside in
+    let none = rw (← c.self.view_is) at c.requires.live in
+    present m.log.entries m.tree c.self.invariant.0.in_tree c.args.name.now (active_at_commit m.log.entries c.args.by c.args.name.now none)
+
+pub reserve_commit-requires-clause-parent : goal.reserve_commit-requires-clause-parent
+reserve_commit-requires-clause-parent g c =
+    let m = c.self.inside in
+    let t = c.args.name.now in
+    let none = rw (← c.self.view_is) at c.requires.live in
+    let acts = active_at_commit m.log.entries c.args.by t none in
+    present m.log.entries m.tree c.self.invariant.0.in_tree (parent t) (ancestors_act m.log.rows m.log.entries c.self.invariant.0.allowed t (parent t) acts (is_front-parent t))
 
 pub unwrap-requires : goal.unwrap-requires
 unwrap-requires g c =
@@ -36,18 +59,24 @@ invariant_of-self-then-stores g c =
     rw (c.add.ensures.rows, c.add.ensures.entries, c.reserve.ensures.rows, c.reserve.ensures.entries) (
       kept_top m.log.rows m.log.entries m.tree _ m.marks m.table _ c.args.by c.args.name.now _ kept c.requires.free.line c.requires.top none are overlays
           (on_commit c.commit.result _ done c.commit.ensures.names) (on_commit c.commit.result _ done c.commit.ensures.committed),
-      backed_taken g.S.TopStore _ _ _ _ _ _ _ _ _ c.self.invariant.1 takes c.stores.ensures.later overlays,
+      locked_commit m.log.rows m.log.entries kept.allowed m.tree m.locks c.self.invariant.1 c.args.by c.args.name.now _ _ _ _ _ c.requires.free.line none
+          (on_commit c.commit.result _ done c.commit.ensures.names) c.reserve_commit.ensures.modes c.in_ok-child.ensures.child c.in_ok-child.ensures.parent c.hand_up.ensures.modes,
+      backed_taken g.S.TopStore _ _ _ _ _ _ _ _ _ c.self.invariant.2 takes c.stores.ensures.later overlays,
     )
 
 pub invariant_of-self-else-stores : goal.invariant_of-self-else-stores
 invariant_of-self-else-stores g c =
+    let m = c.self.inside in
     let kept = c.self.invariant.0 in
     let none = rw (← c.self.view_is) at c.requires.live in
     let are = rw (c.reserve.ensures.rows, c.reserve.ensures.entries) at c.in_ok-changes.ensures in
     let refused = c.stores.ensures.refused c.if-stores.false in
     rw (c.add-else-stores.ensures.rows, c.add-else-stores.ensures.entries, c.reserve.ensures.rows, c.reserve.ensures.entries) (
       kept_unstored _ _ _ _ _ _ _ _ kept c.requires.free.line c.requires.top none are refused.1,
-      backed_refused g.S.TopStore _ _ _ _ _ _ _ c.self.invariant.1 refused.0 c.stores.ensures.later,
+      locks_same (entry c.args.by (Commit c.args.name.now) (Refused Store) ∷ m.log.entries) m.tree m.locks _ (locked_same m.log.rows m.log.entries kept.allowed m.tree m.locks c.self.invariant.1 c.args.by (Commit c.args.name.now) (Refused Store) c.requires.free.line
+          (commit_allowed m.log.rows m.log.entries c.args.by c.args.name.now None none, asked (value_in m.log.rows) m.log.entries c.args.name.now _ c.requires.top are refused.1) refl)
+          c.reserve_commit.ensures.modes,
+      backed_refused g.S.TopStore _ _ _ _ _ _ _ c.self.invariant.2 refused.0 c.stores.ensures.later,
     )
 
 pub returns-then-stores-clause-ok : goal.returns-then-stores-clause-ok
@@ -69,7 +98,7 @@ returns-then-stores-clause-ok g c =
 pub returns-then-stores-clause-sound : goal.returns-then-stores-clause-sound
 returns-then-stores-clause-sound g c =
     let next = invariant_of-self-then-stores g c in
-    sound g.S.TopStore _ _ _ next.0 next.1
+    sound g.S.TopStore _ _ _ next.0 next.2
 
 pub returns-else-stores-clause-ok : goal.returns-else-stores-clause-ok
 returns-else-stores-clause-ok g c =
@@ -89,4 +118,4 @@ returns-else-stores-clause-ok g c =
 pub returns-else-stores-clause-sound : goal.returns-else-stores-clause-sound
 returns-else-stores-clause-sound g c =
     let next = invariant_of-self-else-stores g c in
-    sound g.S.TopStore _ _ _ next.0 next.1
+    sound g.S.TopStore _ _ _ next.0 next.2
