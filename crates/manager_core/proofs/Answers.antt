@@ -17,7 +17,7 @@ use Rattle.serial_spec.specs.Locks.{is_blocked}
 use Rattle.serial_spec.specs.Values.{seen}
 use Rattle.serial_spec.specs.Rows.{Rows, value_in}
 use Rattle.serial_spec.specs.Legal.{AreAllowed}
-use Rattle.serial_spec.specs.Allowed.{Allowed, most_transactions, answer, when, cause_at_begin, cause_at_end, cause_at_access, cause_at_commit}
+use Rattle.serial_spec.specs.Allowed.{Allowed, most_transactions, answer, has_waited, when, cause_at_begin, cause_at_end, cause_at_access, cause_at_commit}
 use Rattle.txn_history.proofs.Activity.{acts_active}
 use Rattle.txn_history.proofs.Causes.{neither, acts_at_end}
 use Rattle.txn_history.proofs.Theorems.{wait_holds}
@@ -148,13 +148,34 @@ pub access_done : (rows : Rows) (h : History) (by : By) (t : Name) (k : List ℕ
     → is_blocked h t k (kind op) ≡ false → Allowed rows h by (Access t k op) (Done (reply_of (seen (value_in rows) h t k) op))
 access_done rows h by t k op e free = rw (← e, free) refl
 
--- so an access that comes to this may be answered so, and it is no refusal of the store
+-- so an access that comes to this may be answered so
 pub access_comes : (rows : Rows) (h : History) (by : By) (t : Name) (k : List ℕ) (op : Op) → IsFree h by (Access t k op) → (outcome : Outcome)
-    → ComesTo rows h by t k op outcome → Allowed rows h by (Access t k op) (answer_of outcome) × (is_store_refusal (answer_of outcome) ≡ false)
+    → ComesTo rows h by t k op outcome → Allowed rows h by (Access t k op) (answer_of outcome)
 access_comes rows h by t k op free (made.Done reply) comes =
-    (subst (λ r. Allowed rows h by (Access t k op) (Done r)) (sym comes.2) (access_done rows h by t k op comes.0 comes.1), refl)
-access_comes rows h by t k op free made.Waits comes = (access_waits rows h by t k op free comes.0 comes.1, refl)
-access_comes rows h by t k op free (made.Refused r) comes = (access_refused rows h by t k op r comes, access_other rows h by t k r comes)
+    subst (λ r. Allowed rows h by (Access t k op) (Done r)) (sym comes.2) (access_done rows h by t k op comes.0 comes.1)
+access_comes rows h by t k op free made.Waits comes = access_waits rows h by t k op free comes.0 comes.1
+access_comes rows h by t k op free (made.Refused r) comes = access_refused rows h by t k op r comes
+
+-- and that is no refusal of the store
+pub comes_other : (rows : Rows) (h : History) (by : By) (t : Name) (k : List ℕ) (op : Op) (outcome : Outcome)
+    → ComesTo rows h by t k op outcome → is_store_refusal (answer_of outcome) ≡ false
+comes_other rows h by t k op (made.Done reply) comes = refl
+comes_other rows h by t k op made.Waits comes = refl
+comes_other rows h by t k op (made.Refused r) comes = access_other rows h by t k r comes
+
+-- a line that has waited is answered only when it waits no more
+pub retry_comes : (rows : Rows) (h : History) (by : By) (t : Name) (k : List ℕ) (op : Op) (outcome : Outcome)
+    → ComesTo rows h by t k op outcome → (outcome ≡ made.Waits → ⊥) → Allowed rows h by (Access t k op) (answer_of outcome)
+retry_comes rows h by t k op (made.Done reply) comes other =
+    subst (λ r. Allowed rows h by (Access t k op) (Done r)) (sym comes.2) (access_done rows h by t k op comes.0 comes.1)
+retry_comes rows h by t k op made.Waits comes other = absurd (other refl)
+retry_comes rows h by t k op (made.Refused r) comes other = access_refused rows h by t k op r comes
+
+pub still_waits : (rows : Rows) (h : History) (by : By) (t : Name) (k : List ℕ) (op : Op) (outcome : Outcome)
+    → ComesTo rows h by t k op outcome → outcome ≡ made.Waits → has_waited h by ≡ true → answer rows h by (Access t k op) ≡ None
+still_waits rows h by t k op (made.Done reply) comes same waited = absurd (cc)
+still_waits rows h by t k op made.Waits comes same waited = rw (← comes.0, comes.1, waited) refl
+still_waits rows h by t k op (made.Refused r) comes same waited = absurd (cc)
 
 -- ---- lines that are given up
 

@@ -22,4 +22,5 @@ pub mod Facts
 pub mod Opening
 pub mod Tops
 pub mod Waits
+pub mod Retrying
 pub mod Lines

@@ -1,10 +1,13 @@
 -- What each call does to the manager.
-use Rattle.std.specs.Prelude.{◌≡◌, ℕ, ◌&&◌, IsFalse, List, [], ◌∷◌, ◌++◌, None}
+use Rattle.std.specs.Prelude.{◌≡◌, ◌⊎◌, ℕ, ◌&&◌, IsFalse, List, [], ◌∷◌, ◌++◌, Some, None}
 use Rattle.serial_spec.specs.declared.entry.By.{By}
 use Rattle.serial_spec.specs.declared.event.Event.{Event}
 use Rattle.serial_spec.specs.declared.event.Event.TheVariants.{Commit}
 use Rattle.serial_spec.specs.History.{Name, is_live, begun}
-use Rattle.serial_spec.specs.Allowed.{Allowed, asks_store}
+use Rattle.serial_spec.specs.Waits.{wait_of}
+use Rattle.serial_spec.specs.Allowed.{Allowed, answer, asks_store}
+use Rattle.serial_spec.specs.declared.entry.Entry.{Entry}
+use Rattle.manager_core.specs.declared.outcome.Outcome.TheVariants.{Waits}
 use Rattle.serial_spec.specs.Legal.{first_live}
 use Rattle.manager_core.specs.declared.store.TopStore.{Ghosts}
 use Rattle.manager_core.specs.declared.outcome.Outcome.{Outcome}
@@ -17,6 +20,18 @@ use Rattle.manager_core.specs.Asked.{IsLater}
 pub record Answered {S : Type 0} (old new : State S) (by : By) (event : Event) (outcome : Outcome) : Type 0 where
   pub allowed : Allowed old.rows old.history by event (answer_of outcome)
   pub added : new ≡ record old { history = entry by event (answer_of outcome) ∷ old.history }
+
+-- the definition has no answer for the line yet
+pub record WaitsOn {S : Type 0} (old new : State S) (wait : Entry) (outcome : Outcome) : Type 0 where
+  pub none : answer old.rows old.history wait.by wait.event ≡ None
+  pub outcome_is : outcome ≡ Waits
+  pub same : new ≡ old
+
+-- the access by which the transaction waits was answered, or it waits on and nothing has changed
+pub record Retried {S : Type 0} (old new : State S) (t : Name) (outcome : Outcome) : Type 0 where
+  pub wait : Entry
+  pub waits : wait_of old.history t ≡ Some wait
+  pub told : Answered old new wait.by wait.event outcome ⊎ WaitsOn old new wait outcome
 
 -- the commit's entry was allowed
 pub record Committed {S : Type 0} (g : Ghosts S) (old new : State S) (by : By) (t : Name) (outcome : Outcome) : Type 0 where

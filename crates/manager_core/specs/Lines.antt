@@ -1,7 +1,8 @@
 -- Which line may have an entry.
-use Rattle.std.specs.Prelude.{◌≡◌, ◌⊎◌, Bool, true, not, IsTrue, List, [], ◌∷◌, Option, Some, None, is_some, filter}
+use Rattle.std.specs.Prelude.{◌≡◌, ℕ, ◌⊎◌, Bool, true, not, IsTrue, List, [], ◌∷◌, Option, Some, None, is_some, filter}
 use Rattle.serial_spec.specs.declared.entry.By.{By}
 use Rattle.serial_spec.specs.declared.entry.By.TheVariants.{Line}
+use Rattle.serial_spec.specs.declared.operation.Op.{Op}
 use Rattle.serial_spec.specs.declared.event.Event.{Event}
 use Rattle.serial_spec.specs.declared.event.Event.TheVariants.{Access}
 use Rattle.serial_spec.specs.declared.entry.Answer.TheVariants.{Waits}
@@ -49,3 +50,12 @@ pub record IsFree (h : History) (by : By) (event : Event) : Type 0 where
 abbrev pub IsWaitOf : History → By → Event → Type 0
 IsWaitOf h by (Access t k o) = (w : Entry) × (wait_of h t ≡ Some w) × IsTrue (same_line w.by by) × (w.event ≡ Access t k o)
 IsWaitOf h by e = ⊥
+
+-- the line, the key and the operation of an access
+abbrev pub access_by : By → Event → Option (By × List ℕ × Op)
+access_by by (Access t k o) = Some (by, k, o)
+access_by by e = None
+
+abbrev pub waiting_access : Option Entry → Option (By × List ℕ × Op)
+waiting_access None = None
+waiting_access (Some w) = access_by w.by w.event

@@ -9,7 +9,7 @@ ghost use Rattle.serial_spec.specs.Items.{items};
 ghost use Rattle.serial_spec.specs.Locks.{conflicts, foot};
 ghost use Rattle.serial_spec.specs.Waits.{accesses, open_waits};
 ghost use Rattle.serial_spec.specs.Values.{last_left};
-ghost use Rattle.manager_core.specs.Lines.{OnlyWaits, entries_of};
+ghost use Rattle.manager_core.specs.Lines.{OnlyWaits, entries_of, waiting_access};
 ghost use Rattle.manager_core.specs.State.{entry};
 ghost use Rattle.manager_core.specs.Outcomes.{answer_of};
 ghost use Rattle.manager_core.specs.Store.{plain};
@@ -19,7 +19,7 @@ use crate::reading::{key_in, same_line};
 use crate::store::Row;
 use crate::touched::{conflicts, left_by};
 use crate::waiting::{is_unused, only_waits, open_wait};
-use serial_spec::{Answer, By, Entry, Event, Kind, NoMemory};
+use serial_spec::{Answer, By, Entry, Event, Kind, NoMemory, Op};
 use std::alloc::Global;
 use std::marker::Model;
 use txn_names::{Key, Name};
@@ -217,8 +217,19 @@ impl Log {
         ensures { result ≡ is_other_line by (find (λ w. accesses name.now w.event) (open_waits self.now.entries)) }
     {
         match open_wait(&self.entries, name) {
-            Some(line) => !same_line(line, by),
+            Some(wait) => !same_line(wait.by, by),
             None => false,
+        }
+    }
+
+    /// The access by which the transaction waits, if it acts, with its line.
+    pub(crate) fn open_access(&self, name: &Name) -> Option<(By, Key, Op)>
+        ensures { result ≡ waiting_access (find (λ w. accesses name.now w.event) (open_waits self.now.entries)) }
+    {
+        let wait = open_wait(&self.entries, name)?;
+        match &wait.event {
+            Event::Access(_, key, op) => Some((wait.by, *key, *op)),
+            _ => None,
         }
     }
 

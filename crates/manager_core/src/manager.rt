@@ -85,7 +85,7 @@ fn is_line(by: By) -> bool
 }
 
 impl<S: TopStore> Manager<S> {
-    ghost use Rattle.manager_core.specs.Calls.{Answered, Closed, Committed};
+    ghost use Rattle.manager_core.specs.Calls.{Answered, Closed, Committed, Retried};
     ghost use Rattle.manager_core.specs.Opening.{HasCause, IsOpened};
     ghost use Rattle.manager_core.specs.Sound.{IsSound, is_store_refusal};
 
@@ -185,10 +185,46 @@ impl<S: TopStore> Manager<S> {
         ensures sound { OnOk result (IsSound S.TopStore self.new) }
     {
         let outcome = self.outcome_of_access(by, name, key, op);
+        self.answer_access(by, name, key, op, outcome)
+    }
+
+    // Locks the key, if the access is done, and adds the entry.
+    fn answer_access(
+        &mut self,
+        by: By,
+        name: &Name,
+        key: &Key,
+        op: Op,
+        outcome: Outcome,
+    ) -> Result<Outcome, NoMemory>
+        requires line { IsLine by }
+        requires comes { ComesTo self.old.rows self.old.history by name.now key.now op outcome }
+        requires allowed { Allowed self.old.rows self.old.history by (Access name.now key.now op) (answer_of outcome) }
+        ensures ok { IfOk result (λ told. Answered self.old self.new by (Access name.now key.now op) told) }
+        ensures told { IfOk result (λ told. told ≡ outcome) }
+        ensures waits { IfOk result (λ told. told ≡ Outcome.Waits → IsWaitOf self.new.history by (Access name.now key.now op)) }
+        ensures err { OnErr result (self.new ≡ self.old) }
+        ensures sound { OnOk result (IsSound S.TopStore self.new) }
+    {
         self.log.reserve(1)?;
         hold_in(&self.tree, &mut self.locks, name, key, op.kind(), &outcome)?;
         self.log.add(by, Event::Access(*name, *key, op), &outcome);
         Ok(outcome)
+    }
+
+    /// Asks again for the access by which the transaction waits. It is answered now, by its own line, or it waits on, and
+    /// then nothing changes.
+    pub fn retry(&mut self, name: &Name) -> Result<Outcome, NoMemory>
+        requires waits { IsTrue (is_some (wait_of self.old.history name.now)) }
+        ensures ok { IfOk result (λ outcome. Retried self.old self.new name.now outcome) }
+        ensures err { OnErr result (self.new ≡ self.old) }
+        ensures sound { OnOk result (IsSound S.TopStore self.new) }
+    {
+        let (by, key, op) = self.log.open_access(name).unwrap();
+        match self.outcome_of_access(by, name, &key, op) {
+            Outcome::Waits => Ok(Outcome::Waits),
+            outcome => self.answer_access(by, name, &key, op, outcome),
+        }
     }
 
     /// Commits a transaction into its parent. It is refused by the first of these that holds: it never began

@@ -1,5 +1,5 @@
 //! Waits and lines, read off the entries.
-ghost use Rattle.std.specs.Prelude.{◌≡◌, ◌↔◌, ◌&&◌, [], IsTrue, count_by, find, option_map, reverse};
+ghost use Rattle.std.specs.Prelude.{◌≡◌, ◌↔◌, ◌&&◌, [], IsTrue, count_by, find, reverse};
 ghost use Rattle.std.specs.Option.{option_copied};
 ghost use Rattle.serial_spec.specs.declared.entry.Answer.TheVariants.{Waits};
 ghost use Rattle.serial_spec.specs.Waits.{accesses, is_waits, open_waits, same_line};
@@ -39,15 +39,15 @@ fn waits_with(entry: &Entry, event: &Event) -> bool
     entry.answer == Answer::Waits && entry.event == *event
 }
 
-/// The line by which an access of the transaction waits: the newest entry `waits` of it with no later entry of
-/// the same line.
-pub(crate) fn open_wait(entries: &[Entry], name: &Name) -> Option<By>
-    ensures { result ≡ option_map (λ w. w.by) (find (λ w. accesses name.now w.event) (open_waits (reverse entries.now))) }
+/// The entry by which an access of the transaction waits: the newest `waits` of it with no later entry of the same
+/// line.
+pub(crate) fn open_wait<'a>(entries: &'a [Entry], name: &Name) -> Option<&'a Entry>
+    ensures { option_copied result ≡ find (λ w. accesses name.now w.event) (open_waits (reverse entries.now)) }
 {
     let mut rest = entries;
     while let Some((newest, earlier)) = rest.split_last() {
         if waits_as(newest, name) && !any_of(&entries[rest.len()..], newest.by) {
-            return Some(newest.by);
+            return Some(newest);
         }
         rest = earlier;
     }
