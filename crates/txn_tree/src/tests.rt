@@ -3,35 +3,92 @@ use crate::{MOST_TRANSACTIONS, Status, Tree, TreeFault, TxnNo};
 use serial_spec::Refusal;
 use std::hash::{DefaultHasher, Hash, Hasher};
 use std::process::Abort;
-use std::test::Fail;
 use txn_names::Name;
 
-fn name(text: &str) -> Result<Name, Fail> {
-    Ok(Name::parse(text.as_bytes())?)
-}
-
-fn begin(tree: &mut Tree, text: &str) -> Result<TxnNo, Fail> {
-    match tree.begin(&name(text)?) {
-        Ok(number) => Ok(number),
-        Err(TreeFault::Refused(_)) => Err("refused")?,
-        Err(TreeFault::NoMemory) => Err("no memory")?,
+// A cause, spelled as in a report.
+fn cause_of(text: &str) -> Option<Refusal> {
+    match text {
+        "refused unknown" => Some(Refusal::Unknown),
+        "refused used" => Some(Refusal::Used),
+        "refused no-parent" => Some(Refusal::NoParent),
+        "refused done" => Some(Refusal::Done),
+        "refused children" => Some(Refusal::Children),
+        "refused full" => Some(Refusal::Full),
+        _ => {
+            let top = text.strip_prefix("orphan ")?;
+            Some(Refusal::Orphan(Name::parse(top.as_bytes()).ok()?))
+        }
     }
 }
 
-fn begun(tree: &mut Tree, names: &[&str]) -> Result<(), Fail> {
-    for text in names {
-        let _ = begin(tree, text)?;
+fn status_of(word: &str) -> Option<Status> {
+    match word {
+        "absent" => Some(Status::Absent),
+        "live" => Some(Status::Live),
+        "committed" => Some(Status::Committed),
+        "aborted" => Some(Status::Aborted),
+        _ => None,
     }
-    Ok(())
 }
 
-/// That a begin is refused, and leaves the tree.
-fn refuses_begin(rt: &impl Abort, tree: &mut Tree, text: &str, cause: Refusal) -> Result<(), Fail> {
+fn is_number(text: &str, number: u32) -> bool {
+    text.parse().ok() == Some(number)
+}
+
+// A begin gives the next number, by which the name is found. A refused one leaves the tree.
+fn begins(tree: &mut Tree, name: &Name, want: &str) -> bool {
     let count = tree.len();
-    let refused = Err(TreeFault::Refused(cause));
-    assert!(rt; tree.begin(&name(text)?) == refused, "{text}");
-    assert_eq!(rt; tree.len(), count);
-    Ok(())
+    match tree.begin(name) {
+        Ok(number) => {
+            is_number(want, number.place())
+                && number.place() as usize == count
+                && tree.len() == number.place() as usize + 1
+                && tree.no_of(name) == Some(number)
+                && tree.name_of(number).copied() == Some(*name)
+        }
+        Err(TreeFault::Refused(cause)) => cause_of(want) == Some(cause) && tree.len() == count,
+        Err(TreeFault::NoMemory) => false,
+    }
+}
+
+fn commits(tree: &mut Tree, name: &Name, want: &str) -> bool {
+    match tree.commit(name) {
+        Ok(()) => want == "ok",
+        Err(cause) => cause_of(want) == Some(cause),
+    }
+}
+
+fn aborts(tree: &mut Tree, name: &Name, want: &str) -> bool {
+    match tree.abort(name) {
+        Ok(ended) => is_number(want, ended),
+        Err(cause) => cause_of(want) == Some(cause),
+    }
+}
+
+// What a line asks of the tree, and what it is answered.
+fn step(rt: &impl Abort, tree: &mut Tree, text: &str) {
+    let (asked, want) = text.split_once(" -> ").expect(rt, text);
+    let (verb, name) = asked.split_once(' ').expect(rt, text);
+    let name = Name::parse(name.as_bytes()).expect(rt, text);
+    let is_answered_so = match verb {
+        "begin" => begins(tree, &name, want),
+        "commit" => commits(tree, &name, want),
+        "abort" => aborts(tree, &name, want),
+        "children" => is_number(want, tree.live_children(&name)),
+        "status" => status_of(want) == Some(tree.status(&name)),
+        _ => false,
+    };
+    assert!(rt; is_answered_so, "{text}");
+}
+
+// Asks these lines in turn. What fails ends the process, so that no tree is dropped on the way.
+fn play(rt: &impl Abort, tree: &mut Tree, script: &str) {
+    for text in script.lines() {
+        let text = text.trim();
+        if !text.is_empty() {
+            step(rt, tree, text);
+        }
+    }
 }
 
 fn hash_of<T: Hash>(value: &T) -> u64 {
@@ -45,101 +102,113 @@ fn greatest<T: Ord + Copy>(a: T, b: T) -> T {
 }
 
 #[test]
-fn numbers_in_order_of_beginning(rt: HostRuntime) -> Result<(), Fail> {
-    let mut tree = Tree::new(rt.alloc());
-    assert!(rt; tree.is_empty());
-    for (place, text) in ["a", "b", "a/l", "b/l"].iter().enumerate() {
-        let number = TxnNo::new(place as u32);
-        assert_eq!(rt; begin(&mut tree, text)?, number);
-        assert!(rt; tree.no_of(&name(text)?) == Some(number), "{text}");
-        assert!(rt;
-            tree.name_of(number).copied() == Some(name(text)?),
-            "{text}"
-        );
-        assert_eq!(rt; number.place(), place as u32);
-    }
-    assert_eq!(rt; tree.len(), 4);
-    assert!(rt; tree.no_of(&name("c")?) == None);
-    assert!(rt; tree.name_of(TxnNo::new(4)) == None);
+fn compares_numbers(rt: HostRuntime) {
     let (early, late) = (TxnNo::new(1), TxnNo::new(2));
     assert_eq!(rt; greatest(late, early), late);
     assert_ne!(rt; hash_of(&early), hash_of(&late));
-    Ok(())
 }
 
 #[test]
-fn aborts_what_is_live(rt: HostRuntime) -> Result<(), Fail> {
+fn numbers_in_order_of_beginning(rt: HostRuntime) {
     let mut tree = Tree::new(rt.alloc());
-    begun(&mut tree, &["a", "a/l", "a/r"])?;
-    assert_eq!(rt; tree.commit(&name("a/l")?), Ok(()));
-    assert_eq!(rt; tree.live_children(&name("a")?), 1);
-    assert_eq!(rt; tree.abort(&name("a")?), Ok(2));
-    // Own states stay below the aborted one.
-    let states = [
-        ("a", Status::Aborted),
-        ("a/l", Status::Committed),
-        ("a/r", Status::Live),
-        ("b", Status::Absent),
-    ];
-    for (text, status) in states {
-        assert_eq!(rt; tree.status(&name(text)?), status, "{text}");
-    }
-    assert_eq!(rt; tree.live_children(&name("a")?), 1);
-    Ok(())
+    assert!(rt; tree.is_empty());
+    let script = "
+        begin a -> 0
+        begin b -> 1
+        begin a/l -> 2
+        begin b/l -> 3
+    ";
+    play(&rt, &mut tree, script);
+    assert_eq!(rt; tree.len(), 4);
+    let other = Name::parse(b"c").expect(&rt, "a name");
+    assert!(rt; tree.no_of(&other) == None);
+    assert!(rt; tree.name_of(TxnNo::new(4)) == None);
+}
+
+// Own states stay below the aborted one.
+#[test]
+fn aborts_what_is_live(rt: HostRuntime) {
+    let script = "
+        begin a -> 0
+        begin a/l -> 1
+        begin a/r -> 2
+        commit a/l -> ok
+        children a -> 1
+        abort a -> 2
+        status a -> aborted
+        status a/l -> committed
+        status a/r -> live
+        status b -> absent
+        children a -> 1
+    ";
+    play(&rt, &mut Tree::new(rt.alloc()), script);
 }
 
 #[test]
-fn aborts_no_orphan_twice(rt: HostRuntime) -> Result<(), Fail> {
-    let mut tree = Tree::new(rt.alloc());
-    begun(&mut tree, &["a", "a/b", "a/b/c", "a/d", "ab"])?;
-    assert_eq!(rt; tree.abort(&name("a/b")?), Ok(2));
-    assert_eq!(rt; tree.abort(&name("a")?), Ok(2));
-    assert_eq!(rt; tree.abort(&name("ab")?), Ok(1));
-    Ok(())
+fn aborts_no_orphan_twice(rt: HostRuntime) {
+    let script = "
+        begin a -> 0
+        begin a/b -> 1
+        begin a/b/c -> 2
+        begin a/d -> 3
+        begin ab -> 4
+        abort a/b -> 2
+        abort a -> 2
+        abort ab -> 1
+    ";
+    play(&rt, &mut Tree::new(rt.alloc()), script);
 }
 
+// Of the aborted ones the topmost is named, and not the nearest.
 #[test]
-fn refuses_by_the_first_cause(rt: HostRuntime) -> Result<(), Fail> {
-    let mut tree = Tree::new(rt.alloc());
-    begun(&mut tree, &["a", "a/b", "a/b/c", "d", "e", "e/f"])?;
-    assert_eq!(rt; tree.commit(&name("e")?), Err(Refusal::Children));
-    assert_eq!(rt; tree.commit(&name("d")?), Ok(()));
-    refuses_begin(&rt, &mut tree, "d", Refusal::Used)?;
-    refuses_begin(&rt, &mut tree, "d/a", Refusal::NoParent)?;
-    refuses_begin(&rt, &mut tree, "x/a", Refusal::NoParent)?;
-    assert_eq!(rt; tree.commit(&name("x")?), Err(Refusal::Unknown));
-    assert_eq!(rt; tree.commit(&name("d")?), Err(Refusal::Done));
-    assert_eq!(rt; tree.abort(&name("x")?), Err(Refusal::Unknown));
-    assert_eq!(rt; tree.abort(&name("d")?), Err(Refusal::Done));
-    // The topmost aborted one is named, and not the nearest.
-    assert_eq!(rt; tree.abort(&name("a/b")?), Ok(2));
-    assert_eq!(rt; tree.abort(&name("a")?), Ok(1));
-    let orphan = Refusal::Orphan(name("a")?);
-    assert_eq!(rt; tree.commit(&name("a/b/c")?), Err(orphan));
-    assert_eq!(rt; tree.abort(&name("a/b")?), Err(orphan));
-    refuses_begin(&rt, &mut tree, "a/b/d", orphan)?;
-    refuses_begin(&rt, &mut tree, "a/b", Refusal::Used)?;
-    Ok(())
+fn refuses_by_the_first_cause(rt: HostRuntime) {
+    let script = "
+        begin a -> 0
+        begin a/b -> 1
+        begin a/b/c -> 2
+        begin d -> 3
+        begin e -> 4
+        begin e/f -> 5
+        commit e -> refused children
+        commit d -> ok
+        begin d -> refused used
+        begin d/a -> refused no-parent
+        begin x/a -> refused no-parent
+        commit x -> refused unknown
+        commit d -> refused done
+        abort x -> refused unknown
+        abort d -> refused done
+        abort a/b -> 2
+        abort a -> 1
+        commit a/b/c -> orphan a
+        abort a/b -> orphan a
+        begin a/b/d -> orphan a
+        begin a/b -> refused used
+    ";
+    play(&rt, &mut Tree::new(rt.alloc()), script);
 }
 
-/// Names of three letters or digits: 46,656 of them.
-fn name_at(place: usize) -> Result<Name, Fail> {
+// Names of three letters or digits: 46,656 of them.
+fn name_at(rt: &impl Abort, place: usize) -> Name {
     let letters = b"0123456789abcdefghijklmnopqrstuvwxyz";
     let (high, low) = (place / 36 % 36, place % 36);
     let bytes = [letters[place / 1296 % 36], letters[high], letters[low]];
-    Ok(Name::parse(&bytes)?)
+    Name::parse(&bytes).expect(rt, "a name")
 }
 
+// The first name is 000.
 #[test]
-fn refuses_past_the_limit(rt: HostRuntime) -> Result<(), Fail> {
+fn refuses_past_the_limit(rt: HostRuntime) {
     let mut tree = Tree::new(rt.alloc());
     for place in 0..MOST_TRANSACTIONS {
-        let number = tree.begin(&name_at(place)?)?;
+        let number = tree.begin(&name_at(&rt, place)).expect(&rt, "begun");
         assert_eq!(rt; number.place() as usize, place);
     }
-    refuses_begin(&rt, &mut tree, "last", Refusal::Full)?;
-    refuses_begin(&rt, &mut tree, "x/last", Refusal::NoParent)?;
-    assert_eq!(rt; tree.commit(&name_at(0)?), Ok(()));
-    refuses_begin(&rt, &mut tree, "last", Refusal::Full)?;
-    Ok(())
+    let script = "
+        begin last -> refused full
+        begin x/last -> refused no-parent
+        commit 000 -> ok
+        begin last -> refused full
+    ";
+    play(&rt, &mut tree, script);
 }

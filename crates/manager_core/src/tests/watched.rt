@@ -1,75 +1,140 @@
-//! A manager under watch. A call that finds no memory has to leave all that can be seen, and to succeed when it is
-//! made again: a trial run refuses each growth in turn.
+//! A manager under watch, which plays a script. A call that finds no memory has to leave all that can be seen, and to
+//! succeed when it is made again: a trial run refuses each growth in turn.
+//!
+//! What fails ends the process. So no function drops a manager on its way out, which would make a long proof.
 ghost use Rattle.std.specs.Prelude.{◌≡◌, IfOk, OnErr, Some};
 ghost use Rattle.serial_spec.specs.declared.entry.By.TheVariants.{Line};
 ghost use Rattle.manager_core.specs.Lines.{IsFree, IsWaitOf};
 
 use crate::store::{MemStore, Row, TopStore, are_rising};
 use crate::{Manager, OpenFault, Outcome, Parts};
-use serial_spec::{Answer, By, Entry, Event, NoMemory, Op, Refusal, Reply};
+use serial_spec::{Answer, By, Entry, Event, NoMemory, Op, PlainTable, Refusal, Reply};
 use std::alloc::Global;
+use std::hash::{DefaultHasher, Hash, Hasher};
 use std::process::Abort;
-use std::test::Fail;
 use txn_names::{Key, Name};
 
-pub const OK: Answer = Answer::Done(Reply::Ok);
-
-pub const WAITS: Answer = Answer::Waits;
-/// An access that waits, and is given up at once.
-pub const STUCK: Answer = Answer::Stuck;
-
-pub fn value(value: i64) -> Answer {
-    Answer::Done(Reply::Value(value))
-}
-
-pub fn refused(cause: Refusal) -> Answer {
-    Answer::Refused(cause)
-}
-
-pub fn orphan(top: &str) -> Result<Answer, Fail> {
-    Ok(refused(Refusal::Orphan(name(top)?)))
-}
-
-pub fn name(text: &str) -> Result<Name, Fail> {
-    Ok(Name::parse(text.as_bytes())?)
-}
-
-pub fn row(key: &str, value: i64) -> Result<Row, Fail> {
-    let key = Key::parse(key.as_bytes())?;
-    Ok(Row { key, value })
-}
-
-pub fn line(line: u32) -> By
+fn line(line: u32) -> By
     ensures { result ≡ Line 0 line }
 {
     By::Line { session: 0, line }
 }
 
-/// What a line asks, spelled as in a session.
-pub fn event(text: &str) -> Result<Event, Fail> {
-    let (verb, rest) = text.split_once(' ').ok_or("no name")?;
-    let (who, rest) = rest.split_once(' ').unwrap_or((rest, ""));
-    let name = name(who)?;
+fn number(rt: &impl Abort, text: &str) -> i64 {
+    text.parse().expect(rt, text)
+}
+
+fn name(rt: &impl Abort, text: &str) -> Name {
+    Name::parse(text.as_bytes()).expect(rt, text)
+}
+
+fn key(rt: &impl Abort, text: &str) -> Key {
+    Key::parse(text.as_bytes()).expect(rt, text)
+}
+
+fn op(rt: &impl Abort, verb: &str, amount: &str) -> Op {
     match verb {
-        "begin" => Ok(Event::Begin(name)),
-        "commit" => Ok(Event::Commit(name)),
-        "abort" => Ok(Event::Abort(name)),
+        "get" => Op::Get,
+        "set" => Op::Set(number(rt, amount)),
+        "add" => Op::Add(number(rt, amount)),
+        "del" => Op::Del,
+        _ => rt.panic(verb),
+    }
+}
+
+// What a line asks, spelled as in a session.
+fn event(rt: &impl Abort, text: &str) -> Event {
+    let (verb, rest) = text.split_once(' ').expect(rt, text);
+    let (who, rest) = rest.split_once(' ').unwrap_or((rest, ""));
+    let name = name(rt, who);
+    match verb {
+        "begin" => Event::Begin(name),
+        "commit" => Event::Commit(name),
+        "abort" => Event::Abort(name),
         _ => {
-            let (key, number) = rest.split_once(' ').unwrap_or((rest, "0"));
-            let key = Key::parse(key.as_bytes())?;
-            Ok(Event::Access(name, key, op(verb, number.parse()?)?))
+            let (what, amount) = rest.split_once(' ').unwrap_or((rest, ""));
+            Event::Access(name, key(rt, what), op(rt, verb, amount))
         }
     }
 }
 
-fn op(verb: &str, number: i64) -> Result<Op, Fail> {
-    match verb {
-        "get" => Ok(Op::Get),
-        "set" => Ok(Op::Set(number)),
-        "add" => Ok(Op::Add(number)),
-        "del" => Ok(Op::Del),
-        _ => Err("no such word")?,
+fn cause(rt: &impl Abort, word: &str) -> Refusal {
+    match word {
+        "unknown" => Refusal::Unknown,
+        "used" => Refusal::Used,
+        "no-parent" => Refusal::NoParent,
+        "done" => Refusal::Done,
+        "children" => Refusal::Children,
+        "waiting" => Refusal::Waiting,
+        "full" => Refusal::Full,
+        "store" => Refusal::Store,
+        _ => rt.panic(word),
     }
+}
+
+// An answer, spelled as in a report.
+fn answer(rt: &impl Abort, text: &str) -> Answer {
+    let (word, rest) = text.split_once(' ').unwrap_or((text, ""));
+    match word {
+        "ok" => Answer::Done(Reply::Ok),
+        "value" => Answer::Done(Reply::Value(number(rt, rest))),
+        "none" => Answer::Done(Reply::Absent),
+        "new" => Answer::Done(Reply::New(number(rt, rest))),
+        "overflow" => Answer::Done(Reply::Overflow),
+        "waits" => Answer::Waits,
+        "stuck" => Answer::Stuck,
+        "refused" => Answer::Refused(cause(rt, rest)),
+        "orphan" => Answer::Refused(Refusal::Orphan(name(rt, rest))),
+        _ => rt.panic(word),
+    }
+}
+
+/// The entry of a line, spelled as its number, what it asks and what it is answered.
+pub fn entry(rt: &impl Abort, text: &str) -> Entry {
+    let (asked, told) = text.split_once(" -> ").expect(rt, text);
+    let (number, asked) = asked.split_once(' ').expect(rt, text);
+    Entry {
+        by: line(number.parse().expect(rt, text)),
+        event: event(rt, asked),
+        answer: answer(rt, told),
+    }
+}
+
+// The most entries and rows of a test.
+const MOST_ENTRIES: usize = 32;
+
+const MOST_ROWS: usize = 4;
+
+// Room for so many.
+fn room<T>(rt: &impl Abort, alloc: Global, most: usize) -> Vec<T> {
+    match Vec::with_capacity(alloc, most) {
+        Ok(list) => list,
+        Err(_) => Vec::with_capacity(alloc, most).expect(rt, "memory"),
+    }
+}
+
+fn row(rt: &impl Abort, text: &str) -> Row {
+    let (what, value) = text.split_once('=').expect(rt, text);
+    Row {
+        key: key(rt, what),
+        value: number(rt, value),
+    }
+}
+
+// Rows as in `x=9 y=2`.
+fn rows(rt: &impl Abort, alloc: Global, text: &str) -> Vec<Row> {
+    let mut rows = room(rt, alloc, MOST_ROWS);
+    for word in text.split_whitespace() {
+        rows.push(row(rt, word)).expect(rt, "room");
+    }
+    rows
+}
+
+fn has_rows(table: &PlainTable, rows: &[Row]) -> bool {
+    table.len() == rows.len()
+        && rows
+            .iter()
+            .all(|row| table.get(&row.key) == Some(row.value))
 }
 
 fn name_of(event: &Event) -> &Name {
@@ -82,77 +147,59 @@ fn name_of(event: &Event) -> &Name {
     }
 }
 
-/// The most lines and rows of a test.
-const MOST_LINES: usize = 32;
-
-const MOST_ROWS: usize = 4;
-
-/// A manager, and the entries that it is due, the oldest first.
+// A manager, and the entries that it is due, the oldest first.
 #[derive(Drop)]
-pub struct Watched<S: TopStore> {
-    pub manager: Manager<S>,
-    pub due: Vec<Entry>,
+struct Watched<S: TopStore> {
+    alloc: Global,
+    manager: Manager<S>,
+    due: Vec<Entry>,
 }
 
-/// What a manager shows beside its history.
-#[derive(Clone, Copy, Debug, PartialEq)]
-struct Shown {
-    opening: [Option<Row>; MOST_ROWS],
-    table: [Option<Row>; MOST_ROWS],
-    // By the entries: whether their transactions wait, and whether their lines are free for an event.
-    waiting: [bool; MOST_LINES],
-    free: [bool; MOST_LINES],
+fn is_due<S: TopStore>(watched: &Watched<S>) -> bool {
+    watched.manager.history() == watched.due.as_slice()
 }
 
-fn look<S: TopStore>(watched: &Watched<S>, event: &Event) -> Shown {
-    let Watched { manager, due } = watched;
-    let mut shown = Shown {
-        opening: [None; MOST_ROWS],
-        table: [None; MOST_ROWS],
-        waiting: [false; MOST_LINES],
-        free: [false; MOST_LINES],
-    };
-    for place in 0..MOST_ROWS {
-        shown.opening[place] = manager.opening().get(place).copied();
-        if let Some((key, value)) = manager.table().at(place) {
-            shown.table[place] = Some(Row { key: *key, value });
-        }
+// What a manager shows beside its history, as a hash: both tables, and by the entries whether their transactions
+// wait, and whether their lines are free for what they asked and for a begin.
+fn look<S: TopStore>(watched: &Watched<S>) -> u64 {
+    let Watched { manager, due, .. } = watched;
+    let mut seen = DefaultHasher::new();
+    for row in manager.opening() {
+        (row.key, row.value).hash(&mut seen);
     }
-    for place in 0..MOST_LINES {
-        if let Some(entry) = due.get(place) {
-            shown.waiting[place] = manager.waiting(name_of(&entry.event));
-            shown.free[place] = manager.free(entry.by, event);
-        }
+    for place in 0..manager.table().len() {
+        manager.table().at(place).hash(&mut seen);
     }
-    shown
+    for Entry { by, event, .. } in due {
+        let name = name_of(event);
+        manager.waiting(name).hash(&mut seen);
+        manager.free(*by, event).hash(&mut seen);
+        manager.free(*by, &Event::Begin(*name)).hash(&mut seen);
+    }
+    seen.finish()
 }
 
-pub fn store_of(rt: &impl Abort, alloc: Global, rows: &[Row]) -> Result<MemStore, Fail> {
+fn is_as_before<S: TopStore>(watched: &Watched<S>, before: u64) -> bool {
+    is_due(watched) && look(watched) == before
+}
+
+pub fn store_of(rt: &impl Abort, alloc: Global, rows: &[Row]) -> MemStore {
     assert!(rt; are_rising(rows));
     match MemStore::new(alloc, rows) {
-        Ok(store) => Ok(store),
-        Err(_) => Ok(MemStore::new(alloc, rows)?),
+        Ok(store) => store,
+        Err(_) => MemStore::new(alloc, rows).expect(rt, "memory"),
     }
 }
 
-/// The watch over a manager without entries.
-pub fn watch<S: TopStore>(alloc: Global, manager: Manager<S>) -> Result<Watched<S>, Fail> {
-    let due = match Vec::with_capacity(alloc, MOST_LINES) {
-        Ok(due) => due,
-        Err(_) => Vec::with_capacity(alloc, MOST_LINES)?,
-    };
-    Ok(Watched { manager, due })
-}
-
-/// A manager over these rows.
-pub fn open(rt: &impl Abort, alloc: Global, rows: &[Row]) -> Result<Watched<MemStore>, Fail> {
-    let manager = match Manager::open(alloc, store_of(rt, alloc, rows)?) {
+// A manager over these rows.
+fn open(rt: &impl Abort, alloc: Global, rows: &[Row]) -> Manager<MemStore> {
+    let manager = match Manager::open(alloc, store_of(rt, alloc, rows)) {
         Ok(manager) => manager,
         // The store is gone with it.
-        Err(_) => Manager::open(alloc, store_of(rt, alloc, rows)?)?,
+        Err(_) => Manager::open(alloc, store_of(rt, alloc, rows)).expect(rt, "memory"),
     };
     assert!(rt; manager.opening() == rows);
-    watch(alloc, manager)
+    manager
 }
 
 /// The manager's call for an event.
@@ -175,8 +222,8 @@ pub fn call<S: TopStore>(
     }
 }
 
-// Adds what is due to a list that has room for it.
-fn note(rt: &impl Abort, due: &mut Vec<Entry>, by: By, event: &Event, answer: Answer) {
+// Adds an entry to those that are due, where there is room.
+fn owe(rt: &impl Abort, due: &mut Vec<Entry>, by: By, event: &Event, answer: Answer) {
     assert!(rt; due.len() < due.capacity());
     let entry = Entry {
         by,
@@ -206,134 +253,200 @@ fn check_line<S: TopStore>(
 }
 
 // Makes a call, by a line that has to be free.
-fn ask<S: TopStore>(
-    rt: &impl Abort,
-    watched: &mut Watched<S>,
-    by: By,
-    event: &Event,
-) -> Result<Outcome, Fail>
-    ensures { IfOk result (λ outcome. outcome ≡ Outcome.Waits → IsWaitOf watched.new.manager.history by event.now) }
+fn ask<S: TopStore>(rt: &impl Abort, watched: &mut Watched<S>, by: By, event: &Event) -> Outcome
+    ensures { result ≡ Outcome.Waits → IsWaitOf watched.new.manager.history by event.now }
 {
     assert!(rt; watched.manager.free(by, event));
-    let before = look(watched, event);
+    let before = look(watched);
     let outcome = match call(&mut watched.manager, by, event) {
         Ok(outcome) => outcome,
         Err(_) => {
-            assert!(rt; watched.manager.history() == watched.due.as_slice());
-            assert!(rt; look(watched, event) == before);
-            call(&mut watched.manager, by, event)?
+            assert!(rt; is_as_before(watched, before));
+            call(&mut watched.manager, by, event).expect(rt, "memory")
         }
     };
-    note(rt, &mut watched.due, by, event, outcome.answer());
-    assert!(rt; watched.manager.history() == watched.due.as_slice());
+    owe(rt, &mut watched.due, by, event, outcome.answer());
+    assert!(rt; is_due(watched));
     check_line(rt, &watched.manager, by, event, outcome);
-    Ok(outcome)
+    outcome
 }
 
-// Gives up an access that waits.
-fn give_up<S: TopStore>(
+// Asks again for an access that waits: it is answered by its own line, or waits on, and then nothing has changed.
+fn ask_again<S: TopStore>(
     rt: &impl Abort,
     watched: &mut Watched<S>,
     by: By,
     event: &Event,
-) -> Result<(), Fail>
+) -> Answer {
+    let name = name_of(event);
+    assert!(rt; watched.manager.waiting(name));
+    let before = look(watched);
+    let outcome = match watched.manager.retry(name) {
+        Ok(outcome) => outcome,
+        Err(_) => {
+            assert!(rt; is_as_before(watched, before));
+            assert!(rt; watched.manager.waiting(name));
+            watched.manager.retry(name).expect(rt, "memory")
+        }
+    };
+    if outcome == Outcome::Waits {
+        assert!(rt; is_as_before(watched, before));
+    } else {
+        owe(rt, &mut watched.due, by, event, outcome.answer());
+        assert!(rt; is_due(watched));
+        assert!(rt; !watched.manager.waiting(name));
+    }
+    outcome.answer()
+}
+
+// Gives up an access that waits.
+fn give_up<S: TopStore>(rt: &impl Abort, watched: &mut Watched<S>, by: By, event: &Event)
     requires { IsWaitOf watched.old.manager.history by event.now }
 {
-    let before = look(watched, event);
-    assert!(rt; watched.manager.waiting(name_of(event)));
+    let before = look(watched);
     if watched.manager.cancel(by, event).is_err() {
-        assert!(rt; watched.manager.history() == watched.due.as_slice());
-        assert!(rt; look(watched, event) == before);
-        watched.manager.cancel(by, event)?;
+        assert!(rt; is_as_before(watched, before));
+        watched.manager.cancel(by, event).expect(rt, "memory");
     }
-    note(rt, &mut watched.due, by, event, Answer::Stuck);
-    assert!(rt; watched.manager.history() == watched.due.as_slice());
+    owe(rt, &mut watched.due, by, event, Answer::Stuck);
+    assert!(rt; is_due(watched));
     assert!(rt; !watched.manager.waiting(name_of(event)));
-    Ok(())
 }
 
-/// Makes the calls of these lines in turn: each has to be answered so.
-pub fn tell<S: TopStore>(
-    rt: &impl Abort,
-    watched: &mut Watched<S>,
-    lines: &[(u32, &str, Answer)],
-) -> Result<(), Fail> {
-    for (number, text, want) in lines {
-        let event = event(text)?;
-        let mut answer = match ask(rt, watched, line(*number), &event)? {
-            Outcome::Waits if *want == STUCK => {
-                give_up(rt, watched, line(*number), &event)?;
-                STUCK
-            }
-            outcome => outcome.answer(),
-        };
-        // A store in memory has refused for want of memory: another line asks again.
-        if answer == refused(Refusal::Store) && *want == OK {
-            let again = line(number.saturating_add(1000));
-            answer = ask(rt, watched, again, &event)?.answer();
+const NOT_STORED: Answer = Answer::Refused(Refusal::Store);
+
+// Makes the call of a line, and gives its answer. A line that waits already asks again. Where an access is to be stuck
+// it is given up when it waits.
+fn answer_to<S: TopStore>(rt: &impl Abort, watched: &mut Watched<S>, line: &Entry) -> Answer {
+    let Entry { by, event, answer } = line;
+    if !watched.manager.free(*by, event) {
+        return ask_again(rt, watched, *by, event);
+    }
+    match ask(rt, watched, *by, event) {
+        Outcome::Waits if *answer == Answer::Stuck => {
+            give_up(rt, watched, *by, event);
+            Answer::Stuck
         }
-        assert!(rt; answer == *want, "line {number}: {text}");
+        outcome => outcome.answer(),
     }
-    Ok(())
 }
 
-/// Closes the manager: these have to be aborted, in this order, and no others.
-pub fn close<S: TopStore>(
-    rt: &impl Abort,
-    watched: &mut Watched<S>,
-    ended: &[&str],
-) -> Result<(), Fail> {
-    let event = event("begin a")?;
-    let before = look(watched, &event);
+// The line that asks once more.
+fn again(by: By) -> By {
+    match by {
+        By::Line { line: number, .. } => line(number.saturating_add(1000)),
+        other => other,
+    }
+}
+
+// A line has to be answered so.
+fn tell<S: TopStore>(rt: &impl Abort, watched: &mut Watched<S>, text: &str) {
+    let line = entry(rt, text);
+    let mut answer = answer_to(rt, watched, &line);
+    // A store in memory has refused for want of memory.
+    if answer == NOT_STORED && line.answer == Answer::Done(Reply::Ok) {
+        answer = ask(rt, watched, again(line.by), &line.event).answer();
+    }
+    assert!(rt; answer == line.answer, "{text}");
+}
+
+// The entries of a close that aborts these.
+fn owe_aborts(rt: &impl Abort, due: &mut Vec<Entry>, names: &str) {
+    for word in names.split_whitespace() {
+        let event = Event::Abort(name(rt, word));
+        owe(rt, due, By::Close, &event, Answer::Done(Reply::Ok));
+    }
+}
+
+// Closes the manager: these have to be aborted, in this order, and no others.
+fn close<S: TopStore>(rt: &impl Abort, watched: &mut Watched<S>, ended: &str) {
+    let before = look(watched);
     if watched.manager.close().is_err() {
-        assert!(rt; watched.manager.history() == watched.due.as_slice());
-        assert!(rt; look(watched, &event) == before);
-        watched.manager.close()?;
+        assert!(rt; is_as_before(watched, before));
+        watched.manager.close().expect(rt, "memory");
     }
-    for text in ended {
-        note(
-            rt,
-            &mut watched.due,
-            By::Close,
-            &Event::Abort(name(text)?),
-            OK,
-        );
-    }
-    assert!(rt; watched.manager.history() == watched.due.as_slice());
-    Ok(())
+    owe_aborts(rt, &mut watched.due, ended);
+    assert!(rt; is_due(watched));
 }
 
-fn rows_of<S: TopStore>(store: &mut S, alloc: Global) -> Result<Vec<Row>, Fail> {
+fn load<S: TopStore>(rt: &impl Abort, alloc: Global, store: &mut S) -> Vec<Row> {
     match store.load(alloc) {
-        Ok(rows) => Ok(rows),
-        Err(_) => Ok(store.load(alloc)?),
+        Ok(rows) => rows,
+        Err(_) => store.load(alloc).expect(rt, "memory"),
     }
 }
 
-/// Takes the manager apart: its table and its store have these rows, and each fault of the store is an entry.
-pub fn leaves<S: TopStore>(
+// The history is the one that is due, the table and the store have these rows, and each fault of the store is an entry.
+fn check_parts<S: TopStore>(
     rt: &impl Abort,
     alloc: Global,
-    watched: Watched<S>,
+    parts: &mut Parts<S>,
+    due: &[Entry],
     rows: &[Row],
-) -> Result<(), Fail> {
-    let Watched { manager, due } = watched;
+) {
+    assert!(rt; parts.history.as_slice() == due);
+    assert!(rt; has_rows(&parts.table, rows));
+    let faults = due
+        .iter()
+        .filter(|entry| entry.answer == NOT_STORED)
+        .count();
+    assert!(rt; parts.store.faults() == faults as u64);
+    assert!(rt; load(rt, alloc, &mut parts.store).as_slice() == rows);
+}
+
+// Takes the manager apart.
+fn leaves<S: TopStore>(rt: &impl Abort, watched: Watched<S>, text: &str) {
+    let Watched {
+        alloc,
+        manager,
+        due,
+    } = watched;
     let first = manager.opening().first().copied();
-    let Parts {
-        opening,
-        history,
-        table,
-        mut store,
-    } = manager.into_parts();
-    assert!(rt; opening.first().copied() == first);
-    assert!(rt; history == due);
-    assert_eq!(rt; table.len(), rows.len());
-    for row in rows {
-        assert!(rt; table.get(&row.key) == Some(row.value));
+    let mut parts = manager.into_parts();
+    assert!(rt; parts.opening.first().copied() == first);
+    check_parts(rt, alloc, &mut parts, &due, &rows(rt, alloc, text));
+}
+
+fn check_table<S: TopStore>(rt: &impl Abort, watched: &Watched<S>, text: &str) {
+    let rows = rows(rt, watched.alloc, text);
+    assert!(rt; has_rows(watched.manager.table(), &rows), "table {text}");
+}
+
+// A line of a script: a call with its answer, `close` with what has to be aborted, or `table` with its rows.
+fn step<S: TopStore>(rt: &impl Abort, watched: &mut Watched<S>, text: &str) {
+    let (word, rest) = text.split_once(' ').unwrap_or((text, ""));
+    match word {
+        "close" => close(rt, watched, rest),
+        "table" => check_table(rt, watched, rest),
+        _ => tell(rt, watched, text),
     }
-    let is_fault = |entry: &Entry| entry.answer == refused(Refusal::Store);
-    let faults = history.iter().filter(|entry| is_fault(entry)).count();
-    assert!(rt; store.faults() == faults as u64);
-    assert!(rt; rows_of(&mut store, alloc)?.as_slice() == rows);
-    Ok(())
+}
+
+/// Plays a script to its end: what is left then has these rows.
+pub fn play_over<S: TopStore>(
+    rt: &impl Abort,
+    alloc: Global,
+    manager: Manager<S>,
+    script: &str,
+    rows: &str,
+) {
+    let due = room(rt, alloc, MOST_ENTRIES);
+    let mut watched = Watched {
+        alloc,
+        manager,
+        due,
+    };
+    for text in script.lines() {
+        let text = text.trim();
+        if !text.is_empty() {
+            step(rt, &mut watched, text);
+        }
+    }
+    leaves(rt, watched, rows);
+}
+
+/// Plays a script over a store in memory of the first rows: what is left has the last.
+pub fn play(rt: &impl Abort, alloc: Global, opening: &str, script: &str, left: &str) {
+    let manager = open(rt, alloc, &rows(rt, alloc, opening));
+    play_over(rt, alloc, manager, script, left);
 }
