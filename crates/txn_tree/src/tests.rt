@@ -5,6 +5,10 @@ use std::hash::{DefaultHasher, Hash, Hasher};
 use std::process::Abort;
 use txn_names::Name;
 
+fn name(rt: &impl Abort, text: &str) -> Name {
+    Name::parse(text.as_bytes()).expect(rt, text)
+}
+
 // A cause, spelled as in a report.
 fn cause_of(text: &str) -> Option<Refusal> {
     match text {
@@ -35,19 +39,28 @@ fn is_number(text: &str, number: u32) -> bool {
     text.parse().ok() == Some(number)
 }
 
-// A begin gives the next number, by which the name is found. A refused one leaves the tree.
-fn begins(tree: &mut Tree, name: &Name, want: &str) -> bool {
-    let count = tree.len();
+// A begin gives this number, the next one, by which the name is found.
+fn begins_at(tree: &mut Tree, name: &Name, place: u32) -> bool {
     match tree.begin(name) {
         Ok(number) => {
-            is_number(want, number.place())
-                && number.place() as usize == count
-                && tree.len() == number.place() as usize + 1
+            number.place() == place
+                && tree.len() == place as usize + 1
                 && tree.no_of(name) == Some(number)
                 && tree.name_of(number).copied() == Some(*name)
         }
+        Err(_) => false,
+    }
+}
+
+// A refused begin leaves the tree.
+fn begins(tree: &mut Tree, name: &Name, want: &str) -> bool {
+    if let Ok(place) = want.parse() {
+        return begins_at(tree, name, place);
+    }
+    let count = tree.len();
+    match tree.begin(name) {
         Err(TreeFault::Refused(cause)) => cause_of(want) == Some(cause) && tree.len() == count,
-        Err(TreeFault::NoMemory) => false,
+        _ => false,
     }
 }
 
@@ -65,20 +78,24 @@ fn aborts(tree: &mut Tree, name: &Name, want: &str) -> bool {
     }
 }
 
+fn is_answered_so(tree: &mut Tree, verb: &str, name: &Name, want: &str) -> bool {
+    match verb {
+        "begin" => begins(tree, name, want),
+        "commit" => commits(tree, name, want),
+        "abort" => aborts(tree, name, want),
+        "children" => is_number(want, tree.live_children(name)),
+        "status" => status_of(want) == Some(tree.status(name)),
+        _ => false,
+    }
+}
+
 // What a line asks of the tree, and what it is answered.
 fn step(rt: &impl Abort, tree: &mut Tree, text: &str) {
     let (asked, want) = text.split_once(" -> ").expect(rt, text);
-    let (verb, name) = asked.split_once(' ').expect(rt, text);
-    let name = Name::parse(name.as_bytes()).expect(rt, text);
-    let is_answered_so = match verb {
-        "begin" => begins(tree, &name, want),
-        "commit" => commits(tree, &name, want),
-        "abort" => aborts(tree, &name, want),
-        "children" => is_number(want, tree.live_children(&name)),
-        "status" => status_of(want) == Some(tree.status(&name)),
-        _ => false,
-    };
-    assert!(rt; is_answered_so, "{text}");
+    let (verb, who) = asked.split_once(' ').expect(rt, text);
+    if !is_answered_so(tree, verb, &name(rt, who), want) {
+        rt.panic(text);
+    }
 }
 
 // Asks these lines in turn. What fails ends the process, so that no tree is dropped on the way.
@@ -104,8 +121,12 @@ fn greatest<T: Ord + Copy>(a: T, b: T) -> T {
 #[test]
 fn compares_numbers(rt: HostRuntime) {
     let (early, late) = (TxnNo::new(1), TxnNo::new(2));
-    assert_eq!(rt; greatest(late, early), late);
-    assert_ne!(rt; hash_of(&early), hash_of(&late));
+    assert!(rt; greatest(late, early) == late);
+    assert!(rt; hash_of(&early) != hash_of(&late));
+}
+
+fn lacks(tree: &Tree, name: &Name, number: TxnNo) -> bool {
+    tree.no_of(name) == None && tree.name_of(number) == None
 }
 
 #[test]
@@ -119,10 +140,8 @@ fn numbers_in_order_of_beginning(rt: HostRuntime) {
         begin b/l -> 3
     ";
     play(&rt, &mut tree, script);
-    assert_eq!(rt; tree.len(), 4);
-    let other = Name::parse(b"c").expect(&rt, "a name");
-    assert!(rt; tree.no_of(&other) == None);
-    assert!(rt; tree.name_of(TxnNo::new(4)) == None);
+    assert!(rt; tree.len() == 4);
+    assert!(rt; lacks(&tree, &name(&rt, "c"), TxnNo::new(4)));
 }
 
 // Own states stay below the aborted one.
@@ -201,8 +220,8 @@ fn name_at(rt: &impl Abort, place: usize) -> Name {
 fn refuses_past_the_limit(rt: HostRuntime) {
     let mut tree = Tree::new(rt.alloc());
     for place in 0..MOST_TRANSACTIONS {
-        let number = tree.begin(&name_at(&rt, place)).expect(&rt, "begun");
-        assert_eq!(rt; number.place() as usize, place);
+        let name = name_at(&rt, place);
+        assert!(rt; begins_at(&mut tree, &name, place as u32), "{place}");
     }
     let script = "
         begin last -> refused full
