@@ -1,17 +1,17 @@
--- Those who have locks and those who have begun, gone through for one who keeps another out.
+-- Those who have places and those who have begun, gone through for one who keeps another out.
 use Rattle.std.proofs.Common.{◌≡◌, ℕ, zero, suc, ◌+◌, ◌<◌, ◌≤◌, nat_eq, Bool, true, false, not, ◌&&◌, ◌||◌, cond, filter, List, [], ◌∷◌, ◌++◌, length, Option, Some, None, is_some, unwrap_or, inl, inr, refl, sym, ap, subst, ◌∙◌, add-one, true≢false, arith}
 use Rattle.std.specs.Prelude.{slice_get}
 use Rattle.std.specs.List.{list_any, range_with_len}
-use Rattle.std.specs.Map.{lookup, keys_of}
 use Rattle.std.proofs.lemmas.Bool.{and_parts, false≢true, or_left, or_right, or_cases, cases_lt, eqb-true}
 use Rattle.std.proofs.lemmas.List.Elements.{filter-append}
 use Rattle.std.proofs.lemmas.Option.{slice_get_within}
 use Rattle.txn_tree.specs.States.{States, names}
 use Rattle.serial_spec.specs.declared.operation.Kind.{Kind}
 use Rattle.serial_spec.specs.Locks.{conflicts}
-use Rattle.lock_table.specs.Locked.{Table, Keys, modes_in, modes_at, whole}
+use Rattle.txn_cells.specs.Cells.{content, holders}
+use Rattle.lock_table.specs.declared.modes.Modes.{Modes}
+use Rattle.lock_table.specs.Locked.{Table, modes_in, whole, free}
 use Rattle.lock_table.specs.Blocking.{is_under, has_number, is_blocker_in, numbers, is_blocked_in}
-use Rattle.lock_table.proofs.Puts.{on_number}
 
 -- ---- numbers
 
@@ -36,15 +36,25 @@ any_in_range p a (suc n) u above within e =
       | inr here ↦ let same : u ≡ a = omega arith in or_left (p a) (list_any p (range_with_len (a + 1) n)) (subst (λ (v : ℕ). p v ≡ true) same e)
     ]
 
--- ---- keys
+-- ---- those that pass
 
-any_in_keys : {X : Type 0} (p : ℕ → Bool) (es : List (ℕ × X)) (u : ℕ) → is_some (lookup (nat_eq u) es) ≡ true → p u ≡ true → list_any p (keys_of es) ≡ true
-any_in_keys p [] u there e = absurd (false≢true there)
-any_in_keys p (x ∷ es) u there e =
-    on_number u x.0 (λ b. is_some (cond b (Some x.1) (lookup (nat_eq u) es)) ≡ true → (p x.0 || list_any p (keys_of es)) ≡ true)
-    (λ same _. or_left (p x.0) (list_any p (keys_of es)) (subst (λ (v : ℕ). p v ≡ true) same e))
-    (λ _ later. or_right (p x.0) (list_any p (keys_of es)) (any_in_keys p es u later e))
-    there
+any_of_those : (p : ℕ → Bool) (ns : List ℕ) (u : ℕ) → list_any (nat_eq u) ns ≡ true → p u ≡ true → list_any p ns ≡ true
+any_of_those p [] u there e = absurd (false≢true there)
+any_of_those p (n ∷ ns) u there e =
+    elim (or_cases (nat_eq u n) (list_any (nat_eq u) ns) there) [
+      | inl here ↦ or_left (p n) (list_any p ns) (subst (λ (v : ℕ). p v ≡ true) (eqb-true u n here) e)
+      | inr later ↦ or_right (p n) (list_any p ns) (any_of_those p ns u later e)
+    ]
+
+-- none passes where none passes at any place
+pub none_at_places : (p : ℕ → Bool) (ns : List ℕ) → ((i u : ℕ) → slice_get ns i ≡ Some u → p u ≡ false) → list_any p ns ≡ false
+none_at_places p [] none = refl
+none_at_places p (n ∷ ns) none = ap (λ b. b || list_any p ns) (none 0 n refl) ∙ none_at_places p ns (λ i u at. none (suc i) u at)
+
+pub any_at_place : (p : ℕ → Bool) (ns : List ℕ) (i u : ℕ) → slice_get ns i ≡ Some u → p u ≡ true → list_any p ns ≡ true
+any_at_place p [] i u at e = absurd (false≢true (ap is_some at))
+any_at_place p (n ∷ ns) zero u at e = or_left (p n) (list_any p ns) (subst (λ (o : Option ℕ). p (unwrap_or o n) ≡ true) (sym at) e)
+any_at_place p (n ∷ ns) (suc i) u at e = or_right (p n) (list_any p ns) (any_at_place p ns i u at e)
 
 -- some item passes
 witness : {X : Type 0} (p : X → Bool) (xs : List X) → list_any p xs ≡ true → (x : X) × (p x ≡ true)
@@ -71,21 +81,22 @@ module _ (tree : States) (table : Table) (t : ℕ) (k : List ℕ) (x : Kind) whe
       by None at h = absurd (false≢true h)
       by (Some n) at h = slice_get_within (names tree) u n at
 
-  -- and has a list of keys
-  keys_of_blocker : (u : ℕ) → is_blocker_in tree table t k x u ≡ true → is_some (lookup (nat_eq u) table) ≡ true
-  keys_of_blocker u e = by (lookup (nat_eq u) table) (and_parts (not (is_under tree u t)) (conflicts (whole (modes_in table u k)) x) (and_parts (has_number tree u) _ e).1).1
+  -- and has something at the key
+  has_content : (u : ℕ) → is_blocker_in tree table t k x u ≡ true → is_some (content table u k) ≡ true
+  has_content u e = by (content table u k) (and_parts (not (is_under tree u t)) (conflicts (whole (modes_in table u k)) x) (and_parts (has_number tree u) _ e).1).1
     where
-      by : (o : Option Keys) → conflicts (whole (modes_at (unwrap_or o []) k)) x ≡ true → is_some o ≡ true
+      by : (o : Option Modes) → conflicts (whole (unwrap_or o free)) x ≡ true → is_some o ≡ true
       by None h = absurd (false≢true h)
-      by (Some keys) h = refl
+      by (Some modes) h = refl
 
-  -- it is the same to look among those who have locks
-  pub among_holders : list_any (is_blocker_in tree table t k x) (keys_of table) ≡ is_blocked_in tree table t k x
-  among_holders =
+  -- it is the same to look among those who have places
+  pub among_holders : ((u : ℕ) (q : List ℕ) → is_some (content table u q) ≡ true → list_any (nat_eq u) (holders table) ≡ true)
+      → list_any (is_blocker_in tree table t k x) (holders table) ≡ is_blocked_in tree table t k x
+  among_holders all =
       let blocks = is_blocker_in tree table t k x in
-      same_tests (list_any blocks (keys_of table)) (is_blocked_in tree table t k x)
+      same_tests (list_any blocks (holders table)) (is_blocked_in tree table t k x)
       (λ e.
-      let w = witness blocks (keys_of table) e in
+      let w = witness blocks (holders table) e in
       let begun = number_of w.0 w.1 in
       any_in_range blocks 0 (length (names tree)) w.0 (omega arith) (omega (arith, begun)) w.1)
-      (λ e. let w = witness blocks (numbers tree) e in any_in_keys blocks table w.0 (keys_of_blocker w.0 w.1) w.1)
+      (λ e. let w = witness blocks (numbers tree) e in any_of_those blocks (holders table) w.0 (all w.0 k (has_content w.0 w.1)) w.1)

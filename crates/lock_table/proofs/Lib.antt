@@ -1,4 +1,1 @@
-pub mod Puts
-pub mod Handing
-pub mod Reserving
 pub mod Blockers

@@ -1,2 +1,3 @@
+pub mod Inherited
 pub mod Locked
 pub mod Blocking

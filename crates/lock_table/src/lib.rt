@@ -1,7 +1,6 @@
 //! The locks of transactions: how far each one locks each key, and who keeps whom out (Moss 1981).
 #![tactic(auto)]
 
-mod keys;
 mod locks;
 mod modes;
 

@@ -1,17 +1,14 @@
 //! The table of locks.
-ghost use Rattle.std.specs.Prelude.{◌≡◌, length, option_map, slice_get, ◌&&◌, ◌||◌, not, nat_eq, [], IsOk, IsTrue, IfOk, IfSome, IsSome, OnErr, OnOk, List, ℕ, if◌then◌else◌};
-ghost use Rattle.std.specs.Map.{lookup};
-ghost use Rattle.txn_names.specs.Path.{label_eq};
+ghost use Rattle.std.specs.Prelude.{◌≡◌, ◌&&◌, not, nat_eq, [], IsOk, IsTrue, IfOk, IfSome, OnOk, List, ℕ, if◌then◌else◌};
 ghost use Rattle.serial_spec.specs.Locks.{mode_of};
-ghost use Rattle.lock_table.specs.Locked.{free, handed_up, has_place, has_place_at, held_by, keys_in, modes_at, modes_in, whole, with_retained};
+ghost use Rattle.lock_table.specs.Locked.{free, handed_up, has_place, held_by, modes_in};
 ghost use Rattle.lock_table.specs.Blocking.{blockers_in, is_blocked_in, is_blocker_in, is_under};
 
-use crate::keys::Keys;
 use crate::modes::{FREE, Modes};
-use indexmap::IndexMap;
 use serial_spec::{Kind, Mode, NoMemory};
-use std::alloc::{AllocError, Global};
+use std::alloc::Global;
 use std::marker::Model;
+use txn_cells::{CellTable, is_under};
 use txn_names::Key;
 use txn_tree::{Tree, TxnNo};
 
@@ -20,7 +17,7 @@ use txn_tree::{Tree, TxnNo};
 #[derive(Drop)]
 pub struct Locks {
     alloc: Global,
-    table: IndexMap<TxnNo, Keys>,
+    table: CellTable<Modes>,
 }
 
 impl Model for Locks {
@@ -28,17 +25,7 @@ impl Model for Locks {
 
     ghost Value = { Table };
 
-    ghost view = { λ l. l.table.entries };
-}
-
-// Whether both have begun, and the inferior is the transaction or below it.
-fn is_under(tree: &Tree, txn: TxnNo, inferior: TxnNo) -> bool
-    ensures { result ≡ is_under tree.now txn inferior }
-{
-    match (tree.name_of(txn), tree.name_of(inferior)) {
-        (Some(name), Some(below)) => name.is_ancestor_or_self(below),
-        _ => false,
-    }
+    ghost view = { λ l. l.table };
 }
 
 impl Locks {
@@ -48,17 +35,14 @@ impl Locks {
     {
         Locks {
             alloc,
-            table: IndexMap::new(alloc),
+            table: CellTable::new(alloc),
         }
     }
 
     fn modes(&self, txn: TxnNo, key: &Key) -> Modes
         ensures { result ≡ modes_in self.now txn key.now }
     {
-        match self.table.get(&txn) {
-            Some(keys) => keys.modes(key),
-            None => FREE,
-        }
+        self.table.get(txn, key).unwrap_or(FREE)
     }
 
     /// The modes in which the transaction locks the key: held, and retained.
@@ -85,9 +69,11 @@ impl Locks {
     pub fn may(&self, tree: &Tree, txn: TxnNo, key: &Key, kind: Kind) -> bool
         ensures { result ≡ not (is_blocked_in tree.now self.now txn key.now kind) }
     {
-        for holder in self.table.keys() {
-            if self.is_blocker(tree, txn, key, kind, *holder) {
-                return false;
+        for place in 0..self.table.len() {
+            if let Some(holder) = self.table.holder_at(place) {
+                if self.is_blocker(tree, txn, key, kind, holder) {
+                    return false;
+                }
             }
         }
         true
@@ -113,44 +99,6 @@ impl Locks {
         Ok(found)
     }
 
-    fn has_place(&self, txn: TxnNo, key: &Key) -> bool
-        ensures { result ≡ has_place self.now txn key.now }
-    {
-        match self.table.get(&txn) {
-            Some(keys) => keys.has_place(key),
-            None => false,
-        }
-    }
-
-    // Gives the transaction a list of keys, if it has none.
-    fn add_keys(&mut self, txn: TxnNo) -> Result<(), NoMemory>
-        ensures keys { (u : ℕ) → keys_in self.new u ≡ keys_in self.old u }
-        ensures ok { OnOk result (IsSome (lookup (nat_eq txn) self.new)) }
-    {
-        if self.table.contains_key(&txn) {
-            return Ok(());
-        }
-        match self.table.insert(txn, Keys::new(self.alloc)) {
-            Ok(_) => Ok(()),
-            Err(_) => Err(AllocError),
-        }
-    }
-
-    // Makes a place for the transaction and the key, if there is none.
-    fn make_place(&mut self, txn: TxnNo, key: &Key) -> Result<(), NoMemory>
-        ensures ok { OnOk result (IsTrue (has_place self.new txn key.now)) }
-        ensures modes { (u : ℕ) → (q : List ℕ) → modes_in self.new u q ≡ modes_in self.old u q }
-        ensures places { (u : ℕ) → (q : List ℕ) → IsTrue (has_place self.old u q) → IsTrue (has_place self.new u q) }
-        ensures succeeds { IsTrue (has_place self.old txn key.now) → IsOk result }
-        ensures others { (u : ℕ) → (u ≡ txn → ⊥) → keys_in self.new u ≡ keys_in self.old u }
-    {
-        if self.has_place(txn, key) {
-            return Ok(());
-        }
-        self.add_keys(txn)?;
-        self.table.get_mut(&txn).unwrap().add_place(key)
-    }
-
     /// Makes a place for the transaction and the key, if there is none, so that it can be locked without memory. No lock
     /// changes, and no place goes.
     pub fn reserve(&mut self, txn: TxnNo, key: &Key) -> Result<(), NoMemory>
@@ -159,7 +107,7 @@ impl Locks {
         ensures places { (u : ℕ) → (q : List ℕ) → IsTrue (has_place self.old u q) → IsTrue (has_place self.new u q) }
         ensures succeeds { IsTrue (has_place self.old txn key.now) → IsOk result }
     {
-        self.make_place(txn, key)
+        self.table.reserve(txn, key)
     }
 
     /// Makes a place for the parent and each key of the child, so that the child's locks can be handed up without memory.
@@ -169,32 +117,7 @@ impl Locks {
         ensures modes { (u : ℕ) → (q : List ℕ) → modes_in self.new u q ≡ modes_in self.old u q }
         ensures places { (u : ℕ) → (q : List ℕ) → IsTrue (has_place self.old u q) → IsTrue (has_place self.new u q) }
     {
-        if child == parent {
-            return Ok(());
-        }
-        for place in 0..self.count_of(child) {
-            if let Some(key) = self.key_at(child, place) {
-                self.make_place(parent, &key)?;
-            }
-        }
-        Ok(())
-    }
-
-    // How many keys the transaction has a place for.
-    fn count_of(&self, txn: TxnNo) -> usize
-        ensures { result ≡ length (keys_in self.now txn) }
-    {
-        match self.table.get(&txn) {
-            Some(keys) => keys.len(),
-            None => 0,
-        }
-    }
-
-    // The key at this place of the transaction's list.
-    fn key_at(&self, txn: TxnNo, place: usize) -> Option<Key>
-        ensures { result ≡ option_map (λ e. e.0) (slice_get (keys_in self.now txn) place) }
-    {
-        self.table.get(&txn)?.key_at(place)
+        self.table.reserve_for_parent(child, parent)
     }
 
     /// Locks the key for an access of the transaction's own: what it holds is raised to the mode of this kind. It takes
@@ -204,7 +127,9 @@ impl Locks {
         ensures modes { (u : ℕ) → (q : List ℕ) → modes_in self.new u q ≡ held_by self.old txn key.now (mode_of kind) u q }
         ensures places { (u : ℕ) → (q : List ℕ) → has_place self.new u q ≡ has_place self.old u q }
     {
-        self.table.get_mut(&txn).unwrap().hold(key, kind);
+        let modes = self.modes(txn, key);
+        let held = Mode::of(kind).greater(modes.held);
+        self.table.set(txn, key, Modes { held, ..modes });
     }
 
     /// Hands a committed child's locks up: it has none any more, and its parent retains each in the child's whole mode.
@@ -214,25 +139,7 @@ impl Locks {
         ensures modes { (u : ℕ) → (q : List ℕ) → modes_in self.new u q ≡ handed_up self.old child parent u q }
         ensures places { (u : ℕ) → (q : List ℕ) → has_place self.new u q ≡ (not (nat_eq child u) && has_place self.old u q) }
     {
-        if let Some(keys) = self.table.swap_remove(&child) {
-            if let Some(parent) = parent {
-                if parent != child {
-                    self.inherit(parent, &keys);
-                }
-            }
-        }
-    }
-
-    // The transaction retains each of these keys in its whole mode.
-    fn inherit(&mut self, txn: TxnNo, child: &Keys)
-        requires places { (q : List ℕ) → IsTrue (has_place_at child.now q) → IsTrue (has_place self.old txn q) }
-        ensures modes { (u : ℕ) → (q : List ℕ) →
-            modes_in self.new u q ≡ (if nat_eq txn u then with_retained (modes_in self.old u q) (whole (modes_at child.now q)) else modes_in self.old u q) }
-        ensures places { (u : ℕ) → (q : List ℕ) → has_place self.new u q ≡ has_place self.old u q }
-    {
-        if let Some(keys) = self.table.get_mut(&txn) {
-            keys.inherit(child);
-        }
+        self.table.hand_up(child, parent);
     }
 
     /// Drops the locks of the transaction and of all below it. It takes no memory.
@@ -240,6 +147,6 @@ impl Locks {
         ensures modes { (u : ℕ) → (q : List ℕ) → modes_in self.new u q ≡ (if is_under tree.now txn u then free else modes_in self.old u q) }
         ensures places { (u : ℕ) → (q : List ℕ) → has_place self.new u q ≡ (not (is_under tree.now txn u) && has_place self.old u q) }
     {
-        self.table.retain(|holder, _| !is_under(tree, txn, *holder));
+        self.table.drop_under(tree, txn);
     }
 }

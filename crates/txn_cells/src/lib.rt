@@ -1,0 +1,13 @@
+//! A cell for each transaction and key, made beforehand, so that what a transaction has at a key is set, inherited and
+//! dropped without memory.
+#![tactic(auto)]
+
+mod cells;
+mod inherit;
+mod table;
+
+pub use inherit::Inherit;
+pub use table::{CellTable, is_under};
+
+#[cfg(test)]
+mod tests;
