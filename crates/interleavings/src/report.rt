@@ -30,14 +30,14 @@ impl Model for Report {
       opening = plain r.opening.items;
       labels = r.labels.items;
       history = reverse r.history.items;
-      table = r.table;
+      table = r.table.rows;
     } };
 
     ghost invariant = { λ r. IsReport (record {
       opening = plain r.opening.items;
       labels = r.labels.items;
       history = reverse r.history.items;
-      table = r.table;
+      table = r.table.rows;
     }) };
 }
 
@@ -67,7 +67,7 @@ impl Report {
 
     /// The table that the committed top-level transactions left.
     pub fn table(&self) -> &PlainTable
-        ensures table { result.now ≡ self.now.table }
+        ensures table { result.now.rows ≡ self.now.table }
         ensures report { IsReport self.now }
     {
         &self.table

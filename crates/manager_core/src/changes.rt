@@ -40,7 +40,7 @@ pub(crate) fn changes_of(
     table: &PlainTable,
     name: &Name,
 ) -> Result<Vec<Change>, NoMemory>
-    requires { (k : List ℕ) → value_in table.now k ≡ seen (value_in log.now.rows) log.now.entries [] k }
+    requires { (k : List ℕ) → value_in table.now.rows k ≡ seen (value_in log.now.rows) log.now.entries [] k }
     ensures { IfOk result (λ changes. IsChanges (value_in log.now.rows) log.now.entries name.now changes.items) }
 {
     let written = written_keys(alloc, log, name)?;

@@ -106,7 +106,7 @@ fn is_full_for(log: &Log, key: &Key) -> bool
 
 /// What the transaction sees at the key: what the deepest of itself and its ancestors left there, else the table's.
 pub(crate) fn value_for(log: &Log, table: &PlainTable, name: &Name, key: &Key) -> Option<i64>
-    requires { (k : List ℕ) → value_in table.now k ≡ seen (value_in log.now.rows) log.now.entries [] k }
+    requires { (k : List ℕ) → value_in table.now.rows k ≡ seen (value_in log.now.rows) log.now.entries [] k }
     ensures { result ≡ seen (value_in log.now.rows) log.now.entries name.now key.now }
 {
     let mut depth = name.depth();

@@ -53,14 +53,14 @@ impl<S: TopStore> Model for Manager<S> {
       rows = m.log.rows;
       opened = m.opened;
       history = m.log.entries;
-      table = m.table;
+      table = m.table.rows;
       store = m.store;
     } };
 
     ghost invariant = { λ m.
-        IsKept m.log.rows m.log.entries m.tree m.marks m.table
+        IsKept m.log.rows m.log.entries m.tree m.marks m.table.rows
         × AreLocksOf m.log.entries m.tree m.locks
-        × IsBacked S.TopStore m.log.entries m.table m.opened m.store };
+        × IsBacked S.TopStore m.log.entries m.table.rows m.opened m.store };
 }
 
 /// What is left where a manager is taken apart.
@@ -397,7 +397,7 @@ impl<S: TopStore> Manager<S> {
 
     /// The table that the committed top-level transactions left.
     pub fn table(&self) -> &PlainTable
-        ensures table { result.now ≡ self.now.table }
+        ensures table { result.now.rows ≡ self.now.table }
         ensures sound { IsSound S.TopStore self.now }
     {
         &self.table
@@ -414,7 +414,7 @@ impl<S: TopStore> Manager<S> {
     pub fn into_parts(self) -> Parts<S>
         ensures opening { plain result.opening.items ≡ self.rows }
         ensures history { reverse result.history.items ≡ self.history }
-        ensures table { result.table ≡ self.table }
+        ensures table { result.table.rows ≡ self.table }
         ensures store { result.store ≡ self.store }
     {
         let Manager {

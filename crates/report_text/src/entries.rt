@@ -34,8 +34,8 @@ pub(crate) fn put_row_line<W: Write>(out: &mut W, key: &Key, value: i64) -> Resu
 
 // The row at this place, if there is one.
 fn put_row_at<W: Write>(out: &mut W, table: &PlainTable, place: usize) -> Result<(), WriteFault>
-    ensures ok { OnOk result (Appends (W.contents out.old) (W.contents out.new) (row_lines (slice_get table.now place))) }
-    ensures err { OnErr result (AppendsFront (W.contents out.old) (W.contents out.new) (row_lines (slice_get table.now place))) }
+    ensures ok { OnOk result (Appends (W.contents out.old) (W.contents out.new) (row_lines (slice_get table.now.rows place))) }
+    ensures err { OnErr result (AppendsFront (W.contents out.old) (W.contents out.new) (row_lines (slice_get table.now.rows place))) }
 {
     match table.at(place) {
         Some((key, value)) => put_row_line(out, key, value),
@@ -44,8 +44,8 @@ fn put_row_at<W: Write>(out: &mut W, table: &PlainTable, place: usize) -> Result
 }
 
 pub(crate) fn put_table<W: Write>(out: &mut W, table: &PlainTable) -> Result<(), WriteFault>
-    ensures ok { OnOk result (Appends (W.contents out.old) (W.contents out.new) (spelled_rows table.now)) }
-    ensures err { OnErr result (AppendsFront (W.contents out.old) (W.contents out.new) (spelled_rows table.now)) }
+    ensures ok { OnOk result (Appends (W.contents out.old) (W.contents out.new) (spelled_rows table.now.rows)) }
+    ensures err { OnErr result (AppendsFront (W.contents out.old) (W.contents out.new) (spelled_rows table.now.rows)) }
 {
     for place in 0..table.len() {
         put_row_at(out, table, place)?;

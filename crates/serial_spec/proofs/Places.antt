@@ -146,14 +146,18 @@ rising_remove [] (suc i) h = tt
 rising_remove (r ∷ rows) zero h = h.1
 rising_remove (r ∷ rows) (suc i) h = (all_remove (λ q. slice_cmp nat_cmp r.0 q ≡ Less) rows i h.0, rising_remove rows i h.1)
 
-unchanged_at : (rows : Rows) (k : List ℕ) → IsRising rows → Missing rows k → (q : List ℕ) → value_in rows q ≡ put (value_in rows) k None q
-unchanged_at rows k h f q =
-    on_test (label_eq k q) (λ b. label_eq k q ≡ b → value_in rows q ≡ cond b None (value_in rows q))
-    (λ t _. ap (value_in rows) (sym (same_label k q t)) ∙ value_in-rank rows k h ∙ none_of (matching (slice_get rows (rank rows k)) k) f) (λ _ _. refl) refl
+-- a key that has no row at its place has none
+pub value_in-missing : (rows : Rows) (k : List ℕ) → IsRising rows → Missing rows k → value_in rows k ≡ None
+value_in-missing rows k h f = value_in-rank rows k h ∙ none_of (matching (slice_get rows (rank rows k)) k) f
   where
     none_of : (o : Option ℤ) → is_some o ≡ false → o ≡ None
     none_of None e = refl
     none_of (Some v) e = absurd (true≢false e)
+
+unchanged_at : (rows : Rows) (k : List ℕ) → IsRising rows → Missing rows k → (q : List ℕ) → value_in rows q ≡ put (value_in rows) k None q
+unchanged_at rows k h f q =
+    on_test (label_eq k q) (λ b. label_eq k q ≡ b → value_in rows q ≡ cond b None (value_in rows q))
+    (λ t _. ap (value_in rows) (sym (same_label k q t)) ∙ value_in-missing rows k h f) (λ _ _. refl) refl
 
 -- ---- the same, of whole maps
 

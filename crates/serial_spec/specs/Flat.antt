@@ -86,6 +86,6 @@ first_wrong m (s ∷ ss) =
 
 -- a run, after these accesses
 pub record HasRun (old new : Run) (ss : List Step) : Type 0 where
-  pub table : value_in new.table ≡ after_steps (value_in old.table) ss
+  pub table : value_in new.table.rows ≡ after_steps (value_in old.table.rows) ss
   pub count : new.count ≡ old.count + length ss
-  pub wrong : new.wrong ≡ or_else old.wrong (option_map (λ i. old.count + i) (first_wrong (value_in old.table) ss))
+  pub wrong : new.wrong ≡ or_else old.wrong (option_map (λ i. old.count + i) (first_wrong (value_in old.table.rows) ss))

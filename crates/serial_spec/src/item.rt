@@ -66,9 +66,9 @@ impl Run {
 /// than `act` gives there, or None where there is none. Want of memory is the only error, and leaves the
 /// table as before; more accesses than a usize counts are taken for it.
 pub fn run_items(table: &mut PlainTable, items: &[Item]) -> Result<Option<usize>, NoMemory>
-    ensures table { OnOk result (value_in table.new ≡ map_after (value_in table.old) (nested items.now)) }
-    ensures none { IfOk result (λ wrong. IsNone wrong ↔ Replies (value_in table.old) (nested items.now)) }
-    ensures first { IfOk result (λ wrong. IfSome wrong (λ i. IsFirstWrong (value_in table.old) (flat items.now) i)) }
+    ensures table { OnOk result (value_in table.new.rows ≡ map_after (value_in table.old.rows) (nested items.now)) }
+    ensures none { IfOk result (λ wrong. IsNone wrong ↔ Replies (value_in table.old.rows) (nested items.now)) }
+    ensures first { IfOk result (λ wrong. IfSome wrong (λ i. IsFirstWrong (value_in table.old.rows) (flat items.now) i)) }
     ensures err { OnErr result (table.new ≡ table.old) }
 {
     let mut run = Run {

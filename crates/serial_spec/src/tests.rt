@@ -89,6 +89,22 @@ fn keeps_rows_in_order(rt: HostRuntime) -> Result<(), Fail> {
 }
 
 #[test]
+fn puts_into_room(rt: HostRuntime) -> Result<(), Fail> {
+    let (a, b) = (Key::parse(b"a")?, Key::parse(b"b")?);
+    let mut table = PlainTable::new(rt.alloc());
+    table.reserve(2)?;
+    assert!(rt; table.is_empty());
+    for (key, value) in [(&b, 2), (&a, 1)] {
+        table.put(key, Some(value))?;
+    }
+    assert_eq!(rt;
+        (table.get(&a), table.get(&b), table.len()),
+        (Some(1), Some(2), 2)
+    );
+    Ok(())
+}
+
+#[test]
 fn runs_nested_items(rt: HostRuntime) -> Result<(), Fail> {
     let (x, y) = (Key::parse(b"x")?, Key::parse(b"y")?);
     for (inner, want) in [(Reply::New(14), None), (Reply::New(4), Some(2))] {

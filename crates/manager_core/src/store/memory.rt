@@ -22,7 +22,7 @@ impl Model for MemStore {
 
     ghost Value = { Memory };
 
-    ghost view = { λ s. record { rows = s.table; faults = s.faults } };
+    ghost view = { λ s. record { rows = s.table.rows; faults = s.faults } };
 }
 
 impl MemStore {
@@ -41,8 +41,8 @@ impl MemStore {
 }
 
 fn rows_of(alloc: Global, table: &PlainTable) -> Result<Vec<Row>, NoMemory>
-    ensures rows { IfOk result (λ rows. plain rows.items ≡ table.now) }
-    ensures rising { IsRising table.now }
+    ensures rows { IfOk result (λ rows. plain rows.items ≡ table.now.rows) }
+    ensures rising { IsRising table.now.rows }
 {
     let mut rows = Vec::new(alloc);
     for place in 0..table.len() {

@@ -25,7 +25,7 @@ pub fn are_rising(rows: &[Row]) -> bool
 
 /// The table of these rows. Of several rows with one key the first counts. The only error is want of memory.
 pub fn table_of(alloc: Global, rows: &[Row]) -> Result<PlainTable, NoMemory>
-    ensures { IfOk result (λ table. value_in table ≡ value_in (plain rows.now)) }
+    ensures { IfOk result (λ table. value_in table.rows ≡ value_in (plain rows.now)) }
 {
     let mut table = PlainTable::new(alloc);
     let mut left = rows.len();
@@ -39,8 +39,8 @@ pub fn table_of(alloc: Global, rows: &[Row]) -> Result<PlainTable, NoMemory>
 
 /// A copy of the table with the changes made, the first of them first. The only error is want of memory.
 pub fn table_after(table: &PlainTable, changes: &[Change]) -> Result<PlainTable, NoMemory>
-    ensures made { IfOk result (λ next. value_in next ≡ overlay changes.now (value_in table.now)) }
-    ensures unchanged { IfOk result (λ next. changes.now ≡ [] → next ≡ table.now) }
+    ensures made { IfOk result (λ next. value_in next.rows ≡ overlay changes.now (value_in table.now.rows)) }
+    ensures unchanged { IfOk result (λ next. changes.now ≡ [] → next.rows ≡ table.now.rows) }
 {
     let mut next = table.copy()?;
     for change in changes {

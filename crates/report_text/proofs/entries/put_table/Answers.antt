@@ -10,7 +10,7 @@ use Rattle.report_text.proofs.entries.put_table.Goals as goal
 
 pub returns-in_err-put_row_at-clause-err : goal.returns-in_err-put_row_at-clause-err
 returns-in_err-put_row_at-clause-err g c =
-    let rows : Rows = c.args.table.now in
+    let rows : Rows = c.args.table.now.rows in
     let k : ℕ = c.loop-place.place in
     let whole = then_front _ _ _ _ (row_lines (slice_get rows k)) c.loop-place.invariant c.in_err-put_row_at.ensures.err in
     on_err c.from_residual.result
@@ -19,6 +19,6 @@ returns-in_err-put_row_at-clause-err g c =
 
 pub loop-place-preserved : goal.loop-place-preserved
 loop-place-preserved g c =
-    let rows : Rows = c.args.table.now in
+    let rows : Rows = c.args.table.now.rows in
     let k : ℕ = c.loop-place.place in
     rw (spelled_rows-at rows k) (then _ _ _ _ (row_lines (slice_get rows k)) c.loop-place.invariant c.in_ok-put_row_at.ensures.ok)

@@ -11,7 +11,7 @@ invariant_of-self-2 g c =
     let comes = rw (← c.self.view_is) at c.requires.comes in
     let allowed = rw (← c.self.view_is) at c.requires.allowed in
     rw (c.add.ensures.rows, c.add.ensures.entries, c.reserve.ensures.rows, c.reserve.ensures.entries) (
-      kept_access m.log.rows m.log.entries m.tree m.marks m.table c.args.by c.args.name.now c.self.invariant.0 c.args.key.now c.args.op _ c.requires.line allowed,
+      kept_access m.log.rows m.log.entries m.tree m.marks m.table.rows c.args.by c.args.name.now c.self.invariant.0 c.args.key.now c.args.op _ c.requires.line allowed,
       locked_access m.log.rows m.log.entries c.self.invariant.0.allowed m.tree m.locks c.self.invariant.1 c.args.by c.args.name.now c.args.key.now c.args.op _ _ c.requires.line allowed (rw c.kind.ensures at c.in_ok-hold_in.ensures.ok),
       backed_next g.S.TopStore _ _ _ _ _ _ _ c.self.invariant.2 (comes_other m.log.rows m.log.entries c.args.by c.args.name.now c.args.key.now c.args.op _ comes),
     )

@@ -9,7 +9,7 @@ invariant_of-self-2 g c =
     let m = c.self.inside in
     let waits = rw (← c.self.view_is) at c.requires.waits in
     rw (c.add_stuck.ensures.rows, c.add_stuck.ensures.entries, c.reserve.ensures.rows, c.reserve.ensures.entries) (
-      kept_stuck m.log.rows m.log.entries m.tree m.marks m.table c.args.by c.args.event.now c.self.invariant.0 waits,
+      kept_stuck m.log.rows m.log.entries m.tree m.marks m.table.rows c.args.by c.args.event.now c.self.invariant.0 waits,
       locked_stuck m.log.rows m.log.entries c.self.invariant.0.allowed m.tree m.locks c.self.invariant.1 c.args.by c.args.event.now waits,
       backed_next g.S.TopStore _ _ _ _ _ _ _ c.self.invariant.2 refl,
     )

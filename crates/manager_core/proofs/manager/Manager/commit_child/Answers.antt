@@ -38,7 +38,7 @@ invariant_of-self-2 g c =
     let none = rw (← c.self.view_is) at c.requires.live in
     let done = commits c.commit.result _ c.commit.ensures.refused (tree_commits m.log.rows m.log.entries m.tree c.args.by c.args.name.now kept.allowed kept.in_tree (omega (arith, c.requires.below)) none) in
     rw (c.add.ensures.rows, c.add.ensures.entries, c.reserve.ensures.rows, c.reserve.ensures.entries) (
-      kept_child m.log.rows m.log.entries m.tree _ m.marks m.table c.args.by c.args.name.now kept c.requires.free.line c.requires.below none
+      kept_child m.log.rows m.log.entries m.tree _ m.marks m.table.rows c.args.by c.args.name.now kept c.requires.free.line c.requires.below none
           (on_commit c.commit.result _ done c.commit.ensures.names) (on_commit c.commit.result _ done c.commit.ensures.committed),
       locked_commit m.log.rows m.log.entries kept.allowed m.tree m.locks c.self.invariant.1 c.args.by c.args.name.now _ _ _ _ _ c.requires.free.line none
           (on_commit c.commit.result _ done c.commit.ensures.names) c.reserve_commit.ensures.modes c.in_ok-child.ensures.child c.in_ok-child.ensures.parent c.hand_up.ensures.modes,

@@ -23,7 +23,7 @@ pub changes_of-requires : goal.changes_of-requires
 changes_of-requires g c =
     let m = c.self.inside in
     let kept = c.self.invariant.0 in
-    rw (c.reserve.ensures.rows, c.reserve.ensures.entries) (sees_table m.log.rows m.table m.log.entries kept.allowed kept.current)
+    rw (c.reserve.ensures.rows, c.reserve.ensures.entries) (sees_table m.log.rows m.table.rows m.log.entries kept.allowed kept.current)
 
 pub reserve_commit-requires-clause-child : goal.reserve_commit-requires-clause-child
 reserve_commit-requires-clause-child g c =
@@ -57,7 +57,7 @@ invariant_of-self-then-stores g c =
     let takes = c.stores.ensures.took c.if-stores.true in
     let done = commits c.commit.result _ c.commit.ensures.refused (tree_commits m.log.rows m.log.entries m.tree c.args.by c.args.name.now kept.allowed kept.in_tree (omega (arith, c.requires.top)) none) in
     rw (c.add.ensures.rows, c.add.ensures.entries, c.reserve.ensures.rows, c.reserve.ensures.entries) (
-      kept_top m.log.rows m.log.entries m.tree _ m.marks m.table _ c.args.by c.args.name.now _ kept c.requires.free.line c.requires.top none are overlays
+      kept_top m.log.rows m.log.entries m.tree _ m.marks m.table.rows _ c.args.by c.args.name.now _ kept c.requires.free.line c.requires.top none are overlays
           (on_commit c.commit.result _ done c.commit.ensures.names) (on_commit c.commit.result _ done c.commit.ensures.committed),
       locked_commit m.log.rows m.log.entries kept.allowed m.tree m.locks c.self.invariant.1 c.args.by c.args.name.now _ _ _ _ _ c.requires.free.line none
           (on_commit c.commit.result _ done c.commit.ensures.names) c.reserve_commit.ensures.modes c.in_ok-child.ensures.child c.in_ok-child.ensures.parent c.hand_up.ensures.modes,

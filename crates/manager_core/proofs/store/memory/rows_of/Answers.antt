@@ -9,6 +9,6 @@ loop-place-preserved c = elim c.match-at.branch [
   | in-Some+in_ok-push w ↦
       let fits : SFits w64 w.in-Some.value = search rules in
       rw (w.rows-is, w.in_ok-push.ensures.items)
-      (plain_more c.args.table.now c.loop-place.rows.items c.loop-place.place _ c.loop-place.invariant (simp to_z-of_z (sym w.in-Some.ensures)))
-  | in_default w ↦ absurd (row_within c.args.table.now c.loop-place.place (omega arith) w.in_default.ensures)
+      (plain_more c.args.table.now.rows c.loop-place.rows.items c.loop-place.place _ c.loop-place.invariant (simp to_z-of_z (sym w.in-Some.ensures)))
+  | in_default w ↦ absurd (row_within c.args.table.now.rows c.loop-place.place (omega arith) w.in_default.ensures)
 ]

@@ -15,7 +15,7 @@ loop-change-preserved c =
     let more : take (i + 1) changes ≡ take i changes ++ d ∷ [] = take_more changes i d (omega arith) ∙ ap (λ x. take i changes ++ x ∷ []) (sym c.change-item.is) in (
       c.in_ok-put.ensures.ok
           ∙ ap (λ (m : Map). put m d.key d.value) c.loop-change.invariant.0
-          ∙ sym (overlay_push (take i changes) d (value_in c.args.table.now))
-          ∙ ap (λ cs. overlay cs (value_in c.args.table.now)) (sym more),
+          ∙ sym (overlay_push (take i changes) d (value_in c.args.table.now.rows))
+          ∙ ap (λ cs. overlay cs (value_in c.args.table.now.rows)) (sym more),
       λ n. absurd (omega arith),
     )

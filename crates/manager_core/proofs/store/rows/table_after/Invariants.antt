@@ -5,4 +5,4 @@ use Rattle.manager_core.proofs.store.rows.table_after.Given as goal
 
 abbrev pub invariant-loop-change : goal.invariant-loop-change
 invariant-loop-change l =
-    (value_in l.next ≡ overlay (take l.change-index l.changes) (value_in l.table)) × (l.change-index ≡ 0 → l.next ≡ l.table)
+    (value_in l.next.rows ≡ overlay (take l.change-index l.changes) (value_in l.table.rows)) × (l.change-index ≡ 0 → l.next.rows ≡ l.table.rows)

@@ -4,7 +4,7 @@ use Rattle.manager_core.specs.Store.{plain}
 use Rattle.manager_core.proofs.store.rows.table_of.Given as goal
 
 abbrev pub invariant-loop-left : goal.invariant-loop-left
-invariant-loop-left l = (l.left ≤ length l.rows) × (value_in l.table ≡ value_in (plain (drop l.left l.rows)))
+invariant-loop-left l = (l.left ≤ length l.rows) × (value_in l.table.rows ≡ value_in (plain (drop l.left l.rows)))
 
 abbrev pub decreases-loop-left : goal.decreases-loop-left
 decreases-loop-left l = l.left
