@@ -2,3 +2,4 @@ pub mod Places
 pub mod Flat
 pub mod FirstWrong
 pub mod Running
+pub mod Seen

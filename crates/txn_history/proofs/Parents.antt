@@ -2,10 +2,11 @@
 use Rattle.std.proofs.Common.{◌≡◌, ℕ, ℤ, cond, ◌&&◌, List, [], ◌∷◌, Option, refl, sym, ap, ◌∙◌}
 use mathlib.Core.Path.{fun_ext}
 use Rattle.txn_names.specs.Path.{path_eq, parent}
-use Rattle.txn_names.proofs.Names.{label_eq_self, parent-cons}
+use Rattle.txn_names.proofs.Names.{label_eq_self}
 use Rattle.serial_spec.specs.History.{Name, or_else}
 use Rattle.serial_spec.specs.Items.{items}
 use Rattle.serial_spec.specs.Values.{value_or, seen_of}
+use Rattle.serial_spec.proofs.Seen.{seen_of-parent}
 use Rattle.txn_history.specs.Steps.{ChainByParent, SeenByParent, SeenAfterCommit, left, left_next}
 use Rattle.txn_history.proofs.Left.{or_else-value_or}
 use Rattle.txn_history.proofs.Chains.{chain-parent}
@@ -16,14 +17,6 @@ pub chain_by_parent : ChainByParent
 chain_by_parent h l ls = chain-parent (items h) l ls
 
 -- ---- the value seen, where `all` gives what each name left
-
--- the value that the parent sees, unless the name left one
-seen_of-parent : (all : Name → Option (Option ℤ)) (l : List ℕ) (ls : Name) (v : Option ℤ)
-    → seen_of all (l ∷ ls) v ≡ value_or (all (l ∷ ls)) (seen_of all (parent (l ∷ ls)) v)
-seen_of-parent all l [] v = refl
-seen_of-parent all l (m ∷ ms) v =
-    seen_of-parent (λ u. all (l ∷ u)) m ms (value_or (all []) v)
-    ∙ ap (λ (p : Name). value_or (all (l ∷ m ∷ ms)) (seen_of all p v)) (sym (parent-cons l m ms))
 
 -- of what is left in a history
 pub seen_by_parent : SeenByParent

@@ -1,0 +1,98 @@
+-- What a transaction left, put into the base key by key.
+use Rattle.std.proofs.Common.{◌≡◌, ℕ, ℤ, ◌+◌, ◌≤◌, zero, suc, add-one, unwrap_or, Bool, true, false, cond, ◌||◌, List, [], ◌∷◌, ◌++◌, take, Option, Some, None, is_some, refl, sym, ap, subst, ◌∙◌, true≢false}
+use Rattle.std.specs.Prelude.{slice_get, option_map}
+use Rattle.std.specs.List.{list_any}
+use Rattle.std.specs.Map.{lookup}
+use Rattle.std.proofs.lemmas.List.Folds.{list_any-append}
+use Rattle.std.proofs.lemmas.Bool.{false≢true}
+use Rattle.txn_names.specs.Path.{label_eq}
+use Rattle.std.proofs.lemmas.Cmp.{nat_list_eq_equiv}
+use Rattle.txn_names.proofs.Names.{on_label}
+use Rattle.txn_cells.specs.Cells.{Cells, Table, cells_in, has_cell, content}
+use Rattle.serial_spec.specs.Values.{value_or}
+use Rattle.serial_spec.specs.Serial.{Map, put}
+use Rattle.version_stack.specs.declared.version.Version.{Version}
+use Rattle.version_stack.specs.Versioned.{Versioned, left_in, base_in, has_place}
+
+-- the base, once what was left at these keys has been put into it
+abbrev pub with_keys : (List ℕ → Option (Option ℤ)) → List (List ℕ) → Map → Map
+with_keys left keys base q = cond (list_any (label_eq q) keys) (value_or (left q) (base q)) (base q)
+
+or-false : (b : Bool) → (b || false) ≡ b
+or-false true = refl
+or-false false = refl
+
+any_append : (q k : List ℕ) (keys : List (List ℕ)) → list_any (label_eq q) (keys ++ k ∷ []) ≡ (list_any (label_eq q) keys || label_eq q k)
+any_append q k keys = list_any-append (label_eq q) keys (k ∷ []) ∙ ap (λ b. list_any (label_eq q) keys || b) (or-false (label_eq q k))
+
+module _ {X : Type 0} (xs : List X) (i : ℕ) where
+  -- one more of them
+  pub take_next : (x : X) → slice_get xs i ≡ Some x → take (i + 1) xs ≡ take i xs ++ x ∷ []
+  take_next x at = ap (λ n. take n xs) (add-one i) ∙ by xs i at
+    where
+      by : (ys : List X) (n : ℕ) → slice_get ys n ≡ Some x → take (suc n) ys ≡ take n ys ++ x ∷ []
+      by [] n e = absurd (false≢true (ap is_some e))
+      by (y ∷ ys) zero e = ap (λ o. unwrap_or o y ∷ []) e
+      by (y ∷ ys) (suc n) e = ap (λ zs. y ∷ zs) (by ys n e)
+
+  -- there is no next one
+  pub take_past : slice_get xs i ≡ None → take (i + 1) xs ≡ take i xs
+  take_past at = ap (λ n. take n xs) (add-one i) ∙ by xs i at
+    where
+      by : (ys : List X) (n : ℕ) → slice_get ys n ≡ None → take (suc n) ys ≡ take n ys
+      by [] zero e = refl
+      by [] (suc n) e = refl
+      by (y ∷ ys) zero e = absurd (true≢false (ap is_some e))
+      by (y ∷ ys) (suc n) e = ap (λ zs. y ∷ zs) (by ys n e)
+
+module _ (left : List ℕ → Option (Option ℤ)) (keys : List (List ℕ)) (base now : Map) (is : (q : List ℕ) → now q ≡ with_keys left keys base q) (k : List ℕ) where
+  -- something was left at the next key
+  pub next_put : (v : Option ℤ) → left k ≡ Some v → (q : List ℕ) → put now k v q ≡ with_keys left (keys ++ k ∷ []) base q
+  next_put v e q =
+      on_label k q (λ b. cond b v (now q) ≡ cond (list_any (label_eq q) keys || b) (value_or (left q) (base q)) (base q))
+      (λ same. subst (λ (p : List ℕ). v ≡ cond (list_any (label_eq p) keys || true) (value_or (left p) (base p)) (base p)) same
+      (ap (λ o. value_or o (base k)) (sym e) ∙ always (list_any (label_eq k) keys)))
+      (λ other. is q ∙ never (list_any (label_eq q) keys))
+      ∙ ap (λ b. cond b (value_or (left q) (base q)) (base q)) (sym (any_append q k keys ∙ ap (λ b. list_any (label_eq q) keys || b) (nat_list_eq_equiv.symm q k)))
+    where
+      always : (b : Bool) → value_or (left k) (base k) ≡ cond (b || true) (value_or (left k) (base k)) (base k)
+      always true = refl
+      always false = refl
+
+      never : (b : Bool) → cond b (value_or (left q) (base q)) (base q) ≡ cond (b || false) (value_or (left q) (base q)) (base q)
+      never true = refl
+      never false = refl
+
+  -- nothing was left there
+  pub next_empty : left k ≡ None → (q : List ℕ) → now q ≡ with_keys left (keys ++ k ∷ []) base q
+  next_empty e q =
+      is q
+      ∙ on_label k q (λ b. cond (list_any (label_eq q) keys) (value_or (left q) (base q)) (base q) ≡ cond (list_any (label_eq q) keys || b) (value_or (left q) (base q)) (base q))
+      (λ same. nothing (list_any (label_eq q) keys) (left q) (subst (λ (p : List ℕ). left p ≡ None) same e))
+      (λ other. never (list_any (label_eq q) keys))
+      ∙ ap (λ b. cond b (value_or (left q) (base q)) (base q)) (sym (any_append q k keys ∙ ap (λ b. list_any (label_eq q) keys || b) (nat_list_eq_equiv.symm q k)))
+    where
+      nothing : (b : Bool) (o : Option (Option ℤ)) → o ≡ None → cond b (value_or o (base q)) (base q) ≡ cond (b || true) (value_or o (base q)) (base q)
+      nothing true o n = refl
+      nothing false o n = ap (λ w. value_or w (base q)) (sym n)
+
+      never : (b : Bool) → cond b (value_or (left q) (base q)) (base q) ≡ cond (b || false) (value_or (left q) (base q)) (base q)
+      never true = refl
+      never false = refl
+
+-- where all keys are among them, each has what was left there
+pub all_put : (v : Versioned) (t : ℕ) (keys : List (List ℕ)) → ((q : List ℕ) → has_place v t q ≡ list_any (label_eq q) keys)
+    → (q : List ℕ) → with_keys (left_in v t) keys (base_in v) q ≡ value_or (left_in v t q) (base_in v q)
+all_put v t keys all q = by (list_any (label_eq q) keys) refl
+  where
+    empty : (o : Option (Option Version)) → is_some o ≡ false → option_map (λ w. w.value) (unwrap_or o None) ≡ None
+    empty None e = refl
+    empty (Some w) e = absurd (true≢false e)
+
+    by : (b : Bool) → list_any (label_eq q) keys ≡ b → cond b (value_or (left_in v t q) (base_in v q)) (base_in v q) ≡ value_or (left_in v t q) (base_in v q)
+    by true e = refl
+    by false e = ap (λ o. value_or o (base_in v q)) (sym (empty (lookup (label_eq q) (cells_in v.written t)) (all q ∙ e)))
+
+-- what was left is told by what was written alone
+pub left_same : (a b : Versioned) → a.written ≡ b.written → (t : ℕ) (k : List ℕ) → left_in a t k ≡ left_in b t k
+left_same a b same t k = ap (λ (w : Table Version). option_map (λ x. x.value) (content w t k)) same

@@ -1,0 +1,187 @@
+//! The versions over a base.
+ghost use Rattle.std.specs.Prelude.{◌≡◌, ◌≤◌, ◌<◌, ◌&&◌, length, not, nat_eq, [], IsOk, IsTrue, IfSome, IfNone, OnOk, List, ℕ, None, Some, if◌then◌else◌};
+ghost use Rattle.txn_cells.specs.Cells.{is_under};
+ghost use Rattle.version_stack.specs.Versioned.{FitsBase, base_after, base_in, handed_up, has_place, left_in, put_by};
+ghost use Rattle.version_stack.specs.Seen.{left_by, seen_by, seen_in};
+
+use crate::version::Version;
+use serial_spec::{NoMemory, PlainTable};
+use std::alloc::Global;
+use std::marker::Model;
+use txn_cells::CellTable;
+use txn_names::{Key, Name};
+use txn_tree::{Tree, TxnNo};
+
+/// What each live transaction, by its number, left at each key, over a base: the table that the committed top-level
+/// transactions left. Room is made by a place for a transaction and a key; nothing is left by a place alone.
+#[derive(Drop)]
+pub struct Versions {
+    written: CellTable<Version>,
+    base: PlainTable,
+}
+
+impl Model for Versions {
+    ghost use Rattle.version_stack.specs.Versioned.{Versioned};
+
+    ghost Value = { Versioned };
+
+    ghost view = { λ v. record {
+      written = v.written;
+      base = v.base;
+    } };
+}
+
+impl Versions {
+    /// No versions over this base. It takes no memory yet.
+    pub fn new(alloc: Global, base: PlainTable) -> Self
+        ensures written { result.written ≡ [] }
+        ensures base { result.base ≡ base }
+    {
+        Versions {
+            written: CellTable::new(alloc),
+            base,
+        }
+    }
+
+    /// The base.
+    pub fn base(&self) -> &PlainTable
+        ensures { result.now ≡ self.now.base }
+    {
+        &self.base
+    }
+
+    /// The base alone. The versions are dropped.
+    pub fn into_base(self) -> PlainTable
+        ensures { result ≡ self.base }
+    {
+        let Versions { base, .. } = self;
+        base
+    }
+
+    /// What the transaction left at the key: nothing, a value, or that the key is absent.
+    pub fn left(&self, txn: TxnNo, key: &Key) -> Option<Option<i64>>
+        ensures { result ≡ left_in self.now txn key.now }
+    {
+        let version = self.written.get(txn, key)?;
+        Some(version.value)
+    }
+
+    // What the transaction with this name left at the key.
+    fn left_by(&self, tree: &Tree, name: &Name, key: &Key) -> Option<Option<i64>>
+        requires { 0 < length name.now }
+        ensures { result ≡ left_by tree.now self.now key.now name.now }
+    {
+        self.left(tree.no_of(name)?, key)
+    }
+
+    /// The value that the transaction sees at the key: what the deepest of itself and its ancestors left, else the
+    /// base's. One that has not begun sees the base's.
+    pub fn value_for(&self, tree: &Tree, txn: TxnNo, key: &Key) -> Option<i64>
+        ensures { result ≡ seen_in tree.now self.now txn key.now }
+    {
+        match tree.name_of(txn) {
+            Some(name) => self.value_by(tree, name, key),
+            None => self.base.get(key),
+        }
+    }
+
+    // The same for a name.
+    fn value_by(&self, tree: &Tree, name: &Name, key: &Key) -> Option<i64>
+        ensures { result ≡ seen_by tree.now self.now key.now (Some name.now) }
+    {
+        let mut depth = name.depth();
+        while depth > 0 {
+            if let Some(value) = self.left_by(tree, &name.front(depth), key) {
+                return value;
+            }
+            depth -= 1;
+        }
+        self.base.get(key)
+    }
+
+    /// Makes a place for the transaction and the key, if there is none, so that a value can be put there without memory.
+    /// Nothing that was left changes, and no place goes.
+    pub fn reserve(&mut self, txn: TxnNo, key: &Key) -> Result<(), NoMemory>
+        ensures ok { OnOk result (IsTrue (has_place self.new txn key.now)) }
+        ensures left { (u : ℕ) → (q : List ℕ) → left_in self.new u q ≡ left_in self.old u q }
+        ensures places { (u : ℕ) → (q : List ℕ) → IsTrue (has_place self.old u q) → IsTrue (has_place self.new u q) }
+        ensures base { self.new.base ≡ self.old.base }
+        ensures succeeds { IsTrue (has_place self.old txn key.now) → IsOk result }
+    {
+        self.written.reserve(txn, key)
+    }
+
+    /// Makes a place for the parent and each key of the child, so that what the child left can be handed up without
+    /// memory. Nothing that was left changes, and no place goes.
+    pub fn reserve_for_parent(&mut self, child: TxnNo, parent: TxnNo) -> Result<(), NoMemory>
+        ensures ok { OnOk result ((q : List ℕ) → IsTrue (has_place self.new child q) → IsTrue (has_place self.new parent q)) }
+        ensures left { (u : ℕ) → (q : List ℕ) → left_in self.new u q ≡ left_in self.old u q }
+        ensures places { (u : ℕ) → (q : List ℕ) → IsTrue (has_place self.old u q) → IsTrue (has_place self.new u q) }
+        ensures base { self.new.base ≡ self.old.base }
+    {
+        self.written.reserve_for_parent(child, parent)
+    }
+
+    /// Makes room in the base for each key of the child, so that what it left can go there without memory. Nothing that
+    /// was left changes, no place goes, and the base has the same rows.
+    pub fn reserve_for_base(&mut self, child: TxnNo) -> Result<(), NoMemory>
+        ensures ok { OnOk result (FitsBase self.new child) }
+        ensures written { self.new.written ≡ self.old.written }
+        ensures base { self.new.base.rows ≡ self.old.base.rows }
+        ensures room { self.old.base.room ≤ self.new.base.room }
+    {
+        self.base.reserve(self.written.count(child))
+    }
+
+    /// The transaction leaves this value at the key, or leaves it absent. It takes no memory.
+    pub fn put(&mut self, txn: TxnNo, key: &Key, value: Option<i64>)
+        requires place { IsTrue (has_place self.old txn key.now) }
+        ensures left { (u : ℕ) → (q : List ℕ) → left_in self.new u q ≡ put_by self.old txn key.now value u q }
+        ensures places { (u : ℕ) → (q : List ℕ) → has_place self.new u q ≡ has_place self.old u q }
+        ensures base { self.new.base ≡ self.old.base }
+    {
+        self.written.set(txn, key, Version { value });
+    }
+
+    /// Hands up what a committed child left: it has left nothing any more, and in its parent it stands before what the
+    /// parent left. Where the parent is the root it goes into the base. It takes no memory.
+    pub fn hand_up(&mut self, child: TxnNo, parent: Option<TxnNo>)
+        requires places { IfSome parent (λ p. (q : List ℕ) → IsTrue (has_place self.old child q) → IsTrue (has_place self.old p q)) }
+        requires room { IfNone parent (FitsBase self.old child) }
+        ensures left { (u : ℕ) → (q : List ℕ) → left_in self.new u q ≡ handed_up self.old child parent u q }
+        ensures places { (u : ℕ) → (q : List ℕ) → has_place self.new u q ≡ (not (nat_eq child u) && has_place self.old u q) }
+        ensures base { (q : List ℕ) → base_in self.new q ≡ base_after self.old child parent q }
+    {
+        match parent {
+            Some(parent) => self.written.hand_up(child, Some(parent)),
+            None => {
+                self.put_in_base(child);
+                self.written.hand_up(child, None);
+            }
+        }
+    }
+
+    // Puts what the transaction left into the base, where it stays in its place too.
+    fn put_in_base(&mut self, txn: TxnNo)
+        requires { FitsBase self.old txn }
+        ensures written { self.new.written ≡ self.old.written }
+        ensures base { (q : List ℕ) → base_in self.new q ≡ base_after self.old txn None q }
+    {
+        for place in 0..self.written.count(txn) {
+            if let Some(key) = self.written.key_at(txn, place) {
+                if let Some(value) = self.left(txn, &key) {
+                    self.base.put(&key, value).unwrap();
+                }
+            }
+        }
+    }
+
+    /// Drops what the transaction and all below it left. It takes no memory.
+    pub fn drop_under(&mut self, tree: &Tree, txn: TxnNo)
+        ensures left { (u : ℕ) → (q : List ℕ) → left_in self.new u q ≡ (if is_under tree.now txn u then None else left_in self.old u q) }
+        ensures places { (u : ℕ) → (q : List ℕ) → has_place self.new u q ≡ (not (is_under tree.now txn u) && has_place self.old u q) }
+        ensures base { self.new.base ≡ self.old.base }
+    {
+        self.written.drop_under(tree, txn);
+    }
+}
