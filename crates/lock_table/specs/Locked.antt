@@ -3,7 +3,7 @@
 use Rattle.std.specs.Prelude.{ℕ, Bool, nat_eq, ◌&&◌, if◌then◌else◌, List, Option, unwrap_or}
 use Rattle.txn_names.specs.Path.{label_eq}
 use Rattle.txn_cells.specs.Cells.{content, has_cell}
-pub use Rattle.txn_cells.specs.Cells.{is_it}
+pub use Rattle.txn_cells.specs.Cells.{is_it, keys_in}
 use Rattle.txn_cells.specs.Cells as cells
 use Rattle.serial_spec.specs.declared.mode.Mode.{Mode}
 use Rattle.lock_table.specs.declared.modes.Modes.{Modes}

@@ -1,7 +1,9 @@
 //! The table of locks.
-ghost use Rattle.std.specs.Prelude.{◌≡◌, ◌&&◌, not, nat_eq, [], IsOk, IsTrue, IfOk, IfSome, OnOk, List, ℕ, if◌then◌else◌};
+ghost use Rattle.std.specs.Prelude.{◌≡◌, ◌&&◌, length, slice_get, not, nat_eq, [], IsOk, IsFalse, IsTrue, IfOk, IfSome, OnOk, List, ℕ, if◌then◌else◌};
+ghost use Rattle.std.specs.List.{list_any};
+ghost use Rattle.txn_names.specs.Path.{label_eq};
 ghost use Rattle.serial_spec.specs.Locks.{mode_of};
-ghost use Rattle.lock_table.specs.Locked.{free, handed_up, has_place, held_by, modes_in};
+ghost use Rattle.lock_table.specs.Locked.{free, handed_up, has_place, held_by, keys_in, modes_in};
 ghost use Rattle.lock_table.specs.Blocking.{blockers_in, is_blocked_in, is_blocker_in, is_under};
 
 use crate::modes::{FREE, Modes};
@@ -51,6 +53,22 @@ impl Locks {
     {
         let modes = self.modes(txn, key);
         (modes.held, modes.retained)
+    }
+
+    /// How many keys the transaction has a place for.
+    pub fn count(&self, txn: TxnNo) -> usize
+        ensures count { result ≡ length (keys_in self.now txn) }
+        ensures all { (q : List ℕ) → has_place self.now txn q ≡ list_any (label_eq q) (keys_in self.now txn) }
+        ensures others { (q : List ℕ) → IsFalse (list_any (label_eq q) (keys_in self.now txn)) → modes_in self.now txn q ≡ free }
+    {
+        self.table.count(txn)
+    }
+
+    /// The key at this place, from 0, among those that the transaction has a place for.
+    pub fn key_at(&self, txn: TxnNo, place: usize) -> Option<Key>
+        ensures { result ≡ slice_get (keys_in self.now txn) place }
+    {
+        self.table.key_at(txn, place)
     }
 
     // Whether the holder keeps the transaction from an access of this kind.

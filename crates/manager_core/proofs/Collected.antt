@@ -18,7 +18,7 @@ use Rattle.serial_spec.specs.Allowed.{known}
 use Rattle.manager_core.specs.Written.{wrote, change_of}
 use Rattle.manager_core.proofs.Writing.{wrote_known}
 use Rattle.manager_core.proofs.Reversed.{any_reversed, or_false}
-use Rattle.manager_core.proofs.Ordered.{on_ordering, above_all, turned, same_key}
+use Rattle.serial_spec.proofs.Ordered.{on_ordering, above_all, turned, same_key}
 
 -- ---- a key put among others in its place
 

@@ -1,6 +1,6 @@
 //! What an access does to one key.
 ghost use Rattle.std.specs.Prelude.{◌≡◌};
-ghost use Rattle.serial_spec.specs.Operations.{kind, reply_of, value_after};
+ghost use Rattle.serial_spec.specs.Operations.{kind, leaves, reply_of, value_after};
 
 /// What an access does.
 #[derive(Clone, Copy, Debug, PartialEq, Eq)]
@@ -40,6 +40,19 @@ impl Op {
         match self {
             Op::Get => Kind::Read,
             _ => Kind::Write,
+        }
+    }
+
+    /// What the access leaves at its key by this reply: nothing where it changes nothing, else a value, or that the key
+    /// is absent.
+    pub fn leaves(self, reply: Reply) -> Option<Option<i64>>
+        ensures { result ≡ leaves self reply }
+    {
+        match (self, reply) {
+            (Op::Set(value), _) => Some(Some(value)),
+            (Op::Add(_), Reply::New(sum)) => Some(Some(sum)),
+            (Op::Del, _) => Some(None),
+            _ => None,
         }
     }
 }

@@ -18,6 +18,15 @@ found_by_key test (e ∷ es) = by (test e.0) (found_by_key test es)
     by true rest = refl
     by false rest = rest
 
+-- nothing stands at a key without a cell
+module _ {V : Type 0} (cells : Cells V) where
+  pub nothing_elsewhere : (q : List ℕ) → list_any (label_eq q) (keys_of cells) ≡ false → content_at cells q ≡ None
+  nothing_elsewhere q none = by (lookup (label_eq q) cells) (found_by_key (label_eq q) cells ∙ none)
+    where
+      by : (o : Option (Option V)) → is_some o ≡ false → unwrap_or o None ≡ None
+      by None e = refl
+      by (Some v) e = absurd (true≢false e)
+
 -- one that has something has cells
 module _ {V : Type 0} (table : Table V) where
   pub holds_something : (u : ℕ) (k : List ℕ) → is_some (content table u k) ≡ true → list_any (nat_eq u) (holders table) ≡ true

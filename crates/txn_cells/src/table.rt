@@ -1,5 +1,5 @@
 //! The cells of all transactions.
-ghost use Rattle.std.specs.Prelude.{◌≡◌, ◌↔◌, length, is_some, slice_get, ◌&&◌, not, nat_eq, [], IsOk, IsTrue, IfSome, IsSome, OnOk, List, ℕ, if◌then◌else◌, Some, None};
+ghost use Rattle.std.specs.Prelude.{◌≡◌, ◌↔◌, length, is_some, slice_get, ◌&&◌, not, nat_eq, [], IsOk, IsFalse, IsTrue, IfSome, IsSome, OnOk, List, ℕ, if◌then◌else◌, Some, None};
 ghost use Rattle.std.specs.Map.{lookup};
 ghost use Rattle.std.specs.List.{list_any};
 ghost use Rattle.txn_names.specs.Path.{label_eq};
@@ -152,6 +152,7 @@ impl<V: Copy> CellTable<V> {
     pub fn count(&self, txn: TxnNo) -> usize
         ensures count { result ≡ length (keys_in self.now txn) }
         ensures all { (q : List ℕ) → has_cell self.now txn q ≡ list_any (label_eq q) (keys_in self.now txn) }
+        ensures others { (q : List ℕ) → IsFalse (list_any (label_eq q) (keys_in self.now txn)) → content self.now txn q ≡ None }
     {
         match self.rows.get(&txn) {
             Some(cells) => cells.len(),

@@ -1,5 +1,5 @@
 -- What a transaction left, put into the base key by key.
-use Rattle.std.proofs.Common.{◌≡◌, ℕ, ℤ, ◌+◌, ◌≤◌, zero, suc, add-one, unwrap_or, Bool, true, false, cond, ◌||◌, List, [], ◌∷◌, ◌++◌, take, Option, Some, None, is_some, refl, sym, ap, subst, ◌∙◌, true≢false}
+use Rattle.std.proofs.Common.{◌≡◌, ℕ, ℤ, ◌+◌, ◌≤◌, zero, suc, add-one, unwrap_or, Bool, true, false, cond, ◌||◌, List, [], ◌∷◌, ◌++◌, take, Option, Some, None, refl, sym, ap, subst, ◌∙◌}
 use Rattle.std.specs.Prelude.{slice_get, option_map}
 use Rattle.std.specs.List.{list_any}
 use Rattle.std.specs.Map.{lookup}
@@ -24,26 +24,6 @@ or-false false = refl
 
 any_append : (q k : List ℕ) (keys : List (List ℕ)) → list_any (label_eq q) (keys ++ k ∷ []) ≡ (list_any (label_eq q) keys || label_eq q k)
 any_append q k keys = list_any-append (label_eq q) keys (k ∷ []) ∙ ap (λ b. list_any (label_eq q) keys || b) (or-false (label_eq q k))
-
-module _ {X : Type 0} (xs : List X) (i : ℕ) where
-  -- one more of them
-  pub take_next : (x : X) → slice_get xs i ≡ Some x → take (i + 1) xs ≡ take i xs ++ x ∷ []
-  take_next x at = ap (λ n. take n xs) (add-one i) ∙ by xs i at
-    where
-      by : (ys : List X) (n : ℕ) → slice_get ys n ≡ Some x → take (suc n) ys ≡ take n ys ++ x ∷ []
-      by [] n e = absurd (false≢true (ap is_some e))
-      by (y ∷ ys) zero e = ap (λ o. unwrap_or o y ∷ []) e
-      by (y ∷ ys) (suc n) e = ap (λ zs. y ∷ zs) (by ys n e)
-
-  -- there is no next one
-  pub take_past : slice_get xs i ≡ None → take (i + 1) xs ≡ take i xs
-  take_past at = ap (λ n. take n xs) (add-one i) ∙ by xs i at
-    where
-      by : (ys : List X) (n : ℕ) → slice_get ys n ≡ None → take (suc n) ys ≡ take n ys
-      by [] zero e = refl
-      by [] (suc n) e = refl
-      by (y ∷ ys) zero e = absurd (true≢false (ap is_some e))
-      by (y ∷ ys) (suc n) e = ap (λ zs. y ∷ zs) (by ys n e)
 
 module _ (left : List ℕ → Option (Option ℤ)) (keys : List (List ℕ)) (base now : Map) (is : (q : List ℕ) → now q ≡ with_keys left keys base q) (k : List ℕ) where
   -- something was left at the next key
@@ -80,18 +60,14 @@ module _ (left : List ℕ → Option (Option ℤ)) (keys : List (List ℕ)) (bas
       never true = refl
       never false = refl
 
--- where all keys are among them, each has what was left there
-pub all_put : (v : Versioned) (t : ℕ) (keys : List (List ℕ)) → ((q : List ℕ) → has_place v t q ≡ list_any (label_eq q) keys)
+-- where nothing was left at any other key, each has what was left there
+pub all_put : (v : Versioned) (t : ℕ) (keys : List (List ℕ)) → ((q : List ℕ) → list_any (label_eq q) keys ≡ false → content v.written t q ≡ None)
     → (q : List ℕ) → with_keys (left_in v t) keys (base_in v) q ≡ value_or (left_in v t q) (base_in v q)
-all_put v t keys all q = by (list_any (label_eq q) keys) refl
+all_put v t keys others q = by (list_any (label_eq q) keys) refl
   where
-    empty : (o : Option (Option Version)) → is_some o ≡ false → option_map (λ w. w.value) (unwrap_or o None) ≡ None
-    empty None e = refl
-    empty (Some w) e = absurd (true≢false e)
-
     by : (b : Bool) → list_any (label_eq q) keys ≡ b → cond b (value_or (left_in v t q) (base_in v q)) (base_in v q) ≡ value_or (left_in v t q) (base_in v q)
     by true e = refl
-    by false e = ap (λ o. value_or o (base_in v q)) (sym (empty (lookup (label_eq q) (cells_in v.written t)) (all q ∙ e)))
+    by false e = ap (λ (o : Option Version). value_or (option_map (λ w. w.value) o) (base_in v q)) (sym (others q e))
 
 -- what was left is told by what was written alone
 pub left_same : (a b : Versioned) → a.written ≡ b.written → (t : ℕ) (k : List ℕ) → left_in a t k ≡ left_in b t k

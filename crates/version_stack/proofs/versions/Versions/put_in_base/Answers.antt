@@ -5,7 +5,8 @@ use Rattle.txn_cells.specs.Cells.{keys_in}
 use Rattle.serial_spec.specs.Serial.{Map}
 use Rattle.version_stack.specs.declared.version.Version.{Version}
 use Rattle.version_stack.specs.Versioned.{Versioned, base_in, left_in}
-use Rattle.version_stack.proofs.Base.{take_next, take_past, next_put, next_empty, left_same}
+use Rattle.serial_spec.proofs.Taking.{take_next, take_past}
+use Rattle.version_stack.proofs.Base.{next_put, next_empty, left_same}
 use Rattle.version_stack.proofs.versions.Versions.put_in_base.Goals as goal
 use Rattle.version_stack.proofs.versions.Versions.put_in_base.Goals.{in-Some+in-Some-left, in-Some+in_default-left, in_default}
 

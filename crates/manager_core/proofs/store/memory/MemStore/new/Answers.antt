@@ -1,6 +1,6 @@
 use Rattle.std.proofs.Common.{ap}
 use Rattle.serial_spec.specs.Serial.{Map}
-use Rattle.manager_core.proofs.Ordered.{rows_by_map}
+use Rattle.serial_spec.proofs.Ordered.{rows_by_map}
 use Rattle.manager_core.proofs.store.memory.MemStore.new.Goals as goal
 
 pub returns-clause-rows : goal.returns-clause-rows

@@ -1,0 +1,54 @@
+-- What live transactions lock and what they left, as contracts see the two together.
+use Rattle.std.specs.Prelude.{◌≡◌, ◌<◌, ℕ, ℤ, IsTrue, List, length, Option, Some, None}
+use Rattle.txn_names.specs.Path.{Path, parent}
+use Rattle.txn_tree.specs.States.{States}
+use Rattle.txn_tree.specs.Asked.{IsNumberOf}
+use Rattle.lock_table.specs.declared.modes.Modes.{Modes}
+use Rattle.lock_table.specs.Locked as locks
+use Rattle.version_stack.specs.Versioned as versions
+use Rattle.serial_spec.specs.declared.event.Event.{Event}
+use Rattle.serial_spec.specs.declared.event.Event.TheVariants.{Access, Commit}
+use Rattle.serial_spec.specs.Serial.{Map}
+
+pub record Assets : Type 0 where
+  pub locks : locks.Table
+  pub versions : versions.Versioned
+
+-- the modes in which t locks k
+abbrev pub modes_of : Assets → ℕ → List ℕ → Modes
+modes_of a t k = locks.modes_in a.locks t k
+
+-- what t left at k
+abbrev pub left_of : Assets → ℕ → List ℕ → Option (Option ℤ)
+left_of a t k = versions.left_in a.versions t k
+
+abbrev pub base_of : Assets → Map
+base_of a = versions.base_in a.versions
+
+-- t has a place for k, so that it may access k without memory
+abbrev pub has_place : Assets → ℕ → List ℕ → Type 0
+has_place a t k = IsTrue (locks.has_place a.locks t k) × IsTrue (versions.has_place a.versions t k)
+
+-- whatever the child has goes up without memory: to its parent, or into the base where that is the root
+abbrev pub MayGoUp : Assets → ℕ → Option ℕ → Type 0
+MayGoUp a child (Some p) =
+    ((q : List ℕ) → IsTrue (locks.has_place a.locks child q) → IsTrue (locks.has_place a.locks p q))
+    × ((q : List ℕ) → IsTrue (versions.has_place a.versions child q) → IsTrue (versions.has_place a.versions p q))
+MayGoUp a child None = versions.FitsBase a.versions child
+
+-- p is the number of t's parent, and there is none where that is the root
+abbrev pub IsParent : States → Path → Option ℕ → Type 0
+IsParent tree t None = length t ≡ 1
+IsParent tree t (Some p) = (1 < length t) × IsNumberOf tree (parent t) p
+
+-- the step of this event takes no memory
+abbrev pub IsReady : States → Assets → Event → Type 0
+IsReady tree a (Access t k o) = (n : ℕ) → IsNumberOf tree t n → has_place a n k
+IsReady tree a (Commit t) = (n : ℕ) → IsNumberOf tree t n → (p : Option ℕ) → IsParent tree t p → MayGoUp a n p
+IsReady tree a event = Unit {0}
+
+-- with other room it is the same
+pub record IsSame (old new : Assets) : Type 0 where
+  pub modes : (u : ℕ) (q : List ℕ) → modes_of new u q ≡ modes_of old u q
+  pub left : (u : ℕ) (q : List ℕ) → left_of new u q ≡ left_of old u q
+  pub base : base_of new ≡ base_of old

@@ -1,0 +1,3 @@
+pub mod Assets
+pub mod Steps
+pub mod Changes

@@ -1,0 +1,167 @@
+//! The steps that touch locks and versions.
+ghost use Rattle.std.specs.Prelude.{◌≡◌, [], ℕ, List, None, Some, OnOk, IfNone, IfSome};
+ghost use Rattle.txn_tree.specs.Asked.{IsNumberOf};
+ghost use Rattle.inherit.specs.Assets.{IsReady, IsSame, MayGoUp, has_place};
+ghost use Rattle.inherit.specs.Steps.{HasAccessed, HasDropped, HasGoneUp, reply_in};
+
+use lock_table::Locks;
+use serial_spec::{Event, NoMemory, Op, PlainTable, Reply, act};
+use std::alloc::Global;
+use std::marker::Model;
+use txn_names::{Key, Name};
+use txn_tree::{Tree, TxnNo};
+use version_stack::Versions;
+
+/// What live transactions lock and what they left, over one table. Each step does both at once, whole or not at all, and
+/// takes no memory after `reserve_for` of its event.
+#[derive(Drop)]
+pub struct Estate {
+    pub(crate) alloc: Global,
+    pub(crate) locks: Locks,
+    pub(crate) versions: Versions,
+}
+
+impl Model for Estate {
+    ghost use Rattle.inherit.specs.Assets.{Assets};
+
+    ghost Value = { Assets };
+
+    ghost view = { λ e. record {
+      locks = e.locks;
+      versions = e.versions;
+    } };
+}
+
+impl Estate {
+    /// No locks and no versions over this table. It takes no memory yet.
+    pub fn new(alloc: Global, base: PlainTable) -> Self
+        ensures locks { result.locks ≡ [] }
+        ensures written { result.versions.written ≡ [] }
+        ensures base { result.versions.base ≡ base }
+    {
+        Estate {
+            alloc,
+            locks: Locks::new(alloc),
+            versions: Versions::new(alloc, base),
+        }
+    }
+
+    /// The locks.
+    pub fn locks(&self) -> &Locks
+        ensures { result.now ≡ self.now.locks }
+    {
+        &self.locks
+    }
+
+    /// The versions, and the table below them.
+    pub fn versions(&self) -> &Versions
+        ensures { result.now ≡ self.now.versions }
+    {
+        &self.versions
+    }
+
+    /// The table alone.
+    pub fn into_base(self) -> PlainTable
+        ensures { result ≡ self.versions.base }
+    {
+        let Estate { versions, .. } = self;
+        versions.into_base()
+    }
+
+    // Makes a place for the transaction and the key.
+    fn reserve_access(&mut self, txn: TxnNo, key: &Key) -> Result<(), NoMemory>
+        ensures ok { OnOk result (has_place self.new txn key.now) }
+        ensures same { IsSame self.old self.new }
+    {
+        self.locks.reserve(txn, key)?;
+        self.versions.reserve(txn, key)
+    }
+
+    // Makes room for what the child hands to a parent that has begun.
+    fn reserve_for_parent(&mut self, child: TxnNo, parent: TxnNo) -> Result<(), NoMemory>
+        ensures ok { OnOk result (MayGoUp self.new child (Some parent)) }
+        ensures same { IsSame self.old self.new }
+    {
+        self.locks.reserve_for_parent(child, parent)?;
+        self.versions.reserve_for_parent(child, parent)
+    }
+
+    // Makes room for what a commit hands up.
+    fn reserve_commit(&mut self, tree: &Tree, child: TxnNo, name: &Name) -> Result<(), NoMemory>
+        requires { IsNumberOf tree.now name.now child }
+        ensures ok { OnOk result (IsReady tree.now self.new (Event.Commit name.now)) }
+        ensures same { IsSame self.old self.new }
+    {
+        match name.parent() {
+            Some(parent) => match tree.no_of(&parent) {
+                Some(parent) => self.reserve_for_parent(child, parent),
+                None => Ok(()),
+            },
+            None => self.versions.reserve_for_base(child),
+        }
+    }
+
+    /// Makes all growths of the event's step beforehand: an access's, or a commit's. What is locked, left and seen stays.
+    pub fn reserve_for(&mut self, tree: &Tree, event: &Event) -> Result<(), NoMemory>
+        ensures ok { OnOk result (IsReady tree.now self.new event.now) }
+        ensures same { IsSame self.old self.new }
+    {
+        match event {
+            Event::Access(name, key, _) => match tree.no_of(name) {
+                Some(txn) => self.reserve_access(txn, key),
+                None => Ok(()),
+            },
+            Event::Commit(name) => match tree.no_of(name) {
+                Some(child) => self.reserve_commit(tree, child, name),
+                None => Ok(()),
+            },
+            _ => Ok(()),
+        }
+    }
+
+    /// Accesses the key: nothing where a lock keeps the transaction out, and then nothing has changed; else the reply at
+    /// the value that it sees, and the transaction has locked the key and left there what the access leaves. It takes no
+    /// memory.
+    pub fn access(&mut self, tree: &Tree, txn: TxnNo, key: &Key, op: Op) -> Option<Reply>
+        requires place { has_place self.old txn key.now }
+        ensures reply { result ≡ reply_in tree.now self.old txn key.now op }
+        ensures blocked { IfNone result (self.new ≡ self.old) }
+        ensures accessed { IfSome result (λ reply. HasAccessed self.old self.new txn key.now op reply) }
+    {
+        if !self.locks.may(tree, txn, key, op.kind()) {
+            return None;
+        }
+        let (_, reply) = act(self.versions.value_for(tree, txn, key), &op);
+        self.locks.hold(txn, key, op.kind());
+        if let Some(value) = op.leaves(reply) {
+            self.versions.put(txn, key, value);
+        }
+        Some(reply)
+    }
+
+    /// Hands up what a committed child has: its parent retains its locks, and has what it left. It takes no memory.
+    pub fn commit_child(&mut self, child: TxnNo, parent: TxnNo)
+        requires room { MayGoUp self.old child (Some parent) }
+        ensures { HasGoneUp self.old self.new child (Some parent) }
+    {
+        self.locks.hand_up(child, Some(parent));
+        self.versions.hand_up(child, Some(parent));
+    }
+
+    /// Lets the locks of a committed top-level transaction go, and puts what it left into the table. It takes no memory.
+    pub fn commit_top(&mut self, txn: TxnNo)
+        requires room { MayGoUp self.old txn None }
+        ensures { HasGoneUp self.old self.new txn None }
+    {
+        self.locks.hand_up(txn, None);
+        self.versions.hand_up(txn, None);
+    }
+
+    /// Drops what the transaction and all below it have. It takes no memory.
+    pub fn abort(&mut self, tree: &Tree, txn: TxnNo)
+        ensures { HasDropped tree.now self.old self.new txn }
+    {
+        self.locks.drop_under(tree, txn);
+        self.versions.drop_under(tree, txn);
+    }
+}

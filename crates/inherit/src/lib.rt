@@ -1,0 +1,10 @@
+//! Locks and versions together: what a transaction has, what its parent inherits, and what is undone (Moss 1981).
+#![tactic(auto)]
+
+mod changes;
+mod estate;
+
+pub use estate::Estate;
+
+#[cfg(test)]
+mod tests;
