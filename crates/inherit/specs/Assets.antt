@@ -9,6 +9,7 @@ use Rattle.version_stack.specs.Versioned as versions
 use Rattle.serial_spec.specs.declared.event.Event.{Event}
 use Rattle.serial_spec.specs.declared.event.Event.TheVariants.{Access, Commit}
 use Rattle.serial_spec.specs.Serial.{Map}
+use Rattle.serial_spec.specs.Rows.{Rows}
 
 pub record Assets : Type 0 where
   pub locks : locks.Table
@@ -22,8 +23,12 @@ modes_of a t k = locks.modes_in a.locks t k
 abbrev pub left_of : Assets → ℕ → List ℕ → Option (Option ℤ)
 left_of a t k = versions.left_in a.versions t k
 
+-- the table, as a map and as its rows
 abbrev pub base_of : Assets → Map
 base_of a = versions.base_in a.versions
+
+abbrev pub rows_of : Assets → Rows
+rows_of a = a.versions.base.rows
 
 -- t has a place for k, so that it may access k without memory
 abbrev pub has_place : Assets → ℕ → List ℕ → Type 0
@@ -51,4 +56,4 @@ IsReady tree a event = Unit {0}
 pub record IsSame (old new : Assets) : Type 0 where
   pub modes : (u : ℕ) (q : List ℕ) → modes_of new u q ≡ modes_of old u q
   pub left : (u : ℕ) (q : List ℕ) → left_of new u q ≡ left_of old u q
-  pub base : base_of new ≡ base_of old
+  pub rows : rows_of new ≡ rows_of old

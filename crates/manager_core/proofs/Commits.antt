@@ -19,6 +19,9 @@ use Rattle.serial_spec.specs.declared.entry.Entry.{Entry}
 use Rattle.serial_spec.specs.History.{Name, History, or_else}
 use Rattle.serial_spec.specs.Items.{items}
 use Rattle.serial_spec.specs.Serial.{Map, stored}
+use Rattle.serial_spec.specs.declared.mode.Mode.{Mode}
+use Rattle.serial_spec.specs.declared.mode.Mode.TheVariants as mode
+use Rattle.serial_spec.specs.Locks.{foot, is_exclusive}
 use Rattle.serial_spec.specs.Values.{seen}
 use Rattle.serial_spec.specs.Rows.{Rows, value_in}
 use Rattle.serial_spec.specs.Changes.{change_at, overlay, IsChanges}
@@ -32,13 +35,11 @@ use Rattle.manager_core.specs.State.{entry}
 use Rattle.manager_core.specs.Lines.{IsLine}
 use Rattle.manager_core.specs.Kept.{IsKept, IsTreeOf}
 use Rattle.manager_core.specs.Sound.{is_store_refusal, IsBacked, IsTrusted}
-use Rattle.manager_core.specs.Written.{wrote}
 use Rattle.manager_core.specs.Asked.{IsLater, Takes, Refuses}
 use Rattle.manager_core.proofs.Answers.{allowed_next, commit_allowed}
 use Rattle.manager_core.proofs.Kept.{kept_same}
 use Rattle.manager_core.proofs.Steps.{kept_commits, table_same}
 use Rattle.manager_core.proofs.Trees.{same_at_abort, same_children}
-use Rattle.manager_core.proofs.Writing.{exclusive_is}
 
 -- ---- what is handed to the store
 
@@ -52,6 +53,15 @@ is_some_change : (b : Bool) (v w : Option ℤ) (x : Option (Option ℤ)) → or_
 is_some_change true v w x e = refl
 is_some_change false v w None e = cc
 is_some_change false v w (Some y) e = cc
+
+-- whether t has touched k to write
+abbrev wrote : History → Name → List ℕ → Bool
+wrote h t k = is_exclusive (foot h t k)
+
+exclusive_is : (m : Mode) → is_exclusive m ≡ true → m ≡ mode.Write
+exclusive_is mode.None e = absurd (false≢true e)
+exclusive_is mode.Read e = absurd (false≢true e)
+exclusive_is mode.Write e = refl
 
 -- what is changed was written
 changed : (opening : Map) (h : History) (t : Name) (c : Change) (cs : List Change) → IsChanges opening h t (c ∷ cs) → writes (items h t) ≡ true

@@ -1,7 +1,5 @@
 -- The access by which a transaction waits.
 use Rattle.std.proofs.Common.{◌≡◌, ℕ, Bool, true, false, not, cond, ◌&&◌, ◌||◌, ◌==◌, List, [], ◌∷◌, filter, find, Option, Some, None, is_some, unwrap_or, inl, inr, refl, sym, ap, subst, ◌∙◌}
-use Rattle.std.specs.Prelude.{IfOk}
-use Rattle.std.specs.Prelude.{Result, Ok as Made, Err as Fails}
 use Rattle.std.proofs.lemmas.Bool.{false≢true, and_from, or_left, or_right, or_cases, eq-eqb}
 use Rattle.std.specs.List.{list_any}
 use Rattle.txn_names.proofs.Names.{on_test, same_path}
@@ -149,23 +147,22 @@ module _ (rows : Rows) (h : History) (allowed : AreAllowed rows h) (t : Name) (b
 
 -- it waits on
 pub waits_on : {S : Type 0} (m : State S) (t : Name) (by : By) (k : List ℕ) (o : Op) → IsWaiting m.history t by k o → (outcome : Outcome)
-    → ComesTo m.rows m.history by t k o outcome → outcome ≡ made.Waits → Retried m m t made.Waits
+    → ComesTo m.rows m.history by t k o outcome → outcome ≡ made.Waits → Retried m m t outcome
 waits_on m t by k o is outcome comes same = record {
   wait = is.wait;
   waits = is.waits;
   told = inr record {
     none = rw (is.by_is, is.event_is) (still_waits m.rows m.history by t k o outcome comes same is.waited);
-    outcome_is = refl;
+    outcome_is = same;
     same = refl;
   };
 }
 
 -- it was answered
-pub retried : {S : Type 0} (old new : State S) (t : Name) (by : By) (k : List ℕ) (o : Op) → IsWaiting old.history t by k o → {E : Type 0} (r : Result Outcome E)
-    → IfOk r (λ outcome. Answered old new by (Access t k o) outcome) → IfOk r (λ outcome. Retried old new t outcome)
-retried old new t by k o is (Made outcome) answered = record {
+pub retried : {S : Type 0} (old new : State S) (t : Name) (by : By) (k : List ℕ) (o : Op) → IsWaiting old.history t by k o → (outcome : Outcome)
+    → Answered old new by (Access t k o) outcome → Retried old new t outcome
+retried old new t by k o is outcome answered = record {
   wait = is.wait;
   waits = is.waits;
   told = inl (rw (is.by_is, is.event_is) answered);
 }
-retried old new t by k o is (Fails fault) answered = tt

@@ -1,35 +1,77 @@
--- The value seen, found from the transaction upwards.
-use Rattle.std.proofs.Common.{◌≡◌, ℕ, ℤ, ◌<◌, ◌≤◌, ◌-◌, List, [], ◌∷◌, length, take, Option, Some, None, sym, ap, ◌∙◌, arith}
-use Rattle.std.proofs.lemmas.List.{length-take-le, take-take}
-use Rattle.txn_names.specs.Path.{parent}
-use Rattle.serial_spec.specs.History.{Name, History}
+-- What a transaction sees, by the estate and by the history.
+use Rattle.std.proofs.Common.{◌≡◌, ℕ, suc, ◌+◌, Bool, true, false, cond, ◌&&◌, ◌||◌, List, [], ◌∷◌, Option, Some, None, is_some, unwrap_or, refl, sym, ap, ◌∙◌, true≢false, arith}
+use Rattle.std.specs.Prelude.{slice_get}
+use Rattle.std.specs.List.{list_any, position, position_from}
+use Rattle.std.specs.Map.{lookup}
+use Rattle.std.proofs.lemmas.Bool.{false≢true}
+use Rattle.std.proofs.lemmas.Iterator.Adapters.{position_from-zero}
+use Rattle.txn_names.specs.Path.{Path, path_eq, is_front}
+use Rattle.txn_names.proofs.Names.{on_test, same_path, label_eq_self}
+use Rattle.txn_tree.specs.declared.status.Status.{Status}
+use Rattle.txn_tree.specs.declared.status.Status.TheVariants.{Absent}
+use Rattle.txn_tree.specs.States.{States, names, is_absent}
+use Rattle.txn_tree.specs.Asked.{is_absent_in, IsNumberOf}
+use Rattle.txn_cells.proofs.Reserving.{found_by_key}
+use Rattle.version_stack.specs.Seen.{left_at as left_at_number, left_by, seen_by, seen_in}
+use Rattle.inherit.specs.Assets.{Assets, base_of}
+use Rattle.serial_spec.specs.History.{Name, History, is_active}
 use Rattle.serial_spec.specs.Items.{items}
-use Rattle.serial_spec.specs.Values.{last_left, value_or, seen}
+use Rattle.serial_spec.specs.Values.{last_left, seen_of, seen}
 use Rattle.serial_spec.specs.Rows.{Rows, value_in}
-use Rattle.txn_history.proofs.Theorems.{seen_by_parent}
+use Rattle.serial_spec.specs.Legal.{AreAllowed}
+use Rattle.serial_spec.proofs.Seen.{seen_of-same}
+use Rattle.txn_history.proofs.Theorems.{ancestors_act}
+use Rattle.manager_core.specs.Kept.{IsTreeOf, IsEstateOf, share_of, left_at}
+use Rattle.manager_core.proofs.Locks.{name_at, present}
 
--- what t left stands before what its parent sees
-by_parent : (rows : Rows) (h : History) (t : Name) (k : List ℕ) → 0 < length t
-    → seen (value_in rows) h t k ≡ value_or (last_left (items h t) k) (seen (value_in rows) h (parent t) k)
-by_parent rows h [] k some = absurd (omega (arith, some))
-by_parent rows h (l ∷ ls) k some = seen_by_parent (value_in rows) h l ls k
+-- ---- a name is found under its number
 
-module _ (rows : Rows) (h : History) (name : Name) (k : List ℕ) (d : ℕ) (some : 0 < d)
-    (far : (d ≤ length name) × (seen (value_in rows) h name k ≡ seen (value_in rows) h (take d name) k)) (left : Option (Option ℤ))
-    (is : left ≡ last_left (items h (take d name)) k) where
-  -- a label less
-  above : seen (value_in rows) h (take d name) k ≡ value_or left (seen (value_in rows) h (take (d - 1) name) k)
-  above =
-      let long : length (take d name) ≡ d = length-take-le d name far.0 in
-      let less : parent (take d name) ≡ take (d - 1) name = ap (λ n. take (n - 1) (take d name)) long ∙ take-take (d - 1) d name (omega arith) in
-      by_parent rows h (take d name) k (omega (arith, long, some))
-      ∙ ap (λ u. value_or (last_left (items h (take d name)) k) (seen (value_in rows) h u k)) less
-      ∙ ap (λ o. value_or o (seen (value_in rows) h (take (d - 1) name) k)) (sym is)
+record IsFound (p : Path → Bool) (xs : List Path) (a : ℕ) : Type 0 where
+  pub place : ℕ
+  pub name : Path
+  pub at : slice_get xs place ≡ Some name
+  pub passes : p name ≡ true
+  pub first : position_from p a xs ≡ Some (a + place)
 
-  -- what is left here is seen
-  pub seen_here : (v : Option ℤ) → left ≡ Some v → v ≡ seen (value_in rows) h name k
-  seen_here v e = sym (far.1 ∙ above ∙ ap (λ o. value_or o (seen (value_in rows) h (take (d - 1) name) k)) e)
+found_from : (p : Path → Bool) (a : ℕ) (xs : List Path) → list_any p xs ≡ true → IsFound p xs a
+found_from p a [] any = absurd (false≢true any)
+found_from p a (x ∷ xs) any =
+    on_test (p x) (λ b. (b || list_any p xs) ≡ true → IsFound p (x ∷ xs) a)
+    (λ e _. record { place = 0; name = x; at = refl; passes = e; first = ap (λ b. cond b (Some a) (position_from p (a + 1) xs)) e ∙ (let same : a ≡ a + 0 = omega arith in ap (λ n. Some n) same) })
+    (λ e rest.
+    let f = found_from p (a + 1) xs rest in
+    record { place = suc f.place; name = f.name; at = f.at; passes = f.passes; first = ap (λ b. cond b (Some a) (position_from p (a + 1) xs)) e ∙ f.first ∙ (let same : a + 1 + f.place ≡ a + suc f.place = omega arith in ap (λ n. Some n) same) })
+    any
 
-  -- where nothing is, what is seen above is
-  pub seen_above : left ≡ None → (d - 1 ≤ length name) × (seen (value_in rows) h name k ≡ seen (value_in rows) h (take (d - 1) name) k)
-  seen_above e = (omega (arith, far.0), far.1 ∙ above ∙ ap (λ o. value_or o (seen (value_in rows) h (take (d - 1) name) k)) e)
+-- whoever has begun stands among the names
+among : (tree : States) (l : List ℕ) (ls : Name) → is_absent_in tree (l ∷ ls) ≡ false → list_any (path_eq (l ∷ ls)) (names tree) ≡ true
+among tree l ls there = sym (found_by_key (path_eq (l ∷ ls)) tree) ∙ by (lookup (path_eq (l ∷ ls)) tree) there
+  where
+    by : (o : Option Status) → is_absent (unwrap_or o Absent) ≡ false → is_some o ≡ true
+    by None e = absurd (true≢false e)
+    by (Some s) e = refl
+
+-- ---- what it left, and what it sees
+
+module _ (h : History) (tree : States) (estate : Assets) (in_tree : IsTreeOf h tree) (is : IsEstateOf h tree estate) (k : List ℕ) where
+  left_as : (l : List ℕ) (ls : Name) → is_active h (l ∷ ls) ≡ true → left_by tree estate.versions k (l ∷ ls) ≡ last_left (items h (l ∷ ls)) k
+  left_as l ls acts =
+      let t : Name = l ∷ ls in
+      let f = found_from (path_eq t) 0 (names tree) (among tree l ls (present h tree in_tree t acts)) in
+      let place : position (path_eq t) (names tree) ≡ Some f.place = position_from-zero (path_eq t) (names tree) ∙ f.first ∙ (let same : 0 + f.place ≡ f.place = omega arith in ap (λ m. Some m) same) in
+      let name : slice_get (names tree) f.place ≡ Some t = f.at ∙ ap (λ (u : Name). Some u) (sym (same_path t f.name f.passes)) in
+      ap (left_at_number estate.versions k) place
+      ∙ is.left f.place k
+      ∙ ap (share_of None (left_at k) h) name
+      ∙ ap (λ b. cond b (left_at k h t) None) acts
+
+  module _ (rows : Rows) (allowed : AreAllowed rows h) (base : (q : List ℕ) → base_of estate q ≡ seen (value_in rows) h [] q) where
+    by_name : (t : Name) → is_active h t ≡ true → seen_of (left_by tree estate.versions k) t (base_of estate k) ≡ seen (value_in rows) h t k
+    by_name [] acts = base k
+    by_name (l ∷ ls) acts =
+        seen_of-same (λ u. left_by tree estate.versions k (l ∷ u)) (λ u. last_left (items h (l ∷ u)) k) ls (base_of estate k)
+        (λ u front. left_as l u (ancestors_act rows h allowed (l ∷ ls) (l ∷ u) acts (ap (λ b. b && is_front u ls) (label_eq_self l) ∙ front)))
+        ∙ ap (λ v. seen_of (λ u. last_left (items h (l ∷ u)) k) ls v) (base k)
+
+    pub seen_as : (t : Name) (n : ℕ) → is_active h t ≡ true → IsNumberOf tree t n → seen_in tree estate.versions n k ≡ seen (value_in rows) h t k
+    seen_as t n acts number = ap (seen_by tree estate.versions k) (name_at tree t n number) ∙ by_name t acts

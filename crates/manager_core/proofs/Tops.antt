@@ -11,7 +11,7 @@ use Rattle.txn_tree.specs.Asked.{is_live_in}
 use Rattle.txn_tree.specs.declared.status.Status.{Status as State}
 use Rattle.txn_tree.specs.declared.status.Status.TheVariants as state
 use Rattle.orphans.specs.Marked.{Marked}
-use Rattle.lock_table.specs.Locked.{Table}
+use Rattle.inherit.specs.Assets.{Assets}
 use Rattle.serial_spec.specs.History.{Name, History, or_else, is_live, begun, has_begun}
 use Rattle.serial_spec.specs.Serial.{stored}
 use Rattle.serial_spec.specs.Rows.{Rows, value_in}
@@ -20,13 +20,13 @@ use Rattle.serial_spec.specs.Interleaving.{closing}
 use Rattle.txn_history.proofs.Begun.{any_begun}
 use Rattle.manager_core.specs.declared.store.TopStore.{Ghosts}
 use Rattle.manager_core.specs.Sound.{IsBacked}
-use Rattle.manager_core.specs.Kept.{IsTreeOf, AreMarksOf, AreLocksOf, IsKept}
+use Rattle.manager_core.specs.Kept.{IsTreeOf, AreMarksOf, IsEstateOf, IsKept}
 use Rattle.manager_core.specs.Tables.{AbortsIn, DropsIn, is_live_top_in}
 use Rattle.manager_core.specs.Closing.{closings, Closes}
 use Rattle.manager_core.proofs.Facts.{backed_next}
 use Rattle.manager_core.proofs.Trees.{live_in}
 use Rattle.manager_core.proofs.Steps.{tree_aborts, marks_aborts, table_same}
-use Rattle.manager_core.proofs.Locks.{locks_dropped}
+use Rattle.manager_core.proofs.Estates.{owned_dropped}
 use Rattle.manager_core.proofs.Named.{any_next, counted_at}
 use Rattle.manager_core.proofs.Blocking.{any_named, all_named}
 
@@ -88,13 +88,13 @@ fewer p q f (x ∷ xs) none =
 
 -- ---- at a place of the loop
 
-pub record ClosingAt (rows : Rows) (old new : History) (before states : States) (marks : Marked) (locks : Table) (room marks_room i : ℕ) : Type 0 where
+pub record ClosingAt (rows : Rows) (old new : History) (before states : States) (marks : Marked) (estate : Assets) (room marks_room i : ℕ) : Type 0 where
   pub closed : List Name
   pub added : new ≡ closings closed ++ old
   pub allowed : AreAllowed rows new
   pub in_tree : IsTreeOf new states
   pub marked : AreMarksOf new marks
-  pub locked : AreLocksOf new states locks
+  pub owned : IsEstateOf new states estate
   pub same_table : (k : List ℕ) → stored (value_in rows) new k ≡ stored (value_in rows) old k
   pub same_names : names states ≡ names before
   -- those that have been gone through are live no more, and nobody has come to life
@@ -114,7 +114,7 @@ counts : (b : Bool) → b ≡ true → ◌≡◌ {A = ℕ} (cond b 1 0) 1
 counts true e = refl
 counts false e = absurd (false≢true e)
 
-module _ (rows : Rows) (old new : History) (before states : States) (marks : Marked) (locks : Table) (room marks_room i : ℕ) (far : ClosingAt rows old new before states marks locks room marks_room i)
+module _ (rows : Rows) (old new : History) (before states : States) (marks : Marked) (estate : Assets) (room marks_room i : ℕ) (far : ClosingAt rows old new before states marks estate room marks_room i)
     (t : Name) (at : slice_get (names states) i ≡ Some t) where
   at_before : slice_get (names before) i ≡ Some t
   at_before = ap (λ xs. slice_get xs i) (sym far.same_names) ∙ at
@@ -146,8 +146,8 @@ module _ (rows : Rows) (old new : History) (before states : States) (marks : Mar
     next_allowed : AreAllowed rows (closing t ∷ new)
     next_allowed = (far.allowed, is_first)
 
-    module _ (after : States) (marks_after : Marked) (locks_after : Table) (room_after marks_room_after : ℕ) (aborts : AbortsIn states after marks marks_after t None)
-        (drops : DropsIn after locks locks_after t None)
+    module _ (after : States) (marks_after : Marked) (estate_after : Assets) (room_after marks_room_after : ℕ) (aborts : AbortsIn states after marks marks_after t None)
+        (drops : DropsIn after estate estate_after t None)
         (less : room ≤ room_after + 1) (marks_less : marks_room ≤ marks_room_after + 1) where
       lives_on : (u : Name) → is_live_top_in after u ≡ true → is_live_top_in states u ≡ true
       lives_on u e =
@@ -164,7 +164,7 @@ module _ (rows : Rows) (old new : History) (before states : States) (marks : Mar
           and_false true = refl
           and_false false = refl
 
-      pub closed_one : ClosingAt rows old (closing t ∷ new) before after marks_after locks_after room_after marks_room_after (i + 1)
+      pub closed_one : ClosingAt rows old (closing t ∷ new) before after marks_after estate_after room_after marks_room_after (i + 1)
       closed_one =
           let still : list_any (is_live_top_in after) (take i (names after)) ≡ false =
           ap (λ xs. list_any (is_live_top_in after) (take i xs)) aborts.0 ∙ fewer (is_live_top_in states) (is_live_top_in after) lives_on (take i (names states)) far.gone in
@@ -174,7 +174,7 @@ module _ (rows : Rows) (old new : History) (before states : States) (marks : Mar
             allowed = next_allowed;
             in_tree = tree_aborts rows (closing t) new next_allowed states after marks marks_after t far.in_tree refl aborts;
             marked = marks_aborts rows (closing t) new next_allowed states after marks marks_after t far.marked refl aborts;
-            locked = locks_dropped rows (closing t) new next_allowed states after locks locks_after t far.locked refl aborts.0 drops;
+            owned = owned_dropped rows (closing t) new next_allowed states after estate estate_after t far.owned refl aborts.0 drops;
             same_table = λ k. table_same rows (closing t) new next_allowed k refl ∙ far.same_table k;
             same_names = aborts.0 ∙ far.same_names;
             gone = any_next (is_live_top_in after) (names after) i t (ap (λ xs. slice_get xs i) aborts.0 ∙ at) still ended_here;
@@ -184,7 +184,7 @@ module _ (rows : Rows) (old new : History) (before states : States) (marks : Mar
           }
 
   -- one that is not live is passed over
-  pub passed_one : is_live_top_in states t ≡ false → ClosingAt rows old new before states marks locks room marks_room (i + 1)
+  pub passed_one : is_live_top_in states t ≡ false → ClosingAt rows old new before states marks estate room marks_room (i + 1)
   passed_one dead =
       let one = counted_at (is_live_top_in before) (names before) i t at_before in
       record {
@@ -193,7 +193,7 @@ module _ (rows : Rows) (old new : History) (before states : States) (marks : Mar
         allowed = far.allowed;
         in_tree = far.in_tree;
         marked = far.marked;
-        locked = far.locked;
+        owned = far.owned;
         same_table = far.same_table;
         same_names = far.same_names;
         gone = any_next (is_live_top_in states) (names states) i t at far.gone dead;
@@ -207,9 +207,9 @@ module _ (rows : Rows) (old new : History) (before states : States) (marks : Mar
 live_has_begun : (h : History) (l : List ℕ) → is_live h (l ∷ []) ≡ true → has_begun h (l ∷ []) ≡ true
 live_has_begun h l e = on_test (has_begun h (l ∷ [])) (λ b. b ≡ true) (λ b. refl) (λ b. absurd (false≢true (sym (rw b refl) ∙ e)))
 
-pub all_closed : (rows : Rows) (old new : History) (before states : States) (marks : Marked) (locks : Table) (room marks_room i : ℕ)
-    → ClosingAt rows old new before states marks locks room marks_room i → length states ≤ i → Closes rows old new states marks locks
-all_closed rows old new before states marks locks room marks_room i far end =
+pub all_closed : (rows : Rows) (old new : History) (before states : States) (marks : Marked) (estate : Assets) (room marks_room i : ℕ)
+    → ClosingAt rows old new before states marks estate room marks_room i → length states ≤ i → Closes rows old new states marks estate
+all_closed rows old new before states marks estate room marks_room i far end =
     let same : is_live_top_in states ≡ is_top new = λ j u. is_top_level u && live_in rows new states far.allowed far.in_tree u j in
     let none : list_any (is_top new) (names states) ≡ false =
     ap (λ p. list_any p (names states)) (sym same) ∙ sym (all_named (is_live_top_in states) states i end) ∙ far.gone in
@@ -219,7 +219,7 @@ all_closed rows old new before states marks locks room marks_room i far end =
       allowed = far.allowed;
       in_tree = far.in_tree;
       marked = far.marked;
-      locked = far.locked;
+      owned = far.owned;
       same_table = far.same_table;
       none_left = first_named new states far.in_tree ∙ no_first (is_top new) (names states) none;
       ended = λ l. false_from_ne_true _
@@ -229,9 +229,9 @@ all_closed rows old new before states marks locks room marks_room i far end =
 -- ---- the manager
 
 -- the close keeps what the type keeps
-pub kept_closed : (rows : Rows) (old new : History) (before states : States) (marks_before marks : Marked) (locks : Table) (table : Rows)
-    → IsKept rows old before marks_before table → Closes rows old new states marks locks → IsKept rows new states marks table
-kept_closed rows old new before states marks_before marks locks table kept closes = record {
+pub kept_closed : (rows : Rows) (old new : History) (before states : States) (marks_before marks : Marked) (estate : Assets) (table : Rows)
+    → IsKept rows old before marks_before table → Closes rows old new states marks estate → IsKept rows new states marks table
+kept_closed rows old new before states marks_before marks estate table kept closes = record {
   rising = kept.rising;
   allowed = closes.allowed;
   in_tree = closes.in_tree;
@@ -245,7 +245,7 @@ backed_by : {S : Type 0} (g : Ghosts S) (old : History) (table : Rows) (opened :
 backed_by g old table opened store [] backed = backed
 backed_by g old table opened store (t ∷ ts) backed = backed_next g _ table opened store _ _ _ (backed_by g old table opened store ts backed) refl
 
-pub backed_closed : {S : Type 0} (g : Ghosts S) (rows : Rows) (old new : History) (table : Rows) (opened : ℕ) (store : S) (states : States) (marks : Marked) (locks : Table)
-    → IsBacked g old table opened store → Closes rows old new states marks locks → IsBacked g new table opened store
-backed_closed g rows old new table opened store states marks locks backed closes =
+pub backed_closed : {S : Type 0} (g : Ghosts S) (rows : Rows) (old new : History) (table : Rows) (opened : ℕ) (store : S) (states : States) (marks : Marked) (estate : Assets)
+    → IsBacked g old table opened store → Closes rows old new states marks estate → IsBacked g new table opened store
+backed_closed g rows old new table opened store states marks estate backed closes =
     subst (λ h. IsBacked g h table opened store) (sym closes.added) (backed_by g old table opened store closes.names backed)

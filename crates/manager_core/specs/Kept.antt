@@ -1,14 +1,16 @@
 -- What the manager's type keeps of its history and of the tables that are read off it.
-use Rattle.std.specs.Prelude.{◌≡◌, ℕ, Bool, if◌then◌else◌, List, reverse, slice_get, Option, Some, None}
+use Rattle.std.specs.Prelude.{◌≡◌, ℕ, ℤ, if◌then◌else◌, List, reverse, slice_get, Option, Some, None}
 use Rattle.txn_tree.specs.States.{States, names, status_in}
 use Rattle.txn_tree.specs.declared.status.Status.{Status as State}
 use Rattle.txn_tree.specs.declared.status.Status.TheVariants as state
 use Rattle.orphans.specs.Marked.{Marked, is_marked}
 use Rattle.lock_table.specs.declared.modes.Modes.{Modes}
-use Rattle.lock_table.specs.Locked.{Table, free, modes_in}
-use Rattle.serial_spec.specs.declared.mode.Mode.{Mode}
+use Rattle.lock_table.specs.Inherited.{free}
+use Rattle.inherit.specs.Assets.{Assets, modes_of, left_of}
 use Rattle.serial_spec.specs.History.{Name, History, Status, Absent, Live, Committed, Aborted, status, is_active, begun, has_aborted}
 use Rattle.serial_spec.specs.Locks.{held, retained}
+use Rattle.serial_spec.specs.Items.{items}
+use Rattle.serial_spec.specs.Values.{last_left}
 use Rattle.serial_spec.specs.Serial.{stored}
 use Rattle.serial_spec.specs.Rows.{Rows, value_in, IsRising}
 use Rattle.serial_spec.specs.Legal.{AreAllowed}
@@ -29,17 +31,21 @@ pub record IsTreeOf (h : History) (tree : States) : Type 0 where
 abbrev pub AreMarksOf : History → Marked → Type 0
 AreMarksOf h marks = (t : Name) → is_marked marks t ≡ has_aborted h t
 
--- the lock of a transaction on a key, read off the history: one that does not act has none, nor has a number that is nobody's
-abbrev pub lock_by : Bool → Mode → Mode → Modes
-lock_by b own inherited = if b then record { held = own; retained = inherited } else free
+-- what a transaction has at a key, read off the history: one that does not act has nothing, nor has a number that is nobody's
+abbrev pub share_of : {X : Type 0} → X → (History → Name → X) → History → Option Name → X
+share_of nothing value h None = nothing
+share_of nothing value h (Some t) = if is_active h t then value h t else nothing
 
-abbrev pub lock_of : History → Option Name → List ℕ → Modes
-lock_of h None k = free
-lock_of h (Some t) k = lock_by (is_active h t) (held h t k) (retained h t k)
+abbrev pub lock_at : List ℕ → History → Name → Modes
+lock_at k h t = record { held = held h t k; retained = retained h t k }
 
--- so are the locks
-abbrev pub AreLocksOf : History → States → Table → Type 0
-AreLocksOf h tree locks = (n : ℕ) (k : List ℕ) → modes_in locks n k ≡ lock_of h (slice_get (names tree) n) k
+abbrev pub left_at : List ℕ → History → Name → Option (Option ℤ)
+left_at k h t = last_left (items h t) k
+
+-- so is what live transactions lock, and what they left
+pub record IsEstateOf (h : History) (tree : States) (estate : Assets) : Type 0 where
+  pub modes : (n : ℕ) (k : List ℕ) → modes_of estate n k ≡ share_of free (lock_at k) h (slice_get (names tree) n)
+  pub left : (n : ℕ) (k : List ℕ) → left_of estate n k ≡ share_of None (left_at k) h (slice_get (names tree) n)
 
 pub record IsKept (rows : Rows) (h : History) (tree : States) (marks : Marked) (table : Rows) : Type 0 where
   pub rising : IsRising rows

@@ -1,17 +1,19 @@
--- What is asked of the tree, the marks and the locks, and what each step does to them.
+-- What is asked of the tree and the marks, and what each step does to them and to the estate.
 use Rattle.std.specs.Prelude.{◌≡◌, ℕ, Bool, true, false, not, ◌&&◌, ◌||◌, if◌then◌else◌, List, [], ◌∷◌, ◌++◌, slice_get, Option, Some, None, is_some, option_map}
-use Rattle.txn_names.specs.Path.{path_eq, label_eq, is_front, parent, top_of}
+use Rattle.txn_names.specs.Path.{path_eq, label_eq, is_front, top_of}
 use Rattle.txn_tree.specs.States.{States, names, status_in}
 use Rattle.txn_tree.specs.Asked.{is_absent_in, is_live_in, has_committed_in, is_name}
 use Rattle.txn_tree.specs.declared.status.Status.TheVariants.{Live, Aborted}
 use Rattle.orphans.specs.Marked.{Marked, is_marked}
-use Rattle.lock_table.specs.Locked.{Table, free, modes_in, with_held, is_it}
+use Rattle.lock_table.specs.Inherited.{free, with_held}
+use Rattle.inherit.specs.Assets.{Assets, IsSame, modes_of, left_of, rows_of}
 use Rattle.serial_spec.specs.declared.entry.By.{By}
-use Rattle.serial_spec.specs.declared.operation.Kind.{Kind}
 use Rattle.serial_spec.specs.declared.operation.Op.{Op}
-use Rattle.serial_spec.specs.Operations.{kind, reply_of}
+use Rattle.serial_spec.specs.Operations.{kind, leaves, reply_of}
 use Rattle.serial_spec.specs.History.{Name, History, or_else}
 use Rattle.serial_spec.specs.Locks.{mode_of, is_blocked}
+use Rattle.txn_cells.specs.Cells.{is_it}
+use Rattle.txn_names.specs.Path.{parent}
 use Rattle.serial_spec.specs.Values.{seen}
 use Rattle.serial_spec.specs.Rows.{Rows, value_in}
 use Rattle.serial_spec.specs.Allowed.{when, cause_at_access}
@@ -55,21 +57,25 @@ abbrev pub is_below : Option Name → Name → Bool
 is_below None t = false
 is_below (Some u) t = is_front t u
 
--- the locks of t and of all below it are gone, unless it was refused
-abbrev pub DropsIn : States → Table → Table → Name → Option Refusal → Type 0
+-- what t and all below it had is gone, unless it was refused
+abbrev pub DropsIn : States → Assets → Assets → Name → Option Refusal → Type 0
 DropsIn tree old new t None =
-    (n : ℕ) (k : List ℕ) → modes_in new n k ≡ (if is_below (slice_get (names tree) n) t then free else modes_in old n k)
+    ((n : ℕ) (k : List ℕ) → modes_of new n k ≡ (if is_below (slice_get (names tree) n) t then free else modes_of old n k))
+    × ((n : ℕ) (k : List ℕ) → left_of new n k ≡ (if is_below (slice_get (names tree) n) t then None else left_of old n k))
+    × (rows_of new ≡ rows_of old)
 DropsIn tree old new t (Some refusal) = new ≡ old
 
 -- p is the number of t's parent, and there is none where that is the root
 abbrev pub IsParentNumber : States → Name → Option ℕ → Type 0
 IsParentNumber tree t p = (m : ℕ) → is_it p m ≡ is_name (slice_get (names tree) m) (parent t)
 
--- t's lock of k is raised, if the access was done
-abbrev pub HoldsIn : States → Table → Table → Name → List ℕ → Kind → Outcome → Type 0
-HoldsIn tree old new t k x (Done reply) =
-    (n : ℕ) (q : List ℕ) → modes_in new n q ≡ (if is_name (slice_get (names tree) n) t && label_eq k q then with_held (modes_in old n q) (mode_of x) else modes_in old n q)
-HoldsIn tree old new t k x outcome = (n : ℕ) (q : List ℕ) → modes_in new n q ≡ modes_in old n q
+-- t has locked k and left there what its access leaves, if it was done
+abbrev pub AccessesIn : States → Assets → Assets → Name → List ℕ → Op → Outcome → Type 0
+AccessesIn tree old new t k op (Done reply) =
+    ((n : ℕ) (q : List ℕ) → modes_of new n q ≡ (if is_name (slice_get (names tree) n) t && label_eq k q then with_held (modes_of old n q) (mode_of (kind op)) else modes_of old n q))
+    × ((n : ℕ) (q : List ℕ) → left_of new n q ≡ (if is_name (slice_get (names tree) n) t && label_eq k q then or_else (leaves op reply) (left_of old n q) else left_of old n q))
+    × (rows_of new ≡ rows_of old)
+AccessesIn tree old new t k op outcome = IsSame old new
 
 -- what an access comes to
 abbrev pub ComesTo : Rows → History → By → Name → List ℕ → Op → Outcome → Type 0

@@ -4,14 +4,15 @@ ghost use Rattle.txn_tree.specs.States.{names};
 ghost use Rattle.serial_spec.specs.History.{Name};
 ghost use Rattle.serial_spec.specs.Interleaving.{closing};
 ghost use Rattle.serial_spec.specs.Legal.{AreAllowed};
+ghost use Rattle.inherit.specs.Assets.{rows_of};
 ghost use Rattle.manager_core.specs.Closing.{Closes};
-ghost use Rattle.manager_core.specs.Kept.{AreLocksOf, AreMarksOf, IsTreeOf};
+ghost use Rattle.manager_core.specs.Kept.{AreMarksOf, IsEstateOf, IsTreeOf};
 ghost use Rattle.manager_core.specs.Tables.{AbortsIn, DropsIn, is_live_top_in};
 
 use crate::deciding::abort_in;
 use crate::log::Log;
 use crate::outcome::Outcome;
-use lock_table::Locks;
+use inherit::Estate;
 use orphans::Marks;
 use serial_spec::{By, Event, Reply};
 use txn_names::Name;
@@ -47,35 +48,36 @@ pub(crate) fn count_live_tops(tree: &Tree) -> usize
 }
 
 // Aborts one of them.
-fn close_top(log: &mut Log, tree: &mut Tree, marks: &mut Marks, locks: &mut Locks, name: &Name)
+fn close_top(log: &mut Log, tree: &mut Tree, marks: &mut Marks, estate: &mut Estate, name: &Name)
     requires live { IsTrue (is_live_top_in tree.old name.now) }
     requires room { 0 < log.old.room }
     requires marks_room { 0 < marks.old.room }
     ensures rows { log.new.rows ≡ log.old.rows }
     ensures entries { log.new.entries ≡ closing name.now ∷ log.old.entries }
     ensures aborts { AbortsIn tree.old tree.new marks.old marks.new name.now None }
-    ensures drops { DropsIn tree.new locks.old locks.new name.now None }
+    ensures drops { DropsIn tree.new estate.old estate.new name.now None }
     ensures room { log.old.room ≤ log.new.room + 1 }
     ensures marks_room { marks.old.room ≤ marks.new.room + 1 }
 {
-    let outcome = Outcome::of(abort_in(tree, marks, locks, name));
+    let outcome = Outcome::of(abort_in(tree, marks, estate, name));
     log.add(By::Close, Event::Abort(*name), &outcome);
 }
 
 /// Aborts the live top-level transactions, in the order in which they began. There is room for all of them.
-pub(crate) fn close_tops(log: &mut Log, tree: &mut Tree, marks: &mut Marks, locks: &mut Locks)
+pub(crate) fn close_tops(log: &mut Log, tree: &mut Tree, marks: &mut Marks, estate: &mut Estate)
     requires allowed { AreAllowed log.old.rows log.old.entries }
     requires tree { IsTreeOf log.old.entries tree.old }
     requires marks { AreMarksOf log.old.entries marks.old }
-    requires locks { AreLocksOf log.old.entries tree.old locks.old }
+    requires owned { IsEstateOf log.old.entries tree.old estate.old }
     requires room { count_by (is_live_top_in tree.old) (names tree.old) ≤ log.old.room }
     requires marks_room { count_by (is_live_top_in tree.old) (names tree.old) ≤ marks.old.room }
     ensures rows { log.new.rows ≡ log.old.rows }
-    ensures closes { Closes log.old.rows log.old.entries log.new.entries tree.new marks.new locks.new }
+    ensures closes { Closes log.old.rows log.old.entries log.new.entries tree.new marks.new estate.new }
+    ensures table { rows_of estate.new ≡ rows_of estate.old }
 {
     for place in 0..tree.len() {
         if let Some(name) = live_top_at(tree, place) {
-            close_top(log, tree, marks, locks, &name);
+            close_top(log, tree, marks, estate, &name);
         }
     }
 }

@@ -1,22 +1,19 @@
 //! Which answer a line gets, read off the tables and the history.
 ghost use Rattle.std.specs.Prelude.{◌≡◌, ◌≤◌, ◌<◌, ◌+◌, ℕ, List, [], length, IsFalse, OnErr, IfOk};
 ghost use Rattle.orphans.specs.Marked.{is_marked};
-ghost use Rattle.serial_spec.specs.History.{has_aborted, is_active};
-ghost use Rattle.serial_spec.specs.Locks.{is_blocked, is_blocker};
-ghost use Rattle.serial_spec.specs.Values.{seen};
-ghost use Rattle.serial_spec.specs.Waits.{is_waits};
-ghost use Rattle.serial_spec.specs.Allowed.{cause_at_access, cause_at_commit, has_live_child, is_full_for};
+ghost use Rattle.serial_spec.specs.Allowed.{cause_at_access, cause_at_commit, is_full_for};
 ghost use Rattle.serial_spec.specs.Legal.{AreAllowed};
-ghost use Rattle.serial_spec.specs.Rows.{value_in};
-ghost use Rattle.manager_core.specs.Kept.{AreMarksOf, IsTreeOf};
-ghost use Rattle.manager_core.specs.Tables.{AbortsIn, BeginsIn, DropsIn, acts_in, cause_in};
+ghost use Rattle.inherit.specs.Assets.{IsSame, rows_of};
+ghost use Rattle.manager_core.specs.Kept.{AreMarksOf, IsEstateOf, IsKept, IsTreeOf};
+ghost use Rattle.manager_core.specs.Tables.{AbortsIn, AccessesIn, BeginsIn, ComesTo, DropsIn, acts_in, cause_in};
 ghost use Rattle.txn_tree.specs.Causes.{cause_at_abort, cause_at_begin};
 
-use crate::locking::number_of;
 use crate::log::Log;
-use lock_table::Locks;
+use crate::outcome::Outcome;
+use crate::owning::number_of;
+use inherit::Estate;
 use orphans::Marks;
-use serial_spec::{By, NoMemory, PlainTable, Refusal};
+use serial_spec::{By, Event, NoMemory, Op, Refusal};
 use std::alloc::AllocError;
 use txn_names::{Key, Name};
 use txn_tree::{Status, Tree, TreeFault};
@@ -104,19 +101,40 @@ fn is_full_for(log: &Log, key: &Key) -> bool
     !log.knows(key) && log.known() >= MOST_KEYS
 }
 
-/// What the transaction sees at the key: what the deepest of itself and its ancestors left there, else the table's.
-pub(crate) fn value_for(log: &Log, table: &PlainTable, name: &Name, key: &Key) -> Option<i64>
-    requires { (k : List ℕ) → value_in table.now.rows k ≡ seen (value_in log.now.rows) log.now.entries [] k }
-    ensures { result ≡ seen (value_in log.now.rows) log.now.entries name.now key.now }
+/// An access that is asked for, with its line.
+#[derive(Clone, Copy)]
+pub(crate) struct Request {
+    pub(crate) by: By,
+    pub(crate) name: Name,
+    pub(crate) key: Key,
+    pub(crate) op: Op,
+}
+
+/// What an access comes to: a lock may keep it out (Moss 1981). The estate has it, if it is done.
+pub(crate) fn access_in(
+    log: &Log,
+    tree: &Tree,
+    marks: &Marks,
+    estate: &mut Estate,
+    request: &Request,
+) -> Result<Outcome, NoMemory>
+    requires kept { IsKept log.now.rows log.now.entries tree.now marks.now (rows_of estate.old) }
+    requires owned { IsEstateOf log.now.entries tree.now estate.old }
+    ensures comes { IfOk result (λ outcome. ComesTo log.now.rows log.now.entries request.now.by request.now.name request.now.key request.now.op outcome) }
+    ensures accesses { IfOk result (λ outcome. AccessesIn tree.now estate.old estate.new request.now.name request.now.key request.now.op outcome) }
+    ensures err { OnErr result (IsSame estate.old estate.new) }
 {
-    let mut depth = name.depth();
-    while depth > 0 {
-        if let Some(value) = log.left_by(&name.front(depth), key) {
-            return value;
+    let Request { by, name, key, op } = request;
+    match refusal_of_access(log, tree, marks, *by, name, key) {
+        Some(refusal) => Ok(Outcome::Refused(refusal)),
+        None => {
+            estate.reserve_for(tree, &Event::Access(*name, *key, *op))?;
+            match estate.access(tree, number_of(tree, name), key, *op) {
+                Some(reply) => Ok(Outcome::Done(reply)),
+                None => Ok(Outcome::Waits),
+            }
         }
-        depth -= 1;
     }
-    table.get(key)
 }
 
 /// Begins the transaction in the tree, or tells why it is refused.
@@ -132,23 +150,24 @@ pub(crate) fn begin_in(tree: &mut Tree, name: &Name) -> Result<Option<Refusal>, 
     }
 }
 
-/// Aborts the transaction in the tree, marks it and drops the locks below it, or tells why it is refused.
+/// Aborts the transaction in the tree, marks it and drops what it and all below it have, or tells why it is refused.
 pub(crate) fn abort_in(
     tree: &mut Tree,
     marks: &mut Marks,
-    locks: &mut Locks,
+    estate: &mut Estate,
     name: &Name,
 ) -> Option<Refusal>
     requires { 0 < marks.old.room }
     ensures cause { result ≡ cause_at_abort tree.old name.now }
     ensures aborts { AbortsIn tree.old tree.new marks.old marks.new name.now result }
-    ensures drops { DropsIn tree.new locks.old locks.new name.now result }
+    ensures table { rows_of estate.new ≡ rows_of estate.old }
+    ensures drops { DropsIn tree.new estate.old estate.new name.now result }
     ensures room { marks.old.room ≤ marks.new.room + 1 }
 {
     match tree.abort(name) {
         Ok(_) => {
             marks.mark(name);
-            locks.drop_under(tree, number_of(tree, name));
+            estate.abort(tree, number_of(tree, name));
             None
         }
         Err(refusal) => Some(refusal),

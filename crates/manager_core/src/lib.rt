@@ -1,17 +1,16 @@
 //! The manager of nested transactions (Moss 1981; Lynch, Merritt, Weihl, Fekete 1994). Which names have begun and what
-//! became of them, and who locks what, stand in tables; values and waits are still read off the history.
+//! became of them, who locks what, and what each left, stand in tables; waits are still read off the history.
 #![tactic(auto)]
 
 mod changes;
 mod closing;
 mod deciding;
-mod locking;
 mod log;
 mod manager;
 mod outcome;
+mod owning;
 mod reading;
 pub mod store;
-mod touched;
 mod waiting;
 
 pub use manager::{Manager, Parts};

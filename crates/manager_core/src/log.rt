@@ -5,10 +5,7 @@ ghost use Rattle.txn_names.specs.Path.{label_eq};
 ghost use Rattle.serial_spec.specs.declared.entry.Answer.TheVariants.{Stuck};
 ghost use Rattle.serial_spec.specs.History.{effect};
 ghost use Rattle.serial_spec.specs.Allowed.{is_other_line, known, with_key};
-ghost use Rattle.serial_spec.specs.Items.{items};
-ghost use Rattle.serial_spec.specs.Locks.{conflicts, foot};
 ghost use Rattle.serial_spec.specs.Waits.{accesses, open_waits};
-ghost use Rattle.serial_spec.specs.Values.{last_left};
 ghost use Rattle.manager_core.specs.Lines.{OnlyWaits, entries_of, waiting_access};
 ghost use Rattle.manager_core.specs.State.{entry};
 ghost use Rattle.manager_core.specs.Outcomes.{answer_of};
@@ -17,9 +14,8 @@ ghost use Rattle.manager_core.specs.Store.{plain};
 use crate::outcome::Outcome;
 use crate::reading::{key_in, same_line};
 use crate::store::Row;
-use crate::touched::{conflicts, left_by};
 use crate::waiting::{is_unused, only_waits, open_wait};
-use serial_spec::{Answer, By, Entry, Event, Kind, NoMemory, Op};
+use serial_spec::{Answer, By, Entry, Event, NoMemory, Op};
 use std::alloc::Global;
 use std::marker::Model;
 use txn_names::{Key, Name};
@@ -181,28 +177,6 @@ impl Log {
         ensures { result ≡ length (known self.now.rows self.now.entries) }
     {
         self.keys.len()
-    }
-
-    /// The known keys.
-    pub(crate) fn keys(&self) -> &[Key]
-        ensures { reverse result.now ≡ known self.now.rows self.now.entries }
-    {
-        self.keys.as_slice()
-    }
-
-    /// Whether the transaction, its committed inferiors counted in, has touched the key in a mode that keeps an
-    /// access of this kind out.
-    pub(crate) fn conflicts(&self, name: &Name, key: &Key, kind: Kind) -> bool
-        ensures { result ≡ conflicts (foot self.now.entries name.now key.now) kind }
-    {
-        conflicts(&self.entries, name, key, kind)
-    }
-
-    /// What the transaction, its committed inferiors counted in, left at the key.
-    pub(crate) fn left_by(&self, name: &Name, key: &Key) -> Option<Option<i64>>
-        ensures { result ≡ last_left (items self.now.entries name.now) key.now }
-    {
-        left_by(&self.entries, name, key)
     }
 
     /// Whether an access of the transaction waits, if it acts.

@@ -9,18 +9,17 @@ ghost use Rattle.manager_core.specs.Store.{plain};
 ghost use Rattle.manager_core.specs.Lines.{IsFree, IsLine, IsWaitOf, waits_no_more, accessor};
 ghost use Rattle.manager_core.specs.Outcomes.{answer_of};
 ghost use Rattle.manager_core.specs.State.{entry};
-ghost use Rattle.manager_core.specs.Tables.{ComesTo};
 
-use crate::changes::{changes_of, stores};
+use crate::changes::stores;
 use crate::closing::{close_tops, count_live_tops};
-use crate::deciding::{abort_in, acts, begin_in, refusal_of_access, refusal_of_commit, value_for};
-use crate::locking::{Heirs, hold_in, is_blocked, reserve_commit};
+use crate::deciding::{Request, abort_in, access_in, acts, begin_in, refusal_of_commit};
 use crate::log::Log;
 use crate::outcome::{OpenFault, Outcome};
-use crate::store::{Row, TopStore, table_after, table_of};
-use lock_table::Locks;
+use crate::owning::{hand_up, number_of, reserve_commit};
+use crate::store::{Row, TopStore, table_of};
+use inherit::Estate;
 use orphans::Marks;
-use serial_spec::{By, Entry, Event, NoMemory, Op, PlainTable, Refusal, Reply, act};
+use serial_spec::{By, Entry, Event, NoMemory, Op, PlainTable, Refusal, Reply};
 use std::alloc::Global;
 use std::marker::Model;
 use txn_names::{Key, Name};
@@ -31,19 +30,18 @@ use txn_tree::Tree;
 /// memory the manager and its store are as before.
 #[derive(Drop)]
 pub struct Manager<S: TopStore> {
-    alloc: Global,
     log: Log,
     tree: Tree,
     marks: Marks,
-    locks: Locks,
-    table: PlainTable,
+    estate: Estate,
     store: S,
     // How many faults the store had counted when it was opened.
     opened: u64,
 }
 
 impl<S: TopStore> Model for Manager<S> {
-    ghost use Rattle.manager_core.specs.Kept.{AreLocksOf, IsKept};
+    ghost use Rattle.inherit.specs.Assets.{rows_of};
+    ghost use Rattle.manager_core.specs.Kept.{IsEstateOf, IsKept};
     ghost use Rattle.manager_core.specs.Sound.{IsBacked};
     ghost use Rattle.manager_core.specs.State.{State};
 
@@ -53,14 +51,14 @@ impl<S: TopStore> Model for Manager<S> {
       rows = m.log.rows;
       opened = m.opened;
       history = m.log.entries;
-      table = m.table.rows;
+      table = rows_of m.estate;
       store = m.store;
     } };
 
     ghost invariant = { λ m.
-        IsKept m.log.rows m.log.entries m.tree m.marks m.table.rows
-        × AreLocksOf m.log.entries m.tree m.locks
-        × IsBacked S.TopStore m.log.entries m.table.rows m.opened m.store };
+        IsKept m.log.rows m.log.entries m.tree m.marks (rows_of m.estate)
+        × IsEstateOf m.log.entries m.tree m.estate
+        × IsBacked S.TopStore m.log.entries (rows_of m.estate) m.opened m.store };
 }
 
 /// What is left where a manager is taken apart.
@@ -125,12 +123,10 @@ impl<S: TopStore> Manager<S> {
         let log = Log::new(alloc, rows)?;
         let opened = store.faults();
         Ok(Manager {
-            alloc,
             log,
             tree: Tree::new(alloc),
             marks: Marks::new(alloc),
-            locks: Locks::new(alloc),
-            table,
+            estate: Estate::new(alloc, table),
             store,
             opened,
         })
@@ -152,28 +148,6 @@ impl<S: TopStore> Manager<S> {
         Ok(outcome)
     }
 
-    // What an access comes to.
-    fn outcome_of_access(&self, by: By, name: &Name, key: &Key, op: Op) -> Outcome
-        ensures { ComesTo self.now.rows self.now.history by name.now key.now op result }
-    {
-        let Manager {
-            log,
-            tree,
-            marks,
-            locks,
-            table,
-            ..
-        } = self;
-        if let Some(refusal) = refusal_of_access(log, tree, marks, by, name, key) {
-            Outcome::Refused(refusal)
-        } else if is_blocked(tree, locks, name, key, op.kind()) {
-            Outcome::Waits
-        } else {
-            let (_, reply) = act(value_for(log, table, name, key), &op);
-            Outcome::Done(reply)
-        }
-    }
-
     /// Reads or writes a key. It is refused by the first of these that holds: the transaction never began
     /// (Unknown), has an aborted ancestor, itself included (Orphan), or has committed (Done); it waits by another
     /// line (Waiting); the key is new where 4,096 are known (Full). Else it waits where a lock keeps it out.
@@ -184,30 +158,20 @@ impl<S: TopStore> Manager<S> {
         ensures err { OnErr result (self.new ≡ self.old) }
         ensures sound { OnOk result (IsSound S.TopStore self.new) }
     {
-        let outcome = self.outcome_of_access(by, name, key, op);
-        self.answer_access(by, name, key, op, outcome)
-    }
-
-    // Locks the key, if the access is done, and adds the entry.
-    fn answer_access(
-        &mut self,
-        by: By,
-        name: &Name,
-        key: &Key,
-        op: Op,
-        outcome: Outcome,
-    ) -> Result<Outcome, NoMemory>
-        requires line { IsLine by }
-        requires comes { ComesTo self.old.rows self.old.history by name.now key.now op outcome }
-        requires allowed { Allowed self.old.rows self.old.history by (Access name.now key.now op) (answer_of outcome) }
-        ensures ok { IfOk result (λ told. Answered self.old self.new by (Access name.now key.now op) told) }
-        ensures told { IfOk result (λ told. told ≡ outcome) }
-        ensures waits { IfOk result (λ told. told ≡ Outcome.Waits → IsWaitOf self.new.history by (Access name.now key.now op)) }
-        ensures err { OnErr result (self.new ≡ self.old) }
-        ensures sound { OnOk result (IsSound S.TopStore self.new) }
-    {
         self.log.reserve(1)?;
-        hold_in(&self.tree, &mut self.locks, name, key, op.kind(), &outcome)?;
+        let request = Request {
+            by,
+            name: *name,
+            key: *key,
+            op,
+        };
+        let outcome = access_in(
+            &self.log,
+            &self.tree,
+            &self.marks,
+            &mut self.estate,
+            &request,
+        )?;
         self.log.add(by, Event::Access(*name, *key, op), &outcome);
         Ok(outcome)
     }
@@ -220,11 +184,26 @@ impl<S: TopStore> Manager<S> {
         ensures err { OnErr result (self.new ≡ self.old) }
         ensures sound { OnOk result (IsSound S.TopStore self.new) }
     {
+        self.log.reserve(1)?;
         let (by, key, op) = self.log.open_access(name).unwrap();
-        match self.outcome_of_access(by, name, &key, op) {
-            Outcome::Waits => Ok(Outcome::Waits),
-            outcome => self.answer_access(by, name, &key, op, outcome),
+        let request = Request {
+            by,
+            name: *name,
+            key,
+            op,
+        };
+        let outcome = access_in(
+            &self.log,
+            &self.tree,
+            &self.marks,
+            &mut self.estate,
+            &request,
+        )?;
+        match outcome {
+            Outcome::Waits => {}
+            _ => self.log.add(by, Event::Access(*name, key, op), &outcome),
         }
+        Ok(outcome)
     }
 
     /// Commits a transaction into its parent. It is refused by the first of these that holds: it never began
@@ -274,9 +253,9 @@ impl<S: TopStore> Manager<S> {
         ensures sound { OnOk result (IsSound S.TopStore self.new) }
     {
         self.log.reserve(1)?;
-        let Heirs { child, parent } = reserve_commit(&self.tree, &mut self.locks, name)?;
+        let heirs = reserve_commit(&self.tree, &mut self.estate, name)?;
         self.tree.commit(name).unwrap();
-        self.locks.hand_up(child, parent);
+        hand_up(&mut self.estate, &heirs);
         let outcome = Outcome::Done(Reply::Ok);
         self.log.add(by, Event::Commit(*name), &outcome);
         Ok(outcome)
@@ -293,18 +272,17 @@ impl<S: TopStore> Manager<S> {
         ensures sound { OnOk result (IsSound S.TopStore self.new) }
     {
         self.log.reserve(1)?;
-        let changes = changes_of(self.alloc, &self.log, &self.table, name)?;
-        let next = table_after(&self.table, &changes)?;
-        let Heirs { child, parent } = reserve_commit(&self.tree, &mut self.locks, name)?;
+        let changes = self
+            .estate
+            .changes(&self.tree, number_of(&self.tree, name))?;
+        let heirs = reserve_commit(&self.tree, &mut self.estate, name)?;
         if stores(&mut self.store, changes) {
             self.tree.commit(name).unwrap();
-            self.locks.hand_up(child, parent);
-            self.table = next;
+            hand_up(&mut self.estate, &heirs);
             let outcome = Outcome::Done(Reply::Ok);
             self.log.add(by, Event::Commit(*name), &outcome);
             Ok(outcome)
         } else {
-            drop(next);
             let outcome = Outcome::Refused(Refusal::Store);
             self.log.add(by, Event::Commit(*name), &outcome);
             Ok(outcome)
@@ -325,7 +303,12 @@ impl<S: TopStore> Manager<S> {
         self.marks.reserve(1)?;
         // Asked for what it tells: that a name has a label.
         let _ = name.depth();
-        let outcome = Outcome::of(abort_in(&mut self.tree, &mut self.marks, &mut self.locks, name));
+        let outcome = Outcome::of(abort_in(
+            &mut self.tree,
+            &mut self.marks,
+            &mut self.estate,
+            name,
+        ));
         self.log.add(by, Event::Abort(*name), &outcome);
         Ok(outcome)
     }
@@ -355,7 +338,7 @@ impl<S: TopStore> Manager<S> {
             &mut self.log,
             &mut self.tree,
             &mut self.marks,
-            &mut self.locks,
+            &mut self.estate,
         );
         Ok(())
     }
@@ -400,7 +383,7 @@ impl<S: TopStore> Manager<S> {
         ensures table { result.now.rows ≡ self.now.table }
         ensures sound { IsSound S.TopStore self.now }
     {
-        &self.table
+        self.estate.versions().base()
     }
 
     /// The opening rows, in byte order.
@@ -419,7 +402,7 @@ impl<S: TopStore> Manager<S> {
     {
         let Manager {
             log,
-            table,
+            estate,
             store,
             ..
         } = self;
@@ -427,7 +410,7 @@ impl<S: TopStore> Manager<S> {
         Parts {
             opening,
             history,
-            table,
+            table: estate.into_base(),
             store,
         }
     }

@@ -2,12 +2,11 @@
 ghost use Rattle.std.specs.Prelude.{◌≡◌};
 ghost use Rattle.std.specs.List.{list_any};
 ghost use Rattle.serial_spec.specs.History.{effect};
-ghost use Rattle.serial_spec.specs.Operations.{leaves};
 ghost use Rattle.serial_spec.specs.Waits.{same_line};
-ghost use Rattle.manager_core.specs.Recorded.{key_of, left_at};
+ghost use Rattle.manager_core.specs.Recorded.{key_of};
 
-use serial_spec::{Answer, By, Entry, Event, Op, Reply};
-use txn_names::{Key, Name};
+use serial_spec::{Answer, By, Entry, Event};
+use txn_names::Key;
 
 /// The key of an answered access.
 pub(crate) fn key_in(entry: &Entry) -> Option<Key>
@@ -15,33 +14,6 @@ pub(crate) fn key_in(entry: &Entry) -> Option<Key>
 {
     match (&entry.event, &entry.answer) {
         (Event::Access(_, key, _), Answer::Done(_)) => Some(*key),
-        _ => None,
-    }
-}
-
-fn leaves(op: &Op, reply: &Reply) -> Option<Option<i64>>
-    ensures { result ≡ leaves op.now reply.now }
-{
-    match (*op, *reply) {
-        (Op::Set(value), _) => Some(Some(value)),
-        (Op::Add(_), Reply::New(sum)) => Some(Some(sum)),
-        (Op::Del, _) => Some(None),
-        _ => None,
-    }
-}
-
-/// What the entry leaves at the key, if it is an access of the transaction to it.
-pub(crate) fn left_at(entry: &Entry, name: &Name, key: &Key) -> Option<Option<i64>>
-    ensures { result ≡ left_at name.now key.now (effect entry.now) }
-{
-    match (&entry.event, &entry.answer) {
-        (Event::Access(t, k, op), Answer::Done(reply)) => {
-            if *t == *name && *k == *key {
-                leaves(op, reply)
-            } else {
-                None
-            }
-        }
         _ => None,
     }
 }

@@ -1,6 +1,7 @@
 //! The versions over a base.
 ghost use Rattle.std.specs.Prelude.{◌≡◌, ◌≤◌, ◌<◌, ◌&&◌, length, not, nat_eq, [], IsOk, IsTrue, IfSome, IfNone, OnOk, List, ℕ, None, Some, if◌then◌else◌};
 ghost use Rattle.txn_cells.specs.Cells.{is_under};
+ghost use Rattle.serial_spec.specs.Rows.{IsRising};
 ghost use Rattle.version_stack.specs.Versioned.{FitsBase, base_after, base_in, handed_up, has_place, left_in, put_by};
 ghost use Rattle.version_stack.specs.Seen.{left_by, seen_by, seen_in};
 
@@ -151,6 +152,7 @@ impl Versions {
         ensures left { (u : ℕ) → (q : List ℕ) → left_in self.new u q ≡ handed_up self.old child parent u q }
         ensures places { (u : ℕ) → (q : List ℕ) → has_place self.new u q ≡ (not (nat_eq child u) && has_place self.old u q) }
         ensures base { (q : List ℕ) → base_in self.new q ≡ base_after self.old child parent q }
+        ensures same { ((q : List ℕ) → base_after self.old child parent q ≡ base_in self.old q) → self.new.base.rows ≡ self.old.base.rows }
     {
         match parent {
             Some(parent) => self.written.hand_up(child, Some(parent)),
@@ -166,7 +168,10 @@ impl Versions {
         requires { FitsBase self.old txn }
         ensures written { self.new.written ≡ self.old.written }
         ensures base { (q : List ℕ) → base_in self.new q ≡ base_after self.old txn None q }
+        ensures rising { IsRising self.old.base.rows × IsRising self.new.base.rows }
     {
+        // Asked for what it tells, here and below: that the rows rise.
+        let _ = self.base.len();
         for place in 0..self.written.count(txn) {
             if let Some(key) = self.written.key_at(txn, place) {
                 if let Some(value) = self.left(txn, &key) {
@@ -174,6 +179,7 @@ impl Versions {
                 }
             }
         }
+        let _ = self.base.len();
     }
 
     /// Drops what the transaction and all below it left. It takes no memory.

@@ -18,17 +18,19 @@ pub loop-place-preserved : goal.loop-place-preserved
 loop-place-preserved c = elim c.match-live_top_at.branch [
   | in-Some w ↦
       let closed = closed_one _ _ _ _ _ _ _ _ _ _ c.loop-place.invariant.far w.in-Some.name w.in-Some.ensures.some.0 w.in-Some.ensures.some.1
-      w.close_top.new.tree w.close_top.new.marks w.close_top.new.locks w.close_top.new.log.room w.close_top.new.marks.room w.close_top.ensures.aborts w.close_top.ensures.drops w.close_top.ensures.room w.close_top.ensures.marks_room in
-      rw (w.log-is, w.tree-is, w.marks-is, w.locks-is) record {
+      w.close_top.new.tree w.close_top.new.marks w.close_top.new.estate w.close_top.new.log.room w.close_top.new.marks.room w.close_top.ensures.aborts w.close_top.ensures.drops w.close_top.ensures.room w.close_top.ensures.marks_room in
+      rw (w.log-is, w.tree-is, w.marks-is, w.estate-is) record {
         rows = w.close_top.ensures.rows ∙ c.loop-place.invariant.rows;
+        table = w.close_top.ensures.drops.2 ∙ c.loop-place.invariant.table;
         far = rw (w.close_top.ensures.entries, w.close_top.ensures.rows) closed;
       }
   | in_default w ↦
       let tree = c.loop-place.tree in
       let within : c.loop-place.place < length (names tree) = omega (arith, c.loop-place-test.true, c.len-place-end.ensures.len, ap length c.loop-place.invariant.far.same_names, length-keys_of c.args.tree.now) in
       let here = got (names tree) c.loop-place.place within in
-      rw (w.log-is, w.tree-is, w.marks-is, w.locks-is) record {
+      rw (w.log-is, w.tree-is, w.marks-is, w.estate-is) record {
         rows = c.loop-place.invariant.rows;
+        table = c.loop-place.invariant.table;
         far = passed_one _ _ _ _ _ _ _ _ _ _ c.loop-place.invariant.far here.0 here.1 (w.in_default.ensures.none here.0 here.1);
       }
 ]

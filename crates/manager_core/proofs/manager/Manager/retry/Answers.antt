@@ -1,56 +1,79 @@
-use Rattle.std.proofs.Common.{◌≡◌, Some, find, inl, inr, refl, sym, ap, ◌∙◌}
+use Rattle.std.proofs.Common.{refl, sym, ap, ◌∙◌}
 use Rattle.std.specs.Prelude.{is_some}
-use Rattle.serial_spec.specs.Waits.{accesses, open_waits, wait_of}
-use Rattle.serial_spec.specs.declared.entry.Entry.{Entry}
-use Rattle.manager_core.specs.Lines.{waiting_access}
-use Rattle.manager_core.proofs.Answers.{retry_comes, still_waits}
+use Rattle.manager_core.proofs.Answers.{retry_comes}
 use Rattle.manager_core.proofs.Retrying.{waiting_is, some_access, retried, waits_on}
+use Rattle.manager_core.proofs.Roomy.{all_roomy, all_accessed, same_rows}
 use Rattle.manager_core.proofs.Facts.{sound}
 use Rattle.manager_core.proofs.manager.Manager.retry.Goals as goal
+use Rattle.manager_core.proofs.manager.Manager.retry.Goals.{in-Waits, in_default}
 
 pub unwrap-by-requires : goal.unwrap-by-requires
 unwrap-by-requires g c =
     let m = c.self.inside in
     let some = rw (← c.self.view_is) at c.requires.waits in
-    ap is_some c.open_access.ensures ∙ some_access m.log.entries c.args.name.now some
+    ap is_some (rw c.reserve.ensures.entries at c.open_access.ensures) ∙ some_access m.log.entries c.args.name.now some
 
-pub answer_access-requires : goal.answer_access-requires
-answer_access-requires g c =
+pub invariant_of-self-in_err-outcome : goal.invariant_of-self-in_err-outcome
+invariant_of-self-in_err-outcome g c =
     let m = c.self.inside in
+    rw (c.reserve.ensures.rows, c.reserve.ensures.entries)
+    (all_roomy g.S.TopStore m.log.rows m.log.entries m.tree m.marks m.estate _ m.opened m.store c.self.invariant c.in_err-outcome.ensures.err)
+
+pub invariant_of-self-in_default : goal.invariant_of-self-in_default
+invariant_of-self-in_default g c =
+    let m = c.self.inside in
+    let t = c.args.name.now in
     let some = rw (← c.self.view_is) at c.requires.waits in
     let by = c.unwrap-by.result.0 in
     let k = c.unwrap-by.result.1 in
     let op = c.unwrap-by.result.2 in
-    let is = waiting_is m.log.rows m.log.entries c.self.invariant.0.allowed c.args.name.now by k op some (sym c.open_access.ensures ∙ c.unwrap-by.ensures) in
-    record {
-      line = is.line;
-      comes = c.outcome_of_access.ensures;
-      allowed = retry_comes c.args.self.now.rows c.args.self.now.history by c.args.name.now k op c.outcome_of_access.result c.outcome_of_access.ensures c.in_default.not-Waits;
-    }
+    let found = rw c.reserve.ensures.entries at c.open_access.ensures in
+    let is = waiting_is m.log.rows m.log.entries c.self.invariant.0.allowed t by k op some (sym found ∙ c.unwrap-by.ensures) in
+    let comes = rw (c.reserve.ensures.rows, c.reserve.ensures.entries) at c.in_ok-outcome.ensures.comes in
+    rw (c.add.ensures.rows, c.add.ensures.entries, c.reserve.ensures.rows, c.reserve.ensures.entries)
+    (all_accessed g.S.TopStore m.log.rows m.log.entries m.tree m.marks m.estate _ m.opened m.store c.self.invariant by t k op c.in_ok-outcome.outcome is.line
+    (retry_comes m.log.rows m.log.entries by t k op c.in_ok-outcome.outcome comes c.in_default.not-Waits) comes c.in_ok-outcome.ensures.accesses)
 
-pub returns-in-Waits-clause-ok : goal.returns-in-Waits-clause-ok
-returns-in-Waits-clause-ok g c =
+pub returns-clause-ok : goal.returns-clause-ok
+returns-clause-ok g c =
     let m = c.self.inside in
+    let t = c.args.name.now in
     let some = rw (← c.self.view_is) at c.requires.waits in
     let by = c.unwrap-by.result.0 in
     let k = c.unwrap-by.result.1 in
     let op = c.unwrap-by.result.2 in
-    let is = waiting_is m.log.rows m.log.entries c.self.invariant.0.allowed c.args.name.now by k op some (sym c.open_access.ensures ∙ c.unwrap-by.ensures) in
-    rw (← c.self.view_is) (waits_on _ c.args.name.now by k op is _ (rw (← c.self.view_is) at c.outcome_of_access.ensures) c.in-Waits.is)
+    let outcome = c.in_ok-outcome.outcome in
+    let found = rw c.reserve.ensures.entries at c.open_access.ensures in
+    let is = waiting_is m.log.rows m.log.entries c.self.invariant.0.allowed t by k op some (sym found ∙ c.unwrap-by.ensures) in
+    let comes = rw (c.reserve.ensures.rows, c.reserve.ensures.entries) at c.in_ok-outcome.ensures.comes in
+    let table = same_rows m.tree m.estate _ t k op outcome c.in_ok-outcome.ensures.accesses in
+    elim c.match-outcome.branch [
+      | in-Waits w ↦ rw (w.self-is, ← c.self.view_is, c.reserve.ensures.rows, c.reserve.ensures.entries, table) (waits_on _ t by k op is outcome comes w.in-Waits.is)
+      | in_default w ↦ rw (w.self-is, ← c.self.view_is, w.add.ensures.rows, w.add.ensures.entries, c.reserve.ensures.rows, c.reserve.ensures.entries, table)
+          (retried _ _ t by k op is outcome (record {
+            allowed = retry_comes m.log.rows m.log.entries by t k op outcome comes w.in_default.not-Waits;
+            added = refl;
+          }))
+    ]
 
-pub returns-in-Waits-clause-sound : goal.returns-in-Waits-clause-sound
-returns-in-Waits-clause-sound g c = rw (← c.self.view_is) (sound g.S.TopStore _ _ _ c.self.invariant.0 c.self.invariant.2)
-
-pub returns-in_default : goal.returns-in_default
-returns-in_default g c =
+pub returns-clause-sound : goal.returns-clause-sound
+returns-clause-sound g c =
     let m = c.self.inside in
+    let t = c.args.name.now in
     let some = rw (← c.self.view_is) at c.requires.waits in
     let by = c.unwrap-by.result.0 in
     let k = c.unwrap-by.result.1 in
     let op = c.unwrap-by.result.2 in
-    let is = waiting_is m.log.rows m.log.entries c.self.invariant.0.allowed c.args.name.now by k op some (sym c.open_access.ensures ∙ c.unwrap-by.ensures) in
-    record {
-      ok = retried c.args.self.now c.answer_access.new.self c.args.name.now by k op (rw (← c.self.view_is) is) c.answer_access.result c.answer_access.ensures.ok;
-      err = c.answer_access.ensures.err;
-      sound = c.answer_access.ensures.sound;
-    }
+    let outcome = c.in_ok-outcome.outcome in
+    let found = rw c.reserve.ensures.entries at c.open_access.ensures in
+    let is = waiting_is m.log.rows m.log.entries c.self.invariant.0.allowed t by k op some (sym found ∙ c.unwrap-by.ensures) in
+    let comes = rw (c.reserve.ensures.rows, c.reserve.ensures.entries) at c.in_ok-outcome.ensures.comes in
+    elim c.match-outcome.branch [
+      | in-Waits w ↦
+          let next = all_roomy g.S.TopStore m.log.rows m.log.entries m.tree m.marks m.estate _ m.opened m.store c.self.invariant (rw w.in-Waits.is at c.in_ok-outcome.ensures.accesses) in
+          rw (w.self-is, c.reserve.ensures.rows, c.reserve.ensures.entries) (sound g.S.TopStore _ _ _ next.0 next.2)
+      | in_default w ↦
+          let next = all_accessed g.S.TopStore m.log.rows m.log.entries m.tree m.marks m.estate _ m.opened m.store c.self.invariant by t k op outcome is.line
+          (retry_comes m.log.rows m.log.entries by t k op outcome comes w.in_default.not-Waits) comes c.in_ok-outcome.ensures.accesses in
+          rw (w.self-is, w.add.ensures.rows, w.add.ensures.entries, c.reserve.ensures.rows, c.reserve.ensures.entries) (sound g.S.TopStore _ _ _ next.0 next.2)
+    ]

@@ -1,0 +1,152 @@
+-- What an entry does to the estate: to locks and to what was left alike.
+use Rattle.std.proofs.Common.{◌≡◌, ℕ, ℤ, Bool, true, false, cond, ◌&&◌, nat_eq, List, [], ◌∷◌, ◌++◌, Option, None, refl, sym, ap, ◌∙◌}
+use Rattle.std.specs.Prelude.{slice_get}
+use Rattle.txn_names.specs.Path.{path_eq, label_eq, parent}
+use Rattle.txn_tree.specs.States.{States, names}
+use Rattle.txn_tree.specs.Asked.{is_name, IsNumberOf}
+use Rattle.txn_cells.specs.Cells.{is_it}
+use Rattle.lock_table.specs.declared.modes.Modes.{Modes}
+use Rattle.lock_table.specs.Inherited.{free, whole, with_held, with_retained}
+use Rattle.inherit.specs.Assets.{Assets, IsSame}
+use Rattle.inherit.specs.Steps.{HasGoneUp}
+use Rattle.serial_spec.specs.declared.mode.Mode.{Mode}
+use Rattle.serial_spec.specs.declared.operation.Op.{Op}
+use Rattle.serial_spec.specs.declared.operation.Reply.{Reply}
+use Rattle.serial_spec.specs.declared.entry.Entry.{Entry}
+use Rattle.serial_spec.specs.Operations.{kind, leaves}
+use Rattle.serial_spec.specs.History.{Name, History, Effect, Begins, Accesses, Commits, Aborts, Nothing, effect, or_else}
+use Rattle.serial_spec.specs.Items.{Items}
+use Rattle.serial_spec.specs.Locks.{mode_of, greater, held, retained, foot, own_footprint, block_footprint}
+use Rattle.serial_spec.specs.Values.{last_left}
+use Rattle.serial_spec.specs.Rows.{Rows}
+use Rattle.serial_spec.specs.Legal.{AreAllowed}
+use Rattle.txn_history.specs.Steps.{held_next, retained_next, left_next}
+use Rattle.txn_history.proofs.Theorems.{locks_after, left_after, foot_is_greater, nothing_before}
+use Rattle.manager_core.specs.declared.outcome.Outcome.TheVariants.{Done}
+use Rattle.manager_core.specs.Kept.{IsEstateOf, share_of, lock_at, left_at}
+use Rattle.manager_core.specs.Tables.{AccessesIn, DropsIn, IsParentNumber, is_below}
+use Rattle.manager_core.proofs.Shares.{IsTold, value_next, share_nothing, share_raised, share_merged, share_dropped, share_begun}
+
+-- ---- both are told by the entries
+
+abbrev raise : Op → Reply → Modes → Modes
+raise o r m = with_held m (mode_of (kind o))
+
+abbrev retain : Modes → Modes → Modes
+retain child own = with_retained own (whole child)
+
+told_modes : (k : List ℕ) → IsTold k free (lock_at k) raise retain
+told_modes k = record {
+  next = λ e h u. (λ i. record { held = (locks_after e h u k).0 i; retained = (locks_after e h u k).1 i }) ∙ by h u (effect e);
+  empty = λ rows h allowed l ls none.
+      ap (λ (xs : Items). record { held = own_footprint xs k; retained = block_footprint xs k }) (nothing_before rows h allowed l ls none);
+}
+  where
+    held_so : (b : Bool) (m x y : Mode) → ◌≡◌ {A = Modes} (record { held = cond b (greater m x) x; retained = y }) (cond b (with_held (record { held = x; retained = y }) m) (record { held = x; retained = y }))
+    held_so true m x y = refl
+    held_so false m x y = refl
+
+    retained_so : (b : Bool) (m x y : Mode) → ◌≡◌ {A = Modes} (record { held = x; retained = cond b (greater m y) y }) (cond b (with_retained (record { held = x; retained = y }) m) (record { held = x; retained = y }))
+    retained_so true m x y = refl
+    retained_so false m x y = refl
+
+    by : (h : History) (u : Name) (x : Effect)
+        → ◌≡◌ {A = Modes} (record { held = held_next x u k (held h u k); retained = retained_next x u k (λ t. foot h t k) (retained h u k) }) (value_next k raise retain x u (lock_at k h) (lock_at k h u))
+    by h u (Begins t) = refl
+    by h u (Accesses t q o r) = held_so (path_eq t u && label_eq q k) (mode_of (kind o)) (held h u k) (retained h u k)
+    by h u (Commits t) =
+        retained_so (path_eq (parent t) u) (foot h t k) (held h u k) (retained h u k)
+        ∙ ap (λ m. cond (path_eq (parent t) u) (with_retained (lock_at k h u) m) (lock_at k h u)) (foot_is_greater h t k)
+    by h u (Aborts t) = refl
+    by h u Nothing = refl
+
+abbrev leave : Op → Reply → Option (Option ℤ) → Option (Option ℤ)
+leave o r v = or_else (leaves o r) v
+
+told_left : (k : List ℕ) → IsTold k None (left_at k) leave or_else
+told_left k = record {
+  next = λ e h u. left_after e h u k ∙ by h u (effect e);
+  empty = λ rows h allowed l ls none. ap (λ (xs : Items). last_left xs k) (nothing_before rows h allowed l ls none);
+}
+  where
+    by : (h : History) (u : Name) (x : Effect) → left_next x u k (λ t. left_at k h t) (left_at k h u) ≡ value_next k leave or_else x u (left_at k h) (left_at k h u)
+    by h u (Begins t) = refl
+    by h u (Accesses t q o r) = refl
+    by h u (Commits t) = refl
+    by h u (Aborts t) = refl
+    by h u Nothing = refl
+
+-- ---- what each entry does
+
+-- with other room it is the same
+pub owned_roomy : (h : History) (tree : States) (old new : Assets) → IsEstateOf h tree old → IsSame old new → IsEstateOf h tree new
+owned_roomy h tree old new is same = record {
+  modes = λ n k. same.modes n k ∙ is.modes n k;
+  left = λ n k. same.left n k ∙ is.left n k;
+}
+
+module _ (rows : Rows) (e : Entry) (h : History) (allowed : AreAllowed rows (e ∷ h)) where
+  -- an entry that does nothing
+  pub owned_nothing : (tree : States) (estate : Assets) → IsEstateOf h tree estate → effect e ≡ Nothing → IsEstateOf (e ∷ h) tree estate
+  owned_nothing tree estate is does = record {
+    modes = λ n k. is.modes n k ∙ share_nothing k free (lock_at k) raise retain (told_modes k) rows e h allowed (slice_get (names tree) n) does;
+    left = λ n k. is.left n k ∙ share_nothing k None (left_at k) leave or_else (told_left k) rows e h allowed (slice_get (names tree) n) does;
+  }
+
+  -- an access that was answered
+  pub owned_accessed : (tree : States) (old new : Assets) (t : Name) (q : List ℕ) (op : Op) (r : Reply) → IsEstateOf h tree old → effect e ≡ Accesses t q op r
+      → AccessesIn tree old new t q op (Done r) → IsEstateOf (e ∷ h) tree new
+  owned_accessed tree old new t q op r is does has = record {
+    modes = λ n k.
+        has.0 n k
+        ∙ ap (λ m. cond (is_name (slice_get (names tree) n) t && label_eq q k) (with_held m (mode_of (kind op))) m) (is.modes n k)
+        ∙ share_raised k free (lock_at k) raise retain (told_modes k) rows e h allowed t q op r does (slice_get (names tree) n);
+    left = λ n k.
+        has.1 n k
+        ∙ ap (λ v. cond (is_name (slice_get (names tree) n) t && label_eq q k) (or_else (leaves op r) v) v) (is.left n k)
+        ∙ share_raised k None (left_at k) leave or_else (told_left k) rows e h allowed t q op r does (slice_get (names tree) n);
+  }
+
+  -- a commit
+  pub owned_gone_up : (old_tree tree : States) (old new : Assets) (t : Name) (child : ℕ) (above : Option ℕ) → IsEstateOf h old_tree old → effect e ≡ Commits t
+      → names tree ≡ names old_tree → IsNumberOf old_tree t child → IsParentNumber old_tree t above → HasGoneUp old new child above → IsEstateOf (e ∷ h) tree new
+  owned_gone_up old_tree tree old new t child above is does same number above_is up = record {
+    modes = λ n k.
+        up.modes n k
+        ∙ (λ i. cond (nat_eq child n) free (cond (is_it above n) (with_retained (is.modes n k i) (whole (is.modes child k i))) (is.modes n k i)))
+        ∙ share_merged k free (lock_at k) raise retain (told_modes k) rows e h allowed old_tree t child above n does number above_is
+        ∙ ap (λ xs. share_of free (lock_at k) (e ∷ h) (slice_get xs n)) (sym same);
+    left = λ n k.
+        up.left n k
+        ∙ (λ i. cond (nat_eq child n) None (cond (is_it above n) (or_else (is.left child k i) (is.left n k i)) (is.left n k i)))
+        ∙ share_merged k None (left_at k) leave or_else (told_left k) rows e h allowed old_tree t child above n does number above_is
+        ∙ ap (λ xs. share_of None (left_at k) (e ∷ h) (slice_get xs n)) (sym same);
+  }
+
+  -- an abort
+  pub owned_dropped : (old_tree tree : States) (old new : Assets) (t : Name) → IsEstateOf h old_tree old → effect e ≡ Aborts t
+      → names tree ≡ names old_tree → DropsIn tree old new t None → IsEstateOf (e ∷ h) tree new
+  owned_dropped old_tree tree old new t is does same drops = record {
+    modes = λ n k.
+        drops.0 n k
+        ∙ ap (λ m. cond (is_below (slice_get (names tree) n) t) free m) (is.modes n k ∙ ap (λ xs. share_of free (lock_at k) h (slice_get xs n)) (sym same))
+        ∙ share_dropped k free (lock_at k) raise retain (told_modes k) rows e h allowed t does (slice_get (names tree) n);
+    left = λ n k.
+        drops.1 n k
+        ∙ ap (λ v. cond (is_below (slice_get (names tree) n) t) None v) (is.left n k ∙ ap (λ xs. share_of None (left_at k) h (slice_get xs n)) (sym same))
+        ∙ share_dropped k None (left_at k) leave or_else (told_left k) rows e h allowed t does (slice_get (names tree) n);
+  }
+
+  -- a begin
+  pub owned_begun : (old new : States) (estate : Assets) (t : Name) → IsEstateOf h old estate → effect e ≡ Begins t
+      → names new ≡ names old ++ t ∷ [] → IsEstateOf (e ∷ h) new estate
+  owned_begun old new estate t is does more = record {
+    modes = λ n k.
+        is.modes n k
+        ∙ share_begun k free (lock_at k) raise retain (told_modes k) rows e h allowed t does (names old) n
+        ∙ ap (λ xs. share_of free (lock_at k) (e ∷ h) (slice_get xs n)) (sym more);
+    left = λ n k.
+        is.left n k
+        ∙ share_begun k None (left_at k) leave or_else (told_left k) rows e h allowed t does (names old) n
+        ∙ ap (λ xs. share_of None (left_at k) (e ∷ h) (slice_get xs n)) (sym more);
+  }

@@ -1,0 +1,133 @@
+-- What a transaction has at a key, its lock or what it left there: each entry changes it as a step on numbers does.
+use Rattle.std.proofs.Common.{◌≡◌, ℕ, zero, suc, Bool, true, false, cond, not, ◌&&◌, ◌||◌, nat_eq, List, [], ◌∷◌, ◌++◌, Option, Some, None, refl, sym, ap, subst, ◌∙◌}
+use Rattle.std.specs.Prelude.{slice_get}
+use Rattle.std.proofs.lemmas.Bool.{false≢true, and_parts}
+use Rattle.txn_names.specs.Path.{path_eq, label_eq, is_front, parent}
+use Rattle.txn_names.proofs.Names.{on_test, same_path, path_eq_self, is_front-parent}
+use Rattle.txn_tree.specs.States.{States, names}
+use Rattle.txn_tree.specs.Asked.{is_name, IsNumberOf}
+use Rattle.txn_cells.specs.Cells.{is_it}
+use Rattle.serial_spec.specs.declared.operation.Op.{Op}
+use Rattle.serial_spec.specs.declared.operation.Reply.{Reply}
+use Rattle.serial_spec.specs.declared.entry.Entry.{Entry}
+use Rattle.serial_spec.specs.History.{Name, History, Effect, Begins, Accesses, Commits, Aborts, Nothing, effect, is_active, has_begun}
+use Rattle.serial_spec.specs.Rows.{Rows}
+use Rattle.serial_spec.specs.Legal.{AreAllowed}
+use Rattle.txn_history.specs.Steps.{acts_next, Before}
+use Rattle.txn_history.proofs.Theorems.{active_after, before_each, ancestors_act}
+use Rattle.manager_core.specs.Kept.{share_of}
+use Rattle.manager_core.specs.Tables.{IsParentNumber, is_below}
+use Rattle.manager_core.proofs.Locks.{name_at}
+
+-- an access raises what its transaction has, and a commit merges it into what the parent has
+abbrev pub value_next : {X : Type 0} → List ℕ → (Op → Reply → X → X) → (X → X → X) → Effect → Name → (Name → X) → X → X
+value_next k raise merge (Accesses t q o r) u all v = cond (path_eq t u && label_eq q k) (raise o r v) v
+value_next k raise merge (Commits t) u all v = cond (path_eq (parent t) u) (merge (all t) v) v
+value_next k raise merge x u all v = v
+
+-- the value is told by the entries so, and whoever has not begun has nothing
+pub record IsTold {X : Type 0} (k : List ℕ) (nothing : X) (value : History → Name → X) (raise : Op → Reply → X → X) (merge : X → X → X) : Type 0 where
+  pub next : (e : Entry) (h : History) (u : Name) → value (e ∷ h) u ≡ value_next k raise merge (effect e) u (value h) (value h u)
+  pub empty : (rows : Rows) (h : History) → AreAllowed rows h → (l : List ℕ) (ls : Name) → has_begun h (l ∷ ls) ≡ false → value h (l ∷ ls) ≡ nothing
+
+module _ {X : Type 0} (k : List ℕ) (nothing : X) (value : History → Name → X) (raise : Op → Reply → X → X) (merge : X → X → X)
+    (told : IsTold k nothing value raise merge) (rows : Rows) (e : Entry) (h : History) (allowed : AreAllowed rows (e ∷ h)) where
+  abbrev pub share : History → Option Name → X
+  share g o = share_of nothing value g o
+
+  share_after : (x : Effect) → effect e ≡ x → (u : Name)
+      → share (e ∷ h) (Some u) ≡ cond (acts_next x u (is_active h u)) (value_next k raise merge x u (value h) (value h u)) nothing
+  share_after x does u =
+      let step : share (e ∷ h) (Some u) ≡ cond (acts_next (effect e) u (is_active h u)) (value_next k raise merge (effect e) u (value h) (value h u)) nothing =
+      λ i. cond (active_after rows e h allowed u i) (told.next e h u i) nothing in
+      step ∙ ap (λ y. cond (acts_next y u (is_active h u)) (value_next k raise merge y u (value h) (value h u)) nothing) does
+
+  before : (x : Effect) → effect e ≡ x → Before h x
+  before x does = subst (Before h) does (before_each rows e h allowed)
+
+  -- an entry that does nothing
+  pub share_nothing : (o : Option Name) → effect e ≡ Nothing → share h o ≡ share (e ∷ h) o
+  share_nothing None does = refl
+  share_nothing (Some u) does = sym (share_after Nothing does u)
+
+  -- an access that was answered
+  pub share_raised : (t : Name) (q : List ℕ) (op : Op) (r : Reply) → effect e ≡ Accesses t q op r → (o : Option Name)
+      → cond (is_name o t && label_eq q k) (raise op r (share h o)) (share h o) ≡ share (e ∷ h) o
+  share_raised t q op r does None = refl
+  share_raised t q op r does (Some u) =
+      raised (path_eq t u && label_eq q k) (is_active h u) (value h u)
+      (λ b. subst (λ (v : Name). is_active h v ≡ true) (same_path t u (and_parts (path_eq t u) (label_eq q k) b).0) (before (Accesses t q op r) does))
+      ∙ sym (share_after (Accesses t q op r) does u)
+    where
+      raised : (b a : Bool) (v : X) → (b ≡ true → a ≡ true) → cond b (raise op r (cond a v nothing)) (cond a v nothing) ≡ cond a (cond b (raise op r v) v) nothing
+      raised true a v f = rw (f refl) refl
+      raised false a v f = refl
+
+  -- a commit
+  pub share_merged : (tree : States) (t : Name) (child : ℕ) (above : Option ℕ) (n : ℕ) → effect e ≡ Commits t → IsNumberOf tree t child → IsParentNumber tree t above
+      → cond (nat_eq child n) nothing (cond (is_it above n) (merge (share h (slice_get (names tree) child)) (share h (slice_get (names tree) n))) (share h (slice_get (names tree) n)))
+      ≡ share (e ∷ h) (slice_get (names tree) n)
+  share_merged tree t child above n does number above_is =
+      (λ i. cond (number n i) nothing (cond (above_is n i) (merge (childs i) (share h (slice_get (names tree) n))) (share h (slice_get (names tree) n))))
+      ∙ by (slice_get (names tree) n)
+    where
+      acts : is_active h t ≡ true
+      acts = before (Commits t) does
+
+      childs : share h (slice_get (names tree) child) ≡ value h t
+      childs = ap (share h) (name_at tree t child number) ∙ ap (λ b. cond b (value h t) nothing) acts
+
+      merged : (c p a : Bool) (own all : X) → (p ≡ true → a ≡ true)
+          → cond c nothing (cond p (merge all (cond a own nothing)) (cond a own nothing)) ≡ cond (not c && a) (cond p (merge all own) own) nothing
+      merged true p a own all f = refl
+      merged false true a own all f = rw (f refl) refl
+      merged false false a own all f = refl
+
+      by : (o : Option Name) → cond (is_name o t) nothing (cond (is_name o (parent t)) (merge (value h t) (share h o)) (share h o)) ≡ share (e ∷ h) o
+      by None = refl
+      by (Some u) =
+          merged (path_eq t u) (path_eq (parent t) u) (is_active h u) (value h u) (value h t)
+          (λ b. subst (λ (v : Name). is_active h v ≡ true) (same_path (parent t) u b) (ancestors_act rows h allowed.0 t (parent t) acts (is_front-parent t)))
+          ∙ sym (share_after (Commits t) does u)
+
+  -- an abort
+  pub share_dropped : (t : Name) → effect e ≡ Aborts t → (o : Option Name) → cond (is_below o t) nothing (share h o) ≡ share (e ∷ h) o
+  share_dropped t does None = refl
+  share_dropped t does (Some u) = dropped (is_front t u) (is_active h u) (value h u) ∙ sym (share_after (Aborts t) does u)
+    where
+      dropped : (b a : Bool) (v : X) → cond b nothing (cond a v nothing) ≡ cond (not b && a) v nothing
+      dropped true a v = refl
+      dropped false a v = refl
+
+  -- a begin
+  pub share_begun : (t : Name) → effect e ≡ Begins t → (xs : List Name) (n : ℕ) → share h (slice_get xs n) ≡ share (e ∷ h) (slice_get (xs ++ t ∷ []) n)
+  share_begun t does = by
+    where
+      unlocked : (u : Name) → path_eq t u ≡ true → value h u ≡ nothing
+      unlocked u same = subst (λ (v : Name). value h v ≡ nothing) (same_path t u same) (at t (before (Begins t) does))
+        where
+          at : (v : Name) → Before h (Begins v) → value h v ≡ nothing
+          at [] b = absurd (false≢true b.0)
+          at (l ∷ ls) b = told.empty rows h allowed.0 l ls b.1
+
+      nothing_of : (b : Bool) (v : X) → v ≡ nothing → cond b v nothing ≡ nothing
+      nothing_of true v p = p
+      nothing_of false v p = refl
+
+      stays : (u : Name) → share h (Some u) ≡ share (e ∷ h) (Some u)
+      stays u =
+          on_test (path_eq t u) (λ b. share h (Some u) ≡ cond (b || is_active h u) (value h u) nothing)
+          (λ same. let none = unlocked u same in nothing_of (is_active h u) (value h u) none ∙ sym (nothing_of true (value h u) none))
+          (λ other. refl)
+          ∙ sym (share_after (Begins t) does u)
+
+      new_one : nothing ≡ share (e ∷ h) (Some t)
+      new_one =
+          sym (nothing_of (acts_next (Begins t) t (is_active h t)) (value h t) (unlocked t (path_eq_self t)))
+          ∙ sym (share_after (Begins t) does t)
+
+      by : (xs : List Name) (m : ℕ) → share h (slice_get xs m) ≡ share (e ∷ h) (slice_get (xs ++ t ∷ []) m)
+      by [] zero = new_one
+      by [] (suc m) = refl
+      by (x ∷ xs) zero = stays x
+      by (x ∷ xs) (suc m) = by xs m
