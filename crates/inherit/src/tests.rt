@@ -103,15 +103,9 @@ fn nest(rt: &impl Abort, tree: &mut Tree, estate: &mut Estate, x: &Key) -> Resul
     commit(estate, tree, &r)?;
     assert!(rt; access(estate, tree, &b, x, Op::Get)?.is_none());
     assert!(rt; estate.versions().base().get(x) == Some(9));
-    let removed = changes(estate, tree, top)?;
-    assert!(rt;
-        removed.len() == 1
-            && removed[0]
-                == Change {
-                    key: *x,
-                    value: None
-                }
-    );
+    let (found, key) = (changes(estate, tree, top)?, *x);
+    assert!(rt; found.len() == 1);
+    assert!(rt; found[0] == Change { key, value: None });
     commit(estate, tree, &a)?;
     assert!(rt; access(estate, tree, &b, x, Op::Get)? == Some(Reply::Absent));
     Ok(())
@@ -134,15 +128,9 @@ fn overflow(rt: &impl Abort, tree: &mut Tree, estate: &mut Estate, x: &Key) -> R
     assert!(rt; estate.locks().modes_of(top, x) == (Mode::Write, Mode::None));
     assert!(rt; estate.versions().left(top, x).is_none());
     assert!(rt; access(estate, tree, &b, x, Op::Get)?.is_none());
-    let changed = changes(estate, tree, top)?;
-    assert!(rt; changed.len() == 1);
-    assert!(rt;
-        changed[0]
-            == Change {
-                key: *x,
-                value: Some(9223372036854775807)
-            }
-    );
+    let (found, key, value) = (changes(estate, tree, top)?, *x, Some(9223372036854775807));
+    assert!(rt; found.len() == 1);
+    assert!(rt; found[0] == Change { key, value });
     Ok(())
 }
 
