@@ -1,0 +1,5 @@
+pub mod Lists
+pub mod Found
+pub mod Ways
+pub mod Closed
+pub mod Tops

@@ -1,0 +1,15 @@
+use Rattle.std.proofs.Common.{◌≡◌, ◌<◌, ◌≤◌, ◌+◌, ◌-◌, ℕ, length, Some}
+use Rattle.std.specs.Prelude.{slice_get}
+use Rattle.wait_cycles.specs.Trails.{Covers, IsFound, nodes, open_pairs}
+use Rattle.wait_cycles.proofs.reached.reached_from.Given as goal
+
+-- those before this place have been gone on from
+abbrev pub invariant-loop-done : goal.invariant-loop-done
+invariant-loop-done l =
+    IsFound l.pairs l.fn.start l.trail.items
+    × Covers l.pairs l.trail.items l.fn.start
+    × ((i a : ℕ) → i < l.done → slice_get (nodes l.trail.items) i ≡ Some a → Covers l.pairs l.trail.items a)
+    × (l.done ≤ length l.trail.items)
+
+abbrev pub decreases-loop-done : goal.decreases-loop-done
+decreases-loop-done l = open_pairs l.pairs l.trail.items + length l.trail.items - l.done

@@ -1,0 +1,61 @@
+//! The worked values of the finder. Under a trial run that refuses a growth the call is made again.
+use crate::{Cycle, find_cycle, victim};
+use serial_spec::NoMemory;
+use std::alloc::Global;
+use std::process::Abort;
+use std::test::Fail;
+use txn_tree::TxnNo;
+
+fn pair(waiting: u32, other: u32) -> (TxnNo, TxnNo) {
+    (TxnNo::new(waiting), TxnNo::new(other))
+}
+
+fn found(alloc: Global, pairs: &[(TxnNo, TxnNo)]) -> Result<Option<Cycle>, NoMemory> {
+    match find_cycle(alloc, pairs) {
+        Ok(found) => Ok(found),
+        Err(_) => find_cycle(alloc, pairs),
+    }
+}
+
+// Of two cycles the one through the last begun is found.
+fn two_cycles(rt: &impl Abort, alloc: Global) -> Result<(), Fail> {
+    let pairs = [pair(0, 3), pair(3, 0), pair(1, 2), pair(2, 1)];
+    let cycle = found(alloc, &pairs)?.ok_or("no cycle")?;
+    assert!(rt; victim(&cycle) == TxnNo::new(3));
+    assert!(rt; cycle.members() == [TxnNo::new(3), TxnNo::new(0)].as_slice());
+    Ok(())
+}
+
+#[test]
+fn the_last_begun_on_any_cycle(rt: HostRuntime) -> Result<(), Fail> {
+    two_cycles(&rt, rt.alloc())
+}
+
+// One that waits for itself, behind others on no cycle.
+fn alone(rt: &impl Abort, alloc: Global) -> Result<(), Fail> {
+    let pairs = [pair(7, 2), pair(2, 2), pair(5, 7)];
+    let cycle = found(alloc, &pairs)?.ok_or("no cycle")?;
+    assert!(rt; cycle.members() == [TxnNo::new(2)].as_slice());
+    assert!(rt; victim(&cycle) == TxnNo::new(2));
+    Ok(())
+}
+
+#[test]
+fn one_that_waits_for_itself(rt: HostRuntime) -> Result<(), Fail> {
+    alone(&rt, rt.alloc())
+}
+
+// Two ways to one transaction are no cycle; a longer way round is one.
+fn ways(rt: &impl Abort, alloc: Global) -> Result<(), Fail> {
+    let open = [pair(4, 1), pair(4, 2), pair(1, 3), pair(2, 3)];
+    assert!(rt; found(alloc, &open)?.is_none());
+    let closed = [pair(4, 1), pair(4, 2), pair(1, 3), pair(2, 3), pair(3, 4)];
+    let cycle = found(alloc, &closed)?.ok_or("no cycle")?;
+    assert!(rt; cycle.members().len() == 3 && victim(&cycle) == TxnNo::new(4));
+    Ok(())
+}
+
+#[test]
+fn a_way_round(rt: HostRuntime) -> Result<(), Fail> {
+    ways(&rt, rt.alloc())
+}
