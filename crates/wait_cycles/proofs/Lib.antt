@@ -3,3 +3,4 @@ pub mod Found
 pub mod Ways
 pub mod Closed
 pub mod Tops
+pub mod Slots

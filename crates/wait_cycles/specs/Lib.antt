@@ -1,3 +1,4 @@
 pub mod Cycles
 pub mod Trails
 pub mod Bounds
+pub mod Waiting

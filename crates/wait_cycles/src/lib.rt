@@ -1,12 +1,15 @@
-//! Cycles of waits: of pairs of transactions, the first waiting for the second, those that wait for themselves in the end.
+//! The accesses that wait, and cycles of waits: of pairs of transactions, the first waiting for the second, those that wait
+//! for themselves in the end.
 #![tactic(auto)]
 
 mod cycle;
 mod finder;
 mod reached;
+mod waits;
 
 pub use cycle::{Cycle, victim};
 pub use finder::find_cycle;
+pub use waits::{Wait, Waits};
 
 #[cfg(test)]
 mod tests;

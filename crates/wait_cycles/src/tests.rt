@@ -1,9 +1,10 @@
-//! The worked values of the finder. Under a trial run that refuses a growth the call is made again.
-use crate::{Cycle, find_cycle, victim};
-use serial_spec::NoMemory;
+//! The worked values of the finder, and each call on waits once. Under a trial run that refuses a growth the call is made again.
+use crate::{Cycle, Wait, Waits, find_cycle, victim};
+use serial_spec::{By, NoMemory, Op};
 use std::alloc::Global;
 use std::process::Abort;
 use std::test::Fail;
+use txn_names::Key;
 use txn_tree::TxnNo;
 
 fn pair(waiting: u32, other: u32) -> (TxnNo, TxnNo) {
@@ -58,4 +59,46 @@ fn ways(rt: &impl Abort, alloc: Global) -> Result<(), Fail> {
 #[test]
 fn a_way_round(rt: HostRuntime) -> Result<(), Fail> {
     ways(&rt, rt.alloc())
+}
+
+fn wait(txn: u32, line: u32) -> Result<Wait, Fail> {
+    Ok(Wait {
+        txn: TxnNo::new(txn),
+        key: Key::parse(b"x")?,
+        op: Op::Get,
+        by: By::Line { session: 0, line },
+    })
+}
+
+fn add_once(waits: &mut Waits, wait: &Wait) -> Result<(), NoMemory> {
+    waits.cancel(wait.txn);
+    waits.add(wait.txn, &wait.key, wait.op, wait.by)
+}
+
+fn add(waits: &mut Waits, wait: &Wait) -> Result<(), NoMemory> {
+    match add_once(waits, wait) {
+        Ok(()) => Ok(()),
+        Err(_) => add_once(waits, wait),
+    }
+}
+
+// Each is found until it is cancelled, and may wait again.
+fn come_and_go(rt: &impl Abort, waits: &mut Waits) -> Result<(), Fail> {
+    let (first, second, again) = (wait(4, 1)?, wait(9, 2)?, wait(4, 3)?);
+    add(waits, &first)?;
+    add(waits, &second)?;
+    assert!(rt; waits.of(first.txn).copied() == Some(first));
+    assert!(rt; waits.of(second.txn).copied() == Some(second));
+    waits.cancel(first.txn);
+    assert!(rt; waits.of(first.txn).is_none());
+    add(waits, &again)?;
+    assert!(rt; waits.of(first.txn).copied() == Some(again));
+    assert!(rt; waits.of(second.txn).copied() == Some(second));
+    Ok(())
+}
+
+#[test]
+fn waits_come_and_go(rt: HostRuntime) -> Result<(), Fail> {
+    let mut waits = Waits::new(rt.alloc());
+    come_and_go(&rt, &mut waits)
 }

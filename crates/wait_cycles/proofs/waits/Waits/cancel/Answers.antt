@@ -1,0 +1,14 @@
+use Rattle.std.proofs.Common.{sym}
+use Rattle.wait_cycles.proofs.Slots.{apart_cancelled, waits_cancelled}
+use Rattle.wait_cycles.proofs.waits.Waits.cancel.Goals as goal
+
+pub invariant_of-self : goal.invariant_of-self
+invariant_of-self c =
+    let held = c.in-Some.ensures.some in
+    apart_cancelled c.self.inside.records c.try_remove.new.self c.in-Some.key c.self.invariant c.args.txn held.0 held.1 held.2 c.try_remove.ensures.updates
+
+pub returns-in-Some : goal.returns-in-Some
+returns-in-Some c =
+    let held = c.in-Some.ensures.some in
+    rw (sym c.self.view_is)
+    (waits_cancelled c.self.inside.records c.try_remove.new.self c.in-Some.key c.self.invariant c.args.txn held.0 held.1 held.2 c.try_remove.ensures.updates)
