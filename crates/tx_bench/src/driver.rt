@@ -1,0 +1,82 @@
+//! A manager that is asked line after line.
+use manager_core::store::MemStore;
+use manager_core::{Manager, Outcome};
+use serial_spec::{By, Event, NoMemory, Op};
+use std::alloc::Global;
+use txn_names::{Key, Name};
+
+/// A manager over an empty table, and how many lines it has answered. Every line is the next one of one session.
+#[derive(Drop)]
+pub struct Driver {
+    manager: Manager<MemStore>,
+    lines: u32,
+}
+
+// Whether the line was done.
+fn is_done(answered: Result<Outcome, NoMemory>) -> bool {
+    matches!(answered, Ok(Outcome::Done(_)))
+}
+
+impl Driver {
+    /// A manager over an empty table, or `None` if memory runs out.
+    pub fn open(alloc: Global) -> Option<Driver> {
+        let store = MemStore::new(alloc, &[]).ok()?;
+        match Manager::open(alloc, store) {
+            Ok(manager) => Some(Driver { manager, lines: 0 }),
+            Err(_) => None,
+        }
+    }
+
+    /// How many lines have been asked.
+    pub fn lines(&self) -> u32 {
+        self.lines
+    }
+
+    // The next line, which is free.
+    fn next_line(&mut self) -> By {
+        self.lines = self.lines.saturating_add(1);
+        By::Line {
+            session: 0,
+            line: self.lines,
+        }
+    }
+
+    /// Begins the transaction, or answers `None` where that is not done; so do the calls below.
+    pub fn begin(&mut self, name: &Name) -> Option<()> {
+        let by = self.next_line();
+        if self.manager.free(by, &Event::Begin(*name)) && is_done(self.manager.begin(by, name)) {
+            Some(())
+        } else {
+            None
+        }
+    }
+
+    pub fn access(&mut self, name: &Name, key: &Key, op: Op) -> Option<()> {
+        let by = self.next_line();
+        if self.manager.free(by, &Event::Access(*name, *key, op))
+            && is_done(self.manager.access(by, name, key, op))
+        {
+            Some(())
+        } else {
+            None
+        }
+    }
+
+    pub fn commit(&mut self, name: &Name) -> Option<()> {
+        let by = self.next_line();
+        if self.manager.free(by, &Event::Commit(*name)) && is_done(self.manager.commit(by, name)) {
+            Some(())
+        } else {
+            None
+        }
+    }
+
+    pub fn abort(&mut self, name: &Name) -> Option<()> {
+        let by = self.next_line();
+        if self.manager.free(by, &Event::Abort(*name)) && is_done(self.manager.abort(by, name)) {
+            Some(())
+        } else {
+            None
+        }
+    }
+}
