@@ -3,6 +3,7 @@ use Rattle.std.specs.Prelude.{◌≡◌, ℕ, Bool, true, false, not, ◌&&◌, 
 use Rattle.std.specs.List.{list_any}
 use Rattle.txn_names.specs.Path.{path_eq, label_eq, parent}
 use Rattle.serial_spec.specs.declared.entry.By.{By}
+use Rattle.serial_spec.specs.declared.limits.TheConstants.{MOST_KEYS, MOST_TRANSACTIONS}
 use Rattle.serial_spec.specs.declared.operation.Kind.{Kind}
 use Rattle.serial_spec.specs.declared.operation.Kind.TheVariants.{Write}
 use Rattle.serial_spec.specs.declared.operation.Reply.TheVariants.{Ok}
@@ -24,10 +25,10 @@ use Rattle.serial_spec.specs.Values.{seen}
 use Rattle.serial_spec.specs.Waits.{same_line, is_waits, wait_of}
 
 abbrev pub most_transactions : ℕ
-most_transactions = 4096
+most_transactions = MOST_TRANSACTIONS
 
 abbrev pub most_keys : ℕ
-most_keys = 4096
+most_keys = MOST_KEYS
 
 -- the keys of the opening rows and of the answered accesses, each once
 abbrev pub with_key : Effect → List (List ℕ) → List (List ℕ)

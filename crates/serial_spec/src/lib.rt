@@ -5,6 +5,7 @@
 mod entry;
 mod event;
 mod item;
+mod limits;
 mod mode;
 mod operation;
 mod table;
@@ -12,6 +13,7 @@ mod table;
 pub use entry::{Answer, By, Entry, Refusal};
 pub use event::{Event, When};
 pub use item::{Item, run_items};
+pub use limits::{MOST_KEYS, MOST_ROWS, MOST_TRANSACTIONS};
 pub use mode::Mode;
 pub use operation::{Kind, Op, Reply, act};
 pub use table::PlainTable;
