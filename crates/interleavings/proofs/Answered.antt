@@ -23,7 +23,7 @@ use Rattle.session_text.specs.Stage.{IsServedLine, IsServedText}
 use Rattle.session_text.specs.Texts.{line_at}
 use Rattle.txn_history.specs.Laws.{WasQuiet}
 use Rattle.txn_history.proofs.Theorems.{lone_quiet, wait_holds}
-use Rattle.manager_core.specs.declared.store.TopStore.{Ghosts}
+use Rattle.durable_top.specs.declared.store.TopStore.{Ghosts}
 use Rattle.manager_core.specs.declared.outcome.Outcome.{Outcome}
 use Rattle.manager_core.specs.declared.outcome.Outcome.TheVariants.{Done, Waits, Refused}
 use Rattle.manager_core.specs.Outcomes.{answer_of}

@@ -5,7 +5,7 @@ use Rattle.serial_spec.specs.History.{begun, is_live}
 use Rattle.serial_spec.specs.Legal.{first_live}
 use Rattle.serial_spec.specs.Rows.{IsRising}
 use Rattle.txn_history.proofs.Theorems.{finished_correctness, table_correctness, quiet_legal}
-use Rattle.manager_core.specs.declared.store.TopStore.{Ghosts}
+use Rattle.durable_top.specs.declared.store.TopStore.{Ghosts}
 use Rattle.manager_core.specs.State.{State}
 use Rattle.manager_core.specs.Sound.{IsSound}
 use Rattle.interleavings.specs.Reports.{IsReport}

@@ -4,7 +4,7 @@ use Rattle.serial_spec.specs.History.{History, is_live}
 use Rattle.serial_spec.specs.Waits.{Quiet, open_waits}
 use Rattle.txn_history.specs.Laws.{WasQuiet}
 use Rattle.serial_spec.specs.Interleaving.{Session, IsInterleaving, AllAnswered, IsFinished}
-use Rattle.manager_core.specs.declared.store.TopStore.{Ghosts}
+use Rattle.durable_top.specs.declared.store.TopStore.{Ghosts}
 use Rattle.manager_core.specs.State.{State}
 use Rattle.manager_core.specs.Asked.{IsLater}
 

@@ -2,8 +2,8 @@
 use Rattle.std.specs.Prelude.{◌≡◌, ◌+◌, List, map}
 use Rattle.serial_spec.specs.Interleaving.{Session, IsInterleaving, IsFinished}
 use Rattle.serial_spec.specs.Rows.{value_in}
-use Rattle.manager_core.specs.declared.store.TopStore.{Ghosts}
-use Rattle.manager_core.specs.Store.{counted}
+use Rattle.durable_top.specs.declared.store.TopStore.{Ghosts}
+use Rattle.durable_top.specs.Store.{counted}
 use Rattle.manager_core.specs.Sound.{IsTrusted, store_refusals}
 use Rattle.manager_core.specs.Opening.{HasCause}
 use Rattle.interleavings.specs.Told.{Told}

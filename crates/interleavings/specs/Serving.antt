@@ -8,7 +8,7 @@ use Rattle.serial_spec.specs.declared.event.Event.TheVariants.{Access}
 use Rattle.serial_spec.specs.History.{Name}
 use Rattle.serial_spec.specs.Waits.{is_waits}
 use Rattle.serial_spec.specs.Allowed.{answer}
-use Rattle.manager_core.specs.declared.store.TopStore.{Ghosts}
+use Rattle.durable_top.specs.declared.store.TopStore.{Ghosts}
 use Rattle.manager_core.specs.declared.outcome.Outcome.{Outcome}
 use Rattle.manager_core.specs.Outcomes.{answer_of}
 use Rattle.manager_core.specs.State.{State, entry}

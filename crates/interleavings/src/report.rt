@@ -1,8 +1,8 @@
 //! The report of a finished run.
 ghost use Rattle.std.specs.Prelude.{◌≡◌, reverse};
-ghost use Rattle.manager_core.specs.Store.{plain};
+ghost use Rattle.durable_top.specs.Store.{plain};
 
-use manager_core::store::Row;
+use durable_top::Row;
 use serial_spec::{Entry, PlainTable};
 use std::marker::Model;
 use txn_names::Label;
@@ -20,7 +20,7 @@ pub struct Report {
 
 impl Model for Report {
     ghost use Rattle.std.specs.Prelude.{reverse};
-    ghost use Rattle.manager_core.specs.Store.{plain};
+    ghost use Rattle.durable_top.specs.Store.{plain};
     ghost use Rattle.interleavings.specs.Told.{Told};
     ghost use Rattle.interleavings.specs.Reports.{IsReport};
 

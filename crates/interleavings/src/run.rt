@@ -12,7 +12,7 @@ ghost use Rattle.interleavings.specs.Lines.{AreAnswered, AreDone, NoCycles};
 ghost use Rattle.interleavings.specs.Runs.{HasRunCause, IsRun};
 
 use crate::report::Report;
-use manager_core::store::TopStore;
+use durable_top::TopStore;
 use manager_core::{Manager, OpenFault, Outcome};
 use serial_spec::{By, Event, NoMemory, Op};
 use session_text::Sessions;

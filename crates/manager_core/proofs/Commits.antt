@@ -29,8 +29,8 @@ use Rattle.serial_spec.specs.Allowed.{cause_at_commit, asks_store, writes}
 use Rattle.serial_spec.specs.Legal.{AreAllowed}
 use Rattle.txn_history.proofs.Causes.{neither}
 use Rattle.txn_history.proofs.Theorems.{changes_made, value_stored, writes_somewhere}
-use Rattle.manager_core.specs.declared.store.TopStore.{Ghosts}
-use Rattle.manager_core.specs.Store.{counted}
+use Rattle.durable_top.specs.declared.store.TopStore.{Ghosts}
+use Rattle.durable_top.specs.Store.{counted}
 use Rattle.manager_core.specs.State.{entry}
 use Rattle.manager_core.specs.Lines.{IsLine}
 use Rattle.manager_core.specs.Kept.{IsKept, IsTreeOf}

@@ -11,7 +11,7 @@ use Rattle.txn_tree.specs.States.{States}
 use Rattle.orphans.specs.Marked.{Marked}
 use Rattle.txn_history.proofs.Theorems.{table_correctness}
 use Rattle.txn_history.proofs.Theorems as theorems
-use Rattle.manager_core.specs.declared.store.TopStore.{Ghosts}
+use Rattle.durable_top.specs.declared.store.TopStore.{Ghosts}
 use Rattle.manager_core.specs.State.{State, entry}
 use Rattle.manager_core.specs.Kept.{IsKept}
 use Rattle.manager_core.specs.Sound.{is_store_refusal, IsBacked, IsSound}

@@ -1,5 +1,3 @@
-pub mod Ordered
-pub mod Tables
 pub mod Reversed
 pub mod Keys
 -- The tables beside the history

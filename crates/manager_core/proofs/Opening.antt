@@ -8,9 +8,9 @@ use Rattle.serial_spec.specs.History.{Name, status}
 use Rattle.serial_spec.specs.Serial.{Map}
 use Rattle.serial_spec.specs.Rows.{Rows, value_in, IsRising}
 use Rattle.txn_tree.specs.States.{status_in}
-use Rattle.manager_core.specs.declared.store.Row.{Row}
-use Rattle.manager_core.specs.Store.{plain}
-use Rattle.manager_core.specs.declared.store.TopStore.{Ghosts}
+use Rattle.durable_top.specs.declared.store.Row.{Row}
+use Rattle.durable_top.specs.Store.{plain}
+use Rattle.durable_top.specs.declared.store.TopStore.{Ghosts}
 use Rattle.manager_core.specs.Kept.{IsKept, IsTreeOf, status_of}
 use Rattle.manager_core.specs.Sound.{IsBacked}
 

@@ -9,7 +9,7 @@ use Rattle.serial_spec.specs.declared.event.Event.TheVariants.{Access}
 use Rattle.serial_spec.specs.History.{Name, History}
 use Rattle.serial_spec.specs.Rows.{Rows}
 use Rattle.serial_spec.specs.Allowed.{Allowed}
-use Rattle.manager_core.specs.declared.store.TopStore.{Ghosts}
+use Rattle.durable_top.specs.declared.store.TopStore.{Ghosts}
 use Rattle.manager_core.specs.declared.outcome.Outcome.{Outcome}
 use Rattle.manager_core.specs.declared.outcome.Outcome.TheVariants.{Done, Waits, Refused}
 use Rattle.manager_core.specs.Outcomes.{answer_of}

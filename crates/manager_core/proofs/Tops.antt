@@ -18,7 +18,7 @@ use Rattle.serial_spec.specs.Rows.{Rows, value_in}
 use Rattle.serial_spec.specs.Legal.{AreAllowed, is_top_level, first_live}
 use Rattle.serial_spec.specs.Interleaving.{closing}
 use Rattle.txn_history.proofs.Begun.{any_begun}
-use Rattle.manager_core.specs.declared.store.TopStore.{Ghosts}
+use Rattle.durable_top.specs.declared.store.TopStore.{Ghosts}
 use Rattle.manager_core.specs.Sound.{IsBacked}
 use Rattle.manager_core.specs.Kept.{IsTreeOf, AreMarksOf, IsEstateOf, IsKept}
 use Rattle.manager_core.specs.Tables.{AbortsIn, DropsIn, is_live_top_in}

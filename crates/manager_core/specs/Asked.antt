@@ -2,8 +2,8 @@
 use Rattle.std.specs.Prelude.{◌≡◌, ◌≤◌, ◌+◌, List}
 use Rattle.txn_names.specs.declared.change.Change.{Change}
 use Rattle.serial_spec.specs.Changes.{overlay}
-use Rattle.manager_core.specs.declared.store.TopStore.{Ghosts}
-use Rattle.manager_core.specs.Store.{counted}
+use Rattle.durable_top.specs.declared.store.TopStore.{Ghosts}
+use Rattle.durable_top.specs.Store.{counted}
 use Rattle.manager_core.specs.Sound.{IsTrusted}
 
 -- neither doubt nor failure is ever taken back

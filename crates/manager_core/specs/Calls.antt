@@ -9,7 +9,7 @@ use Rattle.serial_spec.specs.Allowed.{Allowed, answer, asks_store}
 use Rattle.serial_spec.specs.declared.entry.Entry.{Entry}
 use Rattle.manager_core.specs.declared.outcome.Outcome.TheVariants.{Waits}
 use Rattle.serial_spec.specs.Legal.{first_live}
-use Rattle.manager_core.specs.declared.store.TopStore.{Ghosts}
+use Rattle.durable_top.specs.declared.store.TopStore.{Ghosts}
 use Rattle.manager_core.specs.declared.outcome.Outcome.{Outcome}
 use Rattle.manager_core.specs.Outcomes.{answer_of, is_done, is_of_store}
 use Rattle.manager_core.specs.State.{State, entry}

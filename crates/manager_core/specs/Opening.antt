@@ -1,12 +1,12 @@
 -- What an opening comes to.
 use Rattle.std.specs.Prelude.{◌≡◌, ◌≤◌, ◌<◌, ℕ, [], length}
 use Rattle.serial_spec.specs.Rows.{Rows, value_in, IsRising}
-use Rattle.manager_core.specs.declared.store.StoreFault.{StoreFault}
-use Rattle.manager_core.specs.declared.store.StoreFault.TheVariants.{Failed}
-use Rattle.manager_core.specs.declared.store.TopStore.{Ghosts}
+use Rattle.durable_top.specs.declared.store.StoreFault.{StoreFault}
+use Rattle.durable_top.specs.declared.store.StoreFault.TheVariants.{Failed}
+use Rattle.durable_top.specs.declared.store.TopStore.{Ghosts}
 use Rattle.manager_core.specs.declared.outcome.OpenFault.{OpenFault}
 use Rattle.manager_core.specs.declared.outcome.OpenFault.TheVariants.{NoMemory, Store, TooManyRows}
-use Rattle.manager_core.specs.Store.{TellsFailure}
+use Rattle.durable_top.specs.Store.{TellsFailure}
 use Rattle.manager_core.specs.State.{State}
 use Rattle.manager_core.specs.Asked.{IsLater}
 

@@ -7,8 +7,8 @@ use Rattle.serial_spec.specs.History.{Name, History, has_begun, is_orphan}
 use Rattle.serial_spec.specs.Serial.{Right, stored}
 use Rattle.serial_spec.specs.Rows.{Rows, value_in, IsRising}
 use Rattle.serial_spec.specs.Legal.{AreAllowed}
-use Rattle.manager_core.specs.declared.store.TopStore.{Ghosts}
-use Rattle.manager_core.specs.Store.{counted}
+use Rattle.durable_top.specs.declared.store.TopStore.{Ghosts}
+use Rattle.durable_top.specs.Store.{counted}
 use Rattle.manager_core.specs.State.{State}
 
 -- what is read is what was written, and the device has not failed

@@ -3,7 +3,7 @@ ghost use Rattle.std.specs.Prelude.{◌≡◌, ◌≢◌, [], IsTrue, IsFalse};
 ghost use Rattle.serial_spec.specs.Changes.{AreRising};
 ghost use Rattle.manager_core.specs.Asked.{IsLater, Refuses, Takes};
 
-use crate::store::TopStore;
+use durable_top::TopStore;
 use txn_names::Change;
 
 /// Whether the store took the changes. It is not asked where there are none.

@@ -10,7 +10,6 @@ mod manager;
 mod outcome;
 mod owning;
 mod reading;
-pub mod store;
 mod waiting;
 
 pub use manager::{Manager, Parts};

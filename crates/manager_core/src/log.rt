@@ -9,12 +9,12 @@ ghost use Rattle.serial_spec.specs.Waits.{accesses, open_waits};
 ghost use Rattle.manager_core.specs.Lines.{OnlyWaits, entries_of, waiting_access};
 ghost use Rattle.manager_core.specs.State.{entry};
 ghost use Rattle.manager_core.specs.Outcomes.{answer_of};
-ghost use Rattle.manager_core.specs.Store.{plain};
+ghost use Rattle.durable_top.specs.Store.{plain};
 
 use crate::outcome::Outcome;
 use crate::reading::{key_in, same_line};
-use crate::store::Row;
 use crate::waiting::{is_unused, only_waits, open_wait};
+use durable_top::Row;
 use serial_spec::{Answer, By, Entry, Event, NoMemory, Op};
 use std::alloc::Global;
 use std::marker::Model;
@@ -33,7 +33,7 @@ pub(crate) struct Log {
 impl Model for Log {
     ghost use Rattle.std.specs.Prelude.{◌≡◌, ◌-◌, min, reverse, vec_len, vec_capacity};
     ghost use Rattle.serial_spec.specs.Allowed.{known};
-    ghost use Rattle.manager_core.specs.Store.{plain};
+    ghost use Rattle.durable_top.specs.Store.{plain};
     ghost use Rattle.manager_core.specs.Recorded.{Recorded};
 
     ghost Value = { Recorded };

@@ -5,7 +5,7 @@ ghost use Rattle.serial_spec.specs.declared.entry.Answer.TheVariants.{Refused, S
 ghost use Rattle.serial_spec.specs.Allowed.{Allowed, cause_at_commit};
 ghost use Rattle.serial_spec.specs.Rows.{IsRising, value_in};
 ghost use Rattle.serial_spec.specs.Waits.{is_waits, wait_of};
-ghost use Rattle.manager_core.specs.Store.{plain};
+ghost use Rattle.durable_top.specs.Store.{plain};
 ghost use Rattle.manager_core.specs.Lines.{IsFree, IsLine, IsWaitOf, waits_no_more, accessor};
 ghost use Rattle.manager_core.specs.Outcomes.{answer_of};
 ghost use Rattle.manager_core.specs.State.{entry};
@@ -16,7 +16,7 @@ use crate::deciding::{Request, abort_in, access_in, acts, begin_in, refusal_of_c
 use crate::log::Log;
 use crate::outcome::{OpenFault, Outcome};
 use crate::owning::{hand_up, number_of, reserve_commit};
-use crate::store::{Row, TopStore, table_of};
+use durable_top::{Row, TopStore, table_of};
 use inherit::Estate;
 use orphans::Marks;
 use serial_spec::{By, Entry, Event, NoMemory, Op, PlainTable, Refusal, Reply};

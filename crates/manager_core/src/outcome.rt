@@ -2,7 +2,7 @@
 ghost use Rattle.std.specs.Prelude.{◌≡◌};
 ghost use Rattle.manager_core.specs.Outcomes.{answer_of, outcome_of};
 
-use crate::store::StoreFault;
+use durable_top::StoreFault;
 use serial_spec::{Answer, Refusal, Reply};
 
 /// What a call comes to: a reply, a wait, or a refusal.

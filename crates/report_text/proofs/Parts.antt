@@ -5,8 +5,8 @@ use Rattle.std.proofs.lemmas.List.{reverse-append}
 use Rattle.serial_spec.specs.declared.entry.Entry.{Entry}
 use Rattle.serial_spec.specs.Rows.{Rows}
 use Rattle.serial_spec.specs.Report.{spelled_history, spelled_rows}
-use Rattle.manager_core.specs.declared.store.Row.{Row}
-use Rattle.manager_core.specs.Store.{plain}
+use Rattle.durable_top.specs.declared.store.Row.{Row}
+use Rattle.durable_top.specs.Store.{plain}
 use Rattle.report_text.specs.Lines.{entry_line, row_line, row_lines}
 
 -- ---- rows

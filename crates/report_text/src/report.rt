@@ -3,12 +3,12 @@ ghost use Rattle.std.specs.Prelude.{ℕ, [], ◌∷◌, ◌++◌, codes, OnErr, 
 ghost use Rattle.std.specs.Io.KnownBytes.{Appends};
 ghost use Rattle.txn_bytes.specs.Written.{AppendsFront};
 ghost use Rattle.serial_spec.specs.Report.{report, spelled_rows};
-ghost use Rattle.manager_core.specs.Store.{plain};
+ghost use Rattle.durable_top.specs.Store.{plain};
 ghost use Rattle.report_text.specs.Lines.{row_line};
 
 use crate::entries::{put_history, put_row_line, put_table};
+use durable_top::Row;
 use interleavings::Report;
-use manager_core::store::Row;
 use std::io::Write;
 use txn_bytes::{WriteFault, put};
 

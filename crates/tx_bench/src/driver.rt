@@ -1,5 +1,5 @@
 //! A manager that is asked line after line.
-use manager_core::store::MemStore;
+use durable_top::MemStore;
 use manager_core::{Manager, Outcome};
 use serial_spec::{By, Event, NoMemory, Op};
 use std::alloc::Global;

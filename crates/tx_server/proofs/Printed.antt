@@ -2,7 +2,7 @@
 use Rattle.std.proofs.Common.{◌≡◌, ℕ, List, [], Option, None, Result, Ok, Err, OnErr, sym, inr, append-nil}
 use Rattle.std.specs.Io.KnownBytes.{Keeps}
 use Rattle.txn_bytes.proofs.Appending.{kept}
-use Rattle.manager_core.specs.declared.store.TopStore.{Ghosts}
+use Rattle.durable_top.specs.declared.store.TopStore.{Ghosts}
 use Rattle.tx_server.specs.Replays.{IsReplayed, IsCutShort, spelled_report}
 use Rattle.tx_server.specs.Programs.{Misses}
 

@@ -1,7 +1,7 @@
 -- What the program's exit status says of its output.
 use Rattle.std.specs.Prelude.{◌≡◌, ◌⊎◌, ℕ, List, Option, None}
 use Rattle.std.specs.Io.KnownBytes.{Keeps}
-use Rattle.manager_core.specs.declared.store.TopStore.{Ghosts}
+use Rattle.durable_top.specs.declared.store.TopStore.{Ghosts}
 use Rattle.tx_server.specs.Replays.{IsReplayed, IsCutShort}
 
 -- the output got the whole report of some text's run over a store without rows

@@ -5,7 +5,7 @@ use Rattle.txn_bytes.specs.Written.{AppendsFront}
 use Rattle.serial_spec.specs.Interleaving.{Session}
 use Rattle.serial_spec.specs.Report.{report}
 use Rattle.session_text.specs.Texts.{sessions_of, Tells}
-use Rattle.manager_core.specs.declared.store.TopStore.{Ghosts}
+use Rattle.durable_top.specs.declared.store.TopStore.{Ghosts}
 use Rattle.interleavings.specs.Told.{Told}
 use Rattle.interleavings.specs.Reports.{IsReport}
 use Rattle.interleavings.specs.Runs.{IsRun, HasRunCause}

@@ -6,7 +6,7 @@ ghost use Rattle.tx_server.specs.Programs.{Misses, Prints};
 use crate::command::{Task, task_of};
 use crate::fault::{Fault, fault_of};
 use crate::replay::replay_text;
-use manager_core::store::{MemStore, TopStore};
+use durable_top::{MemStore, TopStore};
 use std::alloc::Global;
 use std::fs;
 use std::io::Write;

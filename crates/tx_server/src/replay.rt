@@ -2,8 +2,8 @@
 ghost use Rattle.std.specs.Prelude.{◌≡◌, [], IfErr, IfOk};
 ghost use Rattle.tx_server.specs.Replays.{HasReplayCause, IsReplayed, IsUnwritten};
 
+use durable_top::TopStore;
 use interleavings::{RunFault, run_schedule};
-use manager_core::store::TopStore;
 use report_text::{WriteFault, write_report};
 use session_text::{Sessions, TextFault};
 use std::alloc::Global;

@@ -3,7 +3,7 @@ mod runs;
 
 use crate::program::tx_main;
 use crate::replay::{ReplayFault, replay_text};
-use manager_core::store::MemStore;
+use durable_top::MemStore;
 use report_text::WriteFault;
 use session_text::{LineKind, TextFault};
 use std::alloc::Global;

@@ -1,9 +1,9 @@
 //! Stores that take the changes, and some that do not.
 ghost use Rattle.std.specs.Prelude.{◌≡◌, ◌≤◌, ℕ};
 
-use crate::store::{MemStore, Row, StoreFault, TopStore};
 use crate::tests::watched::{call, entry, play, play_over, store_of};
 use crate::{Manager, OpenFault, Outcome};
+use durable_top::{MemStore, Row, StoreFault, TopStore};
 use std::alloc::Global;
 use std::process::Abort;
 use txn_names::Change;

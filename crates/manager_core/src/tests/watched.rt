@@ -6,8 +6,8 @@ ghost use Rattle.std.specs.Prelude.{◌≡◌, IfOk, OnErr, Some};
 ghost use Rattle.serial_spec.specs.declared.entry.By.TheVariants.{Line};
 ghost use Rattle.manager_core.specs.Lines.{IsFree, IsWaitOf};
 
-use crate::store::{MemStore, Row, TopStore, are_rising};
 use crate::{Manager, OpenFault, Outcome, Parts};
+use durable_top::{MemStore, Row, TopStore, are_rising};
 use serial_spec::{Answer, By, Entry, Event, NoMemory, Op, PlainTable, Refusal, Reply};
 use std::alloc::Global;
 use std::hash::{DefaultHasher, Hash, Hasher};

@@ -1,6 +1,6 @@
 //! Runs of one session: each report is the one that is due to the texts of its own entries.
 use crate::replay::replay_text;
-use manager_core::store::{MemStore, Row};
+use durable_top::{MemStore, Row};
 use std::alloc::Global;
 use std::test::Fail;
 use txn_names::Key;

@@ -4,7 +4,7 @@ use Rattle.txn_bytes.specs.Written.{AppendsFront}
 use Rattle.txn_bytes.proofs.Appending.{front_of, on_err, then, then_front}
 use Rattle.serial_spec.specs.Rows.{Rows}
 use Rattle.serial_spec.specs.Report.{spelled_rows}
-use Rattle.manager_core.specs.Store.{plain}
+use Rattle.durable_top.specs.Store.{plain}
 use Rattle.report_text.specs.Lines.{row_lines}
 use Rattle.report_text.proofs.Parts.{plain-at, plain-take, spelled_rows-at, spelled_rows-parted}
 use Rattle.report_text.proofs.report.put_opening.Goals as goal

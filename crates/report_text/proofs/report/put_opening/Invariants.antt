@@ -1,7 +1,7 @@
 use Rattle.std.proofs.Common.{take}
 use Rattle.std.specs.Io.KnownBytes.{Appends}
 use Rattle.serial_spec.specs.Report.{spelled_rows}
-use Rattle.manager_core.specs.Store.{plain}
+use Rattle.durable_top.specs.Store.{plain}
 use Rattle.report_text.proofs.report.put_opening.Given as goal
 
 abbrev pub invariant-loop-row : goal.invariant-loop-row
