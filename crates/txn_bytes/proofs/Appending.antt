@@ -1,5 +1,5 @@
 -- Bytes that are written one part after another.
-use Rattle.std.proofs.Common.{ℕ, List, [], ◌++◌, Option, Some, None, take, drop, append_assoc, append-nil, sym, ◌∙◌, ap, take-append-drop, Result, Ok, Err, OnErr, OnOk}
+use Rattle.std.proofs.Common.{◌≢◌, ◌<◌, ℕ, List, [], ◌∷◌, ◌++◌, length, Option, Some, None, take, drop, append_assoc, append-nil, refl, sym, ◌∙◌, ap, arith, length-drop, take-append-drop, Result, Ok, Err, OnErr, OnOk}
 use Rattle.std.specs.Io.KnownBytes.{Appends, Keeps}
 use Rattle.txn_bytes.specs.Written.{AppendsFront}
 
@@ -26,8 +26,16 @@ then_front a b c x y h k = record {
   front = x ++ k.front;
   rest = k.rest;
   parts = ap (λ z. x ++ z) k.parts ∙ sym (append_assoc x k.front k.rest);
+  short = k.short;
   written = then a b c x k.front h k.written;
 }
+
+longer : (xs ys : List ℕ) → xs ≢ [] → xs ++ ys ≢ []
+longer [] ys h e = h refl
+longer (x ∷ xs) ys h e = absurd (cc)
+
+left : (n : ℕ) (xs : List ℕ) → n < length xs → drop n xs ≢ []
+left n xs h e = omega (arith, h, length-drop n xs, ap (λ (ys : List ℕ). length ys) e)
 
 -- a beginning, where more was to come
 pub front_of : (a b : Option (List ℕ)) (x y : List ℕ) → AppendsFront a b x → AppendsFront a b (x ++ y)
@@ -35,11 +43,18 @@ front_of a b x y h = record {
   front = h.front;
   rest = h.rest ++ y;
   parts = ap (λ z. z ++ y) h.parts ∙ append_assoc h.front h.rest y;
+  short = longer h.rest y h.short;
   written = h.written;
 }
 
-pub front_taken : (a b : Option (List ℕ)) (n : ℕ) (xs : List ℕ) → Appends a b (take n xs) → AppendsFront a b xs
-front_taken a b n xs h = record { front = take n xs; rest = drop n xs; parts = sym (take-append-drop n xs); written = h }
+pub front_taken : (a b : Option (List ℕ)) (n : ℕ) (xs : List ℕ) → n < length xs → Appends a b (take n xs) → AppendsFront a b xs
+front_taken a b n xs within h = record {
+  front = take n xs;
+  rest = drop n xs;
+  parts = sym (take-append-drop n xs);
+  short = left n xs within;
+  written = h;
+}
 
 -- what holds anyway holds at an error
 pub on_err : {T E Q : Type 0} (r : Result T E) → Q → OnErr r Q

@@ -8,7 +8,7 @@ use Rattle.txn_bytes.proofs.sink.put.Goals as goal
 pub returns-in-Ok-eq0-clause-err : goal.returns-in-Ok-eq0-clause-err
 returns-in-Ok-eq0-clause-err g c =
     let h : Appends (g.W.Write.contents c.loop-at.out) (g.W.Write.contents c.write.new.self) (take c.in-Ok-eq0.field-0 (take (length c.args.bytes.now - c.loop-at.at) (drop c.loop-at.at c.args.bytes.now))) = c.in-Ok-eq0.ensures.bytes in
-    front_taken _ _ (c.loop-at.at + c.in-Ok-eq0.field-0) _ (rw take-add (then _ _ _ _ _ c.loop-at.invariant.written (rw take_rest at h)))
+    front_taken _ _ (c.loop-at.at + c.in-Ok-eq0.field-0) _ (omega (arith, c.loop-at-test.true)) (rw take-add (then _ _ _ _ _ c.loop-at.invariant.written (rw take_rest at h)))
 
 pub loop-at-preserved : goal.loop-at-preserved
 loop-at-preserved g c =
@@ -22,4 +22,4 @@ loop-at-preserved g c =
     }
 
 pub returns-in-Err-clause-err : goal.returns-in-Err-clause-err
-returns-in-Err-clause-err g c = front_taken _ _ c.loop-at.at _ (kept _ _ _ _ c.loop-at.invariant.written c.in-Err.ensures.bytes)
+returns-in-Err-clause-err g c = front_taken _ _ c.loop-at.at _ c.loop-at-test.true (kept _ _ _ _ c.loop-at.invariant.written c.in-Err.ensures.bytes)
