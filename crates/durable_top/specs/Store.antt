@@ -1,11 +1,18 @@
 -- What the calls of a store promise.
-use Rattle.std.specs.Prelude.{◌↔◌, ◌≤◌, ◌≡◌, ◌+◌, ◌-◌, ◌^◌, ℕ, min, Bool, if◌then◌else◌, List, map}
+use Rattle.std.specs.Prelude.{◌↔◌, ◌≤◌, ◌≡◌, ◌+◌, ◌-◌, ◌^◌, ℕ, min, Bool, if◌then◌else◌, List, map, Result, Ok, Err}
+use Rattle.std.specs.Global.{Vec}
 use Rattle.serial_spec.specs.Rows.{Rows}
 use Rattle.durable_top.specs.declared.store.Row.{Row}
+use Rattle.durable_top.specs.declared.store.StoreFault.{StoreFault}
 
 -- the rows as keys and values
 abbrev pub plain : List Row → Rows
 plain rows = map (λ r. (r.key, r.value)) rows
+
+-- what a load answered
+abbrev pub told : Result (Vec Row) StoreFault → Result (List Row) StoreFault
+told (Ok rows) = Ok rows.items
+told (Err fault) = Err fault
 
 -- at its greatest value a count stands still
 abbrev pub counted : ℕ → ℕ

@@ -8,3 +8,6 @@ mod store;
 pub use memory::MemStore;
 pub use rows::{are_rising, table_after, table_of};
 pub use store::{Row, StoreFault, TopStore};
+
+#[cfg(test)]
+mod tests;

@@ -1,8 +1,9 @@
 //! A store in memory.
-ghost use Rattle.std.specs.Prelude.{◌≡◌, ◌≤◌, ◌↔◌, ℕ, IfOk, OnOk, IfErr, OnErr, is_err};
+ghost use Rattle.std.specs.Prelude.{◌≡◌, ◌≤◌, ◌↔◌, ℕ, if◌then◌else◌, IfOk, OnOk, OnErr, IfErr};
 ghost use Rattle.serial_spec.specs.Changes.{AreRising, overlay};
 ghost use Rattle.serial_spec.specs.Rows.{IsRising, value_in};
-ghost use Rattle.durable_top.specs.Store.{plain, faults_after};
+ghost use Rattle.durable_top.specs.Store.{plain};
+ghost use Rattle.durable_top.specs.Memory.{fresh, planned, MemoryLoads, MemoryCommits};
 
 use crate::rows::{table_after, table_of};
 use crate::store::{Row, StoreFault, TopStore};
@@ -11,11 +12,14 @@ use std::alloc::Global;
 use std::marker::Model;
 use txn_names::Change;
 
-/// A table in memory, which fails for want of memory alone.
+/// A table in memory. It faults when memory runs out, and as it is planned (`refusing`, `failing`).
 #[derive(Drop)]
 pub struct MemStore {
     table: PlainTable,
     faults: u64,
+    refuses_in: u64,
+    fails_in: u64,
+    has_failed: bool,
 }
 
 impl Model for MemStore {
@@ -23,21 +27,60 @@ impl Model for MemStore {
 
     ghost Value = { Memory };
 
-    ghost view = { λ s. record { rows = s.table.rows; faults = s.faults } };
+    ghost view = { λ s. record { rows = s.table.rows; faults = s.faults; refuses_in = s.refuses_in; fails_in = s.fails_in; has_failed = s.has_failed } };
 }
 
 impl MemStore {
-    /// A store of these rows, which stand in byte order of their keys, one for each. The only error is want
-    /// of memory.
+    /// A store of these rows, which stand in byte order of their keys, one for each. The only error is that
+    /// memory runs out.
     pub fn new(alloc: Global, rows: &[Row]) -> Result<MemStore, NoMemory>
         requires { IsRising (plain rows.now) }
-        ensures rows { IfOk result (λ store. store.rows ≡ plain rows.now) }
-        ensures faults { IfOk result (λ store. store.faults ≡ 0) }
+        ensures { IfOk result (λ store. store ≡ fresh (plain rows.now) 0 0) }
     {
         let table = table_of(alloc, rows)?;
         // By this the rows are known to be in order.
         let _len = table.len();
-        Ok(MemStore { table, faults: 0 })
+        Ok(MemStore {
+            table,
+            faults: 0,
+            refuses_in: 0,
+            fails_in: 0,
+            has_failed: false,
+        })
+    }
+
+    /// A store as by `new` that answers Refused at one commit, the first being number 1, and changes nothing then.
+    pub fn refusing(alloc: Global, rows: &[Row], commit: u64) -> Result<MemStore, NoMemory>
+        requires { IsRising (plain rows.now) }
+        ensures { IfOk result (λ store. store ≡ fresh (plain rows.now) commit 0) }
+    {
+        let mut store = MemStore::new(alloc, rows)?;
+        store.refuses_in = commit;
+        Ok(store)
+    }
+
+    /// A store as by `new` whose device fails at one commit, the first being number 1. That commit changes
+    /// nothing, and each call from then on answers Failed.
+    pub fn failing(alloc: Global, rows: &[Row], commit: u64) -> Result<MemStore, NoMemory>
+        requires { IsRising (plain rows.now) }
+        ensures { IfOk result (λ store. store ≡ fresh (plain rows.now) 0 commit) }
+    {
+        let mut store = MemStore::new(alloc, rows)?;
+        store.fails_in = commit;
+        Ok(store)
+    }
+
+    // The fault that is planned for the next commit.
+    fn planned(&self) -> Option<StoreFault>
+        ensures { result ≡ planned self.now }
+    {
+        if self.has_failed || self.fails_in == 1 {
+            Some(StoreFault::Failed)
+        } else if self.refuses_in == 1 {
+            Some(StoreFault::Refused)
+        } else {
+            None
+        }
     }
 }
 
@@ -54,47 +97,63 @@ fn rows_of(alloc: Global, table: &PlainTable) -> Result<Vec<Row>, NoMemory>
     Ok(rows)
 }
 
+// Makes the changes in the table, or leaves it as it is.
+fn change(table: &mut PlainTable, changes: &[Change]) -> Result<(), StoreFault>
+    ensures ok { OnOk result (value_in table.new.rows ≡ overlay changes.now (value_in table.old.rows)) }
+    ensures err { OnErr result (table.new.rows ≡ table.old.rows) }
+    ensures memory { IfErr result (λ fault. fault ≡ StoreFault.Memory) }
+{
+    match table_after(table, changes) {
+        Ok(next) => {
+            *table = next;
+            Ok(())
+        }
+        Err(_) => Err(StoreFault::Memory),
+    }
+}
+
 impl TopStore for MemStore {
     ghost table = { λ s. value_in s.rows };
 
     ghost doubt = { λ _. 0 };
 
-    ghost failures = { λ _. 0 };
+    ghost failures = { λ s. if s.has_failed then 1 else 0 };
 
     ghost faults = { λ s. s.faults };
 
-    fn load(&mut self, alloc: Global) -> Result<Vec<Row>, StoreFault>
-        ensures rows { IfOk result (λ rows. plain rows.items ≡ self.old.rows) }
-        ensures rising { IfOk result (λ rows. IsRising (plain rows.items)) }
-        ensures memory { IfErr result (λ fault. fault ≡ StoreFault.Memory) }
-        ensures kept { self.new ≡ self.old }
-    {
+    ghost may_leave = { λ s left. left ≡ value_in s.rows };
+
+    ghost loads = { MemoryLoads };
+
+    ghost commits = { MemoryCommits };
+
+    fn load(&mut self, alloc: Global) -> Result<Vec<Row>, StoreFault> {
+        if self.has_failed {
+            return Err(StoreFault::Failed);
+        }
         match rows_of(alloc, &self.table) {
             Ok(rows) => Ok(rows),
             Err(_) => Err(StoreFault::Memory),
         }
     }
 
-    fn commit(&mut self, changes: &[Change]) -> Result<(), StoreFault>
-        ensures ok { OnOk result (value_in self.new.rows ≡ overlay changes.now (value_in self.old.rows)) }
-        ensures memory { IfErr result (λ fault. fault ≡ StoreFault.Memory) }
-        ensures refused { OnErr result (self.new.rows ≡ self.old.rows) }
-        ensures faults { self.new.faults ≡ faults_after (is_err result) self.old.faults }
-    {
-        match table_after(&self.table, changes) {
-            Ok(next) => {
-                self.table = next;
-                Ok(())
-            }
-            Err(_) => {
-                self.faults = self.faults.saturating_add(1);
-                Err(StoreFault::Memory)
-            }
+    fn commit(&mut self, changes: &[Change]) -> Result<(), StoreFault> {
+        let planned = self.planned();
+        self.has_failed = self.has_failed || self.fails_in == 1;
+        self.fails_in = self.fails_in.saturating_sub(1);
+        self.refuses_in = self.refuses_in.saturating_sub(1);
+        let answer = match planned {
+            Some(fault) => Err(fault),
+            None => change(&mut self.table, changes),
+        };
+        if answer.is_err() {
+            self.faults = self.faults.saturating_add(1);
         }
+        answer
     }
 
     fn failures(&self) -> u64 {
-        0
+        u64::from(self.has_failed)
     }
 
     fn faults(&self) -> u64 {

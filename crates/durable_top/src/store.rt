@@ -1,9 +1,9 @@
 //! Where the results of top-level transactions are kept.
-ghost use Rattle.std.specs.Prelude.{◌≡◌, ℕ, ◌≤◌, ◌↔◌, IsErrOf, IfOk, OnOk, IfErr, is_err};
+ghost use Rattle.std.specs.Prelude.{◌≡◌, ◌⊎◌, ℕ, ◌≤◌, ◌↔◌, List, Result, IsErrOf, IfOk, OnOk, IfErr, is_err};
 ghost use Rattle.serial_spec.specs.Changes.{AreRising, overlay};
 ghost use Rattle.serial_spec.specs.Rows.{IsRising, value_in};
 ghost use Rattle.serial_spec.specs.Serial.{Map};
-ghost use Rattle.durable_top.specs.Store.{plain, faults_after, TellsFailure};
+ghost use Rattle.durable_top.specs.Store.{plain, told, faults_after, TellsFailure};
 
 use std::alloc::Global;
 use std::marker::Model;
@@ -19,7 +19,7 @@ pub struct Row {
 /// Why a store did not do what it was asked.
 #[derive(Clone, Copy, Debug, PartialEq, Eq)]
 pub enum StoreFault {
-    /// Want of memory.
+    /// Memory ran out.
     Memory,
     /// It would not; it may another time.
     Refused,
@@ -28,7 +28,19 @@ pub enum StoreFault {
 }
 
 /// A store of one table.
+///
+/// `loads` and `commits` say which call was made: in which state of the store, with which changes, what it
+/// answered and in which state it was left. Each store defines them for itself. A caller that is generic over
+/// the store knows nothing of them, and so it can only have them from one call of the method. By them it can
+/// promise that it asked once, in the state that it names, and that the fault which it tells is the one that
+/// it was answered.
 pub trait TopStore: Drop {
+    ghost use Rattle.std.specs.Prelude.{ℕ, List, Result};
+    ghost use Rattle.serial_spec.specs.Serial.{Map};
+    ghost use Rattle.txn_names.specs.declared.change.Change.{Change};
+    ghost use Rattle.durable_top.specs.declared.store.Row.{Row};
+    ghost use Rattle.durable_top.specs.declared.store.StoreFault.{StoreFault};
+
     /// What each key has.
     ghost table: { Self → Map };
 
@@ -41,17 +53,30 @@ pub trait TopStore: Drop {
     /// How many commits were answered a fault. At its greatest value it stands still.
     ghost faults: { Self → ℕ };
 
-    /// The rows, in byte order of their keys. After a fault other than Failed the table is as before.
+    /// The tables that a crash at this moment may leave.
+    ghost may_leave: { Self → Map → Type 0 };
+
+    /// Asked in the first state to load, it gave this answer and was left in the second state.
+    ghost loads: { Self → Self → Result (List Row) StoreFault → Type 0 };
+
+    /// Asked in the first state to make these changes, it gave this answer and was left in the second state.
+    ghost commits: { Self → Self → List Change → Result (Unit {0}) StoreFault → Type 0 };
+
+    /// The rows, in byte order of their keys. After a fault other than Failed the table is as before. A crash
+    /// leaves nothing that it could not leave before.
     fn load(&mut self, alloc: Global) -> Result<Vec<Row>, StoreFault>
         ensures rows { doubt self.new ≡ 0 → IfOk result (λ rows. value_in (plain rows.items) ≡ table self.old) }
         ensures rising { IfOk result (λ rows. IsRising (plain rows.items)) }
         ensures kept { doubt self.new ≡ 0 → (IsErrOf result StoreFault.Failed → ⊥) → table self.new ≡ table self.old }
         ensures failures { TellsFailure (failures self.old) (failures self.new) (IsErrOf result StoreFault.Failed) }
         ensures faults { faults self.new ≡ faults self.old }
-        ensures doubt { doubt self.old ≤ doubt self.new };
+        ensures doubt { doubt self.old ≤ doubt self.new }
+        ensures crash { doubt self.new ≡ 0 → (left : Map) → may_leave self.new left → may_leave self.old left }
+        ensures asked { loads self.old self.new (told result) };
 
     /// Makes the changes in the table, which stand in byte order of their keys, one for each. After a fault
-    /// other than Failed the table is as before.
+    /// other than Failed the table is as before. A crash leaves all of the changes or none: once the answer is
+    /// `Ok` all of them, and none where the device had failed before.
     fn commit(&mut self, changes: &[Change]) -> Result<(), StoreFault>
         requires rising { AreRising changes.now }
         ensures ok { doubt self.new ≡ 0 → OnOk result (table self.new ≡ overlay changes.now (table self.old)) }
@@ -59,7 +84,13 @@ pub trait TopStore: Drop {
             (fault ≡ StoreFault.Failed → ⊥) → table self.new ≡ table self.old) }
         ensures failures { TellsFailure (failures self.old) (failures self.new) (IsErrOf result StoreFault.Failed) }
         ensures faults { faults self.new ≡ faults_after (is_err result) (faults self.old) }
-        ensures doubt { doubt self.old ≤ doubt self.new };
+        ensures doubt { doubt self.old ≤ doubt self.new }
+        ensures crash { doubt self.new ≡ 0 → (left : Map) → may_leave self.new left
+            → may_leave self.old left ⊎ (left ≡ overlay changes.now (table self.old)) }
+        ensures settled { doubt self.new ≡ 0 → OnOk result ((left : Map) → may_leave self.new left
+            → left ≡ overlay changes.now (table self.old)) }
+        ensures shut { doubt self.new ≡ 0 → failures self.old ≡ 1 → (left : Map) → may_leave self.new left → may_leave self.old left }
+        ensures asked { commits self.old self.new changes.now result };
 
     /// 0, and 1 once the device has failed in a call.
     fn failures(&self) -> u64

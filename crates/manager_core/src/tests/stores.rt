@@ -1,12 +1,9 @@
 //! Stores that take the changes, and some that do not.
-ghost use Rattle.std.specs.Prelude.{◌≡◌, ◌≤◌, ℕ};
-
 use crate::tests::watched::{call, entry, play, play_over, store_of};
 use crate::{Manager, OpenFault, Outcome};
-use durable_top::{MemStore, Row, StoreFault, TopStore};
+use durable_top::{MemStore, StoreFault, TopStore};
 use std::alloc::Global;
 use std::process::Abort;
-use txn_names::Change;
 
 #[test]
 fn one_transaction(rt: HostRuntime) {
@@ -28,68 +25,9 @@ fn one_transaction(rt: HostRuntime) {
     play(&rt, rt.alloc(), "z=7", script, "x=-3 y=5");
 }
 
-/// A store that does not give its rows, or refuses this many commits.
-#[derive(Drop)]
-struct Unwilling {
-    inner: MemStore,
-    loads: bool,
-    refusals: u32,
-    faults: u64,
-}
-
-impl TopStore for Unwilling {
-    ghost table = { λ s. ⟦<MemStore as TopStore>⟧.table s.inner };
-
-    ghost doubt = { λ _. 0 };
-
-    ghost failures = { λ _. 0 };
-
-    ghost faults = { λ s. s.faults };
-
-    fn load(&mut self, alloc: Global) -> Result<Vec<Row>, StoreFault> {
-        if self.loads {
-            self.inner.load(alloc)
-        } else {
-            Err(StoreFault::Refused)
-        }
-    }
-
-    fn commit(&mut self, changes: &[Change]) -> Result<(), StoreFault> {
-        if self.refusals > 0 {
-            self.refusals -= 1;
-            self.faults = self.faults.saturating_add(1);
-            return Err(StoreFault::Refused);
-        }
-        match self.inner.commit(changes) {
-            Ok(()) => Ok(()),
-            Err(fault) => {
-                self.faults = self.faults.saturating_add(1);
-                Err(fault)
-            }
-        }
-    }
-
-    fn failures(&self) -> u64 {
-        0
-    }
-
-    fn faults(&self) -> u64 {
-        self.faults
-    }
-}
-
-fn unwilling_store(rt: &impl Abort, alloc: Global, loads: bool) -> Unwilling {
-    Unwilling {
-        inner: store_of(rt, alloc, &[]),
-        loads,
-        refusals: 1,
-        faults: 0,
-    }
-}
-
 #[test]
 fn a_store_that_refuses(rt: HostRuntime) {
-    let store = unwilling_store(&rt, rt.alloc(), true);
+    let store = MemStore::refusing(rt.alloc(), &[], 1).expect(&rt, "memory");
     let manager = Manager::open(rt.alloc(), store).expect(&rt, "opened");
     let script = "
         1 begin a -> ok
@@ -105,9 +43,10 @@ fn a_store_that_refuses(rt: HostRuntime) {
 
 #[test]
 fn a_store_without_its_rows(rt: HostRuntime) {
-    let store = unwilling_store(&rt, rt.alloc(), false);
+    let mut store = MemStore::failing(rt.alloc(), &[], 1).expect(&rt, "memory");
+    assert!(rt; store.commit(&[]).is_err());
     let fault = Manager::open(rt.alloc(), store).err();
-    assert!(rt; fault == Some(OpenFault::Store(StoreFault::Refused)));
+    assert!(rt; fault == Some(OpenFault::Store(StoreFault::Failed)));
 }
 
 // Whether a line is answered as it has to be, without a refused growth.
