@@ -1,4 +1,7 @@
 //! The lines by which the program says why it gave no report.
+ghost use Rattle.std.specs.Prelude.{◌≡◌};
+ghost use Rattle.tx_server.specs.Faults.{told};
+
 use crate::replay::ReplayFault;
 use interleavings::RunFault;
 use manager_core::OpenFault;
@@ -10,8 +13,8 @@ use thiserror::Error;
 pub enum Fault<'a> {
     #[error("tx: cannot read {0}")]
     CannotRead(&'a str),
-    #[error("tx: line {line}: {kind}")]
-    Line { line: usize, kind: &'static str },
+    #[error("tx: line {line}: {}", word_of(.kind))]
+    Line { line: usize, kind: LineKind },
     #[error("tx: cannot open database")]
     CannotOpen,
     #[error("tx: too many rows")]
@@ -22,7 +25,7 @@ pub enum Fault<'a> {
     CannotWrite,
 }
 
-fn word_of(kind: LineKind) -> &'static str {
+fn word_of(kind: &LineKind) -> &'static str {
     match kind {
         LineKind::End => "end",
         LineKind::Empty => "empty",
@@ -38,12 +41,11 @@ fn word_of(kind: LineKind) -> &'static str {
 }
 
 /// What the program says of a text that was not replayed.
-pub fn fault_of<'a>(fault: ReplayFault) -> Fault<'a> {
+pub fn fault_of<'a>(fault: ReplayFault) -> Fault<'a>
+    ensures { result ≡ told fault }
+{
     match fault {
-        ReplayFault::Text(TextFault::Bad { line, kind }) => Fault::Line {
-            line,
-            kind: word_of(kind),
-        },
+        ReplayFault::Text(TextFault::Bad { line, kind }) => Fault::Line { line, kind },
         ReplayFault::Text(TextFault::NoMemory) => Fault::NoMemory,
         ReplayFault::Run(RunFault::NoMemory) => Fault::NoMemory,
         ReplayFault::Run(RunFault::Open(OpenFault::NoMemory)) => Fault::NoMemory,

@@ -1,13 +1,14 @@
 //! The program, apart from where its words come from and where its bytes go.
-ghost use Rattle.std.specs.Prelude.{◌≡◌, ◌≢◌, ◌≤◌, OnErr, OnOk};
+ghost use Rattle.std.specs.Prelude.{◌≡◌, ◌≢◌, ◌≤◌};
 ghost use Rattle.std.specs.Io.KnownBytes.{Keeps};
-ghost use Rattle.tx_server.specs.Programs.{Misses, Prints};
+ghost use Rattle.tx_server.specs.Programs.{IsMissed, IsPrinted, Misses, Prints};
 
 use crate::command::{Task, task_of};
 use crate::fault::{Fault, fault_of};
 use crate::replay::replay_text;
 use durable_top::{MemStore, TopStore};
-use std::alloc::Global;
+use std::alloc::{AllocError, Global};
+use std::fmt::Display;
 use std::fs;
 use std::io::Write;
 use std::rt::Files;
@@ -34,29 +35,32 @@ pub fn tx_main<R: Files + AllocGlobal, W: Write, E: Write>(
     ensures undone { result ≢ DONE → Misses ⟦<MemStore as TopStore>⟧ (W.contents out.old) (W.contents out.new) }
     ensures status { result ≤ MISUSED }
 {
-    let mut all = Vec::new(alloc);
-    if all.push("tx_server").is_err() {
+    let Ok(all) = command_line(alloc, words) else {
         return tell(err, Fault::NoMemory);
-    }
-    for word in words {
-        if all.push(word.as_str()).is_err() {
-            return tell(err, Fault::NoMemory);
-        }
-    }
+    };
     match task_of(alloc, all.as_slice()) {
-        Ok(Some(task)) => match perform(rt, alloc, task, out) {
-            Ok(()) => DONE,
-            Err(fault) => tell(err, fault),
-        },
-        Ok(None) => {
-            let _ = writeln!(err, "usage: tx_server replay FILE");
-            MISUSED
-        }
-        Err(text) => {
-            let _ = writeln!(err, "{text}");
-            MISUSED
-        }
+        Ok(Some(Task::Replay { file })) => replay_file(rt, alloc, file, out, err),
+        Ok(None) => misuse(err, &"usage: tx_server replay FILE"),
+        Err(text) => misuse(err, &text),
     }
+}
+
+// The words behind the program's name, and that name before them.
+fn command_line<'a>(alloc: Global, words: &'a [String]) -> Result<Vec<&'a str>, AllocError> {
+    let mut all = Vec::new(alloc);
+    all.push("tx_server")?;
+    for word in words {
+        all.push(word.as_str())?;
+    }
+    Ok(all)
+}
+
+// Says how the program is used.
+fn misuse<E: Write, T: Display>(err: &mut E, text: &T) -> u8
+    ensures { result ≡ MISUSED }
+{
+    let _ = writeln!(err, "{text}");
+    MISUSED
 }
 
 /// Says why there is no report. Where the error writer fails too, the exit status alone tells.
@@ -67,48 +71,53 @@ pub fn tell<E: Write>(err: &mut E, fault: Fault<'_>) -> u8
     FAILED
 }
 
-fn perform<'a, R: Files + AllocGlobal, W: Write>(
+// The file is read first, then the store is made, and then come the text and the run.
+fn replay_file<R: Files + AllocGlobal, W: Write, E: Write>(
     rt: &R,
     alloc: Global,
-    task: Task<'a>,
+    file: &str,
     out: &mut W,
-) -> Result<(), Fault<'a>>
-    ensures ok { OnOk result (Prints ⟦<MemStore as TopStore>⟧ (W.contents out.old) (W.contents out.new)) }
-    ensures err { OnErr result (Misses ⟦<MemStore as TopStore>⟧ (W.contents out.old) (W.contents out.new)) }
-{
-    match task {
-        Task::Replay { file } => replay(rt, alloc, file, out),
-    }
-}
-
-// The file is read first, then the store is opened, and then come the text and the run.
-fn replay<'a, R: Files + AllocGlobal, W: Write>(
-    rt: &R,
-    alloc: Global,
-    file: &'a str,
-    out: &mut W,
-) -> Result<(), Fault<'a>>
-    ensures ok { OnOk result (Prints ⟦<MemStore as TopStore>⟧ (W.contents out.old) (W.contents out.new)) }
-    ensures err { OnErr result (Misses ⟦<MemStore as TopStore>⟧ (W.contents out.old) (W.contents out.new)) }
+    err: &mut E,
+) -> u8
+    ensures done { result ≡ DONE → Prints ⟦<MemStore as TopStore>⟧ (W.contents out.old) (W.contents out.new) }
+    ensures undone { result ≢ DONE → Misses ⟦<MemStore as TopStore>⟧ (W.contents out.old) (W.contents out.new) }
+    ensures status { result ≤ FAILED }
 {
     let Ok(text) = fs::read(rt, file) else {
-        return Err(Fault::CannotRead(file));
+        return tell(err, Fault::CannotRead(file));
     };
     let Ok(store) = MemStore::new(alloc, &[]) else {
-        return Err(Fault::NoMemory);
+        return tell(err, Fault::NoMemory);
     };
-    match replay_text(alloc, text.as_slice(), &[], store, out) {
-        Ok(_store) => finish(out),
-        Err(fault) => Err(fault_of(fault)),
+    replay_over(alloc, text.as_slice(), store, out, err)
+}
+
+/// Replays this text over this store, and answers the exit status. The report goes to `out`, and only where the
+/// whole run was done; a fault goes to `err`, in one line. The store is dropped.
+pub fn replay_over<S: TopStore, W: Write, E: Write>(
+    alloc: Global,
+    text: &[u8],
+    store: S,
+    out: &mut W,
+    err: &mut E,
+) -> u8
+    ensures done { result ≡ DONE → IsPrinted S.TopStore (W.contents out.old) (W.contents out.new) text.now store }
+    ensures undone { result ≢ DONE → IsMissed S.TopStore (W.contents out.old) (W.contents out.new) text.now store }
+    ensures status { result ≤ FAILED }
+{
+    match replay_text(alloc, text, &[], store, out) {
+        Ok(_left) => finish(out, err),
+        Err(fault) => tell(err, fault_of(fault)),
     }
 }
 
 // What the writer still holds goes where it is to go.
-fn finish<'a, W: Write>(out: &mut W) -> Result<(), Fault<'a>>
-    ensures { Keeps (W.contents out.old) (W.contents out.new) }
+fn finish<W: Write, E: Write>(out: &mut W, err: &mut E) -> u8
+    ensures kept { Keeps (W.contents out.old) (W.contents out.new) }
+    ensures status { result ≤ FAILED }
 {
     match out.flush() {
-        Ok(()) => Ok(()),
-        Err(_) => Err(Fault::CannotWrite),
+        Ok(()) => DONE,
+        Err(_) => tell(err, Fault::CannotWrite),
     }
 }
