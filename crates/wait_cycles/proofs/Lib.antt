@@ -4,3 +4,4 @@ pub mod Ways
 pub mod Closed
 pub mod Tops
 pub mod Slots
+pub mod Agreement

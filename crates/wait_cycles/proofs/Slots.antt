@@ -1,14 +1,17 @@
 -- The wait of a transaction, found among the slots that hold waits.
-use Rattle.std.proofs.Common.{◌≡◌, ◌≢◌, ℕ, zero, suc, nat_eq, Bool, true, false, cond, ◌+◌, map, List, [], ◌∷◌, get_or, Option, Some, None, is_some, unwrap_or, inl, inr, refl, sym, ap, subst, ◌∙◌, true≢false}
-use Rattle.std.specs.Prelude.{find, filter_map}
-use Rattle.std.proofs.lemmas.Bool.{false≢true, eqb-true, eq-eqb}
+use Rattle.std.proofs.Common.{◌≡◌, ◌≢◌, ℕ, zero, suc, nat_eq, Bool, true, false, cond, ◌+◌, ◌<◌, ◌≤◌, length, map, List, [], ◌∷◌, get_or, Option, Some, None, is_some, unwrap_or, inl, inr, refl, sym, ap, subst, ◌∙◌, true≢false}
+use Rattle.std.specs.Prelude.{find, filter_map, slice_get, OnSome, IfNone, IfSome}
+use Rattle.std.specs.Option.{option_map}
+use Rattle.std.proofs.lemmas.Bool.{false≢true, eqb-true, eq-eqb, cases_lt}
 use Rattle.std.proofs.lemmas.Option.{same_Some, none-some}
 use Rattle.std.specs.List.{Contains}
-use Rattle.slab.proofs.SlabLemmas.{Contains-cons, Contains-entries}
-use Rattle.slab.specs.Slab.{Slab, Updates, entries, entries_from, get, values}
+use Rattle.slab.proofs.SlabLemmas.{Contains-cons, Contains-entries, length-entries}
+use Rattle.slab.specs.Slab.{Slab, Updates, entries, entries_from, get, slab_len, values}
 use Rattle.txn_names.proofs.Names.{on_test}
 use Rattle.wait_cycles.specs.declared.waits.Wait.{Wait}
-use Rattle.wait_cycles.specs.Waiting.{AreApart, wait_in}
+use Rattle.txn_tree.specs.States.{States}
+use Rattle.wait_cycles.specs.Waiting.{AreApart, AreOnce, is_under, is_wait_under, wait_in}
+use Rattle.wait_cycles.proofs.Lists.{length_map}
 
 abbrev held : List (Option Wait) → List Wait
 held slots = filter_map (λ slot. slot) slots
@@ -152,3 +155,168 @@ left_next s t key w rest left other = record {
 
 pub head_stands : (s : Slab Wait) (t : ℕ) (key : ℕ) (w : Wait) (rest : List (ℕ × Wait)) → IsLeft s t ((key, w) ∷ rest) → get s key ≡ Some w
 head_stands s t key w rest left = (Contains-entries s key w).0 (left.stand (key, w) (0, omega Rattle.std.proofs.Common.arith, refl))
+
+-- ---- by places, in the order of the slots
+
+pub long : (s : Slab Wait) → slab_len s ≡ length (values s)
+long s = sym (length-entries s) ∙ sym (length_map (λ (e : ℕ × Wait). e.1) (entries s)) ∙ ap length (values_of_entries 0 s.slots)
+
+get_mapped : {X Y : Type 0} (f : X → Y) (xs : List X) (n : ℕ) → slice_get (map f xs) n ≡ option_map f (slice_get xs n)
+get_mapped f [] n = refl
+get_mapped f (x ∷ xs) zero = refl
+get_mapped f (x ∷ xs) (suc n) = get_mapped f xs n
+
+pub value_at : (s : Slab Wait) (n : ℕ) (o : Option (ℕ × Wait)) → o ≡ slice_get (entries s) n → option_map (λ (e : ℕ × Wait). e.1) o ≡ slice_get (values s) n
+value_at s n o e =
+    ap (option_map (λ (x : ℕ × Wait). x.1)) e ∙ sym (get_mapped (λ (x : ℕ × Wait). x.1) (entries s) n) ∙ ap (λ (ws : List Wait). slice_get ws n) (values_of_entries 0 s.slots)
+
+held_at : (slots : List (Option Wait)) (n : ℕ) (w : Wait) → slice_get (held slots) n ≡ Some w → (i : ℕ) × (get_or slots i None ≡ Some w)
+held_at [] n w e = absurd (none-some w e)
+held_at (None ∷ slots) n w e = let s = held_at slots n w e in (suc s.0, s.1)
+held_at (Some v ∷ slots) zero w e = (0, e)
+held_at (Some v ∷ slots) (suc n) w e = let s = held_at slots n w e in (suc s.0, s.1)
+
+-- each that is met is the wait of its transaction
+pub met : (slots : List (Option Wait)) → AreApart slots → (n : ℕ) (o : Option Wait) → o ≡ slice_get (held slots) n → IfSome o (λ w. wait_in (held slots) w.txn ≡ Some w)
+met slots apart n None e = tt
+met slots apart n (Some w) e = let s = held_at slots n w (sym e) in found_at slots apart s.0 w s.1 w.txn refl
+
+held_apart : (slots : List (Option Wait)) → AreApart slots → (i j : ℕ) (v w : Wait) → slice_get (held slots) i ≡ Some v → slice_get (held slots) j ≡ Some w → v.txn ≡ w.txn → i ≡ j
+held_apart [] apart i j v w at also same = absurd (none-some v at)
+held_apart (None ∷ slots) apart i j v w at also same = held_apart slots (later None slots apart) i j v w at also same
+held_apart (Some x ∷ slots) apart zero zero v w at also same = refl
+held_apart (Some x ∷ slots) apart zero (suc j) v w at also same =
+    let s = held_at slots j w also in
+    let one : 0 ≡ suc s.0 = apart 0 (suc s.0) x w refl s.1 (ap (λ (u : Wait). u.txn) (same_Some x v at) ∙ same) in
+    absurd (omega (Rattle.std.proofs.Common.arith, one))
+held_apart (Some x ∷ slots) apart (suc i) zero v w at also same =
+    let s = held_at slots i v at in
+    let one : 0 ≡ suc s.0 = apart 0 (suc s.0) x v refl s.1 (ap (λ (u : Wait). u.txn) (same_Some x w also) ∙ sym same) in
+    absurd (omega (Rattle.std.proofs.Common.arith, one))
+held_apart (Some x ∷ slots) apart (suc i) (suc j) v w at also same = ap suc (held_apart slots (later (Some x) slots apart) i j v w at also same)
+
+found_place : (ws : List Wait) (t : ℕ) (w : Wait) → wait_in ws t ≡ Some w → (i : ℕ) × (slice_get ws i ≡ Some w)
+found_place [] t w e = absurd (none-some w e)
+found_place (v ∷ ws) t w e =
+    on_test (nat_eq v.txn t) (λ b. cond b (Some v) (wait_in ws t) ≡ Some w → (i : ℕ) × (slice_get (v ∷ ws) i ≡ Some w))
+    (λ _ f. (0, f))
+    (λ _ f. let s = found_place ws t w f in (suc s.0, s.1))
+    e
+
+pub once : (slots : List (Option Wait)) (room : ℕ) → AreApart slots → AreOnce (record { waits = held slots; room = room })
+once slots room apart = record {
+  apart = held_apart slots apart;
+  all = found_place (held slots);
+}
+
+-- ---- waits that are taken out
+
+pub gone_len : (r : Option Wait) (old new : Slab Wait) → OnSome r (slab_len new + 1 ≡ slab_len old) → IfNone r (new ≡ old) → slab_len new ≤ slab_len old
+gone_len None old new len absent = let same : slab_len new ≡ slab_len old = ap (λ (s : Slab Wait). slab_len s) absent in omega (Rattle.std.proofs.Common.arith, same)
+gone_len (Some w) old new len absent = let less : slab_len new + 1 ≡ slab_len old = len in omega (Rattle.std.proofs.Common.arith, less)
+
+pub get_past : (slots : List (Option Wait)) (i : ℕ) → length slots ≤ i → get_or slots i None ≡ None
+get_past [] i past = refl
+get_past (o ∷ slots) zero past = absurd (omega (Rattle.std.proofs.Common.arith, past))
+get_past (o ∷ slots) (suc i) past = get_past slots i (omega (Rattle.std.proofs.Common.arith, past))
+
+module _ (tree : States) (t : ℕ) where
+  -- what is left of a slot
+  abbrev pub swept : Option Wait → Option Wait
+  swept o = cond (is_wait_under tree t o) None o
+
+  -- those under keys below this one have been swept
+  pub record IsSwept (old now : Slab Wait) (key : ℕ) : Type 0 where
+    pub below : (i : ℕ) → i < key → get now i ≡ swept (get old i)
+    pub above : (i : ℕ) → key ≤ i → get now i ≡ get old i
+    pub capacity : now.capacity ≡ old.capacity
+    pub len : slab_len now ≤ slab_len old
+
+  pub swept_none : (old : Slab Wait) → IsSwept old old 0
+  swept_none old = record {
+    below = λ i less. absurd (omega (Rattle.std.proofs.Common.arith, less));
+    above = λ i _. refl;
+    capacity = refl;
+    len = omega Rattle.std.proofs.Common.arith;
+  }
+
+  module _ (old now : Slab Wait) (key : ℕ) (is : IsSwept old now key) where
+    here : get now key ≡ get old key
+    here = is.above key (omega Rattle.std.proofs.Common.arith)
+
+    pub swept_gone : (next : Slab Wait) → is_wait_under tree t (get now key) ≡ true → Updates now next key None → next.capacity ≡ now.capacity → slab_len next ≤ slab_len now → IsSwept old next (key + 1)
+    swept_gone next under updates capacity len = record {
+      below = λ i less.
+          elim (cases_lt i key) [
+            | inl before ↦ updates.others i (λ same. let e : i ≡ key = same in omega (Rattle.std.proofs.Common.arith, before, e)) ∙ is.below i before
+            | inr past ↦
+                let same : i ≡ key = omega (Rattle.std.proofs.Common.arith, past, less) in
+                ap (get next) same ∙ updates.changed ∙ sym (ap (λ b. cond b None (get old key)) (ap (is_wait_under tree t) (sym here) ∙ under)) ∙ ap (λ (k : ℕ). swept (get old k)) (sym same)
+          ];
+      above = λ i less. updates.others i (λ same. let e : i ≡ key = same in omega (Rattle.std.proofs.Common.arith, less, e)) ∙ is.above i (omega (Rattle.std.proofs.Common.arith, less));
+      capacity = capacity ∙ is.capacity;
+      len = let l = is.len in omega (Rattle.std.proofs.Common.arith, len, l);
+    }
+
+    pub swept_kept : is_wait_under tree t (get now key) ≡ false → IsSwept old now (key + 1)
+    swept_kept under = record {
+      below = λ i less.
+          elim (cases_lt i key) [
+            | inl before ↦ is.below i before
+            | inr past ↦
+                let same : i ≡ key = omega (Rattle.std.proofs.Common.arith, past, less) in
+                ap (get now) same ∙ here ∙ sym (ap (λ b. cond b None (get old key)) (ap (is_wait_under tree t) (sym here) ∙ under)) ∙ ap (λ (k : ℕ). swept (get old k)) (sym same)
+          ];
+      above = λ i less. is.above i (omega (Rattle.std.proofs.Common.arith, less));
+      capacity = is.capacity;
+      len = is.len;
+    }
+
+    pub swept_all : length old.slots ≤ key → (i : ℕ) → get now i ≡ swept (get old i)
+    swept_all end i =
+        elim (cases_lt i key) [
+          | inl before ↦ is.below i before
+          | inr past ↦
+              let none : get old i ≡ None = get_past old.slots i (omega (Rattle.std.proofs.Common.arith, past, end)) in
+              is.above i (omega (Rattle.std.proofs.Common.arith, past)) ∙ none ∙ ap swept (sym none)
+        ]
+
+  module _ (old new : Slab Wait) (apart : AreApart old.slots) (all : (i : ℕ) → get new i ≡ swept (get old i)) where
+    left : (o : Option Wait) (v : Wait) → swept o ≡ Some v → (o ≡ Some v) × (is_under tree t v.txn ≡ false)
+    left None v e = absurd (none-some v e)
+    left (Some w) v e =
+        on_test (is_under tree t w.txn) (λ b. cond b None (Some w) ≡ Some v → (Some w ≡ Some v) × (is_under tree t v.txn ≡ false))
+        (λ _ f. absurd (none-some v f))
+        (λ off f. (f, ap (λ (u : Wait). is_under tree t u.txn) (sym (same_Some w v f)) ∙ off))
+        e
+
+    kept : (i : ℕ) (v : Wait) → get new i ≡ Some v → (get old i ≡ Some v) × (is_under tree t v.txn ≡ false)
+    kept i v at = left (get old i) v (sym (all i) ∙ at)
+
+    pub apart_swept : AreApart new.slots
+    apart_swept i j v w at also same = apart i j v w (kept i v at).0 (kept j w also).0 same
+
+    pub waits_swept : (u : ℕ) → wait_in (values new) u ≡ cond (is_under tree t u) None (wait_in (values old) u)
+    waits_swept u =
+        on_test (is_under tree t u) (λ b. wait_in (values new) u ≡ cond b None (wait_in (values old) u))
+        (λ on. gone on (wait_in (values new) u) refl)
+        (λ off. by off (wait_in (values old) u) refl)
+      where
+        gone : is_under tree t u ≡ true → (o : Option Wait) → wait_in (values new) u ≡ o → o ≡ None
+        gone on None f = refl
+        gone on (Some v) f =
+            let s = stands_at new.slots u v f in
+            absurd (true≢false (sym on ∙ ap (is_under tree t) (sym s.2) ∙ (kept s.0 v s.1).1))
+
+        nobody : wait_in (values old) u ≡ None → (o : Option Wait) → wait_in (values new) u ≡ o → o ≡ None
+        nobody none_old None f = refl
+        nobody none_old (Some v) f =
+            let s = stands_at new.slots u v f in
+            absurd (nowhere old.slots apart u none_old s.0 v (kept s.0 v s.1).0 s.2)
+
+        by : is_under tree t u ≡ false → (o : Option Wait) → wait_in (values old) u ≡ o → wait_in (values new) u ≡ wait_in (values old) u
+        by off None f = nobody f (wait_in (values new) u) refl ∙ sym f
+        by off (Some w) f =
+            let s = stands_at old.slots u w f in
+            let there : get new s.0 ≡ Some w = all s.0 ∙ ap swept s.1 ∙ ap (λ b. cond b None (Some w)) (ap (is_under tree t) s.2 ∙ off) in
+            found_at new.slots apart_swept s.0 w there u s.2 ∙ sym f

@@ -2,3 +2,4 @@ pub mod Cycles
 pub mod Trails
 pub mod Bounds
 pub mod Waiting
+pub mod Agreement

@@ -4,6 +4,7 @@
 
 mod cycle;
 mod finder;
+pub mod laws;
 mod reached;
 mod waits;
 

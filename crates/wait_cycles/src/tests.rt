@@ -82,23 +82,60 @@ fn add(waits: &mut Waits, wait: &Wait) -> Result<(), NoMemory> {
     }
 }
 
-// Each is found until it is cancelled, and may wait again.
-fn come_and_go(rt: &impl Abort, waits: &mut Waits) -> Result<(), Fail> {
+// Whether it is found until it is cancelled, and may wait again.
+fn comes_and_goes(waits: &mut Waits) -> Result<bool, Fail> {
     let (first, second, again) = (wait(4, 1)?, wait(9, 2)?, wait(4, 3)?);
     add(waits, &first)?;
     add(waits, &second)?;
-    assert!(rt; waits.of(first.txn).copied() == Some(first));
-    assert!(rt; waits.of(second.txn).copied() == Some(second));
+    let both = waits.of(first.txn).copied() == Some(first)
+        && waits.of(second.txn).copied() == Some(second);
     waits.cancel(first.txn);
-    assert!(rt; waits.of(first.txn).is_none());
+    let gone = waits.of(first.txn).is_none();
     add(waits, &again)?;
-    assert!(rt; waits.of(first.txn).copied() == Some(again));
-    assert!(rt; waits.of(second.txn).copied() == Some(second));
-    Ok(())
+    let stand = waits.of(first.txn).copied() == Some(again)
+        && waits.of(second.txn).copied() == Some(second);
+    Ok(both && gone && stand)
 }
 
 #[test]
 fn waits_come_and_go(rt: HostRuntime) -> Result<(), Fail> {
     let mut waits = Waits::new(rt.alloc());
-    come_and_go(&rt, &mut waits)
+    let done = comes_and_goes(&mut waits)?;
+    assert!(rt; done);
+    Ok(())
+}
+
+// A hundred wait, then those of odd numbers are cancelled.
+fn half_cancelled(waits: &mut Waits) -> Result<(), Fail> {
+    for txn in 0..100 {
+        add(waits, &wait(txn, txn)?)?;
+    }
+    for half in 0..50 {
+        waits.cancel(TxnNo::new(2 * half + 1));
+    }
+    Ok(())
+}
+
+// Whether those of even numbers wait and no others, each met at a place.
+fn evens_wait(waits: &Waits) -> bool {
+    for half in 0..50 {
+        if waits.of(TxnNo::new(2 * half)).is_none()
+            || waits.of(TxnNo::new(2 * half + 1)).is_some()
+        {
+            return false;
+        }
+        if waits.at(half as usize).is_none() {
+            return false;
+        }
+    }
+    waits.len() == 50 && waits.at(50).is_none()
+}
+
+#[test]
+fn half_of_a_hundred(rt: HostRuntime) -> Result<(), Fail> {
+    let mut waits = Waits::new(rt.alloc());
+    half_cancelled(&mut waits)?;
+    let stand = evens_wait(&waits);
+    assert!(rt; stand);
+    Ok(())
 }

@@ -1,9 +1,9 @@
 use Rattle.std.proofs.Common.{◌≡◌, None, cond, refl, ap, ◌∙◌}
 use Rattle.std.proofs.lemmas.Bool.{eq-eqb}
-use Rattle.wait_cycles.specs.Waiting.{wait_in}
+use Rattle.wait_cycles.specs.Waiting.{wait_of}
 use Rattle.wait_cycles.proofs.tests.add_once.Goals as goal
 
 pub add-requires : goal.add-requires
 add-requires c =
     let t = c.args.wait.now.txn in
-    c.cancel.ensures t ∙ ap (λ b. cond b None (wait_in c.args.waits.now t)) (eq-eqb t t refl)
+    c.cancel.ensures.waits t ∙ ap (λ b. cond b None (wait_of c.args.waits.now t)) (eq-eqb t t refl)

@@ -1,5 +1,5 @@
-use Rattle.std.proofs.Common.{sym}
-use Rattle.wait_cycles.proofs.Slots.{apart_cancelled, waits_cancelled}
+use Rattle.std.proofs.Common.{sym, arith}
+use Rattle.wait_cycles.proofs.Slots.{apart_cancelled, gone_len, waits_cancelled}
 use Rattle.wait_cycles.proofs.waits.Waits.cancel.Goals as goal
 
 pub invariant_of-self : goal.invariant_of-self
@@ -10,5 +10,10 @@ invariant_of-self c =
 pub returns-in-Some : goal.returns-in-Some
 returns-in-Some c =
     let held = c.in-Some.ensures.some in
-    rw (sym c.self.view_is)
-    (waits_cancelled c.self.inside.records c.try_remove.new.self c.in-Some.key c.self.invariant c.args.txn held.0 held.1 held.2 c.try_remove.ensures.updates)
+    let e = c.try_remove.ensures in
+    let less = gone_len c.try_remove.result c.self.inside.records c.try_remove.new.self e.len e.absent in
+    let same = e.capacity in
+    rw (sym c.self.view_is) (record {
+      waits = waits_cancelled c.self.inside.records c.try_remove.new.self c.in-Some.key c.self.invariant c.args.txn held.0 held.1 held.2 e.updates;
+      room = omega (arith, less, same);
+    })
