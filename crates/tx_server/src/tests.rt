@@ -1,16 +1,16 @@
-//! Texts with their reports, by `replay_text` and by the program's words.
+//! Texts with their reports, by the program's words and over stores of all kinds.
+mod faults;
 mod runs;
 
-use crate::program::tx_main;
+use crate::program::{replay_over, tx_main};
 use crate::replay::{ReplayFault, replay_text};
-use durable_top::MemStore;
-use report_text::WriteFault;
+use durable_top::{MemStore, TopStore};
 use session_text::{LineKind, TextFault};
 use std::alloc::Global;
 use std::fs;
-use std::io::{self, Write};
+use std::io::{self, ErrorKind, Write};
 use std::process::Abort;
-use std::test::Fail;
+use std::rt::Files;
 
 /// One transaction that reads its own write: a text and its report.
 const FIRST: &[u8] = b"session s\nbegin a\nset a x 5\nget a x\ncommit a\n";
@@ -32,52 +32,81 @@ const OPEN: &[u8] = b"session s\nbegin a\nset a x 1\n";
 
 const OPEN_REPORT: &[u8] = b"open\ns 1 begin a -> ok\ns 2 set a x 1 -> ok\n* close a\ntable\nend\n";
 
-fn replayed(alloc: Global, text: &[u8]) -> Result<Vec<u8>, Fail> {
+/// What the program answers, and what its two writers got.
+#[derive(Drop)]
+struct Told {
+    status: u8,
+    out: Vec<u8>,
+    err: Vec<u8>,
+}
+
+impl Told {
+    // Whether the whole report was written, and nothing else.
+    fn is_report(&self, report: &[u8]) -> bool {
+        self.status == 0 && self.out.as_slice() == report && self.err.is_empty()
+    }
+
+    // Whether there is no report, and one line that says why.
+    fn is_fault(&self, line: &str) -> bool {
+        self.status == 1 && self.out.is_empty() && self.err.as_slice() == line.as_bytes()
+    }
+
+    // Whether the words are told as no command line.
+    fn is_misuse(&self) -> bool {
+        self.status == 2 && self.out.is_empty() && !self.err.is_empty()
+    }
+}
+
+fn replayed<S: TopStore>(alloc: Global, text: &[u8], store: S) -> Told {
     let mut out = Vec::new(alloc);
-    let store = MemStore::new(alloc, &[])?;
-    replay_text(alloc, text, &[], store, &mut out)?;
-    Ok(out)
+    let mut err = Vec::new(alloc);
+    let status = replay_over(alloc, text, store, &mut out, &mut err);
+    Told { status, out, err }
+}
+
+fn empty(rt: &impl Abort, alloc: Global) -> MemStore {
+    MemStore::new(alloc, &[]).expect(rt, "memory")
 }
 
 #[test]
-fn texts_and_reports(rt: HostRuntime) -> Result<(), Fail> {
+fn texts_and_reports(rt: HostRuntime) {
     for (text, report) in [
         (FIRST, FIRST_REPORT),
         (b"".as_slice(), EMPTY_REPORT),
         (DONE, DONE_REPORT),
         (OPEN, OPEN_REPORT),
     ] {
-        let out = replayed(rt.alloc(), text)?;
-        assert!(rt; out.as_slice() == report);
+        let store = empty(&rt, rt.alloc());
+        assert!(rt; replayed(rt.alloc(), text, store).is_report(report));
     }
-    Ok(())
 }
 
-// Every text that a beginning of a right one is has the same lines or a fault, and nothing is written at a fault.
-#[test]
-fn text_cut_anywhere(rt: HostRuntime) -> Result<(), Fail> {
-    for end in 0..FIRST.len() {
-        let mut out = Vec::new(rt.alloc());
-        let store = MemStore::new(rt.alloc(), &[])?;
-        let cut = &FIRST[..end];
-        let whole = cut.is_empty() || cut.ends_with(b"\n");
-        match replay_text(rt.alloc(), cut, &[], store, &mut out) {
-            Ok(_) => assert!(rt; whole, "at {end}"),
-            Err(ReplayFault::Text(TextFault::Bad { line: _, kind })) => {
-                assert!(rt; !whole && kind == LineKind::End, "at {end}");
-                assert!(rt; out.is_empty(), "at {end}");
-            }
-            Err(_) => assert!(rt; false, "at {end}"),
+// Whether a beginning of a right text has a report, or is told as one without its last line feed.
+fn is_cut(rt: &impl Abort, alloc: Global, cut: &[u8]) -> bool {
+    let mut out = Vec::new(alloc);
+    let whole = cut.is_empty() || cut.ends_with(b"\n");
+    match replay_text(alloc, cut, &[], empty(rt, alloc), &mut out) {
+        Ok(_) => whole,
+        Err(ReplayFault::Text(TextFault::Bad { line: _, kind })) => {
+            !whole && kind == LineKind::End && out.is_empty()
         }
+        Err(_) => false,
     }
-    Ok(())
 }
 
-/// Takes so many bytes, and then fails.
+#[test]
+fn text_cut_anywhere(rt: HostRuntime) {
+    for end in 0..FIRST.len() {
+        assert!(rt; is_cut(&rt, rt.alloc(), &FIRST[..end]), "at {end}");
+    }
+}
+
+/// Takes so many bytes, and then no more. What it took it passes on, or it fails to.
 #[derive(Drop)]
 struct Narrow {
     taken: Vec<u8>,
     left: usize,
+    flushes: bool,
 }
 
 impl Write for Narrow {
@@ -92,90 +121,76 @@ impl Write for Narrow {
     }
 
     fn flush(&mut self) -> io::Result<()> {
-        Ok(())
+        if self.flushes {
+            Ok(())
+        } else {
+            Err(io::Error::from(ErrorKind::Other))
+        }
     }
+}
+
+// Whether a writer that takes so many bytes of the first report is told as one that failed.
+fn is_narrow(rt: &impl Abort, alloc: Global, left: usize, flushes: bool) -> bool {
+    let mut out = Narrow {
+        taken: Vec::new(alloc),
+        left,
+        flushes,
+    };
+    let mut err = Vec::new(alloc);
+    let status = replay_over(alloc, FIRST, empty(rt, alloc), &mut out, &mut err);
+    let taken = out.taken.as_slice();
+    status == 1
+        && err.as_slice() == b"tx: cannot write\n".as_slice()
+        && taken.len() == left
+        && FIRST_REPORT.starts_with(taken)
 }
 
 #[test]
-fn writer_that_fails_at_each_place(rt: HostRuntime) -> Result<(), Fail> {
+fn writer_that_fails_at_each_place(rt: HostRuntime) {
     for left in 0..FIRST_REPORT.len() {
-        let mut out = Narrow {
-            taken: Vec::new(rt.alloc()),
-            left,
-        };
-        let store = MemStore::new(rt.alloc(), &[])?;
-        let fault = replay_text(rt.alloc(), FIRST, &[], store, &mut out).err();
-        assert!(rt; fault == Some(ReplayFault::Write(WriteFault)), "at {left}");
-        assert!(rt; out.taken.as_slice() == &FIRST_REPORT[..left], "at {left}");
+        assert!(rt; is_narrow(&rt, rt.alloc(), left, true), "at {left}");
     }
-    Ok(())
+    assert!(rt; is_narrow(&rt, rt.alloc(), FIRST_REPORT.len(), false));
 }
 
-/// What the program answers to these words, and what it writes.
-fn told(rt: &HostRuntime, words: &[&str]) -> Result<(u8, Vec<u8>, Vec<u8>), Fail> {
+/// What the program does with these words.
+fn run<R: Files + AllocGlobal + Abort>(rt: &R, words: &str) -> Told {
     let mut all = Vec::new(rt.alloc());
-    for word in words {
-        all.push(String::from_str(rt.alloc(), word)?)?;
+    for word in words.split_whitespace() {
+        let word = String::from_str(rt.alloc(), word).expect(rt, "memory");
+        all.push(word).expect(rt, "memory");
     }
     let mut out = Vec::new(rt.alloc());
     let mut err = Vec::new(rt.alloc());
     let status = tx_main(rt, rt.alloc(), all.as_slice(), &mut out, &mut err);
-    Ok((status, out, err))
+    Told { status, out, err }
 }
 
 #[test]
-fn program_on_files(rt: HostRuntime) -> Result<(), Fail> {
-    fs::write(&rt, "first.tx", FIRST)?;
-    let (status, out, err) = told(&rt, &["replay", "first.tx"])?;
-    assert!(rt; status == 0 && out.as_slice() == FIRST_REPORT && err.is_empty());
-    fs::write(&rt, "empty.tx", b"".as_slice())?;
-    let (status, out, err) = told(&rt, &["replay", "empty.tx"])?;
-    assert!(rt; status == 0 && out.as_slice() == EMPTY_REPORT && err.is_empty());
-    let (status, out, err) = told(&rt, &["replay", "nosuch.tx"])?;
-    assert!(rt; status == 1 && out.is_empty());
-    assert!(rt; err.as_slice() == b"tx: cannot read nosuch.tx\n".as_slice());
-    Ok(())
-}
-
-#[test]
-fn lines_of_faults(rt: HostRuntime) -> Result<(), Fail> {
-    for (second, line) in [
-        ("begin a/b/c/d/e/f/g/h/i\n", "tx: line 2: name\n"),
-        ("begin aaaaaaaaaaaaaaaaa\n", "tx: line 2: name\n"),
-        ("set a x -0\n", "tx: line 2: number\n"),
-        ("set a x 9223372036854775808\n", "tx: line 2: number\n"),
-        ("get a  x\n", "tx: line 2: shape\n"),
-        ("put a x 1\n", "tx: line 2: word\n"),
-        ("after a gone\n", "tx: line 2: word\n"),
-        ("get a x,\n", "tx: line 2: key\n"),
-        ("\n", "tx: line 2: empty\n"),
-        ("session s\n", "tx: line 2: header\n"),
-        ("session s,\n", "tx: line 2: label\n"),
-        ("begin a", "tx: line 2: end\n"),
+fn program_on_files(rt: HostRuntime) {
+    for (file, text) in [
+        ("first.tx", FIRST),
+        ("empty.tx", b"".as_slice()),
+        ("fault.tx", b"session s\nbegin a"),
     ] {
-        let mut text = String::from_str(rt.alloc(), "session s\n")?;
-        text.push_str(second)?;
-        fs::write(&rt, "fault.tx", text.as_str())?;
-        let (status, out, err) = told(&rt, &["replay", "fault.tx"])?;
-        assert!(rt; status == 1 && out.is_empty(), "{second}");
-        assert!(rt; err.as_slice() == line.as_bytes(), "{second}");
+        fs::write(&rt, file, text).expect(&rt, file);
     }
-    Ok(())
-}
-
-// Whether the words are told as no command line.
-fn is_misuse(rt: &HostRuntime, words: &[&str]) -> Result<bool, Fail> {
-    let (status, out, err) = told(rt, words)?;
-    Ok(status == 2 && out.is_empty() && !err.is_empty())
+    assert!(rt; run(&rt, "replay first.tx").is_report(FIRST_REPORT));
+    assert!(rt; run(&rt, "replay empty.tx").is_report(EMPTY_REPORT));
+    assert!(rt; run(&rt, "replay fault.tx").is_fault("tx: line 2: end\n"));
+    assert!(rt; run(&rt, "replay nosuch.tx").is_fault("tx: cannot read nosuch.tx\n"));
 }
 
 #[test]
-fn words_that_are_no_command_line(rt: HostRuntime) -> Result<(), Fail> {
-    assert!(rt; is_misuse(&rt, &[])?);
-    assert!(rt; is_misuse(&rt, &["--help"])?);
-    assert!(rt; is_misuse(&rt, &["run", "first.tx"])?);
-    assert!(rt; is_misuse(&rt, &["replay"])?);
-    assert!(rt; is_misuse(&rt, &["replay", "a", "b"])?);
-    assert!(rt; is_misuse(&rt, &["replay", "a", "--workers", "2"])?);
-    Ok(())
+fn words_that_are_no_command_line(rt: HostRuntime) {
+    for words in [
+        "",
+        "--help",
+        "run first.tx",
+        "replay",
+        "replay a b",
+        "replay a --workers 2",
+    ] {
+        assert!(rt; run(&rt, words).is_misuse(), "{words}");
+    }
 }

@@ -1,8 +1,8 @@
 //! Runs of one session: each report is the one that is due to the texts of its own entries.
-use crate::replay::replay_text;
+use crate::tests::{empty, replayed};
 use durable_top::{MemStore, Row};
 use std::alloc::Global;
-use std::test::Fail;
+use std::process::Abort;
 use txn_names::Key;
 
 /// A committed child is undone with its parent: over the row x=9.
@@ -193,41 +193,49 @@ table
 end
 ";
 
-// The session whose lines are the texts of the report's entries. A line that waits has two entries.
-fn text_of(alloc: Global, report: &str) -> Result<String, Fail> {
-    let mut text = String::from_str(alloc, "session s\n")?;
-    for entry in report.lines() {
-        if let Some((line, reply)) = entry.split_once(" -> ") {
-            let (_, numbered) = line.split_once(' ').ok_or("no label")?;
-            let (_, command) = numbered.split_once(' ').ok_or("no number")?;
-            if reply != "stuck" {
-                text.push_str(command)?;
-                text.push_str("\n")?;
-            }
-        }
+// The line of an entry, but of one that gives up a line that waited.
+fn command_of(entry: &str) -> Option<&str> {
+    let (line, reply) = entry.split_once(" -> ")?;
+    let (_, numbered) = line.split_once(' ')?;
+    let (_, command) = numbered.split_once(' ')?;
+    if reply == "stuck" {
+        None
+    } else {
+        Some(command)
     }
-    Ok(text)
 }
 
-// Runs the report's own texts over the row x=9 or none, and gives what is written.
-fn run_again(alloc: Global, report: &str) -> Result<Vec<u8>, Fail> {
-    let text = text_of(alloc, report)?;
-    let rows = [Row {
-        key: Key::parse(b"x")?,
-        value: 9,
-    }];
-    let store = if report.starts_with("open\nx=9\n") {
-        MemStore::new(alloc, &rows)?
+// The session whose lines are the texts of the report's entries. A line that waits has two entries.
+fn text_of(rt: &impl Abort, alloc: Global, report: &str) -> String {
+    let mut text = String::from_str(alloc, "session s\n").expect(rt, "memory");
+    for entry in report.lines() {
+        if let Some(command) = command_of(entry) {
+            text.push_str(command).expect(rt, "memory");
+            text.push_str("\n").expect(rt, "memory");
+        }
+    }
+    text
+}
+
+// The row x=9, where the report opens with it.
+fn store_of(rt: &impl Abort, alloc: Global, report: &str) -> MemStore {
+    if report.starts_with("open\nx=9\n") {
+        let key = Key::parse(b"x").expect(rt, "key");
+        MemStore::new(alloc, &[Row { key, value: 9 }]).expect(rt, "memory")
     } else {
-        MemStore::new(alloc, &[])?
-    };
-    let mut out = Vec::new(alloc);
-    replay_text(alloc, text.as_bytes(), &[], store, &mut out)?;
-    Ok(out)
+        empty(rt, alloc)
+    }
+}
+
+// Whether a run of the report's own texts has this report.
+fn is_run_again(rt: &impl Abort, alloc: Global, report: &str) -> bool {
+    let text = text_of(rt, alloc, report);
+    let store = store_of(rt, alloc, report);
+    replayed(alloc, text.as_bytes(), store).is_report(report.as_bytes())
 }
 
 #[test]
-fn reports_of_their_own_texts(rt: HostRuntime) -> Result<(), Fail> {
+fn reports_of_their_own_texts(rt: HostRuntime) {
     for report in [
         UNDONE_WITH_PARENT,
         UNDONE_ALONE,
@@ -241,8 +249,6 @@ fn reports_of_their_own_texts(rt: HostRuntime) -> Result<(), Fail> {
         REMOVED,
         BOUNDS,
     ] {
-        let out = run_again(rt.alloc(), report)?;
-        assert!(rt; out.as_slice() == report.as_bytes(), "{report}");
+        assert!(rt; is_run_again(&rt, rt.alloc(), report), "{report}");
     }
-    Ok(())
 }

@@ -1,0 +1,203 @@
+//! The line of each fault, to the byte, with its exit status and nothing on the output.
+ghost use Rattle.std.specs.Prelude.{ℕ, None, if◌then◌else◌};
+
+use crate::fault::fault_of;
+use crate::program::tell;
+use crate::replay::ReplayFault;
+use crate::tests::{Told, empty, replayed};
+use interleavings::RunFault;
+use manager_core::OpenFault;
+use durable_top::{MemStore, Row, StoreFault, TopStore, are_rising};
+use report_text::WriteFault;
+use session_text::{LineKind, TextFault};
+use std::alloc::Global;
+use std::process::Abort;
+use txn_names::{Change, Key};
+
+// Whether this fault is told in this line, and with exit status 1.
+fn is_told(alloc: Global, fault: ReplayFault, line: &str) -> bool {
+    let mut err = Vec::new(alloc);
+    let status = tell(&mut err, fault_of(fault));
+    status == 1 && err.as_slice() == line.as_bytes()
+}
+
+#[test]
+fn lines_of_kinds(rt: HostRuntime) {
+    for (kind, line) in [
+        (LineKind::End, "tx: line 7: end\n"),
+        (LineKind::Empty, "tx: line 7: empty\n"),
+        (LineKind::Word, "tx: line 7: word\n"),
+        (LineKind::Shape, "tx: line 7: shape\n"),
+        (LineKind::Label, "tx: line 7: label\n"),
+        (LineKind::Name, "tx: line 7: name\n"),
+        (LineKind::Key, "tx: line 7: key\n"),
+        (LineKind::Number, "tx: line 7: number\n"),
+        (LineKind::Header, "tx: line 7: header\n"),
+        (LineKind::Limit, "tx: line 7: limit\n"),
+    ] {
+        let fault = ReplayFault::Text(TextFault::Bad { line: 7, kind });
+        assert!(rt; is_told(rt.alloc(), fault, line), "{line}");
+    }
+}
+
+#[test]
+fn lines_of_faults(rt: HostRuntime) {
+    for (fault, line) in [
+        (ReplayFault::Text(TextFault::NoMemory), "tx: no memory\n"),
+        (ReplayFault::Run(RunFault::NoMemory), "tx: no memory\n"),
+        (
+            ReplayFault::Run(RunFault::Open(OpenFault::NoMemory)),
+            "tx: no memory\n",
+        ),
+        (
+            ReplayFault::Run(RunFault::Open(OpenFault::TooManyRows)),
+            "tx: too many rows\n",
+        ),
+        (ReplayFault::Write(WriteFault), "tx: cannot write\n"),
+    ] {
+        assert!(rt; is_told(rt.alloc(), fault, line), "{line}");
+    }
+}
+
+// Whether a text of this second line is told as faulty there.
+fn is_faulty(rt: &impl Abort, alloc: Global, second: &str, line: &str) -> bool {
+    let mut text = String::from_str(alloc, "session s\n").expect(rt, "memory");
+    text.push_str(second).expect(rt, "memory");
+    replayed(alloc, text.as_bytes(), empty(rt, alloc)).is_fault(line)
+}
+
+#[test]
+fn lines_of_texts(rt: HostRuntime) {
+    for (second, line) in [
+        ("begin a/b/c/d/e/f/g/h/i\n", "tx: line 2: name\n"),
+        ("begin aaaaaaaaaaaaaaaaa\n", "tx: line 2: name\n"),
+        ("set a x -0\n", "tx: line 2: number\n"),
+        ("set a x 9223372036854775808\n", "tx: line 2: number\n"),
+        ("get a  x\n", "tx: line 2: shape\n"),
+        ("put a x 1\n", "tx: line 2: word\n"),
+        ("after a gone\n", "tx: line 2: word\n"),
+        ("get a x,\n", "tx: line 2: key\n"),
+        ("\n", "tx: line 2: empty\n"),
+        ("session s\n", "tx: line 2: header\n"),
+        ("session s,\n", "tx: line 2: label\n"),
+        ("begin a", "tx: line 2: end\n"),
+    ] {
+        assert!(rt; is_faulty(&rt, rt.alloc(), second, line), "{second}");
+    }
+}
+
+// A session of so many lines.
+fn long_text(rt: &impl Abort, alloc: Global, lines: u32) -> String {
+    let mut text = String::from_str(alloc, "session s\n").expect(rt, "memory");
+    for _ in 0..lines {
+        text.push_str("begin a\n").expect(rt, "memory");
+    }
+    text
+}
+
+#[test]
+fn a_line_past_the_limit(rt: HostRuntime) {
+    let text = long_text(&rt, rt.alloc(), 1025);
+    let told = replayed(rt.alloc(), text.as_bytes(), empty(&rt, rt.alloc()));
+    assert!(rt; told.is_fault("tx: line 1026: limit\n"));
+}
+
+/// A store that answers this fault in place of its rows.
+#[derive(Drop)]
+struct Unready {
+    fault: StoreFault,
+    failed: bool,
+    faults: u64,
+}
+
+impl TopStore for Unready {
+    ghost table = { λ _ k. None };
+
+    ghost doubt = { λ _. 1 };
+
+    ghost failures = { λ s. if s.failed then 1 else 0 };
+
+    ghost faults = { λ s. s.faults };
+
+    ghost may_leave = { λ _ _. Unit {0} };
+
+    ghost loads = { λ _ _ _. Unit {0} };
+
+    ghost commits = { λ _ _ _ _. Unit {0} };
+
+    fn load(&mut self, _alloc: Global) -> Result<Vec<Row>, StoreFault> {
+        if self.failed {
+            return Err(StoreFault::Failed);
+        }
+        match self.fault {
+            StoreFault::Failed => {
+                self.failed = true;
+                Err(StoreFault::Failed)
+            }
+            StoreFault::Refused => Err(StoreFault::Refused),
+            StoreFault::Memory => Err(StoreFault::Memory),
+        }
+    }
+
+    fn commit(&mut self, _changes: &[Change]) -> Result<(), StoreFault> {
+        self.faults = self.faults.saturating_add(1);
+        if self.failed {
+            Err(StoreFault::Failed)
+        } else {
+            Err(StoreFault::Refused)
+        }
+    }
+
+    fn failures(&self) -> u64 {
+        if self.failed { 1 } else { 0 }
+    }
+
+    fn faults(&self) -> u64 {
+        self.faults
+    }
+}
+
+#[test]
+fn stores_without_their_rows(rt: HostRuntime) {
+    for fault in [StoreFault::Refused, StoreFault::Failed, StoreFault::Memory] {
+        let store = Unready {
+            fault,
+            failed: false,
+            faults: 0,
+        };
+        let told = replayed(rt.alloc(), b"", store);
+        assert!(rt; told.is_fault("tx: cannot open database\n"), "{fault:?}");
+    }
+}
+
+const LETTERS: [u8; 16] = *b"abcdefghijklmnop";
+
+// As many rows as a manager takes.
+fn most_rows(rt: &impl Abort, alloc: Global) -> Vec<Row> {
+    let mut rows = Vec::new(alloc);
+    for a in LETTERS {
+        for b in LETTERS {
+            for c in LETTERS {
+                let key = Key::parse(&[a, b, c]).expect(rt, "key");
+                rows.push(Row { key, value: 1 }).expect(rt, "memory");
+            }
+        }
+    }
+    rows
+}
+
+fn replayed_over(rt: &impl Abort, alloc: Global, rows: &[Row]) -> Told {
+    assert!(rt; are_rising(rows));
+    let store = MemStore::new(alloc, rows).expect(rt, "memory");
+    replayed(alloc, b"", store)
+}
+
+#[test]
+fn stores_of_most_rows_and_one_more(rt: HostRuntime) {
+    let mut rows = most_rows(&rt, rt.alloc());
+    assert!(rt; replayed_over(&rt, rt.alloc(), rows.as_slice()).status == 0);
+    let key = Key::parse(b"q").expect(&rt, "key");
+    rows.push(Row { key, value: 1 }).expect(&rt, "memory");
+    let told = replayed_over(&rt, rt.alloc(), rows.as_slice());
+    assert!(rt; told.is_fault("tx: too many rows\n"));
+}
