@@ -258,3 +258,6 @@ impl History {
         self.keys.len()
     }
 }
+
+#[cfg(test)]
+mod tests;

@@ -1,0 +1,108 @@
+//! That each call on a history can succeed, over more lines and keys than a table has at first.
+ghost use Rattle.std.specs.Prelude.{◌<◌};
+
+use crate::History;
+use serial_spec::{Answer, By, Entry, Event, Op, PlainTable, Refusal, Reply};
+use std::process::Abort;
+use txn_names::{Key, Name};
+
+fn name(rt: &impl Abort) -> Name {
+    Name::parse(b"a/l").expect(rt, "a name")
+}
+
+// One key for each number below 100.
+fn key(rt: &impl Abort, number: u8) -> Key {
+    let text = [b'k', b'0' + number / 10 % 10, b'0' + number % 10];
+    Key::parse(&text).expect(rt, "a key")
+}
+
+fn access(rt: &impl Abort, number: u8) -> Event {
+    Event::Access(name(rt), key(rt, number), Op::Get)
+}
+
+fn line(session: u32, line: u32) -> By {
+    By::Line { session, line }
+}
+
+// Makes room for an entry. Where that is refused, the entries stay, and the call made again succeeds.
+fn make_room(rt: &impl Abort, history: &mut History)
+    ensures { 0 < history.new.room }
+{
+    let len = history.len();
+    if history.reserve(1).is_err() {
+        assert_eq!(rt; history.len(), len);
+        history.reserve(1).expect(rt, "memory");
+    }
+}
+
+fn add(rt: &impl Abort, history: &mut History, by: By, event: Event, answer: Answer) {
+    make_room(rt, history);
+    history.push(&Entry { by, event, answer });
+}
+
+// Whether the line is free for an access of the key with this number, and whether it waits with it alone.
+fn asked(rt: &impl Abort, history: &History, by: By, number: u8) -> (bool, bool) {
+    let event = access(rt, number);
+    (history.free(by, &event), history.waits_with(by, &event))
+}
+
+// Whether the known keys with numbers below 100 are those with numbers below 40.
+fn knows_the_first_forty(rt: &impl Abort, history: &History) -> bool {
+    for number in 0..100 {
+        if history.knows(&key(rt, number)) != (number < 40) {
+            return false;
+        }
+    }
+    true
+}
+
+#[test]
+fn tells_lines_and_keys(rt: HostRuntime) {
+    let mut rows = PlainTable::new(rt.alloc());
+    for number in 30..40 {
+        rows.put(&key(&rt, number), Some(1)).expect(&rt, "memory");
+    }
+    let mut history = History::new(rt.alloc(), &rows).expect(&rt, "memory");
+    assert!(rt; history.is_empty() && history.known() == 10 && history.opening().len() == 10);
+
+    // Fifty lines are answered, and make thirty keys known beside ten of the rows.
+    for number in 0..50 {
+        let (by, reply) = (line(0, number), Answer::Done(Reply::Absent));
+        add(
+            &rt,
+            &mut history,
+            by,
+            access(&rt, (number % 35) as u8),
+            reply,
+        );
+    }
+    let entries = [
+        (line(0, 51), 71, Answer::Waits),
+        (line(0, 52), 72, Answer::Waits),
+        (line(0, 52), 12, Answer::Done(Reply::Absent)),
+        (line(0, 53), 73, Answer::Refused(Refusal::Full)),
+        (By::Victim, 74, Answer::Stuck),
+        (By::Close, 75, Answer::Waits),
+    ];
+    for (by, number, answer) in entries {
+        add(&rt, &mut history, by, access(&rt, number), answer);
+    }
+    assert!(rt; history.known() == 40 && knows_the_first_forty(&rt, &history));
+    assert!(rt; history.len() == 56 && history.entries().len() == 56);
+
+    let cases = [
+        (line(0, 49), 14, (false, false)),
+        (line(0, 51), 71, (true, true)),
+        (line(0, 51), 72, (false, false)),
+        (line(0, 52), 72, (false, false)),
+        (line(0, 53), 73, (false, false)),
+        (line(0, 54), 71, (true, false)),
+        (line(1, 51), 71, (true, false)),
+        (By::Victim, 74, (false, false)),
+        (By::Close, 75, (false, false)),
+    ];
+    for (by, number, wanted) in cases {
+        assert!(rt; asked(&rt, &history, by, number) == wanted, "{by:?}");
+    }
+    assert!(rt; history.into_entries().len() == 56);
+}
