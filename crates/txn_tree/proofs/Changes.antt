@@ -22,7 +22,7 @@ tree_set test tree s is other =
       few = omega (arith, is.few, length-set_value test tree s);
     }
 
-keys-push : (tree : States) (t : Path) (s : Status) → names (tree ++ (t, s) ∷ []) ≡ names tree ++ t ∷ []
+pub keys-push : (tree : States) (t : Path) (s : Status) → names (tree ++ (t, s) ∷ []) ≡ names tree ++ t ∷ []
 keys-push [] t s = refl
 keys-push (r ∷ rs) t s = ap (λ ns. r.0 ∷ ns) (keys-push rs t s)
 

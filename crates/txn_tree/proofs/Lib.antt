@@ -1,5 +1,10 @@
 pub mod Changes
 pub mod Children
+pub mod Counts
+pub mod Links
 pub mod Numbers
+pub mod Places
 pub mod Refusals
+pub mod Told
 pub mod Tops
+pub mod Under

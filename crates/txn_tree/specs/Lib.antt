@@ -1,3 +1,5 @@
 pub mod States
 pub mod Asked
 pub mod Causes
+pub mod Numbered
+pub mod Linked

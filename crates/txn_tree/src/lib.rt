@@ -3,14 +3,17 @@
 #![tactic(auto)]
 
 mod fault;
+mod node;
 mod number;
+mod register;
 mod status;
 mod tree;
 
 pub use fault::TreeFault;
 pub use number::TxnNo;
+pub use register::MOST_TRANSACTIONS;
 pub use status::Status;
-pub use tree::{MOST_TRANSACTIONS, Tree};
+pub use tree::Tree;
 
 #[cfg(test)]
 mod tests;

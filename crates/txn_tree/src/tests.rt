@@ -231,3 +231,64 @@ fn refuses_past_the_limit(rt: HostRuntime) {
     ";
     play(&rt, &mut tree, script);
 }
+
+// The second is the first's one child, and both are live.
+fn hangs_below(tree: &Tree, above: u32, below: u32) -> bool {
+    let (above, below) = (TxnNo::new(above), TxnNo::new(below));
+    tree.parent_of(below) == Some(above)
+        && tree.is_under(above, below)
+        && !tree.is_under(below, above)
+        && tree.live_children_at(above) == 1
+        && tree.status_at(below) == Status::Live
+}
+
+// A chain of the greatest depth, aborted in the middle.
+#[test]
+fn goes_up_a_chain(rt: HostRuntime) {
+    let mut tree = Tree::new(rt.alloc());
+    let text = b"a/a/a/a/a/a/a/a";
+    for above in 0..8 {
+        let name = Name::parse(&text[..2 * above + 1]).expect(&rt, "a name");
+        assert!(rt; begins_at(&mut tree, &name, above as u32), "{above}");
+    }
+    for above in 0..7 {
+        assert!(rt; hangs_below(&tree, above, above + 1), "{above}");
+    }
+    let script = "
+        abort a/a/a/a -> 5
+        abort a/a/a/a/a -> orphan a/a/a/a
+        children a/a/a -> 0
+        abort a -> 3
+    ";
+    play(&rt, &mut tree, script);
+    assert!(rt; tree.live_tops() == 0);
+}
+
+// p/00 to p/99.
+fn child_of_p(rt: &impl Abort, place: usize) -> Name {
+    let digits = b"0123456789";
+    let bytes = [b'p', b'/', digits[place / 10 % 10], digits[place % 10]];
+    Name::parse(&bytes).expect(rt, "a name")
+}
+
+#[test]
+fn counts_a_hundred_children(rt: HostRuntime) {
+    let mut tree = Tree::new(rt.alloc());
+    play(&rt, &mut tree, "begin p -> 0");
+    for place in 0..100 {
+        let name = child_of_p(&rt, place);
+        assert!(rt; begins_at(&mut tree, &name, place as u32 + 1), "{place}");
+    }
+    assert!(rt; tree.live_children_at(TxnNo::new(0)) == 100);
+    for place in 0..50 {
+        let name = child_of_p(&rt, place);
+        assert!(rt; commits(&mut tree, &name, "ok"), "{place}");
+    }
+    let script = "
+        abort p/70 -> 1
+        children p -> 49
+        commit p -> refused children
+        abort p -> 50
+    ";
+    play(&rt, &mut tree, script);
+}

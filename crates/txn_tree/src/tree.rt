@@ -1,24 +1,24 @@
 //! The tree of transactions.
-ghost use Rattle.std.specs.Prelude.{◌≡◌, ◌≢◌, ◌↔◌, [], ◌∷◌, ◌++◌, is_some, length, not, position, slice_get, if◌then◌else◌, IsTrue, IfOk, IfSome, OnErr, OnOk};
+ghost use Rattle.std.specs.Prelude.{◌≡◌, ◌≢◌, ◌↔◌, ◌<◌, ◌+◌, ◌-◌, ◌^◌, [], ◌∷◌, ◌++◌, is_some, length, false, not, option_map, position, slice_get, true, None, Some, if◌then◌else◌, IsFalse, IsTrue, IfNone, IfOk, IfSome, OnErr, OnOk};
 ghost use Rattle.std.specs.Option.{option_copied};
 ghost use Rattle.std.specs.Result.{result_err};
 ghost use Rattle.txn_names.specs.Path.{Path, parent, path_eq};
 ghost use Rattle.txn_names.specs.Text.{IsName};
-ghost use Rattle.txn_tree.specs.States.{IsTree, names, status_in};
+ghost use Rattle.txn_tree.specs.States.{IsTree, is_live, names, status_in};
 ghost use Rattle.txn_tree.specs.Asked.{IsNumberOf, IsRootless, ended_by_abort, is_absent_in, is_active_in, live_children_of, top_aborted_in};
+ghost use Rattle.txn_tree.specs.Numbered.{IsClosed, RisesDown, is_active_at, has_parent, is_parent_of, is_under, live_children_at, status_at};
+ghost use Rattle.txn_tree.specs.Linked.{begun_node, kept_parent, live_below, with_live_below};
 ghost use Rattle.txn_tree.specs.Causes.{cause_at_abort, cause_at_begin, cause_at_commit, cause_at_parent, refusal_of};
 
 use crate::fault::TreeFault;
+use crate::node::Node;
 use crate::number::TxnNo;
+use crate::register::Register;
 use crate::status::Status;
-use indexmap::IndexMap;
 use serial_spec::Refusal;
-use std::alloc::Global;
+use std::alloc::{AllocError, Global};
 use std::marker::Model;
 use txn_names::Name;
-
-/// The most transactions of a tree.
-pub const MOST_TRANSACTIONS: usize = 4096;
 
 /// The transactions that have begun, in order of beginning, each with its own state. All stand below a root,
 /// which has no name, is live for ever, and is the parent of the names of one label.
@@ -26,24 +26,64 @@ pub const MOST_TRANSACTIONS: usize = 4096;
 /// An orphan is a transaction with an aborted ancestor, itself included. Its own state may still be live.
 #[derive(Drop)]
 pub struct Tree {
-    states: IndexMap<Name, Status>,
+    register: Register,
+    // Of each transaction, at its number.
+    nodes: Vec<Node>,
+    // How many children of the root are live.
+    tops: u32,
 }
 
 impl Model for Tree {
     ghost use Rattle.txn_tree.specs.States.{IsTree, States};
+    ghost use Rattle.txn_tree.specs.Linked.{IsLinked};
 
     ghost Value = { States };
 
-    ghost view = { λ t. t.states.entries };
+    ghost view = { λ t. t.register };
 
-    ghost invariant = { λ t. IsTree t.states.entries };
+    ghost invariant = { λ t. IsTree t.register × IsLinked t.register t.nodes.items t.tops };
 }
 
-// Whether the second is the parent of the first.
-fn is_child(child: &Name, name: &Name) -> bool
-    ensures { result ≡ path_eq (parent child.now) name.now }
+// The kept number of the parent.
+fn parent_in(nodes: &Vec<Node>, txn: TxnNo) -> Option<TxnNo>
+    ensures { result ≡ kept_parent (slice_get nodes.now.items txn) }
 {
-    child.depth() == name.depth() + 1 && name.is_ancestor_or_self(child)
+    nodes.get(txn.place() as usize)?.parent
+}
+
+// A node for a transaction that begins.
+fn add_node(nodes: &mut Vec<Node>, parent: Option<TxnNo>) -> Result<(), AllocError>
+    ensures ok { OnOk result (nodes.new.items ≡ nodes.old.items ++ begun_node parent ∷ []) }
+    ensures err { OnErr result (nodes.new.items ≡ nodes.old.items) }
+{
+    nodes.push(Node { parent, live: 0 })?;
+    Ok(())
+}
+
+// One live child more, of the parent or of the root.
+fn count_child(nodes: &mut [Node], tops: &mut u32, parent: Option<TxnNo>)
+    requires within { IfSome parent (λ p. p < length nodes.old) }
+    requires fits { live_below nodes.old tops.old parent + 1 < 2 ^ 32 }
+    ensures nodes { nodes.new ≡ with_live_below nodes.old parent (live_below nodes.old tops.old parent + 1) }
+    ensures tops { tops.new ≡ (if is_some parent then tops.old else tops.old + 1) }
+{
+    match parent {
+        Some(txn) => nodes[txn.place() as usize].live += 1,
+        None => *tops += 1,
+    }
+}
+
+// One live child less, of the parent or of the root.
+fn discount_child(nodes: &mut [Node], tops: &mut u32, parent: Option<TxnNo>)
+    requires within { IfSome parent (λ p. p < length nodes.old) }
+    requires some { 0 < live_below nodes.old tops.old parent }
+    ensures nodes { nodes.new ≡ with_live_below nodes.old parent (live_below nodes.old tops.old parent - 1) }
+    ensures tops { tops.new ≡ (if is_some parent then tops.old else tops.old - 1) }
+{
+    match parent {
+        Some(txn) => nodes[txn.place() as usize].live -= 1,
+        None => *tops -= 1,
+    }
 }
 
 impl Tree {
@@ -52,7 +92,9 @@ impl Tree {
         ensures { result ≡ [] }
     {
         Tree {
-            states: IndexMap::new(alloc),
+            register: Register::new(alloc),
+            nodes: Vec::new(alloc),
+            tops: 0,
         }
     }
 
@@ -61,14 +103,14 @@ impl Tree {
         ensures len { result ≡ length self.now }
         ensures tree { IsTree self.now }
     {
-        self.states.len()
+        self.register.len()
     }
 
     /// Whether no transaction has begun.
     pub fn is_empty(&self) -> bool
         ensures { IsTrue result ↔ (self.now ≡ []) }
     {
-        self.states.is_empty()
+        self.register.is_empty()
     }
 
     /// What became of the transaction by its own begin, commit and abort.
@@ -76,12 +118,7 @@ impl Tree {
         ensures status { result ≡ status_in self.now name.now }
         ensures name { IsName name.now }
     {
-        // Asked for what it tells: a name has a label, so it is not the root's.
-        let _ = name.depth();
-        match self.states.get(name) {
-            Some(status) => *status,
-            None => Status::Absent,
-        }
+        self.register.status(name)
     }
 
     /// The transaction's number, if it has begun.
@@ -91,111 +128,71 @@ impl Tree {
         ensures begun { is_some result ≡ not (is_absent_in self.now name.now) }
         ensures rootless { IsRootless self.now }
     {
-        // Asked for what it tells: a name has a label.
-        let _ = name.depth();
-        let place = self.states.get_index_of(name)?;
-        Some(TxnNo::new(place as u32))
+        self.register.no_of(name)
     }
 
     /// The transaction with this number, if so many have begun.
     pub fn name_of(&self, number: TxnNo) -> Option<&Name>
         ensures { option_copied result ≡ slice_get (names self.now) number }
     {
-        let (name, _) = self.states.get_index(number.place() as usize)?;
-        Some(name)
+        self.register.name_of(number)
+    }
+
+    /// The state of the transaction with this number, Absent if nobody has it.
+    pub fn status_at(&self, txn: TxnNo) -> Status
+        ensures { result ≡ status_at self.now txn }
+    {
+        self.register.status_at(txn)
     }
 
     /// How many children of the transaction are live by their own states.
     pub fn live_children(&self, name: &Name) -> u32
         ensures { result ≡ live_children_of self.now name.now }
     {
-        self.states
-            .keys()
-            .filter(|child| is_child(child, name) && self.status(child) == Status::Live)
-            .count() as u32
-    }
-
-    // The topmost aborted one of the transaction and its ancestors.
-    fn top_aborted(&self, name: &Name) -> Option<Name>
-        ensures { result ≡ top_aborted_in self.now name.now }
-    {
-        for above in 0..name.depth() {
-            let front = name.front(above + 1);
-            if self.status(&front) == Status::Aborted {
-                return Some(front);
-            }
-        }
-        None
-    }
-
-    // Whether the transaction is live and no orphan.
-    fn is_active(&self, name: &Name) -> bool
-        ensures { result ≡ is_active_in self.now name.now }
-    {
-        self.status(name) == Status::Live && self.top_aborted(name).is_none()
-    }
-
-    // How many transactions an abort ends.
-    fn ended_by_abort(&self, name: &Name) -> u32
-        ensures { result ≡ ended_by_abort self.now name.now }
-    {
-        self.states
-            .keys()
-            .filter(|inferior| name.is_ancestor_or_self(inferior) && self.is_active(inferior))
-            .count() as u32
-    }
-
-    // Why the transaction can have no more children.
-    fn cause_at_parent(&self, parent: &Name) -> Option<Refusal>
-        ensures { result ≡ cause_at_parent self.now parent.now }
-    {
-        let status = self.status(parent);
-        if status == Status::Absent {
-            Some(Refusal::NoParent)
-        } else if let Some(top) = self.top_aborted(parent) {
-            Some(Refusal::Orphan(top))
-        } else if status == Status::Committed {
-            Some(Refusal::NoParent)
-        } else {
-            None
+        let _ = &self.nodes;
+        // Asked for what it tells: a name has a label.
+        let _ = name.depth();
+        match self.no_of(name) {
+            Some(txn) => self.live_children_at(txn),
+            None => 0,
         }
     }
 
-    // Why a begin is refused.
-    fn cause_at_begin(&self, name: &Name) -> Option<Refusal>
-        ensures cause { result ≡ cause_at_begin self.now name.now }
-        ensures name { IsName name.now }
+    /// The number of the transaction's parent. It is `None` exactly if nobody has this number or the transaction
+    /// is top-level.
+    pub fn parent_of(&self, txn: TxnNo) -> Option<TxnNo>
+        ensures some { is_some result ≡ has_parent (slice_get (names self.now) txn) }
+        ensures named { IfSome result (λ p. IsTrue (is_parent_of (slice_get (names self.now) p) (slice_get (names self.now) txn))) }
+        ensures earlier { IfSome result (λ p. p < txn) }
+        ensures closed { IsClosed self.now }
     {
-        if self.status(name) != Status::Absent {
-            return Some(Refusal::Used);
-        }
-        if let Some(parent) = name.parent() {
-            if let Some(cause) = self.cause_at_parent(&parent) {
-                return Some(cause);
-            }
-        }
-        if self.len() < MOST_TRANSACTIONS {
-            None
-        } else {
-            Some(Refusal::Full)
+        parent_in(&self.nodes, txn)
+    }
+
+    /// Whether both have begun and the second is the first or a descendant of it.
+    pub fn is_under(&self, txn: TxnNo, inferior: TxnNo) -> bool
+        ensures under { result ≡ is_under self.now txn inferior }
+        ensures rises { RisesDown self.now inferior }
+    {
+        let _ = &self.nodes;
+        self.register.is_under(txn, inferior)
+    }
+
+    /// How many children of the transaction with this number are live; none if nobody has it.
+    pub fn live_children_at(&self, txn: TxnNo) -> u32
+        ensures { result ≡ live_children_at self.now txn }
+    {
+        match self.nodes.get(txn.place() as usize) {
+            Some(node) => node.live,
+            None => 0,
         }
     }
 
-    // Why an abort is refused.
-    fn cause_at_abort(&self, name: &Name) -> Option<Refusal>
-        ensures cause { result ≡ cause_at_abort self.now name.now }
-        ensures name { IsName name.now }
+    /// How many top-level transactions are live.
+    pub fn live_tops(&self) -> u32
+        ensures { result ≡ live_children_of self.now [] }
     {
-        let status = self.status(name);
-        if status == Status::Absent {
-            Some(Refusal::Unknown)
-        } else if let Some(top) = self.top_aborted(name) {
-            Some(Refusal::Orphan(top))
-        } else if status == Status::Committed {
-            Some(Refusal::Done)
-        } else {
-            None
-        }
+        self.tops
     }
 
     // Why a commit is refused.
@@ -203,7 +200,7 @@ impl Tree {
         ensures cause { result ≡ cause_at_commit self.now name.now }
         ensures name { IsName name.now }
     {
-        if let Some(cause) = self.cause_at_abort(name) {
+        if let Some(cause) = self.register.cause_at_abort(name) {
             Some(cause)
         } else if self.live_children(name) > 0 {
             Some(Refusal::Children)
@@ -223,25 +220,71 @@ impl Tree {
         ensures live { OnOk result ((u : Path) → status_in self.new u ≡ (if path_eq name.now u then Status.Live else status_in self.old u)) }
         ensures err { OnErr result (self.new ≡ self.old) }
     {
-        if let Some(cause) = self.cause_at_begin(name) {
+        if let Some(cause) = self.register.cause_at_begin(name) {
             return Err(TreeFault::Refused(cause));
         }
-        let place = self.len();
-        match self.states.insert(*name, Status::Live) {
-            Ok(_) => Ok(TxnNo::new(place as u32)),
-            Err(_) => Err(TreeFault::NoMemory),
+        let place = self.register.len();
+        let parent = self.register.number_of_parent(name);
+        let above = parent;
+        if add_node(&mut self.nodes, above).is_err() {
+            return Err(TreeFault::NoMemory);
         }
+        if self.register.add(name).is_err() {
+            self.nodes.truncate(place);
+            return Err(TreeFault::NoMemory);
+        }
+        self.register.is_tree();
+        count_child(&mut self.nodes, &mut self.tops, parent);
+        Ok(TxnNo::new(place as u32))
     }
 
-    // Gives a transaction that has begun another state. It takes no memory.
-    fn set(&mut self, name: &Name, status: Status)
-        requires name { IsName name.now }
-        requires begun { status_in self.old name.now ≢ Status.Absent }
-        requires other { status ≢ Status.Absent }
+    // Gives a live transaction the state that ends it. It takes no memory.
+    fn end(&mut self, txn: TxnNo, name: &Name, status: Status)
+        requires named { slice_get (names self.old) txn ≡ Some name.now }
+        requires live { status_in self.old name.now ≡ Status.Live }
+        requires begun { status ≢ Status.Absent }
+        requires ended { is_live status ≡ false }
         ensures names { names self.new ≡ names self.old }
         ensures status { (u : Path) → status_in self.new u ≡ (if path_eq name.now u then status else status_in self.old u) }
     {
-        *self.states.get_mut(name).unwrap() = status;
+        let parent = self.nodes[txn.place() as usize].parent;
+        self.register.set(name, status);
+        self.register.is_tree();
+        discount_child(&mut self.nodes, &mut self.tops, parent);
+    }
+
+    /// Commits the transaction with this number, which the caller knows to be live, no orphan and without a live
+    /// child. Its own state is Committed. It takes no memory.
+    pub fn commit_at(&mut self, txn: TxnNo)
+        requires active { is_active_at self.old txn ≡ true }
+        requires children { live_children_at self.old txn ≡ 0 }
+        ensures committed { (t : Path) → slice_get (names self.old) txn ≡ Some t
+            → (u : Path) → status_in self.new u ≡ (if path_eq t u then Status.Committed else status_in self.old u) }
+        ensures names { names self.new ≡ names self.old }
+    {
+        if let Some(name) = self.name_of(txn).copied() {
+            self.end(txn, &name, Status::Committed);
+        }
+    }
+
+    /// Aborts the transaction with this number, which the caller knows to be live and no orphan. Its own state is
+    /// Aborted, and those of its inferiors stay. It gives the number of transactions, itself and inferiors, that
+    /// were live and no orphans before. It takes no memory.
+    pub fn abort_at(&mut self, txn: TxnNo) -> u32
+        requires active { is_active_at self.old txn ≡ true }
+        ensures ended { (t : Path) → slice_get (names self.old) txn ≡ Some t → result ≡ ended_by_abort self.old t }
+        ensures aborted { (t : Path) → slice_get (names self.old) txn ≡ Some t
+            → (u : Path) → status_in self.new u ≡ (if path_eq t u then Status.Aborted else status_in self.old u) }
+        ensures names { names self.new ≡ names self.old }
+    {
+        match self.name_of(txn).copied() {
+            Some(name) => {
+                let ended = self.register.ended_by_abort(&name);
+                self.end(txn, &name, Status::Aborted);
+                ended
+            }
+            None => 0,
+        }
     }
 
     /// Commits the transaction: its own state is Committed. It takes no memory. A commit is refused by the first
@@ -256,7 +299,8 @@ impl Tree {
         if let Some(cause) = self.cause_at_commit(name) {
             return Err(cause);
         }
-        self.set(name, Status::Committed);
+        let txn = self.register.number(name);
+        self.end(txn, name, Status::Committed);
         Ok(())
     }
 
@@ -271,11 +315,12 @@ impl Tree {
         ensures names { OnOk result (names self.new ≡ names self.old) }
         ensures err { OnErr result (self.new ≡ self.old) }
     {
-        if let Some(cause) = self.cause_at_abort(name) {
+        if let Some(cause) = self.register.cause_at_abort(name) {
             return Err(cause);
         }
-        let ended = self.ended_by_abort(name);
-        self.set(name, Status::Aborted);
+        let txn = self.register.number(name);
+        let ended = self.register.ended_by_abort(name);
+        self.end(txn, name, Status::Aborted);
         Ok(ended)
     }
 }

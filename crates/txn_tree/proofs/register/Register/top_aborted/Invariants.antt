@@ -1,6 +1,6 @@
 use Rattle.std.proofs.Common.{◌≡◌, ℕ, ◌+◌, ◌<◌, take, false}
 use Rattle.txn_tree.specs.Asked.{has_aborted_in}
-use Rattle.txn_tree.proofs.tree.Tree.top_aborted.Given as goal
+use Rattle.txn_tree.proofs.register.Register.top_aborted.Given as goal
 
 -- none of those above has aborted
 abbrev pub invariant-loop-above : goal.invariant-loop-above

@@ -3,7 +3,7 @@ use Rattle.std.specs.Prelude.{is_some}
 use Rattle.std.specs.Map.{lookup}
 use Rattle.txn_names.specs.Path.{path_eq}
 use Rattle.txn_tree.proofs.Numbers.{number_at, no_root, is_begun}
-use Rattle.txn_tree.proofs.tree.Tree.no_of.Goals as goal
+use Rattle.txn_tree.proofs.register.Register.no_of.Goals as goal
 
 pub returns-in_err-place-clause-begun : goal.returns-in_err-place-clause-begun
 returns-in_err-place-clause-begun c =

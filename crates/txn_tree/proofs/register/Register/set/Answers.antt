@@ -1,7 +1,7 @@
 use Rattle.std.proofs.Common.{sym, subst}
 use Rattle.txn_tree.specs.States.{IsTree}
 use Rattle.txn_tree.proofs.Changes.{tree_set}
-use Rattle.txn_tree.proofs.tree.Tree.set.Goals as goal
+use Rattle.txn_tree.proofs.register.Register.set.Goals as goal
 
 pub invariant_of-self : goal.invariant_of-self
 invariant_of-self c =

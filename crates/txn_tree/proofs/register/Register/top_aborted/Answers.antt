@@ -1,7 +1,7 @@
 use Rattle.std.proofs.Common.{◌≡◌, ◌+◌, true, take, sym, ap, ◌∙◌, arith, rules, Some}
 use Rattle.txn_tree.specs.Asked.{has_aborted_in}
 use Rattle.txn_tree.proofs.Tops.{first_passes, none_passes}
-use Rattle.txn_tree.proofs.tree.Tree.top_aborted.Goals as goal
+use Rattle.txn_tree.proofs.register.Register.top_aborted.Goals as goal
 
 pub returns-then-eq : goal.returns-then-eq
 returns-then-eq c =

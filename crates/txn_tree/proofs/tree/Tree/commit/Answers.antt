@@ -1,0 +1,5 @@
+use Rattle.txn_tree.proofs.Told.{commit_ends, live_to_end}
+use Rattle.txn_tree.proofs.tree.Tree.commit.Goals as goal
+
+pub end-requires-clause-live : goal.end-requires-clause-live
+end-requires-clause-live c = live_to_end c.args.self.now c.args.name.now (commit_ends c.args.self.now c.args.name.now c.in_default.ensures.cause)

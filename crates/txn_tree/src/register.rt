@@ -1,0 +1,253 @@
+//! The names and the states of the transactions that have begun.
+ghost use Rattle.std.specs.Prelude.{◌≡◌, ◌≢◌, ◌↔◌, [], ◌∷◌, ◌++◌, is_some, length, not, position, slice_get, false, None, Some, if◌then◌else◌, IfSome, IsTrue, OnErr, OnOk};
+ghost use Rattle.std.specs.Option.{option_copied};
+ghost use Rattle.txn_names.specs.Path.{Path, parent, path_eq};
+ghost use Rattle.txn_names.specs.Text.{IsName};
+ghost use Rattle.txn_tree.specs.States.{IsTree, names, status_in};
+ghost use Rattle.txn_tree.specs.Asked.{IsNumberOf, IsRootless, ended_by_abort, is_absent_in, is_active_in, top_aborted_in};
+ghost use Rattle.txn_tree.specs.Numbered.{is_under, status_at};
+ghost use Rattle.txn_tree.specs.Linked.{IsParentAt};
+ghost use Rattle.txn_tree.specs.Causes.{cause_at_abort, cause_at_begin, cause_at_parent};
+
+use crate::number::TxnNo;
+use crate::status::Status;
+use indexmap::IndexMap;
+use serial_spec::Refusal;
+use std::alloc::{AllocError, Global};
+use std::marker::Model;
+use txn_names::Name;
+
+/// The most transactions of a tree.
+pub const MOST_TRANSACTIONS: usize = 4096;
+
+/// The transactions that have begun, in order of beginning, each with its own state.
+#[derive(Drop)]
+pub(crate) struct Register {
+    states: IndexMap<Name, Status>,
+}
+
+impl Model for Register {
+    ghost use Rattle.txn_tree.specs.States.{IsTree, States};
+
+    ghost Value = { States };
+
+    ghost view = { λ t. t.states.entries };
+
+    ghost invariant = { λ t. IsTree t.states.entries };
+}
+
+impl Register {
+    pub(crate) fn new(alloc: Global) -> Self
+        ensures { result ≡ [] }
+    {
+        Register {
+            states: IndexMap::new(alloc),
+        }
+    }
+
+    /// How many transactions have begun.
+    pub(crate) fn len(&self) -> usize
+        ensures len { result ≡ length self.now }
+        ensures tree { IsTree self.now }
+    {
+        self.states.len()
+    }
+
+    /// Whether no transaction has begun.
+    pub(crate) fn is_empty(&self) -> bool
+        ensures { IsTrue result ↔ (self.now ≡ []) }
+    {
+        self.states.is_empty()
+    }
+
+    /// What became of the transaction by its own begin, commit and abort.
+    pub(crate) fn status(&self, name: &Name) -> Status
+        ensures status { result ≡ status_in self.now name.now }
+        ensures name { IsName name.now }
+    {
+        // Asked for what it tells: a name has a label, so it is not the root's.
+        let _ = name.depth();
+        match self.states.get(name) {
+            Some(status) => *status,
+            None => Status::Absent,
+        }
+    }
+
+    /// The transaction's number, if it has begun.
+    pub(crate) fn no_of(&self, name: &Name) -> Option<TxnNo>
+        ensures place { result ≡ position (path_eq name.now) (names self.now) }
+        ensures number { IfSome result (IsNumberOf self.now name.now) }
+        ensures begun { is_some result ≡ not (is_absent_in self.now name.now) }
+        ensures rootless { IsRootless self.now }
+    {
+        // Asked for what it tells: a name has a label.
+        let _ = name.depth();
+        let place = self.states.get_index_of(name)?;
+        Some(TxnNo::new(place as u32))
+    }
+
+    /// The transaction with this number, if so many have begun.
+    pub(crate) fn name_of(&self, number: TxnNo) -> Option<&Name>
+        ensures { option_copied result ≡ slice_get (names self.now) number }
+    {
+        let (name, _) = self.states.get_index(number.place() as usize)?;
+        Some(name)
+    }
+
+    /// The state of the transaction with this number, Absent if nobody has it.
+    pub(crate) fn status_at(&self, txn: TxnNo) -> Status
+        ensures { result ≡ status_at self.now txn }
+    {
+        match self.states.get_index(txn.place() as usize) {
+            Some((_, status)) => *status,
+            None => Status::Absent,
+        }
+    }
+
+    // The topmost aborted one of the transaction and its ancestors.
+    pub(crate) fn top_aborted(&self, name: &Name) -> Option<Name>
+        ensures { result ≡ top_aborted_in self.now name.now }
+    {
+        for above in 0..name.depth() {
+            let front = name.front(above + 1);
+            if self.status(&front) == Status::Aborted {
+                return Some(front);
+            }
+        }
+        None
+    }
+
+    // Whether the transaction is live and no orphan.
+    pub(crate) fn is_active(&self, name: &Name) -> bool
+        ensures { result ≡ is_active_in self.now name.now }
+    {
+        self.status(name) == Status::Live && self.top_aborted(name).is_none()
+    }
+
+    // How many transactions an abort ends.
+    pub(crate) fn ended_by_abort(&self, name: &Name) -> u32
+        ensures { result ≡ ended_by_abort self.now name.now }
+    {
+        self.states
+            .keys()
+            .filter(|inferior| name.is_ancestor_or_self(inferior) && self.is_active(inferior))
+            .count() as u32
+    }
+
+    // Why the transaction can have no more children.
+    pub(crate) fn cause_at_parent(&self, parent: &Name) -> Option<Refusal>
+        ensures { result ≡ cause_at_parent self.now parent.now }
+    {
+        let status = self.status(parent);
+        if status == Status::Absent {
+            Some(Refusal::NoParent)
+        } else if let Some(top) = self.top_aborted(parent) {
+            Some(Refusal::Orphan(top))
+        } else if status == Status::Committed {
+            Some(Refusal::NoParent)
+        } else {
+            None
+        }
+    }
+
+    // Why a begin is refused.
+    pub(crate) fn cause_at_begin(&self, name: &Name) -> Option<Refusal>
+        ensures cause { result ≡ cause_at_begin self.now name.now }
+        ensures name { IsName name.now }
+    {
+        if self.status(name) != Status::Absent {
+            return Some(Refusal::Used);
+        }
+        if let Some(parent) = name.parent() {
+            if let Some(cause) = self.cause_at_parent(&parent) {
+                return Some(cause);
+            }
+        }
+        if self.len() < MOST_TRANSACTIONS {
+            None
+        } else {
+            Some(Refusal::Full)
+        }
+    }
+
+    // Why an abort is refused.
+    pub(crate) fn cause_at_abort(&self, name: &Name) -> Option<Refusal>
+        ensures cause { result ≡ cause_at_abort self.now name.now }
+        ensures name { IsName name.now }
+    {
+        let status = self.status(name);
+        if status == Status::Absent {
+            Some(Refusal::Unknown)
+        } else if let Some(top) = self.top_aborted(name) {
+            Some(Refusal::Orphan(top))
+        } else if status == Status::Committed {
+            Some(Refusal::Done)
+        } else {
+            None
+        }
+    }
+
+    // Whether both have begun and the second is the first or a descendant of it.
+    pub(crate) fn is_under(&self, txn: TxnNo, inferior: TxnNo) -> bool
+        ensures { result ≡ is_under self.now txn inferior }
+    {
+        match self.name_of(txn) {
+            Some(above) => match self.name_of(inferior) {
+                Some(below) => above.is_ancestor_or_self(below),
+                None => false,
+            },
+            None => false,
+        }
+    }
+
+    // The number of a transaction that has begun.
+    pub(crate) fn number(&self, name: &Name) -> TxnNo
+        requires begun { is_absent_in self.now name.now ≡ false }
+        ensures { slice_get (names self.now) result ≡ Some name.now }
+    {
+        self.no_of(name).unwrap()
+    }
+
+    // The number of the parent, if that is not the root.
+    pub(crate) fn number_of_parent(&self, name: &Name) -> Option<TxnNo>
+        requires begun { is_absent_in self.now (parent name.now) ≡ false }
+        ensures { IsParentAt (names self.now) (length self.now) name.now result }
+    {
+        match name.parent() {
+            Some(parent) => Some(self.number(&parent)),
+            None => None,
+        }
+    }
+
+    // What holds of every register.
+    pub(crate) fn is_tree(&self)
+        ensures { IsTree self.now }
+    {
+        let _ = &self.states;
+    }
+
+    // Adds a live transaction. A begin has no cause to be refused.
+    pub(crate) fn add(&mut self, name: &Name) -> Result<(), AllocError>
+        requires begins { cause_at_begin self.old name.now ≡ None }
+        requires name { IsName name.now }
+        ensures last { OnOk result (self.new ≡ self.old ++ (name.now, Status.Live) ∷ []) }
+        ensures live { OnOk result ((u : Path) → status_in self.new u ≡ (if path_eq name.now u then Status.Live else status_in self.old u)) }
+        ensures err { OnErr result (self.new ≡ self.old) }
+    {
+        match self.states.insert(*name, Status::Live) {
+            Ok(_) => Ok(()),
+            Err(_) => Err(AllocError),
+        }
+    }
+
+    // Gives a transaction that has begun another state. It takes no memory.
+    pub(crate) fn set(&mut self, name: &Name, status: Status)
+        requires name { IsName name.now }
+        requires begun { status_in self.old name.now ≢ Status.Absent }
+        requires other { status ≢ Status.Absent }
+        ensures names { names self.new ≡ names self.old }
+        ensures status { (u : Path) → status_in self.new u ≡ (if path_eq name.now u then status else status_in self.old u) }
+    {
+        *self.states.get_mut(name).unwrap() = status;
+    }
+}
