@@ -8,7 +8,8 @@ use Rattle.std.proofs.lemmas.Map.Keys.{IsDistinct-tail}
 use Rattle.std.proofs.lemmas.Cmp.{nat_list_eq_equiv}
 use Rattle.txn_names.specs.Path.{label_eq}
 use Rattle.txn_names.proofs.Names.{on_label, label_eq_self}
-use Rattle.txn_cells.specs.Cells.{Cells, has_cell_at, content_at, merged}
+use Rattle.txn_cells.specs.Cells.{merged}
+use Rattle.txn_cells.specs.Kept.{Cells, has_cell_at, content_at}
 
 -- the parent has what was handed over, and the rest is still to come
 pub record IsHanding {V : Type 0} (inherited : V → Option V → V) (first parents rest : Cells V) (due : List ℕ → Option V) : Type 0 where

@@ -1,11 +1,13 @@
 -- What a look-up finds after one entry has been put.
 use Rattle.std.proofs.Common.{◌≡◌, ℕ, Bool, true, false, cond, not, nat_eq, ◌&&◌, ◌||◌, filter, List, [], ◌∷◌, Option, Some, None, unwrap_or, is_some, refl, sym, ap, subst, ◌∙◌, true≢false}
+use Rattle.std.specs.Prelude.{Result, Ok, Err, OnOk, OnErr}
 use Rattle.std.specs.Map.{lookup}
 use Rattle.std.proofs.lemmas.Bool.{eqb-true, eq-eqb, false≢true, or_right}
 use Rattle.std.proofs.lemmas.Map.Entries.{lookup-filter-keys}
 use Rattle.txn_names.specs.Path.{label_eq}
 use Rattle.txn_names.proofs.Names.{on_test, on_label, label_eq_self}
-use Rattle.txn_cells.specs.Cells.{Cells, Table, has_cell_at, content_at, cells_in, content, has_cell, merged}
+use Rattle.txn_cells.specs.Cells.{merged}
+use Rattle.txn_cells.specs.Kept.{Cells, Table, has_cell_at, content_at, cells_in, content, has_place}
 
 pub on_number : (a b : ℕ) (P : Bool → Type 0) → (a ≡ b → P true) → (nat_eq a b ≡ false → P false) → P (nat_eq a b)
 on_number a b P f g = on_test (nat_eq a b) P (λ e. f (eqb-true a b e)) g
@@ -48,11 +50,8 @@ module _ {V : Type 0} (cells : Cells V) (k : List ℕ) where
     pub set_contents : (q : List ℕ) → content_at changed q ≡ cond (label_eq k q) w (content_at cells q)
     set_contents q = ap (λ o. unwrap_or o None) (at q) ∙ unwrap_cond (label_eq k q) w None (lookup (label_eq q) cells)
 
-    pub set_cell_here : has_cell_at changed k ≡ true
-    set_cell_here = ap is_some (at k) ∙ is_some-cond (label_eq k k) w (lookup (label_eq k) cells) ∙ ap (λ b. b || has_cell_at cells k) (label_eq_self k)
-
-    pub set_cells_kept : (q : List ℕ) → has_cell_at cells q ≡ true → has_cell_at changed q ≡ true
-    set_cells_kept q there = ap is_some (at q) ∙ is_some-cond (label_eq k q) w (lookup (label_eq q) cells) ∙ or_right (label_eq k q) (has_cell_at cells q) there
+    pub set_has : (q : List ℕ) → has_cell_at changed q ≡ (label_eq k q || has_cell_at cells q)
+    set_has q = ap is_some (at q) ∙ is_some-cond (label_eq k q) w (lookup (label_eq q) cells)
 
     pub set_cells : has_cell_at cells k ≡ true → (q : List ℕ) → has_cell_at changed q ≡ has_cell_at cells q
     set_cells there q = ap is_some (at q) ∙ is_some-cond (label_eq k q) w (lookup (label_eq q) cells) ∙ cell_set there q
@@ -64,7 +63,7 @@ module _ {V : Type 0} (table : Table V) (t : ℕ) where
   cells_found cells e = ap (λ o. unwrap_or o []) e
 
   -- one with a place has a list of cells
-  pub has_row : (k : List ℕ) → has_cell table t k ≡ true → is_some (lookup (nat_eq t) table) ≡ true
+  pub has_row : (k : List ℕ) → has_place table t k ≡ true → is_some (lookup (nat_eq t) table) ≡ true
   has_row k = by (lookup (nat_eq t) table)
     where
       by : (o : Option (Cells V)) → has_cell_at (unwrap_or o []) k ≡ true → is_some o ≡ true
@@ -87,11 +86,11 @@ module _ {V : Type 0} (table : Table V) (t : ℕ) where
       (λ _. refl)
 
   -- the same of their places
-  pub cells_put : (cells : Cells V) (f : List ℕ → Bool → Bool) → ((q : List ℕ) → has_cell_at cells q ≡ f q (has_cell table t q))
-      → (u : ℕ) (q : List ℕ) → has_cell_at (cond (nat_eq t u) cells (cells_in table u)) q ≡ cond (nat_eq t u) (f q (has_cell table u q)) (has_cell table u q)
+  pub cells_put : (cells : Cells V) (f : List ℕ → Bool → Bool) → ((q : List ℕ) → has_cell_at cells q ≡ f q (has_place table t q))
+      → (u : ℕ) (q : List ℕ) → has_cell_at (cond (nat_eq t u) cells (cells_in table u)) q ≡ cond (nat_eq t u) (f q (has_place table u q)) (has_place table u q)
   cells_put cells f is u q =
-      on_number t u (λ b. has_cell_at (cond b cells (cells_in table u)) q ≡ cond b (f q (has_cell table u q)) (has_cell table u q))
-      (λ e. subst (λ (v : ℕ). has_cell_at cells q ≡ f q (has_cell table v q)) e (is q))
+      on_number t u (λ b. has_cell_at (cond b cells (cells_in table u)) q ≡ cond b (f q (has_place table u q)) (has_place table u q))
+      (λ e. subst (λ (v : ℕ). has_cell_at cells q ≡ f q (has_place table v q)) e (is q))
       (λ _. refl)
 
 -- the same, of the table after the cells have been put
@@ -103,20 +102,13 @@ module _ {V : Type 0} (table changed : Table V) (t : ℕ) (cells : Cells V) (at 
       → (u : ℕ) (q : List ℕ) → content changed u q ≡ cond (nat_eq t u) (f q (content table u q)) (content table u q)
   content-put f is u q = ap (λ ks. content_at ks q) (cells_in-put u) ∙ contents_put table t cells f is u q
 
-  pub has_cell-put : (f : List ℕ → Bool → Bool) → ((q : List ℕ) → has_cell_at cells q ≡ f q (has_cell table t q))
-      → (u : ℕ) (q : List ℕ) → has_cell changed u q ≡ cond (nat_eq t u) (f q (has_cell table u q)) (has_cell table u q)
-  has_cell-put f is u q = ap (λ ks. has_cell_at ks q) (cells_in-put u) ∙ cells_put table t cells f is u q
+  pub has_place-put : (f : List ℕ → Bool → Bool) → ((q : List ℕ) → has_cell_at cells q ≡ f q (has_place table t q))
+      → (u : ℕ) (q : List ℕ) → has_place changed u q ≡ cond (nat_eq t u) (f q (has_place table u q)) (has_place table u q)
+  has_place-put f is u q = ap (λ ks. has_cell_at ks q) (cells_in-put u) ∙ cells_put table t cells f is u q
 
-  pub cells_kept : ((q : List ℕ) → has_cell table t q ≡ true → has_cell_at cells q ≡ true)
-      → (u : ℕ) (q : List ℕ) → has_cell table u q ≡ true → has_cell changed u q ≡ true
-  cells_kept kept u q there =
-      ap (λ ks. has_cell_at ks q) (cells_in-put u)
-      ∙ on_number t u (λ b. has_cell_at (cond b cells (cells_in table u)) q ≡ true)
-      (λ e. kept q (subst (λ (v : ℕ). has_cell table v q ≡ true) (sym e) there))
-      (λ _. there)
-
-  pub cell_here : (q : List ℕ) → has_cell_at cells q ≡ true → has_cell changed t q ≡ true
-  cell_here q there = ap (λ ks. has_cell_at ks q) (cells_in-put t ∙ ap (λ b. cond b cells (cells_in table t)) (eq-eqb t t refl)) ∙ there
+pub cond-or : (a b c : Bool) → cond a (b || c) c ≡ ((a && b) || c)
+cond-or true b c = refl
+cond-or false b c = refl
 
 pub cond-and : {X : Type 0} (a b : Bool) (x y : X) → cond a (cond b x y) y ≡ cond (a && b) x y
 cond-and true b x y = refl
@@ -145,10 +137,10 @@ module _ {V : Type 0} (table : Table V) (gone : ℕ → Bool) where
       by true = refl
       by false = refl
 
-  pub has_cell-filter : (u : ℕ) (q : List ℕ) → has_cell (filter (λ (e : ℕ × Cells V). not (gone e.0)) table) u q ≡ (not (gone u) && has_cell table u q)
-  has_cell-filter u q = ap (λ ks. has_cell_at ks q) (cells_in-filter u) ∙ by (gone u)
+  pub has_place-filter : (u : ℕ) (q : List ℕ) → has_place (filter (λ (e : ℕ × Cells V). not (gone e.0)) table) u q ≡ (not (gone u) && has_place table u q)
+  has_place-filter u q = ap (λ ks. has_cell_at ks q) (cells_in-filter u) ∙ by (gone u)
     where
-      by : (b : Bool) → has_cell_at (cond b [] (cells_in table u)) q ≡ (not b && has_cell table u q)
+      by : (b : Bool) → has_cell_at (cond b [] (cells_in table u)) q ≡ (not b && has_place table u q)
       by true = refl
       by false = refl
 
@@ -169,10 +161,10 @@ module _ {V : Type 0} (table left : Table V) (t : ℕ) (at : (u : ℕ) → looku
       by true = refl
       by false = refl
 
-  pub has_cell-taken : (u : ℕ) (q : List ℕ) → has_cell left u q ≡ (not (nat_eq t u) && has_cell table u q)
-  has_cell-taken u q = ap (λ ks. has_cell_at ks q) (cells_in-taken u) ∙ by (nat_eq t u)
+  pub has_place-taken : (u : ℕ) (q : List ℕ) → has_place left u q ≡ (not (nat_eq t u) && has_place table u q)
+  has_place-taken u q = ap (λ ks. has_cell_at ks q) (cells_in-taken u) ∙ by (nat_eq t u)
     where
-      by : (b : Bool) → has_cell_at (cond b [] (cells_in table u)) q ≡ (not b && has_cell table u q)
+      by : (b : Bool) → has_cell_at (cond b [] (cells_in table u)) q ≡ (not b && has_place table u q)
       by true = refl
       by false = refl
 
@@ -181,7 +173,7 @@ module _ {V : Type 0} (table left : Table V) (t : ℕ) (at : (u : ℕ) → looku
 module _ {V : Type 0} (inherited : V → Option V → V) where
   -- one without a cell has nothing to inherit, since it has a cell for whatever it inherits
   pub none_inherited : (table : Table V) (t : ℕ) (child : Cells V) → lookup (nat_eq t) table ≡ None
-      → ((q : List ℕ) → has_cell_at child q ≡ true → has_cell table t q ≡ true)
+      → ((q : List ℕ) → has_cell_at child q ≡ true → has_place table t q ≡ true)
       → (u : ℕ) (q : List ℕ) → content table u q ≡ cond (nat_eq t u) (merged inherited (content_at child q) (content table u q)) (content table u q)
   none_inherited table t child none cells u q = by (nat_eq t u)
     where
@@ -193,3 +185,18 @@ module _ {V : Type 0} (inherited : V → Option V → V) where
       by : (b : Bool) → content table u q ≡ cond b (merged inherited (content_at child q) (content table u q)) (content table u q)
       by true = ap (λ m. merged inherited m (content table u q)) (sym (nowhere (lookup (label_eq q) child) refl))
       by false = refl
+
+-- ---- what follows from a promise
+
+pub on_ok : {A E : Type 0} (r : Result A E) {P Q : Type 0} → (P → Q) → OnOk r P → OnOk r Q
+on_ok (Ok x) f p = f p
+on_ok (Err e) f p = p
+
+pub on_err : {A E : Type 0} (r : Result A E) {P Q : Type 0} → (P → Q) → OnErr r P → OnErr r Q
+on_err (Ok x) f p = p
+on_err (Err e) f p = f p
+
+-- at the exit of a `?`
+pub at_err : {A E : Type 0} (r : Result A E) {Q : Type 0} → Q → OnErr r Q
+at_err (Ok x) q = tt
+at_err (Err e) q = q

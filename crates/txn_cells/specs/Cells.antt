@@ -1,46 +1,29 @@
--- Cells as contracts see them: for each transaction, by its number, the keys that it has a cell for, each with what stands
--- there. A cell may be empty: then nothing stands there, as where there is no cell.
-use Rattle.std.specs.Prelude.{ℕ, Bool, false, nat_eq, ◌&&◌, if◌then◌else◌, List, [], Option, Some, None, is_some, unwrap_or}
-use Rattle.std.specs.Map.{lookup, keys_of}
+-- Cells as contracts see them, by two functions of a table: `content`, what each transaction, by its number, has at each
+-- key, and `has_place`, where it has a place. A place may be empty: then the transaction has nothing at the key, as where
+-- there is no place. How a table is kept is told apart, in Kept, and no contract but of this crate's own parts rests on it.
+use Rattle.std.specs.Prelude.{◌≡◌, ℕ, Bool, true, false, nat_eq, ◌&&◌, ◌||◌, if◌then◌else◌, List, Option, Some, None}
+use Rattle.std.specs.Prelude.{slice_get}
+pub use Rattle.txn_cells.specs.Kept.{Table, content, has_place}
 use Rattle.txn_names.specs.Path.{Path, is_front, label_eq}
 use Rattle.txn_tree.specs.States.{States, names}
-use Rattle.std.specs.Prelude.{slice_get}
-
--- the cells of one transaction
-abbrev pub Cells : Type 0 → Type 0
-Cells V = List (List ℕ × Option V)
-
-abbrev pub Table : Type 0 → Type 0
-Table V = List (ℕ × Cells V)
-
-abbrev pub has_cell_at : {V : Type 0} → Cells V → List ℕ → Bool
-has_cell_at cells k = is_some (lookup (label_eq k) cells)
-
-abbrev pub content_at : {V : Type 0} → Cells V → List ℕ → Option V
-content_at cells k = unwrap_or (lookup (label_eq k) cells) None
-
-abbrev pub cells_in : {V : Type 0} → Table V → ℕ → Cells V
-cells_in table t = unwrap_or (lookup (nat_eq t) table) []
-
-abbrev pub has_cell : {V : Type 0} → Table V → ℕ → List ℕ → Bool
-has_cell table t k = has_cell_at (cells_in table t) k
-
--- what t has at k
-abbrev pub content : {V : Type 0} → Table V → ℕ → List ℕ → Option V
-content table t k = content_at (cells_in table t) k
-
--- the keys that t has a cell for
-abbrev pub keys_in : {V : Type 0} → Table V → ℕ → List (List ℕ)
-keys_in table t = keys_of (cells_in table t)
-
--- the transactions that have cells
-abbrev pub holders : {V : Type 0} → Table V → List ℕ
-holders table = keys_of table
 
 -- whether u is this one, if there is one
 abbrev pub is_it : Option ℕ → ℕ → Bool
 is_it None u = false
 is_it (Some p) u = nat_eq p u
+
+-- where there are places, once t has one at k
+abbrev pub with_place : (ℕ → List ℕ → Bool) → ℕ → List ℕ → ℕ → List ℕ → Bool
+with_place place t k u q = (nat_eq t u && label_eq k q) || place u q
+
+-- where there are places, once the parent has one at each key of the child
+abbrev pub with_childs : (ℕ → List ℕ → Bool) → ℕ → ℕ → ℕ → List ℕ → Bool
+with_childs place child parent u q = (nat_eq parent u && place child q) || place u q
+
+-- no place has gone, and each new one is a place of the parent at a key of the child
+pub record IsTowards (old new : ℕ → List ℕ → Bool) (child parent : ℕ) : Type 0 where
+  pub kept : (u : ℕ) (q : List ℕ) → old u q ≡ true → new u q ≡ true
+  pub added : (u : ℕ) (q : List ℕ) → new u q ≡ true → with_childs old child parent u q ≡ true
 
 -- what the parent has at a key of what the child had there, if it had something, and of what it had itself
 abbrev pub merged : {V : Type 0} → (V → Option V → V) → Option V → Option V → Option V
@@ -48,11 +31,11 @@ merged inherited None own = own
 merged inherited (Some v) own = Some (inherited v own)
 
 -- what u has at q, where the child has committed into its parent: it has nothing, and the parent inherits
-abbrev pub handed_up : {V : Type 0} → (V → Option V → V) → Table V → ℕ → Option ℕ → ℕ → List ℕ → Option V
-handed_up inherited table child parent u q =
+abbrev pub handed_up : {V : Type 0} → (V → Option V → V) → (ℕ → List ℕ → Option V) → ℕ → Option ℕ → ℕ → List ℕ → Option V
+handed_up inherited content child parent u q =
     if nat_eq child u then None
-    else if is_it parent u then merged inherited (content table child q) (content table u q)
-    else content table u q
+    else if is_it parent u then merged inherited (content child q) (content u q)
+    else content u q
 
 -- there are both names, and the first is the second or an ancestor of it
 abbrev pub is_front_of : Option Path → Option Path → Bool

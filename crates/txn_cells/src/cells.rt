@@ -1,8 +1,10 @@
 //! The cells of one transaction.
-ghost use Rattle.std.specs.Prelude.{◌≡◌, not, length, [], IsTrue, OnOk, List, ℕ, if◌then◌else◌, slice_get, Some, Option};
-ghost use Rattle.std.specs.Map.{keys_of};
+ghost use Rattle.std.specs.Prelude.{◌≡◌, ◌||◌, not, [], length, slice_get, IsTrue, OnErr, OnOk, List, ℕ, if◌then◌else◌, Some, Option};
 ghost use Rattle.txn_names.specs.Path.{label_eq};
-ghost use Rattle.txn_cells.specs.Cells.{content_at, has_cell_at, merged};
+ghost use Rattle.std.specs.Map.{keys_of};
+ghost use Rattle.std.specs.List.{IsDistinct, list_any};
+ghost use Rattle.txn_cells.specs.Cells.{merged};
+ghost use Rattle.txn_cells.specs.Kept.{content_at, has_cell_at};
 
 use crate::inherit::Inherit;
 use indexmap::IndexMap;
@@ -18,7 +20,7 @@ pub(crate) struct Cells<V: Copy> {
 }
 
 impl<V: Copy> Model for Cells<V> {
-    ghost use Rattle.txn_cells.specs.Cells.{Cells as Entries};
+    ghost use Rattle.txn_cells.specs.Kept.{Cells as Entries};
 
     ghost Value = { Entries V };
 
@@ -53,9 +55,9 @@ impl<V: Copy> Cells<V> {
     /// Makes a cell for a key that has none.
     pub(crate) fn add_cell(&mut self, key: &Key) -> Result<(), NoMemory>
         requires { IsTrue (not (has_cell_at self.old key.now)) }
-        ensures ok { OnOk result (IsTrue (has_cell_at self.new key.now)) }
         ensures contents { (q : List ℕ) → content_at self.new q ≡ content_at self.old q }
-        ensures cells { (q : List ℕ) → IsTrue (has_cell_at self.old q) → IsTrue (has_cell_at self.new q) }
+        ensures ok { OnOk result ((q : List ℕ) → has_cell_at self.new q ≡ (label_eq key.now q || has_cell_at self.old q)) }
+        ensures err { OnErr result (self.new ≡ self.old) }
     {
         match self.contents.insert(*key, None) {
             Ok(_) => Ok(()),
@@ -71,23 +73,39 @@ impl<V: Copy> Cells<V> {
         *self.contents.get_mut(key).unwrap() = Some(value);
     }
 
-    /// How many cells there are.
     pub(crate) fn len(&self) -> usize
         ensures { result ≡ length (keys_of self.now) }
     {
         self.contents.len()
     }
 
-    /// The key of the cell at this place.
-    pub(crate) fn key_at(&self, place: usize) -> Option<Key>
-        ensures { result ≡ slice_get (keys_of self.now) place }
+    pub(crate) fn key_at(&self, index: usize) -> Option<Key>
+        ensures { result ≡ slice_get (keys_of self.now) index }
     {
-        let (key, _) = self.contents.get_index(place)?;
+        let (key, _) = self.contents.get_index(index)?;
         Some(*key)
+    }
+
+    /// The keys, each once.
+    pub(crate) fn keys(&self) -> &[Key]
+        ensures each { (q : List ℕ) → has_cell_at self.now q ≡ list_any (label_eq q) result.now }
+        ensures once { IsDistinct label_eq result.now }
+    {
+        self.contents.keys().as_slice()
     }
 }
 
 impl<V: Inherit> Cells<V> {
+    // Takes over what a child has at the key.
+    fn take_over(&mut self, key: &Key, value: V)
+        requires cell { IsTrue (has_cell_at self.old key.now) }
+        ensures cells { (q : List ℕ) → has_cell_at self.new q ≡ has_cell_at self.old q }
+        ensures contents { (q : List ℕ) →
+            content_at self.new q ≡ (if label_eq key.now q then Some (V.inherited value (content_at self.old key.now)) else content_at self.old q) }
+    {
+        self.set(key, V::inherit(value, self.get(key)));
+    }
+
     /// Takes over what stands in the child's cells.
     pub(crate) fn inherit(&mut self, child: &Cells<V>)
         requires cells { (q : List ℕ) → IsTrue (has_cell_at child.now q) → IsTrue (has_cell_at self.old q) }
@@ -96,7 +114,7 @@ impl<V: Inherit> Cells<V> {
     {
         for (key, content) in child.contents.iter() {
             if let Some(value) = content {
-                self.set(key, V::inherit(*value, self.get(key)));
+                self.take_over(key, *value);
             }
         }
     }

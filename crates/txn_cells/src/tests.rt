@@ -1,13 +1,16 @@
-//! Each call once, at a value that a child leaves in place of its parent's. Under a trial run that refuses a growth the call
-//! is made again.
+//! Each call at many transactions and keys, at a value that a child leaves in place of its parent's. Under a trial run that
+//! refuses a growth the call is made again.
 ghost use Rattle.std.specs.Prelude.{◌≡◌};
 
 use crate::{CellTable, Inherit, is_under};
 use serial_spec::NoMemory;
 use std::process::Abort;
-use std::test::Fail;
 use txn_names::{Key, Name};
 use txn_tree::{Tree, TxnNo};
+
+const CHILDREN: u8 = 29;
+
+const KEYS: u8 = 40;
 
 #[derive(Clone, Copy, Debug, PartialEq, Eq)]
 struct Latest(u32);
@@ -29,12 +32,20 @@ fn begin_once(tree: &mut Tree, name: &Name) -> Option<TxnNo> {
     }
 }
 
-fn begin(tree: &mut Tree, text: &str) -> Result<TxnNo, Fail> {
-    let name = Name::parse(text.as_bytes())?;
+fn begin(rt: &impl Abort, tree: &mut Tree, text: &[u8]) -> TxnNo {
+    let name = Name::parse(text).expect(rt, "a name");
     match begin_once(tree, &name) {
-        Some(number) => Ok(number),
-        None => Ok(begin_once(tree, &name).ok_or("not begun")?),
+        Some(number) => number,
+        None => begin_once(tree, &name).expect(rt, "begun"),
     }
+}
+
+fn child(rt: &impl Abort, tree: &mut Tree, index: u8) -> TxnNo {
+    begin(rt, tree, &[b'a', b'/', b'a' + index / 8, b'a' + index % 8])
+}
+
+fn key(rt: &impl Abort, index: u8) -> Key {
+    Key::parse(&[b'a' + index / 8, b'a' + index % 8]).expect(rt, "a key")
 }
 
 fn set_once(
@@ -48,15 +59,9 @@ fn set_once(
     Ok(())
 }
 
-fn set(
-    table: &mut CellTable<Latest>,
-    txn: TxnNo,
-    key: &Key,
-    value: Latest,
-) -> Result<(), NoMemory> {
-    match set_once(table, txn, key, value) {
-        Ok(()) => Ok(()),
-        Err(_) => set_once(table, txn, key, value),
+fn set(rt: &impl Abort, table: &mut CellTable<Latest>, txn: TxnNo, key: &Key, value: Latest) {
+    if set_once(table, txn, key, value).is_err() {
+        set_once(table, txn, key, value).expect(rt, "memory");
     }
 }
 
@@ -70,37 +75,46 @@ fn hand_up_once(
     Ok(())
 }
 
-fn hand_up(table: &mut CellTable<Latest>, child: TxnNo, parent: TxnNo) -> Result<(), NoMemory> {
-    match hand_up_once(table, child, parent) {
-        Ok(()) => Ok(()),
-        Err(_) => hand_up_once(table, child, parent),
+fn hand_up(rt: &impl Abort, table: &mut CellTable<Latest>, child: TxnNo, parent: TxnNo) {
+    if hand_up_once(table, child, parent).is_err() {
+        hand_up_once(table, child, parent).expect(rt, "memory");
     }
 }
 
-// A child's values take the place of its parent's, and those below an aborted one go.
-fn run(rt: &impl Abort, tree: &mut Tree, table: &mut CellTable<Latest>) -> Result<(), Fail> {
-    let (a, l, r) = (begin(tree, "a")?, begin(tree, "a/l")?, begin(tree, "a/r")?);
-    let (x, y) = (Key::parse(b"x")?, Key::parse(b"y")?);
-    assert!(rt; table.is_empty());
-    set(table, a, &x, Latest(1))?;
-    set(table, a, &y, Latest(2))?;
-    set(table, l, &x, Latest(3))?;
-    set(table, r, &y, Latest(4))?;
-    assert!(rt; table.len() == 3 && table.holder_at(0) == Some(a));
-    assert!(rt; table.count(a) == 2 && table.key_at(a, 1) == Some(y));
-    hand_up(table, l, a)?;
-    assert!(rt; table.get(a, &x) == Some(Latest(3)) && table.get(a, &y) == Some(Latest(2)));
-    assert!(rt; table.get(l, &x).is_none() && table.get(r, &x).is_none());
-    assert!(rt; is_under(tree, a, r) && !is_under(tree, r, a));
-    table.drop_under(tree, r);
-    assert!(rt; table.get(r, &y).is_none() && table.get(a, &y) == Some(Latest(2)));
-    table.hand_up(a, None);
-    assert!(rt; table.is_empty());
-    Ok(())
+// A child with a value at each key.
+fn write_all(rt: &impl Abort, table: &mut CellTable<Latest>, txn: TxnNo, value: u32) {
+    for index in 0..KEYS {
+        set(rt, table, txn, &key(rt, index), Latest(value));
+    }
 }
 
+fn has_all(rt: &impl Abort, table: &CellTable<Latest>, txn: TxnNo, value: Option<Latest>) -> bool {
+    (0..KEYS).all(|index| table.get(txn, &key(rt, index)) == value)
+}
+
+fn count(table: &CellTable<Latest>, txn: TxnNo) -> usize {
+    table.keys(txn).len()
+}
+
+// The last child to commit is the one whose values stand.
 #[test]
-fn a_parent_has_what_its_children_left(rt: HostRuntime) -> Result<(), Fail> {
+fn a_parent_has_what_its_children_left(rt: HostRuntime) {
     let (mut tree, mut table) = (Tree::new(rt.alloc()), CellTable::new(rt.alloc()));
-    run(&rt, &mut tree, &mut table)
+    let top = begin(&rt, &mut tree, b"a");
+    for index in 0..CHILDREN {
+        let txn = child(&rt, &mut tree, index);
+        write_all(&rt, &mut table, txn, 1 + index as u32);
+        assert!(rt; is_under(&tree, top, txn) && !is_under(&tree, txn, top));
+        if index % 2 == 0 {
+            hand_up(&rt, &mut table, txn, top);
+            assert!(rt; has_all(&rt, &table, top, Some(Latest(1 + index as u32))));
+            assert!(rt; count(&table, txn) == 0 && count(&table, top) == 40);
+        }
+    }
+    assert!(rt; table.holders(&key(&rt, 39)).len() == 15);
+    table.drop_under(&tree, TxnNo::new(2));
+    assert!(rt; has_all(&rt, &table, TxnNo::new(2), None));
+    assert!(rt; has_all(&rt, &table, TxnNo::new(4), Some(Latest(4))));
+    table.drop_under(&tree, top);
+    assert!(rt; has_all(&rt, &table, TxnNo::new(4), None) && count(&table, top) == 0);
 }

@@ -1,4 +1,5 @@
-use Rattle.txn_cells.specs.Cells.{content_at, merged}
+use Rattle.txn_cells.specs.Cells.{merged}
+use Rattle.txn_cells.specs.Kept.{content_at}
 use Rattle.txn_cells.proofs.Handing.{IsHanding}
 use Rattle.txn_cells.proofs.cells.Cells.inherit.Given as goal
 

@@ -1,6 +1,6 @@
 use Rattle.std.proofs.Common.{◌≡◌, ℕ, List, nat_eq, true, false, not, ◌&&◌, ap, sym, ◌∙◌, rules}
 use Rattle.std.specs.Prelude.{IsTrue}
-use Rattle.txn_cells.specs.Cells.{has_cell}
+use Rattle.txn_cells.specs.Kept.{has_place}
 use Rattle.txn_cells.proofs.table.CellTable.hand_up.Goals as goal
 
 pub inherit-requires : goal.inherit-requires
@@ -9,10 +9,10 @@ inherit-requires g c =
     let child = c.args.child in
     let parent = c.in-Some.parent in
     let other : nat_eq child parent ≡ false = search rules in
-    let cells : (q : List ℕ) → IsTrue (has_cell old child q) → IsTrue (has_cell old parent q) = rw c.in-Some.is at c.requires.cells in
+    let cells : (q : List ℕ) → IsTrue (has_place old child q) → IsTrue (has_place old parent q) = rw c.in-Some.is at c.requires.places in
     record {
       cells = λ q there.
           c.take_out-cells.ensures.cells parent q
-          ∙ ap (λ b. not b && has_cell old parent q) other
+          ∙ ap (λ b. not b && has_place old parent q) other
           ∙ cells q (sym (c.take_out-cells.ensures.taken_cells q) ∙ there);
     }

@@ -1,8 +1,9 @@
 use Rattle.std.proofs.Common.{◌≡◌, ℕ, List, nat_eq, Some, None, true, refl, ap, sym, subst, ◌∙◌}
 use Rattle.std.specs.Prelude.{is_some}
 use Rattle.std.specs.Map.{lookup}
-use Rattle.txn_cells.specs.Cells.{cells_in, content_at, has_cell_at, merged}
-use Rattle.txn_cells.proofs.Puts.{cells_found, content-put, has_cell-put, cond_same, none_inherited}
+use Rattle.txn_cells.specs.Cells.{merged}
+use Rattle.txn_cells.specs.Kept.{cells_in, content_at, has_cell_at}
+use Rattle.txn_cells.proofs.Puts.{cells_found, content-put, has_place-put, cond_same, none_inherited}
 use Rattle.txn_cells.proofs.table.CellTable.inherit.Goals as goal
 use Rattle.txn_cells.proofs.table.CellTable.inherit.Goals.{in-Some, in_default}
 
@@ -37,6 +38,6 @@ returns-clause-cells g c =
           let lent : lookup (nat_eq t) old ≡ Some w.in-Some.cells.now = sym (rw w.in-Some.is at c.get_mut.ensures.value) in
           let wrote = (c.get_mut.follows.holds w.inherit.new.self).3 (ap is_some lent) in
           rw (w.self-inside-is, sym c.self.view_is)
-          (λ u q. has_cell-put old _ t w.inherit.new.self wrote.0 (λ _ b. b) (λ p. rw (cells_found old t _ lent) (w.inherit.ensures.cells p)) u q ∙ cond_same (nat_eq t u) _)
+          (λ u q. has_place-put old _ t w.inherit.new.self wrote.0 (λ _ b. b) (λ p. rw (cells_found old t _ lent) (w.inherit.ensures.cells p)) u q ∙ cond_same (nat_eq t u) _)
       | in_default w ↦ rw (w.self-inside-is, sym c.self.view_is, c.get_mut.follows.holds-at-none) (λ u q. refl)
     ]
