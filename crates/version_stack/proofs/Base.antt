@@ -1,22 +1,17 @@
 -- What a transaction left, put into the base key by key.
-use Rattle.std.proofs.Common.{◌≡◌, ℕ, ℤ, ◌+◌, ◌≤◌, zero, suc, add-one, unwrap_or, Bool, true, false, cond, ◌||◌, List, [], ◌∷◌, ◌++◌, take, Option, Some, None, refl, sym, ap, subst, ◌∙◌}
-use Rattle.std.specs.Prelude.{slice_get, option_map}
+use Rattle.std.proofs.Common.{◌≡◌, ℕ, ℤ, ◌≤◌, length, arith, Bool, true, false, cond, ◌||◌, List, [], ◌∷◌, ◌++◌, Option, Some, None, refl, sym, ap, subst, ◌∙◌}
+use Rattle.std.specs.Prelude.{option_map, Result, Ok, Err, OnOk}
 use Rattle.std.specs.List.{list_any}
-use Rattle.std.specs.Map.{lookup}
 use Rattle.std.proofs.lemmas.List.Folds.{list_any-append}
-use Rattle.std.proofs.lemmas.Bool.{false≢true}
+use Rattle.std.proofs.lemmas.Map.Made.{length-le_from_is_member}
 use Rattle.txn_names.specs.Path.{label_eq}
 use Rattle.std.proofs.lemmas.Cmp.{nat_list_eq_equiv}
 use Rattle.txn_names.proofs.Names.{on_label}
-use Rattle.txn_cells.specs.Cells.{Cells, Table, cells_in, has_cell, content}
+use Rattle.txn_cells.specs.Cells as cells
 use Rattle.serial_spec.specs.Values.{value_or}
 use Rattle.serial_spec.specs.Serial.{Map, put}
 use Rattle.version_stack.specs.declared.version.Version.{Version}
-use Rattle.version_stack.specs.Versioned.{Versioned, left_in, base_in, has_place}
-
--- the base, once what was left at these keys has been put into it
-abbrev pub with_keys : (List ℕ → Option (Option ℤ)) → List (List ℕ) → Map → Map
-with_keys left keys base q = cond (list_any (label_eq q) keys) (value_or (left q) (base q)) (base q)
+use Rattle.version_stack.specs.Versioned.{Versioned, FitsBase, has_place, left_at, with_keys}
 
 or-false : (b : Bool) → (b || false) ≡ b
 or-false true = refl
@@ -60,15 +55,23 @@ module _ (left : List ℕ → Option (Option ℤ)) (keys : List (List ℕ)) (bas
       never true = refl
       never false = refl
 
--- where nothing was left at any other key, each has what was left there
-pub all_put : (v : Versioned) (t : ℕ) (keys : List (List ℕ)) → ((q : List ℕ) → list_any (label_eq q) keys ≡ false → content v.written t q ≡ None)
-    → (q : List ℕ) → with_keys (left_in v t) keys (base_in v) q ≡ value_or (left_in v t q) (base_in v q)
-all_put v t keys others q = by (list_any (label_eq q) keys) refl
+-- where these are the keys at which the transaction has a place, each has what was left there
+pub all_put : (written : cells.Table Version) (t : ℕ) (keys : List (List ℕ)) (base : Map)
+    → ((q : List ℕ) → cells.has_place written t q ≡ list_any (label_eq q) keys) → ((q : List ℕ) → cells.has_place written t q ≡ false → cells.content written t q ≡ None)
+    → (q : List ℕ) → with_keys (left_at written t) keys base q ≡ value_or (left_at written t q) (base q)
+all_put written t keys base each elsewhere q = by (list_any (label_eq q) keys) refl
   where
-    by : (b : Bool) → list_any (label_eq q) keys ≡ b → cond b (value_or (left_in v t q) (base_in v q)) (base_in v q) ≡ value_or (left_in v t q) (base_in v q)
+    by : (b : Bool) → list_any (label_eq q) keys ≡ b → cond b (value_or (left_at written t q) (base q)) (base q) ≡ value_or (left_at written t q) (base q)
     by true e = refl
-    by false e = ap (λ (o : Option Version). value_or (option_map (λ w. w.value) o) (base_in v q)) (sym (others q e))
+    by false e = ap (λ (o : Option Version). value_or (option_map (λ w. w.value) o) (base q)) (sym (elsewhere q (each q ∙ e)))
 
--- what was left is told by what was written alone
-pub left_same : (a b : Versioned) → a.written ≡ b.written → (t : ℕ) (k : List ℕ) → left_in a t k ≡ left_in b t k
-left_same a b same t k = ap (λ (w : Table Version). option_map (λ x. x.value) (content w t k)) same
+-- no list of places is longer than the list of all
+pub fits_all : (v : Versioned) (t : ℕ) (keys : List (List ℕ)) → ((q : List ℕ) → has_place v t q ≡ list_any (label_eq q) keys) → length keys ≤ v.base.room → FitsBase v t
+fits_all v t keys each room ks once there =
+    let fewer : length ks ≤ length keys = length-le_from_is_member nat_list_eq_equiv ks keys once (λ q e. sym (each q) ∙ there q e) in
+    omega (arith, fewer, room)
+
+-- what follows from a promise, where the call succeeds
+pub on_ok : {A E : Type 0} (r : Result A E) {P Q : Type 0} → (P → Q) → OnOk r P → OnOk r Q
+on_ok (Ok x) f p = f p
+on_ok (Err e) f p = p

@@ -1,9 +1,11 @@
--- Versions as contracts see them: for each transaction, by its number, the keys that it has a place for, each with what it
--- left there, and the table below them all. A place may be empty: nothing was left there, as where there is no place.
-use Rattle.std.specs.Prelude.{◌≤◌, ℕ, ℤ, Bool, nat_eq, ◌&&◌, if◌then◌else◌, List, length, Option, Some, None, option_map}
+-- Versions as contracts see them: what each transaction, by its number, left at each key, where it has a place, and the table
+-- below them all. A place may be empty: nothing was left there, as where there is no place.
+use Rattle.std.specs.Prelude.{◌≡◌, ◌≤◌, ℕ, ℤ, Bool, true, nat_eq, ◌&&◌, if◌then◌else◌, List, length, Option, Some, None, option_map}
+use Rattle.std.specs.List.{IsDistinct, list_any}
 use Rattle.txn_names.specs.Path.{label_eq}
 use Rattle.txn_cells.specs.Cells as cells
-use Rattle.txn_cells.specs.Cells.{content, has_cell, keys_in, is_it}
+use Rattle.txn_cells.specs.Cells.{content, is_it}
+pub use Rattle.txn_cells.specs.Cells.{IsTowards, with_childs, with_place}
 use Rattle.serial_spec.specs.History.{or_else}
 use Rattle.serial_spec.specs.Values.{value_or}
 use Rattle.serial_spec.specs.Serial.{Map}
@@ -16,18 +18,26 @@ pub record Versioned : Type 0 where
   pub base : rows.Table
 
 abbrev pub has_place : Versioned → ℕ → List ℕ → Bool
-has_place v t k = has_cell v.written t k
+has_place v t k = cells.has_place v.written t k
 
 -- what t left at k
+abbrev pub left_at : cells.Table Version → ℕ → List ℕ → Option (Option ℤ)
+left_at written t k = option_map (λ w. w.value) (content written t k)
+
 abbrev pub left_in : Versioned → ℕ → List ℕ → Option (Option ℤ)
-left_in v t k = option_map (λ w. w.value) (content v.written t k)
+left_in v t k = left_at v.written t k
 
 abbrev pub base_in : Versioned → Map
 base_in v = value_in v.base.rows
 
--- the base has room for each place of t
+-- the base has room for each key at which t has a place, however they are listed
 abbrev pub FitsBase : Versioned → ℕ → Type 0
-FitsBase v t = length (keys_in v.written t) ≤ v.base.room
+FitsBase v t =
+    (ks : List (List ℕ)) → IsDistinct label_eq ks → ((q : List ℕ) → list_any (label_eq q) ks ≡ true → has_place v t q ≡ true) → length ks ≤ v.base.room
+
+-- the base, once what was left at these keys has been put into it
+abbrev pub with_keys : (List ℕ → Option (Option ℤ)) → List (List ℕ) → Map → Map
+with_keys left keys base q = if list_any (label_eq q) keys then value_or (left q) (base q) else base q
 
 -- what u left at q, where t has left a value at k
 abbrev pub put_by : Versioned → ℕ → List ℕ → Option ℤ → ℕ → List ℕ → Option (Option ℤ)

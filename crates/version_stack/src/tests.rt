@@ -114,3 +114,54 @@ fn values_nest(rt: HostRuntime) -> Result<(), Fail> {
     assert!(rt; versions.into_base().len() == 1);
     Ok(())
 }
+
+const CHILDREN: u8 = 29;
+
+const KEYS: u8 = 40;
+
+fn numbered_key(rt: &impl Abort, index: u8) -> Key {
+    Key::parse(&[b'a' + index / 8, b'a' + index % 8]).expect(rt, "a key")
+}
+
+fn child(rt: &impl Abort, tree: &mut Tree, index: u8) -> TxnNo {
+    let text = [b'a', b'/', b'a' + index / 8, b'a' + index % 8];
+    let name = Name::parse(&text).expect(rt, "a name");
+    match begin_once(tree, &name) {
+        Some(number) => number,
+        None => begin_once(tree, &name).expect(rt, "begun"),
+    }
+}
+
+// The transaction leaves at each key the index of the key and of the child.
+fn put_all(rt: &impl Abort, versions: &mut Versions, txn: TxnNo, by: u8) {
+    for index in 0..KEYS {
+        let value = Some(100 * index as i64 + by as i64);
+        put(versions, txn, &numbered_key(rt, index), value).expect(rt, "memory");
+    }
+}
+
+fn sees_all(rt: &impl Abort, versions: &Versions, tree: &Tree, txn: TxnNo, by: u8) -> bool {
+    (0..KEYS).all(|index| {
+        let value = Some(100 * index as i64 + by as i64);
+        versions.value_for(tree, txn, &numbered_key(rt, index)) == value
+    })
+}
+
+// What the last child left at each of many keys comes into the base.
+#[test]
+fn the_last_child_counts(rt: HostRuntime) -> Result<(), Fail> {
+    let base = PlainTable::new(rt.alloc());
+    let (mut tree, mut versions) = (Tree::new(rt.alloc()), Versions::new(rt.alloc(), base));
+    let top = begin(&mut tree, "a")?;
+    for index in 0..CHILDREN {
+        let txn = child(&rt, &mut tree, index);
+        put_all(&rt, &mut versions, txn, index);
+        assert!(rt; sees_all(&rt, &versions, &tree, txn, index));
+        hand_up(&mut versions, txn, top)?;
+        assert!(rt; sees_all(&rt, &versions, &tree, top, index));
+    }
+    store(&mut versions, top)?;
+    assert!(rt; sees_all(&rt, &versions, &tree, top, CHILDREN - 1));
+    assert!(rt; versions.into_base().len() == 40);
+    Ok(())
+}

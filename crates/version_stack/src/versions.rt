@@ -1,8 +1,9 @@
 //! The versions over a base.
-ghost use Rattle.std.specs.Prelude.{◌≡◌, ◌≤◌, ◌<◌, ◌&&◌, length, not, nat_eq, [], IsOk, IsTrue, IfSome, IfNone, OnOk, List, ℕ, None, Some, if◌then◌else◌};
+ghost use Rattle.std.specs.Prelude.{◌≡◌, ◌≤◌, ◌<◌, ◌&&◌, length, take, ◌+◌, not, nat_eq, false, IsOk, IsTrue, IfSome, IfNone, OnErr, OnOk, List, ℕ, None, Some, if◌then◌else◌};
 ghost use Rattle.txn_cells.specs.Cells.{is_under};
-ghost use Rattle.serial_spec.specs.Rows.{IsRising};
-ghost use Rattle.version_stack.specs.Versioned.{FitsBase, base_after, base_in, handed_up, has_place, left_in, put_by};
+ghost use Rattle.serial_spec.specs.Rows.{IsRising, value_in};
+ghost use Rattle.serial_spec.specs.Serial.{put};
+ghost use Rattle.version_stack.specs.Versioned.{FitsBase, IsTowards, base_after, base_in, handed_up, has_place, left_at, left_in, put_by, with_childs, with_keys, with_place};
 ghost use Rattle.version_stack.specs.Seen.{left_by, seen_by, seen_in};
 
 use crate::version::Version;
@@ -32,10 +33,36 @@ impl Model for Versions {
     } };
 }
 
+// Puts what was left at the key into the base.
+fn put_left(base: &mut PlainTable, key: &Key, left: Version)
+    requires { 0 < base.old.room }
+    ensures put { value_in base.new.rows ≡ put (value_in base.old.rows) key.now left.value }
+    ensures room { base.old.room ≤ base.new.room + 1 }
+{
+    base.put(key, left.value).unwrap();
+}
+
+// Puts what the transaction left at these keys into the base.
+fn put_at(base: &mut PlainTable, written: &CellTable<Version>, txn: TxnNo, keys: &[Key])
+    requires { length keys.now ≤ base.old.room }
+    ensures put { (q : List ℕ) → value_in base.new.rows q ≡ with_keys (left_at written.now txn) keys.now (value_in base.old.rows) q }
+    ensures rising { IsRising base.old.rows × IsRising base.new.rows }
+{
+    // Asked for what it tells, here and below: that the rows rise.
+    let _ = base.len();
+    for key in keys {
+        if let Some(version) = written.get(txn, key) {
+            put_left(base, key, version);
+        }
+    }
+    let _ = base.len();
+}
+
 impl Versions {
     /// No versions over this base. It takes no memory yet.
     pub fn new(alloc: Global, base: PlainTable) -> Self
-        ensures written { result.written ≡ [] }
+        ensures left { (u : ℕ) → (q : List ℕ) → left_in result u q ≡ None }
+        ensures places { (u : ℕ) → (q : List ℕ) → has_place result u q ≡ false }
         ensures base { result.base ≡ base }
     {
         Versions {
@@ -86,13 +113,21 @@ impl Versions {
         }
     }
 
+    // What the transaction with the first labels of the name, this many, left at the key.
+    fn left_above(&self, tree: &Tree, name: &Name, depth: usize, key: &Key) -> Option<Option<i64>>
+        requires { (0 < depth) × (depth ≤ length name.now) }
+        ensures { result ≡ left_by tree.now self.now key.now (take depth name.now) }
+    {
+        self.left_by(tree, &name.front(depth), key)
+    }
+
     // The same for a name.
     fn value_by(&self, tree: &Tree, name: &Name, key: &Key) -> Option<i64>
         ensures { result ≡ seen_by tree.now self.now key.now (Some name.now) }
     {
         let mut depth = name.depth();
         while depth > 0 {
-            if let Some(value) = self.left_by(tree, &name.front(depth), key) {
+            if let Some(value) = self.left_above(tree, name, depth, key) {
                 return value;
             }
             depth -= 1;
@@ -101,37 +136,42 @@ impl Versions {
     }
 
     /// Makes a place for the transaction and the key, if there is none, so that a value can be put there without memory.
-    /// Nothing that was left changes, and no place goes.
+    /// Nothing that was left changes, and each other place stays. If memory runs out, the only error, no place is made.
     pub fn reserve(&mut self, txn: TxnNo, key: &Key) -> Result<(), NoMemory>
-        ensures ok { OnOk result (IsTrue (has_place self.new txn key.now)) }
         ensures left { (u : ℕ) → (q : List ℕ) → left_in self.new u q ≡ left_in self.old u q }
-        ensures places { (u : ℕ) → (q : List ℕ) → IsTrue (has_place self.old u q) → IsTrue (has_place self.new u q) }
         ensures base { self.new.base ≡ self.old.base }
+        ensures ok { OnOk result ((u : ℕ) → (q : List ℕ) → has_place self.new u q ≡ with_place (has_place self.old) txn key.now u q) }
+        ensures err { OnErr result ((u : ℕ) → (q : List ℕ) → has_place self.new u q ≡ has_place self.old u q) }
         ensures succeeds { IsTrue (has_place self.old txn key.now) → IsOk result }
     {
         self.written.reserve(txn, key)
     }
 
-    /// Makes a place for the parent and each key of the child, so that what the child left can be handed up without
-    /// memory. Nothing that was left changes, and no place goes.
+    /// Makes a place for the parent at each key where the child has one, so that what the child left can be handed up
+    /// without memory. Nothing that was left changes, and each other place stays. If memory runs out, the only error, the
+    /// parent has places at some of these keys.
     pub fn reserve_for_parent(&mut self, child: TxnNo, parent: TxnNo) -> Result<(), NoMemory>
-        ensures ok { OnOk result ((q : List ℕ) → IsTrue (has_place self.new child q) → IsTrue (has_place self.new parent q)) }
         ensures left { (u : ℕ) → (q : List ℕ) → left_in self.new u q ≡ left_in self.old u q }
-        ensures places { (u : ℕ) → (q : List ℕ) → IsTrue (has_place self.old u q) → IsTrue (has_place self.new u q) }
         ensures base { self.new.base ≡ self.old.base }
+        ensures ok { OnOk result ((u : ℕ) → (q : List ℕ) → has_place self.new u q ≡ with_childs (has_place self.old) child parent u q) }
+        ensures err { OnErr result (IsTowards (has_place self.old) (has_place self.new) child parent) }
+        ensures succeeds { ((q : List ℕ) → IsTrue (has_place self.old child q) → IsTrue (has_place self.old parent q)) → IsOk result }
     {
         self.written.reserve_for_parent(child, parent)
     }
 
-    /// Makes room in the base for each key of the child, so that what it left can go there without memory. Nothing that
-    /// was left changes, no place goes, and the base has the same rows.
+    /// Makes room in the base for each key at which the child has a place, so that what it left can go there without
+    /// memory. Nothing that was left changes, each place stays, and the base has the same rows. The only error is that
+    /// memory runs out.
     pub fn reserve_for_base(&mut self, child: TxnNo) -> Result<(), NoMemory>
         ensures ok { OnOk result (FitsBase self.new child) }
-        ensures written { self.new.written ≡ self.old.written }
+        ensures left { (u : ℕ) → (q : List ℕ) → left_in self.new u q ≡ left_in self.old u q }
+        ensures places { (u : ℕ) → (q : List ℕ) → has_place self.new u q ≡ has_place self.old u q }
         ensures base { self.new.base.rows ≡ self.old.base.rows }
         ensures room { self.old.base.room ≤ self.new.base.room }
     {
-        self.base.reserve(self.written.count(child))
+        let keys = self.written.keys(child).len();
+        self.base.reserve(keys)
     }
 
     /// The transaction leaves this value at the key, or leaves it absent. It takes no memory.
@@ -170,16 +210,7 @@ impl Versions {
         ensures base { (q : List ℕ) → base_in self.new q ≡ base_after self.old txn None q }
         ensures rising { IsRising self.old.base.rows × IsRising self.new.base.rows }
     {
-        // Asked for what it tells, here and below: that the rows rise.
-        let _ = self.base.len();
-        for place in 0..self.written.count(txn) {
-            if let Some(key) = self.written.key_at(txn, place) {
-                if let Some(value) = self.left(txn, &key) {
-                    self.base.put(&key, value).unwrap();
-                }
-            }
-        }
-        let _ = self.base.len();
+        put_at(&mut self.base, &self.written, txn, self.written.keys(txn));
     }
 
     /// Drops what the transaction and all below it left. It takes no memory.
