@@ -8,7 +8,7 @@ use Rattle.std.proofs.lemmas.Option.{slice_get_within}
 use Rattle.txn_tree.specs.States.{States, names}
 use Rattle.serial_spec.specs.declared.operation.Kind.{Kind}
 use Rattle.serial_spec.specs.Locks.{conflicts}
-use Rattle.txn_cells.specs.Cells.{content, holders}
+use Rattle.txn_cells.specs.Cells as cells
 use Rattle.lock_table.specs.declared.modes.Modes.{Modes}
 use Rattle.lock_table.specs.Locked.{Table, modes_in, whole, free}
 use Rattle.lock_table.specs.Blocking.{is_under, has_number, is_blocker_in, numbers, is_blocked_in}
@@ -28,7 +28,7 @@ filter_range-more p n =
     ∙ ap (filter p) (range_more 0 n ∙ ap (λ i. range_with_len 0 n ++ i ∷ []) zero_more)
     ∙ filter-append p (range_with_len 0 n) (n ∷ [])
 
-any_in_range : (p : ℕ → Bool) (a n u : ℕ) → a ≤ u → u < a + n → p u ≡ true → list_any p (range_with_len a n) ≡ true
+pub any_in_range : (p : ℕ → Bool) (a n u : ℕ) → a ≤ u → u < a + n → p u ≡ true → list_any p (range_with_len a n) ≡ true
 any_in_range p a zero u above within e = absurd (omega arith)
 any_in_range p a (suc n) u above within e =
     elim (cases_lt a u) [
@@ -45,16 +45,6 @@ any_of_those p (n ∷ ns) u there e =
       | inl here ↦ or_left (p n) (list_any p ns) (subst (λ (v : ℕ). p v ≡ true) (eqb-true u n here) e)
       | inr later ↦ or_right (p n) (list_any p ns) (any_of_those p ns u later e)
     ]
-
--- none passes where none passes at any place
-pub none_at_places : (p : ℕ → Bool) (ns : List ℕ) → ((i u : ℕ) → slice_get ns i ≡ Some u → p u ≡ false) → list_any p ns ≡ false
-none_at_places p [] none = refl
-none_at_places p (n ∷ ns) none = ap (λ b. b || list_any p ns) (none 0 n refl) ∙ none_at_places p ns (λ i u at. none (suc i) u at)
-
-pub any_at_place : (p : ℕ → Bool) (ns : List ℕ) (i u : ℕ) → slice_get ns i ≡ Some u → p u ≡ true → list_any p ns ≡ true
-any_at_place p [] i u at e = absurd (false≢true (ap is_some at))
-any_at_place p (n ∷ ns) zero u at e = or_left (p n) (list_any p ns) (subst (λ (o : Option ℕ). p (unwrap_or o n) ≡ true) (sym at) e)
-any_at_place p (n ∷ ns) (suc i) u at e = or_right (p n) (list_any p ns) (any_at_place p ns i u at e)
 
 -- some item passes
 witness : {X : Type 0} (p : X → Bool) (xs : List X) → list_any p xs ≡ true → (x : X) × (p x ≡ true)
@@ -82,21 +72,27 @@ module _ (tree : States) (table : Table) (t : ℕ) (k : List ℕ) (x : Kind) whe
       by (Some n) at h = slice_get_within (names tree) u n at
 
   -- and has something at the key
-  has_content : (u : ℕ) → is_blocker_in tree table t k x u ≡ true → is_some (content table u k) ≡ true
-  has_content u e = by (content table u k) (and_parts (not (is_under tree u t)) (conflicts (whole (modes_in table u k)) x) (and_parts (has_number tree u) _ e).1).1
+  has_content : (u : ℕ) → is_blocker_in tree table t k x u ≡ true → is_some (cells.content table u k) ≡ true
+  has_content u e = by (cells.content table u k) (and_parts (not (is_under tree u t)) (conflicts (whole (modes_in table u k)) x) (and_parts (has_number tree u) _ e).1).1
     where
       by : (o : Option Modes) → conflicts (whole (unwrap_or o free)) x ≡ true → is_some o ≡ true
       by None h = absurd (false≢true h)
       by (Some modes) h = refl
 
-  -- it is the same to look among those who have places
-  pub among_holders : ((u : ℕ) (q : List ℕ) → is_some (content table u q) ≡ true → list_any (nat_eq u) (holders table) ≡ true)
-      → list_any (is_blocker_in tree table t k x) (holders table) ≡ is_blocked_in tree table t k x
-  among_holders all =
+  -- it is the same to look among those who have something at the key
+  pub among_holders : (holders : List ℕ) → ((u : ℕ) → is_some (cells.content table u k) ≡ true → list_any (nat_eq u) holders ≡ true)
+      → list_any (is_blocker_in tree table t k x) holders ≡ is_blocked_in tree table t k x
+  among_holders holders all =
       let blocks = is_blocker_in tree table t k x in
-      same_tests (list_any blocks (holders table)) (is_blocked_in tree table t k x)
+      same_tests (list_any blocks holders) (is_blocked_in tree table t k x)
       (λ e.
-      let w = witness blocks (holders table) e in
+      let w = witness blocks holders e in
       let begun = number_of w.0 w.1 in
       any_in_range blocks 0 (length (names tree)) w.0 (omega arith) (omega (arith, begun)) w.1)
-      (λ e. let w = witness blocks (numbers tree) e in any_of_those blocks (holders table) w.0 (all w.0 k (has_content w.0 w.1)) w.1)
+      (λ e. let w = witness blocks (numbers tree) e in any_of_those blocks holders w.0 (all w.0 (has_content w.0 w.1)) w.1)
+
+  -- where nobody blocks there is no blocker
+  pub blocked_by : (n : ℕ) → is_blocker_in tree table t k x n ≡ true → is_blocked_in tree table t k x ≡ false → ⊥
+  blocked_by n here free =
+      let begun = number_of n here in
+      true≢false (sym (any_in_range (is_blocker_in tree table t k x) 0 (length (names tree)) n (omega arith) (omega (arith, begun)) here) ∙ free)

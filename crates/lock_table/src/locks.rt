@@ -1,9 +1,9 @@
 //! The table of locks.
-ghost use Rattle.std.specs.Prelude.{◌≡◌, ◌&&◌, length, slice_get, not, nat_eq, [], IsOk, IsFalse, IsTrue, IfOk, IfSome, OnOk, List, ℕ, if◌then◌else◌};
-ghost use Rattle.std.specs.List.{list_any};
+ghost use Rattle.std.specs.Prelude.{◌≡◌, ◌&&◌, not, nat_eq, false, IsOk, IsFalse, IsTrue, IfOk, IfSome, OnErr, OnOk, List, ℕ, if◌then◌else◌};
+ghost use Rattle.std.specs.List.{IsDistinct, list_any};
 ghost use Rattle.txn_names.specs.Path.{label_eq};
 ghost use Rattle.serial_spec.specs.Locks.{mode_of};
-ghost use Rattle.lock_table.specs.Locked.{free, handed_up, has_place, held_by, keys_in, modes_in};
+ghost use Rattle.lock_table.specs.Locked.{IsTowards, free, handed_up, has_place, held_by, modes_in, with_childs, with_place};
 ghost use Rattle.lock_table.specs.Blocking.{blockers_in, is_blocked_in, is_blocker_in, is_under};
 
 use crate::modes::{FREE, Modes};
@@ -33,7 +33,8 @@ impl Model for Locks {
 impl Locks {
     /// No locks. It takes no memory yet.
     pub fn new(alloc: Global) -> Self
-        ensures { result ≡ [] }
+        ensures modes { (u : ℕ) → (q : List ℕ) → modes_in result u q ≡ free }
+        ensures places { (u : ℕ) → (q : List ℕ) → has_place result u q ≡ false }
     {
         Locks {
             alloc,
@@ -55,20 +56,13 @@ impl Locks {
         (modes.held, modes.retained)
     }
 
-    /// How many keys the transaction has a place for.
-    pub fn count(&self, txn: TxnNo) -> usize
-        ensures count { result ≡ length (keys_in self.now txn) }
-        ensures all { (q : List ℕ) → has_place self.now txn q ≡ list_any (label_eq q) (keys_in self.now txn) }
-        ensures others { (q : List ℕ) → IsFalse (list_any (label_eq q) (keys_in self.now txn)) → modes_in self.now txn q ≡ free }
+    /// The keys at which the transaction has a place, each once. It locks no other key.
+    pub fn keys(&self, txn: TxnNo) -> &[Key]
+        ensures each { (q : List ℕ) → has_place self.now txn q ≡ list_any (label_eq q) result.now }
+        ensures once { IsDistinct label_eq result.now }
+        ensures elsewhere { (q : List ℕ) → IsFalse (has_place self.now txn q) → modes_in self.now txn q ≡ free }
     {
-        self.table.count(txn)
-    }
-
-    /// The key at this place, from 0, among those that the transaction has a place for.
-    pub fn key_at(&self, txn: TxnNo, place: usize) -> Option<Key>
-        ensures { result ≡ slice_get (keys_in self.now txn) place }
-    {
-        self.table.key_at(txn, place)
+        self.table.keys(txn)
     }
 
     // Whether the holder keeps the transaction from an access of this kind.
@@ -82,22 +76,31 @@ impl Locks {
         modes.held.greater(modes.retained).conflicts(kind)
     }
 
+    fn is_any_blocker(
+        &self,
+        tree: &Tree,
+        txn: TxnNo,
+        key: &Key,
+        kind: Kind,
+        holders: &[TxnNo],
+    ) -> bool
+        ensures { result ≡ list_any (is_blocker_in tree.now self.now txn key.now kind) holders.now }
+    {
+        holders
+            .iter()
+            .any(|holder| self.is_blocker(tree, txn, key, kind, *holder))
+    }
+
     /// Whether nobody keeps the transaction from an access of this kind: of those that have begun, all but itself and
     /// its ancestors have locks on the key that do not conflict. It takes no memory.
     pub fn may(&self, tree: &Tree, txn: TxnNo, key: &Key, kind: Kind) -> bool
         ensures { result ≡ not (is_blocked_in tree.now self.now txn key.now kind) }
     {
-        for place in 0..self.table.len() {
-            if let Some(holder) = self.table.holder_at(place) {
-                if self.is_blocker(tree, txn, key, kind, holder) {
-                    return false;
-                }
-            }
-        }
-        true
+        !self.is_any_blocker(tree, txn, key, kind, self.table.holders(key))
     }
 
-    /// Those that keep the transaction from an access of this kind, the first begun first.
+    /// Those that keep the transaction from an access of this kind, the first begun first. Where there is nobody it takes no
+    /// memory. The only error is that memory runs out.
     pub fn blockers(
         &self,
         tree: &Tree,
@@ -105,11 +108,12 @@ impl Locks {
         key: &Key,
         kind: Kind,
     ) -> Result<Vec<TxnNo>, NoMemory>
-        ensures { IfOk result (λ found. found.items ≡ blockers_in tree.now self.now txn key.now kind) }
+        ensures found { IfOk result (λ found. found.items ≡ blockers_in tree.now self.now txn key.now kind) }
+        ensures succeeds { IsFalse (is_blocked_in tree.now self.now txn key.now kind) → IsOk result }
     {
         let mut found = Vec::new(self.alloc);
-        for place in 0..tree.len() {
-            let holder = TxnNo::new(place as u32);
+        for number in 0..tree.len() {
+            let holder = TxnNo::new(number as u32);
             if self.is_blocker(tree, txn, key, kind, holder) {
                 found.push(holder)?;
             }
@@ -118,22 +122,24 @@ impl Locks {
     }
 
     /// Makes a place for the transaction and the key, if there is none, so that it can be locked without memory. No lock
-    /// changes, and no place goes.
+    /// changes, and each other place stays. If memory runs out, the only error, no place is made.
     pub fn reserve(&mut self, txn: TxnNo, key: &Key) -> Result<(), NoMemory>
-        ensures ok { OnOk result (IsTrue (has_place self.new txn key.now)) }
         ensures modes { (u : ℕ) → (q : List ℕ) → modes_in self.new u q ≡ modes_in self.old u q }
-        ensures places { (u : ℕ) → (q : List ℕ) → IsTrue (has_place self.old u q) → IsTrue (has_place self.new u q) }
+        ensures ok { OnOk result ((u : ℕ) → (q : List ℕ) → has_place self.new u q ≡ with_place (has_place self.old) txn key.now u q) }
+        ensures err { OnErr result ((u : ℕ) → (q : List ℕ) → has_place self.new u q ≡ has_place self.old u q) }
         ensures succeeds { IsTrue (has_place self.old txn key.now) → IsOk result }
     {
         self.table.reserve(txn, key)
     }
 
-    /// Makes a place for the parent and each key of the child, so that the child's locks can be handed up without memory.
-    /// No lock changes, and no place goes.
+    /// Makes a place for the parent at each key where the child has one, so that the child's locks can be handed up without
+    /// memory. No lock changes, and each other place stays. If memory runs out, the only error, the parent has places at
+    /// some of these keys.
     pub fn reserve_for_parent(&mut self, child: TxnNo, parent: TxnNo) -> Result<(), NoMemory>
-        ensures ok { OnOk result ((q : List ℕ) → IsTrue (has_place self.new child q) → IsTrue (has_place self.new parent q)) }
         ensures modes { (u : ℕ) → (q : List ℕ) → modes_in self.new u q ≡ modes_in self.old u q }
-        ensures places { (u : ℕ) → (q : List ℕ) → IsTrue (has_place self.old u q) → IsTrue (has_place self.new u q) }
+        ensures ok { OnOk result ((u : ℕ) → (q : List ℕ) → has_place self.new u q ≡ with_childs (has_place self.old) child parent u q) }
+        ensures err { OnErr result (IsTowards (has_place self.old) (has_place self.new) child parent) }
+        ensures succeeds { ((q : List ℕ) → IsTrue (has_place self.old child q) → IsTrue (has_place self.old parent q)) → IsOk result }
     {
         self.table.reserve_for_parent(child, parent)
     }

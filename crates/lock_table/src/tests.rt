@@ -154,3 +154,54 @@ fn an_abort_drops_what_is_below(rt: HostRuntime) -> Result<(), Fail> {
     let (mut tree, mut locks) = (Tree::new(rt.alloc()), Locks::new(rt.alloc()));
     drop_some(&rt, &mut tree, &mut locks)
 }
+
+const READERS: u8 = 30;
+
+const KEYS: u8 = 40;
+
+fn numbered_key(rt: &impl Abort, index: u8) -> Key {
+    Key::parse(&[b'a' + index / 8, b'a' + index % 8]).expect(rt, "a key")
+}
+
+fn reader(rt: &impl Abort, tree: &mut Tree, index: u8) -> TxnNo {
+    let text = [b't', b'a' + index / 8, b'a' + index % 8];
+    let name = Name::parse(&text).expect(rt, "a name");
+    match begin_once(tree, &name) {
+        Some(number) => number,
+        None => begin_once(tree, &name).expect(rt, "begun"),
+    }
+}
+
+fn read_all(rt: &impl Abort, locks: &mut Locks, txn: TxnNo) {
+    for index in 0..KEYS {
+        hold(locks, txn, &numbered_key(rt, index), Kind::Read).expect(rt, "memory");
+    }
+}
+
+// Whether all the others, the first begun first, keep the first one from a write.
+fn others_block(rt: &impl Abort, locks: &Locks, tree: &Tree, key: &Key) -> bool {
+    let found = match locks.blockers(tree, TxnNo::new(0), key, Kind::Write) {
+        Ok(found) => found,
+        Err(_) => locks
+            .blockers(tree, TxnNo::new(0), key, Kind::Write)
+            .expect(rt, "memory"),
+    };
+    found.len() == 29
+        && found.get(0).copied() == Some(TxnNo::new(1))
+        && found.get(28).copied() == Some(TxnNo::new(29))
+}
+
+#[test]
+fn many_share_many_keys(rt: HostRuntime) {
+    let (mut tree, mut locks) = (Tree::new(rt.alloc()), Locks::new(rt.alloc()));
+    for index in 0..READERS {
+        let txn = reader(&rt, &mut tree, index);
+        read_all(&rt, &mut locks, txn);
+        assert!(rt; locks.keys(txn).len() == 40);
+    }
+    for index in 0..KEYS {
+        let key = numbered_key(&rt, index);
+        assert!(rt; others_block(&rt, &locks, &tree, &key));
+        assert!(rt; locks.may(&tree, TxnNo::new(0), &key, Kind::Read));
+    }
+}

@@ -3,5 +3,5 @@ use Rattle.std.specs.List.{range_with_len}
 use Rattle.lock_table.specs.Blocking.{is_blocker_in}
 use Rattle.lock_table.proofs.locks.Locks.blockers.Given as goal
 
-abbrev pub invariant-loop-place : goal.invariant-loop-place
-invariant-loop-place l = l.found.items ≡ filter (is_blocker_in l.tree l.self l.txn l.key l.kind) (range_with_len 0 l.place)
+abbrev pub invariant-loop-number : goal.invariant-loop-number
+invariant-loop-number l = l.found.items ≡ filter (is_blocker_in l.tree l.self l.txn l.key l.kind) (range_with_len 0 l.number)
