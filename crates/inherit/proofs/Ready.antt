@@ -1,8 +1,11 @@
 -- Whoever is to go up may, whatever its number and its parent's are called.
-use Rattle.std.proofs.Common.{◌≡◌, ◌<◌, ℕ, Option, Some, None, sym, subst, arith}
+use Rattle.std.proofs.Common.{◌≡◌, ◌<◌, ℕ, Bool, true, false, ◌&&◌, ◌||◌, nat_eq, List, Option, Some, None, refl, sym, ap, subst, ◌∙◌, arith}
 use Rattle.std.specs.Prelude.{length, OnOk, Result, Ok, Err}
 use Rattle.std.specs.List.{position}
-use Rattle.txn_names.specs.Path.{Path, path_eq, parent}
+use Rattle.std.proofs.lemmas.Bool.{eq-eqb, false≢true}
+use Rattle.txn_names.proofs.Names.{label_eq_self}
+use Rattle.lock_table.specs.Locked.{with_place, with_childs}
+use Rattle.txn_names.specs.Path.{Path, label_eq, path_eq, parent}
 use Rattle.txn_tree.specs.States.{States, names}
 use Rattle.txn_tree.specs.Asked.{IsNumberOf}
 use Rattle.inherit.specs.Assets.{Assets, IsParent, MayGoUp}
@@ -33,3 +36,23 @@ module _ (tree : States) (a : Assets) (t : Path) (child : ℕ) (number : IsNumbe
 pub on_ok : {A E : Type 0} (r : Result A E) {P Q : Type 0} → (P → Q) → OnOk r P → OnOk r Q
 on_ok (Ok x) f p = f p
 on_ok (Err e) f p = p
+
+-- a place that has been made is there
+pub place_made : (old new : ℕ → List ℕ → Bool) (t : ℕ) (k : List ℕ) → ((u : ℕ) (q : List ℕ) → new u q ≡ with_place old t k u q) → new t k ≡ true
+place_made old new t k is =
+    is t k
+    ∙ ap (λ b. (b && label_eq k k) || old t k) (eq-eqb t t refl)
+    ∙ ap (λ b. b || old t k) (label_eq_self k)
+
+-- so are the parent's at the keys of the child
+pub childs_made : (old new : ℕ → List ℕ → Bool) (child parent : ℕ) → ((u : ℕ) (q : List ℕ) → new u q ≡ with_childs old child parent u q)
+    → (q : List ℕ) → new child q ≡ true → new parent q ≡ true
+childs_made old new child parent is q there =
+    is parent q
+    ∙ ap (λ b. (b && old child q) || old parent q) (eq-eqb parent parent refl)
+    ∙ by (old child q) (old parent q) (nat_eq parent child) refl (sym (is child q) ∙ there)
+  where
+    by : (c p same : Bool) → nat_eq parent child ≡ same → ((same && c) || c) ≡ true → (c || p) ≡ true
+    by true p same e h = refl
+    by false p true e h = absurd (false≢true h)
+    by false p false e h = absurd (false≢true h)

@@ -5,6 +5,7 @@ use Rattle.txn_tree.specs.States.{States}
 use Rattle.txn_tree.specs.Asked.{IsNumberOf}
 use Rattle.lock_table.specs.declared.modes.Modes.{Modes}
 use Rattle.lock_table.specs.Locked as locks
+pub use Rattle.lock_table.specs.Locked.{free}
 use Rattle.version_stack.specs.Versioned as versions
 use Rattle.serial_spec.specs.declared.event.Event.{Event}
 use Rattle.serial_spec.specs.declared.event.Event.TheVariants.{Access, Commit}
@@ -51,6 +52,12 @@ abbrev pub IsReady : States → Assets → Event → Type 0
 IsReady tree a (Access t k o) = (n : ℕ) → IsNumberOf tree t n → has_place a n k
 IsReady tree a (Commit t) = (n : ℕ) → IsNumberOf tree t n → (p : Option ℕ) → IsParent tree t p → MayGoUp a n p
 IsReady tree a event = Unit {0}
+
+-- the step of this event has its room already, and none of it is in the table
+abbrev pub HasRoom : States → Assets → Event → Type 0
+HasRoom tree a (Access t k o) = IsReady tree a (Access t k o)
+HasRoom tree a (Commit t) = (length t ≡ 1 → ⊥) × IsReady tree a (Commit t)
+HasRoom tree a event = Unit {0}
 
 -- with other room it is the same
 pub record IsSame (old new : Assets) : Type 0 where

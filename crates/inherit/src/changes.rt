@@ -26,18 +26,17 @@ impl Estate {
         ensures each { IfOk result (λ keys. (k : List ℕ) → list_any (label_eq k) keys.keys ≡ writes self.now txn k) }
     {
         let mut written = BTreeSet::new(self.alloc);
-        for place in 0..self.locks.count(txn) {
-            if let Some(key) = self.locks.key_at(txn, place) {
-                if self.writes(txn, &key) {
-                    written.insert(key)?;
-                }
+        let reserved = self.locks.keys(txn);
+        for key in reserved {
+            if self.writes(txn, key) {
+                written.insert(*key)?;
             }
         }
         Ok(written)
     }
 
     /// The keys that the transaction locks to write, in byte order, each with the value that it sees there. The only error
-    /// is want of memory.
+    /// is that memory runs out.
     pub fn changes(&self, tree: &Tree, txn: TxnNo) -> Result<Vec<Change>, NoMemory>
         ensures { IfOk result (λ changes. AreChangesOf tree.now self.now txn changes.items) }
     {

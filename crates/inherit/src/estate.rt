@@ -1,7 +1,7 @@
 //! The steps that touch locks and versions.
-ghost use Rattle.std.specs.Prelude.{◌≡◌, [], ℕ, List, None, Some, OnOk, IfNone, IfSome};
+ghost use Rattle.std.specs.Prelude.{◌≡◌, ℕ, List, None, Some, IsOk, OnOk, IfNone, IfSome};
 ghost use Rattle.txn_tree.specs.Asked.{IsNumberOf};
-ghost use Rattle.inherit.specs.Assets.{IsReady, IsSame, MayGoUp, has_place};
+ghost use Rattle.inherit.specs.Assets.{HasRoom, IsReady, IsSame, MayGoUp, free, has_place, left_of, modes_of};
 ghost use Rattle.inherit.specs.Steps.{HasAccessed, HasDropped, HasGoneUp, reply_in};
 
 use lock_table::Locks;
@@ -35,8 +35,8 @@ impl Model for Estate {
 impl Estate {
     /// No locks and no versions over this table. It takes no memory yet.
     pub fn new(alloc: Global, base: PlainTable) -> Self
-        ensures locks { result.locks ≡ [] }
-        ensures written { result.versions.written ≡ [] }
+        ensures modes { (u : ℕ) → (q : List ℕ) → modes_of result u q ≡ free }
+        ensures left { (u : ℕ) → (q : List ℕ) → left_of result u q ≡ None }
         ensures base { result.versions.base ≡ base }
     {
         Estate {
@@ -70,6 +70,7 @@ impl Estate {
 
     // Makes a place for the transaction and the key.
     fn reserve_access(&mut self, txn: TxnNo, key: &Key) -> Result<(), NoMemory>
+        ensures succeeds { has_place self.old txn key.now → IsOk result }
         ensures ok { OnOk result (has_place self.new txn key.now) }
         ensures same { IsSame self.old self.new }
     {
@@ -79,6 +80,7 @@ impl Estate {
 
     // Makes room for what the child hands to a parent that has begun.
     fn reserve_for_parent(&mut self, child: TxnNo, parent: TxnNo) -> Result<(), NoMemory>
+        ensures succeeds { MayGoUp self.old child (Some parent) → IsOk result }
         ensures ok { OnOk result (MayGoUp self.new child (Some parent)) }
         ensures same { IsSame self.old self.new }
     {
@@ -89,6 +91,7 @@ impl Estate {
     // Makes room for what a commit hands up.
     fn reserve_commit(&mut self, tree: &Tree, child: TxnNo, name: &Name) -> Result<(), NoMemory>
         requires { IsNumberOf tree.now name.now child }
+        ensures succeeds { HasRoom tree.now self.old (Event.Commit name.now) → IsOk result }
         ensures ok { OnOk result (IsReady tree.now self.new (Event.Commit name.now)) }
         ensures same { IsSame self.old self.new }
     {
@@ -102,9 +105,12 @@ impl Estate {
     }
 
     /// Makes all growths of the event's step beforehand: an access's, or a commit's. What is locked, left and seen stays.
+    /// Where the step has its room already, other than in the table, it takes no memory. The only error is that memory
+    /// runs out.
     pub fn reserve_for(&mut self, tree: &Tree, event: &Event) -> Result<(), NoMemory>
         ensures ok { OnOk result (IsReady tree.now self.new event.now) }
         ensures same { IsSame self.old self.new }
+        ensures succeeds { HasRoom tree.now self.old event.now → IsOk result }
     {
         match event {
             Event::Access(name, key, _) => match tree.no_of(name) {

@@ -141,3 +141,29 @@ fn an_overflow_locks_to_write(rt: HostRuntime) -> Result<(), Fail> {
     let (mut tree, mut estate) = (Tree::new(rt.alloc()), Estate::new(rt.alloc(), base));
     overflow(&rt, &mut tree, &mut estate, &x)
 }
+
+const KEYS: u8 = 40;
+
+fn numbered_key(rt: &impl Abort, index: u8) -> Key {
+    Key::parse(&[b'a' + index / 8, b'a' + index % 8]).expect(rt, "a key")
+}
+
+// The keys in byte order, whatever order they were written in, and none that was read alone.
+#[test]
+fn changes_stand_in_byte_order(rt: HostRuntime) -> Result<(), Fail> {
+    let (mut tree, base) = (Tree::new(rt.alloc()), PlainTable::new(rt.alloc()));
+    let mut estate = Estate::new(rt.alloc(), base);
+    let (a, top) = begin(&mut tree, "a")?;
+    for index in 0..KEYS {
+        let key = numbered_key(&rt, KEYS - 1 - index);
+        let op = if index % 2 == 0 { Op::Set(7) } else { Op::Get };
+        assert!(rt; access(&mut estate, &tree, &a, &key, op)?.is_some());
+    }
+    let found = changes(&estate, &tree, top)?;
+    assert!(rt; found.len() == 20);
+    for index in 0..20 {
+        let (key, value) = (numbered_key(&rt, 2 * index + 1), Some(7));
+        assert!(rt; found.get(index as usize).copied() == Some(Change { key, value }));
+    }
+    Ok(())
+}

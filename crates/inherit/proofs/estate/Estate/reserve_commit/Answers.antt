@@ -25,3 +25,16 @@ returns-in-None-clause-ok c =
     let t = c.args.name.now in
     let top : length t ≡ 1 = search rules in
     on_ok c.reserve_for_base.result (ready_top c.args.tree.now (record { locks = c.self.inside.locks; versions = c.reserve_for_base.new.self }) t c.args.child c.requires top) c.reserve_for_base.ensures.ok
+
+pub returns-in-Some-no_of-clause-succeeds : goal.returns-in-Some-no_of-clause-succeeds
+returns-in-Some-no_of-clause-succeeds c =
+    let t = c.args.name.now in
+    let p = c.in-Some-no_of.parent in
+    let is : IsNumberOf c.args.tree.now (parent t) p = search rules in
+    let below : 1 < length t = search rules in
+    λ room. c.reserve_for_parent.ensures.succeeds (room.1 c.args.child c.requires (Some p) (below, is))
+
+pub returns-in-None-clause-succeeds : goal.returns-in-None-clause-succeeds
+returns-in-None-clause-succeeds c =
+    let top : length c.args.name.now ≡ 1 = search rules in
+    λ room. absurd (room.0 top)
