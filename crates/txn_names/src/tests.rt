@@ -1,9 +1,10 @@
 //! The worked values of names, that each call can succeed, and where a fault of the writer stops a name.
 use crate::{Change, Key, KeyFault, Label, LabelFault, Name, NameFault, laws};
+use std::alloc::Global;
 use std::hash::{DefaultHasher, Hash, Hasher};
 use std::io;
 use std::io::{ErrorKind, Write};
-use std::test::Fail;
+use std::process::Abort;
 use txn_bytes::WriteFault;
 
 /// Takes one byte at each of `calls` calls, and then answers an error, or that it took nothing.
@@ -34,8 +35,16 @@ impl Write for Halting {
     }
 }
 
-fn name(text: &str) -> Result<Name, Fail> {
-    Ok(Name::parse(text.as_bytes())?)
+fn name(rt: &impl Abort, text: &str) -> Name {
+    Name::parse(text.as_bytes()).expect(rt, text)
+}
+
+fn label(rt: &impl Abort, text: &str) -> Label {
+    Label::parse(text.as_bytes()).expect(rt, text)
+}
+
+fn key(rt: &impl Abort, text: &str) -> Key {
+    Key::parse(text.as_bytes()).expect(rt, text)
 }
 
 fn hash_of<T: Hash>(value: &T) -> u64 {
@@ -48,9 +57,23 @@ fn greater<T: Ord + Copy>(a: T, b: T) -> T {
     if a < b { b } else { a }
 }
 
+// Whether this is the parent, or the text is empty and there is none.
+fn is_parent(rt: &impl Abort, child: &str, parent: &str) -> bool {
+    match name(rt, child).parent() {
+        Some(found) => !parent.is_empty() && found == name(rt, parent),
+        None => parent.is_empty(),
+    }
+}
+
+// Whether this is the front of so many labels.
+fn is_front_of(rt: &impl Abort, whole: &str, depth: usize, front: &str) -> bool {
+    let whole = name(rt, whole);
+    0 < depth && depth <= whole.depth() && whole.front(depth) == name(rt, front)
+}
+
 #[test]
-fn reads_names(rt: HostRuntime) -> Result<(), Fail> {
-    let faults = [
+fn refuses_names(rt: HostRuntime) {
+    for (text, fault) in [
         ("", NameFault::Empty),
         ("a//b", NameFault::Empty),
         ("/a", NameFault::Empty),
@@ -59,91 +82,115 @@ fn reads_names(rt: HostRuntime) -> Result<(), Fail> {
         ("a b", NameFault::BadByte),
         ("aaaaaaaaaaaaaaaaa", NameFault::Long),
         ("a/b/c/d/e/f/g/h/i", NameFault::Deep),
-    ];
-    for (text, fault) in faults {
-        let read = Name::parse(text.as_bytes());
-        assert!(rt; matches!(read, Err(found) if found == fault), "{text}");
+    ] {
+        assert!(rt; Name::parse(text.as_bytes()).err() == Some(fault), "{text}");
     }
-    let deepest = "0123456789abcdef/b/c/d/e/f/g/z";
-    assert_eq!(rt; name(deepest)?.depth(), 8);
-    let child = name("a/b")?;
-    assert_eq!(rt; child.depth(), 2);
-    assert!(rt; child.parent() == Some(name("a")?));
-    assert!(rt; name("a")?.parent() == None);
-    assert!(rt; child.front(1) == name("a")? && child != name("b/a")?);
-    assert_eq!(rt; hash_of(&child), hash_of(&name("a/b")?));
-    assert_ne!(rt; hash_of(&child), hash_of(&name("ab")?));
-    Ok(())
 }
 
 #[test]
-fn relates_names(rt: HostRuntime) -> Result<(), Fail> {
-    assert_eq!(rt; Name::meet_depth(&name("a/b/c")?, &name("a/b/d")?), 2);
-    assert_eq!(rt; Name::meet_depth(&name("a")?, &name("ab")?), 0);
+fn reads_names(rt: HostRuntime) {
+    for (text, depth, parent) in [
+        ("a", 1, ""),
+        ("a/b", 2, "a"),
+        (
+            "0123456789abcdef/b/c/d/e/f/g/z",
+            8,
+            "0123456789abcdef/b/c/d/e/f/g",
+        ),
+    ] {
+        assert!(rt; name(&rt, text).depth() == depth, "{text}");
+        assert!(rt; is_parent(&rt, text, parent), "{text}");
+        assert!(rt; is_front_of(&rt, text, depth, text), "{text}");
+    }
+    assert!(rt; is_front_of(&rt, "a/b", 1, "a"));
+    assert!(rt; name(&rt, "a/b") != name(&rt, "b/a"));
+    assert!(rt; hash_of(&name(&rt, "a/b")) == hash_of(&name(&rt, "a/b")));
+    assert!(rt; hash_of(&name(&rt, "a/b")) != hash_of(&name(&rt, "ab")));
+}
+
+// How many leading labels two names share.
+fn met(rt: &impl Abort, a: &str, b: &str) -> usize {
+    Name::meet_depth(&name(rt, a), &name(rt, b))
+}
+
+#[test]
+fn relates_names(rt: HostRuntime) {
+    for (a, b, depth) in [("a/b/c", "a/b/d", 2), ("a", "ab", 0)] {
+        assert!(rt; met(&rt, a, b) == depth, "{a} and {b}");
+    }
     for (front, whole, want) in [("a", "a/b", true), ("a", "a", true), ("a", "ab", false)] {
-        let is_front = name(front)?.is_ancestor_or_self(&name(whole)?);
-        assert_eq!(rt; is_front, want, "{front} of {whole}");
+        let is_front = name(&rt, front).is_ancestor_or_self(&name(&rt, whole));
+        assert!(rt; is_front == want, "{front} of {whole}");
     }
-    Ok(())
+}
+
+// Whether a writer that halts after so many calls has taken just this of the name `ab/c`, and the end was told.
+fn halts(rt: &impl Abort, alloc: Global, fails: bool, calls: usize, want: &str) -> bool {
+    let taken = Vec::new(alloc);
+    let mut out = Halting {
+        taken,
+        calls,
+        fails,
+    };
+    let told = name(rt, "ab/c").write_to(&mut out);
+    let wanted = if calls == 4 { Ok(()) } else { Err(WriteFault) };
+    told == wanted && out.taken.as_slice() == want.as_bytes()
 }
 
 #[test]
-fn writes_names(rt: HostRuntime) -> Result<(), Fail> {
+fn writes_names(rt: HostRuntime) {
     let mut all = Vec::new(rt.alloc());
-    assert_eq!(rt; name("ab/c")?.write_to(&mut all), Ok(()));
-    assert_eq!(rt; all.as_slice(), b"ab/c".as_slice());
+    assert!(rt; name(&rt, "ab/c").write_to(&mut all) == Ok(()));
+    assert!(rt; all.as_slice() == b"ab/c".as_slice());
     for (calls, want) in [(0, ""), (1, "a"), (2, "ab"), (3, "ab/"), (4, "ab/c")] {
         for fails in [false, true] {
-            let taken = Vec::new(rt.alloc());
-            let mut out = Halting {
-                taken,
-                calls,
-                fails,
-            };
-            let wanted = if calls == 4 { Ok(()) } else { Err(WriteFault) };
-            assert_eq!(rt;
-                name("ab/c")?.write_to(&mut out),
-                wanted,
-                "after {calls} calls"
-            );
-            assert_eq!(rt;
-                out.taken.as_slice(),
-                want.as_bytes(),
+            assert!(rt;
+                halts(&rt, rt.alloc(), fails, calls, want),
                 "after {calls} calls"
             );
         }
     }
-    Ok(())
 }
 
 #[test]
-fn reads_labels_and_keys(rt: HostRuntime) -> Result<(), Fail> {
-    let (label, key) = (Label::parse(b"s1")?, Key::parse(b"a.b_c-9")?);
-    assert_eq!(rt; label.as_bytes(), b"s1".as_slice());
-    assert_eq!(rt; key.as_bytes(), b"a.b_c-9".as_slice());
-    assert!(rt; greater(label, Label::parse(b"s")?) == label);
-    assert!(rt; greater(key, Key::parse(b"a")?) == key);
-    assert_eq!(rt; hash_of(&key), hash_of(&Key::parse(b"a.b_c-9")?));
-    assert_eq!(rt; hash_of(&label), hash_of(&Label::parse(b"s1")?));
-    assert!(rt; matches!(Label::parse(b""), Err(LabelFault::Empty)));
-    assert!(rt; matches!(Label::parse(b"a.b"), Err(LabelFault::BadByte)));
-    assert!(rt; matches!(Label::parse(b"aaaaaaaaaaaaaaaaa"), Err(LabelFault::Long)));
-    assert!(rt; matches!(Key::parse(b""), Err(KeyFault::Empty)));
-    assert!(rt; matches!(Key::parse(b"a/b"), Err(KeyFault::BadByte)));
-    assert!(rt;
-        matches!(
-            Key::parse(b"aaaaaaaaaaaaaaaaaaaaaaaaaaaaaaaaa"),
-            Err(KeyFault::Long)
-        )
-    );
-    let change = Change { key, value: None };
-    assert!(rt;
-        change
-            != Change {
-                key,
-                value: Some(0)
-            }
-    );
+fn refuses_labels_and_keys(rt: HostRuntime) {
+    for (text, fault) in [
+        ("", LabelFault::Empty),
+        ("a.b", LabelFault::BadByte),
+        ("aaaaaaaaaaaaaaaaa", LabelFault::Long),
+    ] {
+        assert!(rt;
+            Label::parse(text.as_bytes()).err() == Some(fault),
+            "{text}"
+        );
+    }
+    for (text, fault) in [
+        ("", KeyFault::Empty),
+        ("a/b", KeyFault::BadByte),
+        ("aaaaaaaaaaaaaaaaaaaaaaaaaaaaaaaaa", KeyFault::Long),
+    ] {
+        assert!(rt; Key::parse(text.as_bytes()).err() == Some(fault), "{text}");
+    }
+}
+
+#[test]
+fn reads_labels_and_keys(rt: HostRuntime) {
+    let (label_read, key_read) = (label(&rt, "s1"), key(&rt, "a.b_c-9"));
+    assert!(rt; label_read.as_bytes() == b"s1".as_slice());
+    assert!(rt; key_read.as_bytes() == b"a.b_c-9".as_slice());
+    assert!(rt; greater(label_read, label(&rt, "s")) == label_read);
+    assert!(rt; greater(key_read, key(&rt, "a")) == key_read);
+    assert!(rt; hash_of(&label_read) == hash_of(&label(&rt, "s1")));
+    assert!(rt; hash_of(&key_read) == hash_of(&key(&rt, "a.b_c-9")));
+}
+
+fn change(key: Key, value: Option<i64>) -> Change {
+    Change { key, value }
+}
+
+#[test]
+fn tells_changes_apart(rt: HostRuntime) {
+    let key = key(&rt, "a");
+    assert!(rt; change(key, None) != change(key, Some(0)));
     laws::paths_decided();
-    Ok(())
 }
