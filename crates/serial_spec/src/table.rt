@@ -58,7 +58,7 @@ impl PlainTable {
         }
     }
 
-    /// A table of the same rows. The only error is want of memory.
+    /// A table of the same rows. The only error is that memory runs out.
     pub fn copy(&self) -> Result<Self, NoMemory>
         ensures { IfOk result (λ t. t.rows ≡ self.now.rows) }
     {
@@ -74,17 +74,19 @@ impl PlainTable {
         value_at(&self.rows, place, key)
     }
 
-    /// Makes room for more rows. The only error is want of memory.
+    /// Makes room for more rows, and changes none. The only error is that memory runs out. Where there is room for so many
+    /// already, it succeeds.
     pub fn reserve(&mut self, additional: usize) -> Result<(), NoMemory>
         ensures rows { self.new.rows ≡ self.old.rows }
         ensures room { OnOk result (additional ≤ self.new.room) }
+        ensures succeeds { additional ≤ self.old.room → IsOk result }
         ensures kept { self.old.room ≤ self.new.room }
     {
         self.rows.reserve(additional)
     }
 
     /// Gives the key a value, or takes its row out. It takes no memory where there is room, where the key has a row,
-    /// or where the row goes. At want of memory, the only error, the table is as before.
+    /// or where the row goes. If memory runs out, which is the only error, the table is as before.
     pub fn put(&mut self, key: &Key, value: Option<i64>) -> Result<(), NoMemory>
         ensures ok { OnOk result (value_in self.new.rows ≡ put (value_in self.old.rows) key.now value) }
         ensures err { OnErr result (self.new ≡ self.old) }
