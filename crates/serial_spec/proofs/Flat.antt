@@ -58,17 +58,3 @@ after_behind m xs (i ∷ items) =
 -- the accesses one by one leave what the items leave
 pub map_after-nested : (m : Map) (items : List Item) → map_after m (nested items) ≡ after_steps m (flat items)
 map_after-nested m items = after_behind m NoItems items
-
--- Words for those who make items: one more item, and a block
-
-pub nested-push : (items : List Item) (i : Item) → nested (items ++ i ∷ []) ≡ with_nested (nested items) i
-nested-push items i = fold-append with_nested NoItems items (i ∷ [])
-
-with_all_row : (xs : Items) (n : _) (row : Row_of-Item n) → with_all xs row ≡ fold with_nested xs (items-the_row-Item n row)
-with_all_row xs n end_of-Item = refl
-with_all_row xs n (more_of-Item i rest) = with_all_row (with_nested xs i) _ rest
-
-pub with_nested-Block : (xs : Items) (items : Vec Item Global) → with_nested xs (Block items) ≡ Blocked (nested items.items) xs
-with_nested-Block xs items =
-    let row = row_of (Block items) in
-    ap (λ b. Blocked b xs) (with_all_row NoItems row.0 row.1 ∙ ap nested (items_hidden-the_row-Item-0 items))

@@ -12,31 +12,15 @@ use Rattle.txn_names.proofs.Names.{same_label, on_test}
 use Rattle.serial_spec.specs.Serial.{put}
 use Rattle.serial_spec.specs.Rows.{Rows, value_in, AreRisingKeys, IsRising}
 use Rattle.serial_spec.specs.Places.{is_below, rank, matching}
+use Rattle.serial_spec.proofs.Ordered.{on_ordering, above_all, turned, none_above}
 
 abbrev Row : Type 0
 Row = List ℕ × ℤ
 
 -- ---- the order of keys
 
-on_ordering : (o : Ordering) (P : Ordering → Type 0) → (o ≡ Less → P Less) → (o ≡ Equal → P Equal) → (o ≡ Greater → P Greater) → P o
-on_ordering Less P f g h = f refl
-on_ordering Equal P f g h = g refl
-on_ordering Greater P f g h = h refl
-
 eq_by : (a b : List ℕ) (o : Ordering) → slice_cmp nat_cmp a b ≡ o → label_eq a b ≡ is_eq o
 eq_by a b o e = texts_ties a b ∙ ap is_eq e
-
-turned : (a b : List ℕ) → slice_cmp nat_cmp a b ≡ Greater → slice_cmp nat_cmp b a ≡ Less
-turned a b e = nat_list_cmp_total.antisymm b a ∙ ap ordering_reverse e
-
-above_all : (a b : List ℕ) (ks : List (List ℕ)) → slice_cmp nat_cmp a b ≡ Less → AllByRecursion (λ q. slice_cmp nat_cmp b q ≡ Less) ks → AllByRecursion (λ q. slice_cmp nat_cmp a q ≡ Less) ks
-above_all a b [] e h = tt
-above_all a b (k ∷ ks) e h = (nat_list_cmp_total.trans a b k e h.0, above_all a b ks e h.1)
-
--- a key below all those of the rows has no row
-none_above : (k : List ℕ) (rows : Rows) → AllByRecursion (λ q. slice_cmp nat_cmp k q ≡ Less) (map (λ r. r.0) rows) → value_in rows k ≡ None
-none_above k [] h = refl
-none_above k (r ∷ rows) h = ap (λ b. cond b (Some r.1) (value_in rows k)) (nat_list_eq_equiv.symm r.0 k ∙ eq_by k r.0 Less h.0) ∙ none_above k rows h.1
 
 -- ---- the value at the place
 
