@@ -3,8 +3,46 @@ use crate::{
     Answer, By, Entry, Event, Item, Kind, Mode, NoMemory, Op, PlainTable, Reply, act, run_items,
 };
 use std::alloc::Global;
-use std::test::Fail;
+use std::process::Abort;
 use txn_names::{Key, Name};
+
+fn key(rt: &impl Abort, text: &str) -> Key {
+    Key::parse(text.as_bytes()).expect(rt, text)
+}
+
+// The keys k100, k101, ..
+fn key_of(rt: &impl Abort, alloc: Global, number: i64) -> Key {
+    let text = format!(in alloc; "k{number}").expect(rt, "memory");
+    key(rt, &text)
+}
+
+fn put(rt: &impl Abort, table: &mut PlainTable, text: &str, value: Option<i64>) {
+    table.put(&key(rt, text), value).expect(rt, text);
+}
+
+// Puts by falling keys, so that each row goes before all others.
+fn put_hundred(rt: &impl Abort, alloc: Global, table: &mut PlainTable) {
+    for number in 100..200 {
+        let key = key_of(rt, alloc, 299 - number);
+        table.put(&key, Some(number)).expect(rt, "memory");
+    }
+}
+
+fn copy_of(rt: &impl Abort, table: &PlainTable) -> PlainTable {
+    table.copy().expect(rt, "memory")
+}
+
+fn get(rt: &impl Abort, table: &PlainTable, text: &str) -> Option<i64> {
+    table.get(&key(rt, text))
+}
+
+// Whether the row at this place has the key and the value.
+fn is_at(rt: &impl Abort, table: &PlainTable, place: usize, text: &str, value: i64) -> bool {
+    match table.at(place) {
+        Some((found, held)) => *found == key(rt, text) && held == value,
+        None => false,
+    }
+}
 
 fn access(key: &Key, op: Op, reply: Reply) -> Item {
     Item::Access {
@@ -28,6 +66,30 @@ fn nested(alloc: Global, x: &Key, y: &Key, inner: Reply) -> Result<Vec<Item>, No
         access(x, Op::Get, Reply::Absent),
     ]?;
     Ok(items)
+}
+
+// A key that is set, and read back in a block within the block.
+fn set_and_got(alloc: Global, key: &Key, value: i64) -> Result<Item, NoMemory> {
+    let inner = vec![in alloc; access(key, Op::Get, Reply::Value(value))]?;
+    let block = vec![in alloc; access(key, Op::Set(value), Reply::Ok), Item::Block(inner)]?;
+    Ok(Item::Block(block))
+}
+
+// A hundred such blocks, and behind them an access with this reply.
+fn hundred_blocks(rt: &impl Abort, alloc: Global, last: Reply) -> Vec<Item> {
+    let mut items = Vec::new(alloc);
+    for number in 100..200 {
+        let item = set_and_got(alloc, &key_of(rt, alloc, number), number).expect(rt, "memory");
+        items.push(item).expect(rt, "memory");
+    }
+    items
+        .push(access(&key(rt, "k199"), Op::Get, last))
+        .expect(rt, "memory");
+    items
+}
+
+fn run(rt: &impl Abort, table: &mut PlainTable, items: &[Item]) -> Option<usize> {
+    run_items(table, items).expect(rt, "memory")
 }
 
 #[test]
@@ -62,81 +124,90 @@ fn modes_keep_out(rt: HostRuntime) {
 }
 
 #[test]
-fn keeps_rows_in_order(rt: HostRuntime) -> Result<(), Fail> {
-    let (a, b, c) = (Key::parse(b"a")?, Key::parse(b"b")?, Key::parse(b"c")?);
+fn keeps_rows_in_order(rt: HostRuntime) {
     let mut table = PlainTable::new(rt.alloc());
     assert!(rt; table.is_empty());
-    for (key, value) in [
-        (&c, Some(3)),
-        (&a, Some(1)),
-        (&b, Some(2)),
-        (&a, Some(-1)),
-        (&b, None),
+    for (text, value) in [
+        ("c", Some(3)),
+        ("a", Some(1)),
+        ("b", Some(2)),
+        ("a", Some(-1)),
+        ("b", None),
     ] {
-        table.put(key, value)?;
+        put(&rt, &mut table, text, value);
     }
-    assert_eq!(rt;
-        (table.get(&a), table.get(&b), table.get(&c)),
-        (Some(-1), None, Some(3))
-    );
-    let copy = table.copy()?;
-    table.put(&c, None)?;
-    assert_eq!(rt; (table.len(), copy.len()), (1, 2));
-    assert!(rt;
-        copy.at(0) == Some((&a, -1)) && copy.at(1) == Some((&c, 3)) && copy.at(2).is_none()
-    );
-    Ok(())
+    for (text, value) in [("a", Some(-1)), ("b", None), ("c", Some(3))] {
+        assert!(rt; get(&rt, &table, text) == value, "{text}");
+    }
+    let copy = copy_of(&rt, &table);
+    put(&rt, &mut table, "c", None);
+    assert!(rt; table.len() == 1 && copy.len() == 2 && copy.at(2).is_none());
+    assert!(rt; is_at(&rt, &copy, 0, "a", -1) && is_at(&rt, &copy, 1, "c", 3));
 }
 
 #[test]
-fn puts_into_room(rt: HostRuntime) -> Result<(), Fail> {
-    let (a, b) = (Key::parse(b"a")?, Key::parse(b"b")?);
+fn holds_a_hundred_rows(rt: HostRuntime) {
     let mut table = PlainTable::new(rt.alloc());
-    table.reserve(2)?;
-    assert!(rt; table.is_empty());
-    for (key, value) in [(&b, 2), (&a, 1)] {
-        table.put(key, Some(value))?;
-    }
-    assert_eq!(rt;
-        (table.get(&a), table.get(&b), table.len()),
-        (Some(1), Some(2), 2)
-    );
-    Ok(())
+    put_hundred(&rt, rt.alloc(), &mut table);
+    let copy = copy_of(&rt, &table);
+    put(&rt, &mut table, "k150", None);
+    assert!(rt; table.len() == 99 && copy.len() == 100);
+    assert!(rt; is_at(&rt, &copy, 0, "k100", 199) && is_at(&rt, &copy, 99, "k199", 100));
+    assert!(rt; get(&rt, &table, "k150").is_none() && get(&rt, &copy, "k150") == Some(149));
 }
 
 #[test]
-fn runs_nested_items(rt: HostRuntime) -> Result<(), Fail> {
-    let (x, y) = (Key::parse(b"x")?, Key::parse(b"y")?);
+fn puts_into_room(rt: HostRuntime) {
+    let mut table = PlainTable::new(rt.alloc());
+    table.reserve(100).expect(&rt, "memory");
+    assert!(rt; table.is_empty());
+    put_hundred(&rt, rt.alloc(), &mut table);
+    assert!(rt; table.len() == 100 && get(&rt, &table, "k101") == Some(198));
+}
+
+#[test]
+fn runs_nested_items(rt: HostRuntime) {
+    let (x, y) = (key(&rt, "x"), key(&rt, "y"));
     for (inner, want) in [(Reply::New(14), None), (Reply::New(4), Some(2))] {
         let mut table = PlainTable::new(rt.alloc());
-        table.put(&y, Some(10))?;
-        let items = nested(rt.alloc(), &x, &y, inner)?;
-        assert_eq!(rt; run_items(&mut table, &items)?, want);
-        assert_eq!(rt;
-            (table.get(&x), table.get(&y), table.len()),
-            (None, Some(14), 1)
-        );
+        put(&rt, &mut table, "y", Some(10));
+        let items = nested(rt.alloc(), &x, &y, inner).expect(&rt, "memory");
+        assert!(rt; run(&rt, &mut table, &items) == want);
+        assert!(rt; table.len() == 1 && table.get(&y) == Some(14));
     }
-    Ok(())
 }
 
 #[test]
-fn adds_an_entry(rt: HostRuntime) -> Result<(), Fail> {
-    let event = Event::Begin(Name::parse(b"a")?);
+fn runs_many_items(rt: HostRuntime) {
+    for (last, want) in [(Reply::Value(199), None), (Reply::Absent, Some(200))] {
+        let mut table = PlainTable::new(rt.alloc());
+        let items = hundred_blocks(&rt, rt.alloc(), last);
+        assert!(rt; run(&rt, &mut table, &items) == want);
+        assert!(rt; table.len() == 100 && is_at(&rt, &table, 99, "k199", 199));
+    }
+}
+
+// The entry in a list of its own.
+fn added(rt: &impl Abort, alloc: Global, entry: &Entry) -> Vec<Entry> {
+    let mut entries = Vec::new(alloc);
+    entries.try_reserve(1).expect(rt, "memory");
+    if entries.len() < entries.capacity() {
+        entry.add_to(&mut entries);
+    }
+    entries
+}
+
+#[test]
+fn adds_an_entry(rt: HostRuntime) {
+    let name = Name::parse(b"a").expect(&rt, "a");
     let by = By::Line {
         session: 0,
         line: 1,
     };
     let entry = Entry {
         by,
-        event,
+        event: Event::Begin(name),
         answer: Answer::Done(Reply::Ok),
     };
-    let mut entries = Vec::new(rt.alloc());
-    entries.try_reserve(1)?;
-    if entries.len() < entries.capacity() {
-        entry.add_to(&mut entries);
-    }
-    assert!(rt; entries.as_slice() == [entry].as_slice());
-    Ok(())
+    assert!(rt; added(&rt, rt.alloc(), &entry).as_slice() == [entry].as_slice());
 }
