@@ -1,53 +1,78 @@
 //! Which front is the topmost, and that a refused growth leaves the marks: a trial run has each growth refused in turn.
-ghost use Rattle.std.specs.Prelude.{◌≤◌, OnOk};
+ghost use Rattle.std.specs.Prelude.{◌≤◌};
 
 use crate::Marks;
+use std::alloc::Global;
 use std::process::Abort;
-use std::test::Fail;
 use txn_names::Name;
 
-fn name(text: &str) -> Result<Name, Fail> {
-    Ok(Name::parse(text.as_bytes())?)
+fn name(rt: &impl Abort, text: &str) -> Name {
+    Name::parse(text.as_bytes()).expect(rt, text)
 }
 
 // Makes room. Where that is refused, what is marked stays, and the call made again succeeds.
-fn make_room(
-    rt: &impl Abort,
-    marks: &mut Marks,
-    additional: usize,
-    marked: &Name,
-) -> Result<(), Fail>
-    ensures { OnOk result (additional ≤ marks.new.room) }
+fn make_room(rt: &impl Abort, marks: &mut Marks, additional: usize, marked: &Name)
+    ensures { additional ≤ marks.new.room }
 {
     let top = marks.top_aborted(marked);
     if marks.reserve(additional).is_err() {
         assert!(rt; marks.top_aborted(marked) == top);
-        marks.reserve(additional)?;
+        marks.reserve(additional).expect(rt, "memory");
     }
-    Ok(())
+}
+
+fn mark(rt: &impl Abort, marks: &mut Marks, text: &str) {
+    let name = name(rt, text);
+    make_room(rt, marks, 1, &name);
+    marks.mark(&name);
+}
+
+// Whether this is the topmost aborted one, or the text is empty and there is none.
+fn is_top(rt: &impl Abort, marks: &Marks, text: &str, top: &str) -> bool {
+    match marks.top_aborted(&name(rt, text)) {
+        Some(found) => !top.is_empty() && found == name(rt, top),
+        None => top.is_empty(),
+    }
 }
 
 #[test]
-fn answers_the_topmost_mark(rt: HostRuntime) -> Result<(), Fail> {
-    let (upper, lower) = (name("a/b")?, name("a/b/c")?);
+fn answers_the_topmost_mark(rt: HostRuntime) {
     let mut marks = Marks::new(rt.alloc());
-    make_room(&rt, &mut marks, 1, &lower)?;
-    marks.mark(&lower);
-    assert!(rt; marks.top_aborted(&name("a/b/c/d")?) == Some(lower));
-    make_room(&rt, &mut marks, 1000, &lower)?;
-    marks.mark(&upper);
-    marks.mark(&upper);
-    let cases = [
-        ("a/b/c/d", true),
-        ("a/b/c", true),
-        ("a/b", true),
-        ("a", false),
-        ("a/bc", false),
-        ("b/a/b", false),
-    ];
-    for (text, is_orphan) in cases {
-        let wanted = if is_orphan { Some(upper) } else { None };
-        assert!(rt; marks.top_aborted(&name(text)?) == wanted, "{text}");
+    mark(&rt, &mut marks, "a/b/c");
+    assert!(rt; is_top(&rt, &marks, "a/b/c/d", "a/b/c"));
+    make_room(&rt, &mut marks, 1000, &name(&rt, "a/b/c"));
+    mark(&rt, &mut marks, "a/b");
+    mark(&rt, &mut marks, "a/b");
+    for (text, top) in [
+        ("a/b/c/d", "a/b"),
+        ("a/b/c", "a/b"),
+        ("a/b", "a/b"),
+        ("a", ""),
+        ("a/bc", ""),
+        ("b/a/b", ""),
+    ] {
+        assert!(rt; is_top(&rt, &marks, text, top), "{text}");
     }
-    Ok(())
+}
+
+// The path of 8 labels to a transaction of this number.
+fn path(rt: &impl Abort, alloc: Global, number: usize) -> String {
+    match format!(in alloc; "a/b/c/d/e/f/t{number}/h") {
+        Ok(text) => text,
+        Err(_) => format!(in alloc; "a/b/c/d/e/f/t{number}/h").expect(rt, "memory"),
+    }
+}
+
+#[test]
+fn holds_a_hundred_marks(rt: HostRuntime) {
+    let mut marks = Marks::new(rt.alloc());
+    for number in 0..100 {
+        mark(&rt, &mut marks, &path(&rt, rt.alloc(), number));
+    }
+    for number in 0..100 {
+        let text = path(&rt, rt.alloc(), number);
+        assert!(rt; is_top(&rt, &marks, &text, &text), "{number}");
+    }
+    assert!(rt; is_top(&rt, &marks, &path(&rt, rt.alloc(), 100), ""));
+    assert!(rt; is_top(&rt, &marks, "a/b/c/d/e/f/t99", ""));
 }
