@@ -1,21 +1,51 @@
 //! Texts with the faults that they are due, and what is read of those without one.
 use crate::{LineKind, Sessions, TextFault, parse_line};
-use serial_spec::{Event, NoMemory, Op, When};
-use std::alloc::{AllocError, Global};
-use std::test::Fail;
+use serial_spec::{Event, Op, When};
+use std::alloc::Global;
+use std::process::Abort;
 use txn_names::{Key, Label, Name};
 
-// The line and the kind of the first fault, where there is one.
-fn fault_of(alloc: Global, text: &[u8]) -> Result<Option<(usize, LineKind)>, NoMemory> {
+fn name(rt: &impl Abort, text: &str) -> Name {
+    Name::parse(text.as_bytes()).expect(rt, text)
+}
+
+fn key(rt: &impl Abort, text: &str) -> Key {
+    Key::parse(text.as_bytes()).expect(rt, text)
+}
+
+fn sessions_of(rt: &impl Abort, alloc: Global, text: &str) -> Sessions {
+    match Sessions::parse(alloc, text.as_bytes()) {
+        Ok(sessions) => sessions,
+        Err(_) => panic!(rt; "{text}"),
+    }
+}
+
+// Whether this is the first fault of the text, or the text is whole and there is none.
+fn is_fault(alloc: Global, text: &[u8], fault: Option<(usize, LineKind)>) -> bool {
     match Sessions::parse(alloc, text) {
-        Ok(_) => Ok(None),
-        Err(TextFault::Bad { line, kind }) => Ok(Some((line, kind))),
-        Err(TextFault::NoMemory) => Err(AllocError),
+        Ok(_) => fault.is_none(),
+        Err(TextFault::Bad { line, kind }) => fault == Some((line, kind)),
+        Err(TextFault::NoMemory) => false,
+    }
+}
+
+// Whether the session has this line, which asks this and is spelled so.
+fn is_line(sessions: &Sessions, session: u32, line: u32, event: Event, spelled: &str) -> bool {
+    match sessions.line(session, line) {
+        Some(found) => *found.event() == event && found.text() == spelled.as_bytes(),
+        None => false,
+    }
+}
+
+fn is_label(rt: &impl Abort, sessions: &Sessions, session: u32, text: &str) -> bool {
+    match sessions.label(session) {
+        Some(found) => *found == Label::parse(text.as_bytes()).expect(rt, text),
+        None => false,
     }
 }
 
 #[test]
-fn texts_and_their_faults(rt: HostRuntime) -> Result<(), Fail> {
+fn texts_and_their_faults(rt: HostRuntime) {
     for (text, fault) in [
         ("", None),
         ("session s\n", None),
@@ -55,14 +85,13 @@ fn texts_and_their_faults(rt: HostRuntime) -> Result<(), Fail> {
             Some((4, LineKind::Word)),
         ),
     ] {
-        assert_eq!(rt; fault_of(rt.alloc(), text.as_bytes())?, fault, "{text}");
+        assert!(rt; is_fault(rt.alloc(), text.as_bytes(), fault), "{text}");
     }
-    Ok(())
 }
 
 // A text says what is asked, in any order: what may be done is for the run to answer.
 #[test]
-fn every_command_but_after_is_served(rt: HostRuntime) -> Result<(), Fail> {
+fn every_command_but_after_is_served(rt: HostRuntime) {
     for text in [
         "session s\nget a x\n",
         "session s\nbegin a/b/c/d/e/f/g/h\n",
@@ -70,13 +99,12 @@ fn every_command_but_after_is_served(rt: HostRuntime) -> Result<(), Fail> {
         "session s\nbegin a\nget a/b x\nget b x\nset c/d x 1\n",
         "session s\nadd a x 1\ndel b x\nabort a/b\ncommit c\nbegin a\n",
     ] {
-        assert_eq!(rt; fault_of(rt.alloc(), text.as_bytes())?, None, "{text}");
+        assert!(rt; is_fault(rt.alloc(), text.as_bytes(), None), "{text}");
     }
-    Ok(())
 }
 
 #[test]
-fn lines_that_are_not_served_yet(rt: HostRuntime) -> Result<(), Fail> {
+fn lines_that_are_not_served_yet(rt: HostRuntime) {
     for (text, fault) in [
         ("session s\nsession q\n", (2, LineKind::Header)),
         ("session s\nsession Q\n", (2, LineKind::Label)),
@@ -87,61 +115,69 @@ fn lines_that_are_not_served_yet(rt: HostRuntime) -> Result<(), Fail> {
         ("session s\nafter A begun\n", (2, LineKind::Name)),
         ("after a begun\n", (1, LineKind::Header)),
     ] {
-        assert_eq!(rt;
-            fault_of(rt.alloc(), text.as_bytes())?,
-            Some(fault),
+        assert!(rt;
+            is_fault(rt.alloc(), text.as_bytes(), Some(fault)),
             "{text}"
         );
     }
-    Ok(())
+}
+
+fn headers(rt: &impl Abort, alloc: Global, count: usize) -> String {
+    let mut text = String::new(alloc);
+    for i in 0..count {
+        let header = format!(in alloc; "session s{i}\n").expect(rt, "memory");
+        text.push_str(&header).expect(rt, "memory");
+    }
+    text
 }
 
 #[test]
-fn many_headers(rt: HostRuntime) -> Result<(), Fail> {
-    let mut headers = String::new(rt.alloc());
-    for i in 0..65 {
-        headers.push_str(&format!(in rt.alloc(); "session s{i}\n")?)?;
+fn many_headers(rt: HostRuntime) {
+    let text = headers(&rt, rt.alloc(), 65);
+    let fault = Some((2, LineKind::Header));
+    assert!(rt; is_fault(rt.alloc(), text.as_bytes(), fault));
+}
+
+// A session of so many lines, and what stands behind them.
+fn long_session(rt: &impl Abort, alloc: Global, count: usize, last: &str) -> String {
+    let mut text = String::new(alloc);
+    text.push_str("session s\nbegin a\n").expect(rt, "memory");
+    for _ in 1..count {
+        text.push_str("get a x\n").expect(rt, "memory");
     }
-    assert_eq!(rt;
-        fault_of(rt.alloc(), headers.as_bytes())?,
-        Some((2, LineKind::Header))
-    );
-    Ok(())
+    text.push_str(last).expect(rt, "memory");
+    text
 }
 
 #[test]
-fn one_line_too_many(rt: HostRuntime) -> Result<(), Fail> {
-    let mut lines = String::new(rt.alloc());
-    lines.push_str("session s\nbegin a\n")?;
-    for _ in 0..1023 {
-        lines.push_str("get a x\n")?;
-    }
-    assert_eq!(rt; fault_of(rt.alloc(), lines.as_bytes())?, None);
-    for (last, kind) in [
-        ("get a x", LineKind::Limit),
-        ("after a done", LineKind::Limit),
-        ("after a", LineKind::Shape),
-        ("set a x 01", LineKind::Number),
-        ("session q", LineKind::Header),
+fn one_line_too_many(rt: HostRuntime) {
+    for (last, fault) in [
+        ("", None),
+        ("get a x\n", Some((1026, LineKind::Limit))),
+        ("after a done\n", Some((1026, LineKind::Limit))),
+        ("after a\n", Some((1026, LineKind::Shape))),
+        ("set a x 01\n", Some((1026, LineKind::Number))),
+        ("session q\n", Some((1026, LineKind::Header))),
+        ("get a x\nget a x\n", Some((1026, LineKind::Limit))),
     ] {
-        let text = format!(in rt.alloc(); "{lines}{last}\n")?;
-        assert_eq!(rt;
-            fault_of(rt.alloc(), text.as_bytes())?,
-            Some((1026, kind)),
-            "{last}"
-        );
+        let text = long_session(&rt, rt.alloc(), 1024, last);
+        assert!(rt; is_fault(rt.alloc(), text.as_bytes(), fault), "{last}");
     }
-    lines.push_str("get a x\nget a x\n")?;
-    assert_eq!(rt;
-        fault_of(rt.alloc(), lines.as_bytes())?,
-        Some((1026, LineKind::Limit))
-    );
-    Ok(())
+}
+
+#[test]
+fn many_lines_are_looked_up(rt: HostRuntime) {
+    let text = long_session(&rt, rt.alloc(), 300, "commit a\n");
+    let sessions = sessions_of(&rt, rt.alloc(), &text);
+    let (a, x) = (name(&rt, "a"), key(&rt, "x"));
+    assert!(rt; is_line(&sessions, 0, 300, Event::Access(a, x, Op::Get), "get a x"));
+    assert!(rt; is_line(&sessions, 0, 301, Event::Commit(a), "commit a"));
+    assert!(rt; sessions.line(0, 302).is_none());
 }
 
 // A text that is cut behind a line feed is one; cut elsewhere it ends too early.
 #[test]
-fn a_text_cut_at_every_length(rt: HostRuntime) -> Result<(), Fail> {
+fn a_text_cut_at_every_length(rt: HostRuntime) {
     let text = "session s\nbegin a\nset a x 5\nget a x\ncommit a\n".as_bytes();
     for len in 0..=text.len() {
         let front = &text[..len];
@@ -152,20 +188,17 @@ fn a_text_cut_at_every_length(rt: HostRuntime) -> Result<(), Fail> {
         } else {
             Some((line, LineKind::End))
         };
-        assert_eq!(rt; fault_of(rt.alloc(), front)?, fault, "{len}");
+        assert!(rt; is_fault(rt.alloc(), front, fault), "{len}");
     }
-    Ok(())
 }
 
 #[test]
-fn lines_are_looked_up(rt: HostRuntime) -> Result<(), Fail> {
-    let (a, x) = (Name::parse(b"a")?, Key::parse(b"x")?);
+fn lines_are_looked_up(rt: HostRuntime) {
+    let (a, x) = (name(&rt, "a"), key(&rt, "x"));
     let text = "session s0\nbegin a\nset a x -9223372036854775808\nget a x\ncommit a\n";
-    let sessions = Sessions::parse(rt.alloc(), text.as_bytes())?;
-    assert_eq!(rt; sessions.len(), 1);
-    assert!(rt; !sessions.is_empty());
-    assert!(rt; sessions.label(0) == Some(&Label::parse(b"s0")?));
-    assert!(rt; sessions.label(1).is_none());
+    let sessions = sessions_of(&rt, rt.alloc(), text);
+    assert!(rt; sessions.len() == 1 && !sessions.is_empty());
+    assert!(rt; is_label(&rt, &sessions, 0, "s0") && sessions.label(1).is_none());
     for (line, event, spelled) in [
         (1, Event::Begin(a), "begin a"),
         (
@@ -176,43 +209,42 @@ fn lines_are_looked_up(rt: HostRuntime) -> Result<(), Fail> {
         (3, Event::Access(a, x, Op::Get), "get a x"),
         (4, Event::Commit(a), "commit a"),
     ] {
-        let found = sessions.line(0, line);
-        assert_eq!(rt; found.map(|l| *l.event()), Some(event), "{line}");
-        assert_eq!(rt; found.map(|l| l.text()), Some(spelled.as_bytes()), "{line}");
+        assert!(rt; is_line(&sessions, 0, line, event, spelled), "{line}");
     }
     for (session, line) in [(0, 0), (0, 5), (1, 1), (u32::MAX, u32::MAX)] {
-        assert!(rt; sessions.line(session, line).is_none());
+        assert!(rt; sessions.line(session, line).is_none(), "{session} {line}");
     }
-    Ok(())
 }
 
 #[test]
-fn lines_of_several_transactions_are_looked_up(rt: HostRuntime) -> Result<(), Fail> {
-    let (deep, b, x) = (
-        Name::parse(b"a/b/c/d/e/f/g/h")?,
-        Name::parse(b"b")?,
-        Key::parse(b"x")?,
-    );
+fn lines_of_several_transactions_are_looked_up(rt: HostRuntime) {
+    let (deep, b, x) = (name(&rt, "a/b/c/d/e/f/g/h"), name(&rt, "b"), key(&rt, "x"));
     let text =
         "session s\nadd b x 1\nbegin a/b/c/d/e/f/g/h\ndel a/b/c/d/e/f/g/h x\nabort b\ncommit a/b/c/d/e/f/g/h\n";
-    let sessions = Sessions::parse(rt.alloc(), text.as_bytes())?;
-    for (line, event) in [
-        (1, Event::Access(b, x, Op::Add(1))),
-        (2, Event::Begin(deep)),
-        (3, Event::Access(deep, x, Op::Del)),
-        (4, Event::Abort(b)),
-        (5, Event::Commit(deep)),
+    let sessions = sessions_of(&rt, rt.alloc(), text);
+    for (line, event, spelled) in [
+        (1, Event::Access(b, x, Op::Add(1)), "add b x 1"),
+        (2, Event::Begin(deep), "begin a/b/c/d/e/f/g/h"),
+        (3, Event::Access(deep, x, Op::Del), "del a/b/c/d/e/f/g/h x"),
+        (4, Event::Abort(b), "abort b"),
+        (5, Event::Commit(deep), "commit a/b/c/d/e/f/g/h"),
     ] {
-        let found = sessions.line(0, line);
-        assert_eq!(rt; found.map(|l| *l.event()), Some(event), "{line}");
+        assert!(rt; is_line(&sessions, 0, line, event, spelled), "{line}");
     }
     assert!(rt; sessions.line(0, 6).is_none());
-    Ok(())
+}
+
+// Whether the line is read, asks this, and is spelled as it was read.
+fn asks(text: &str, event: Event) -> bool {
+    match parse_line(text.as_bytes()) {
+        Ok(line) => *line.event() == event && line.text() == text.as_bytes(),
+        Err(_) => false,
+    }
 }
 
 #[test]
-fn every_command(rt: HostRuntime) -> Result<(), Fail> {
-    let (name, key) = (Name::parse(b"a/b2")?, Key::parse(b"x.y_z-0")?);
+fn every_command(rt: HostRuntime) {
+    let (name, key) = (name(&rt, "a/b2"), key(&rt, "x.y_z-0"));
     for (text, event) in [
         ("begin a/b2", Event::Begin(name)),
         ("get a/b2 x.y_z-0", Event::Access(name, key, Op::Get)),
@@ -231,15 +263,20 @@ fn every_command(rt: HostRuntime) -> Result<(), Fail> {
         ("after a/b2 begun", Event::After(name, When::Begun)),
         ("after a/b2 done", Event::After(name, When::Done)),
     ] {
-        let line = parse_line(text.as_bytes())?;
-        assert!(rt; *line.event() == event, "{text}");
-        assert!(rt; line.text() == text.as_bytes(), "{text}");
+        assert!(rt; asks(text, event), "{text}");
     }
-    Ok(())
+}
+
+// Whether the line is refused as this.
+fn is_refused(text: &str, kind: LineKind) -> bool {
+    match parse_line(text.as_bytes()) {
+        Ok(_) => false,
+        Err(found) => found == kind,
+    }
 }
 
 #[test]
-fn the_first_fault_of_a_line(rt: HostRuntime) -> Result<(), Fail> {
+fn the_first_fault_of_a_line(rt: HostRuntime) {
     for (text, kind) in [
         ("", LineKind::Empty),
         (" ", LineKind::Word),
@@ -269,7 +306,6 @@ fn the_first_fault_of_a_line(rt: HostRuntime) -> Result<(), Fail> {
         ("after a Begun", LineKind::Word),
         ("begin a\n", LineKind::Name),
     ] {
-        assert_eq!(rt; parse_line(text.as_bytes()).err(), Some(kind), "{text}");
+        assert!(rt; is_refused(text, kind), "{text}");
     }
-    Ok(())
 }
