@@ -3,7 +3,8 @@ use Rattle.std.proofs.Common.{◌≡◌, ℕ, List, [], ◌∷◌, Option, Some,
 use Rattle.txn_tree.specs.States.{States, names}
 use Rattle.txn_tree.specs.Asked.{IsNumberOf}
 use Rattle.orphans.specs.Marked.{Marked}
-use Rattle.inherit.specs.Assets.{Assets, IsSame}
+use Rattle.lock_table.specs.Inherited.{free}
+use Rattle.inherit.specs.Assets.{Assets, IsSame, modes_of, left_of}
 use Rattle.inherit.specs.Steps.{HasGoneUp}
 use Rattle.serial_spec.specs.declared.entry.By.{By}
 use Rattle.serial_spec.specs.declared.entry.Refusal.{Refusal}
@@ -82,8 +83,9 @@ module _ (rows : Rows) (h : History) (before : AreAllowed rows h) (old : States)
   owned_stuck event waits = absurd waits
 
 -- nobody has begun
-pub owned_open : (states : States) (estate : Assets) → states ≡ [] → estate.locks ≡ [] → estate.versions.written ≡ [] → IsEstateOf [] states estate
+pub owned_open : (states : States) (estate : Assets) → states ≡ [] → ((u : ℕ) (q : List ℕ) → modes_of estate u q ≡ free) → ((u : ℕ) (q : List ℕ) → left_of estate u q ≡ None)
+    → IsEstateOf [] states estate
 owned_open states estate e f g = record {
-  modes = λ n k. rw (e, f) refl;
-  left = λ n k. rw (e, g) refl;
+  modes = λ n k. rw e (f n k);
+  left = λ n k. rw e (g n k);
 }
