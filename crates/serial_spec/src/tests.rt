@@ -23,7 +23,7 @@ fn put(rt: &impl Abort, table: &mut PlainTable, text: &str, value: Option<i64>) 
 // Puts by falling keys, so that each row goes before all others.
 fn put_hundred(rt: &impl Abort, alloc: Global, table: &mut PlainTable) {
     for number in 100..200 {
-        let key = key_of(rt, alloc, 299 - number);
+        let key = key_of(rt, alloc, 299_i64.wrapping_sub(number));
         table.put(&key, Some(number)).expect(rt, "memory");
     }
 }
