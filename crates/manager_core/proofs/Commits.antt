@@ -1,15 +1,13 @@
 -- Commits: what is handed to the store, the tables afterwards, and the store.
-use Rattle.std.proofs.Common.{◌≡◌, ℕ, ℤ, ◌+◌, ◌<◌, Bool, true, false, cond, List, [], ◌∷◌, length, Option, Some, None, Result, Ok, Err, OnOk, refl, sym, ap, ◌∙◌, arith}
-use Rattle.std.specs.Result.{IsOk, result_err}
+use Rattle.std.proofs.Common.{◌≡◌, ℕ, ℤ, ◌+◌, ◌<◌, Bool, true, false, cond, List, [], ◌∷◌, length, Option, Some, None, refl, sym, ap, ◌∙◌, arith}
 use Rattle.std.proofs.lemmas.Bool.{false≢true}
 use Rattle.std.proofs.lemmas.List.Sums.{sum_by-cons}
-use Rattle.txn_names.specs.Path.{path_eq}
 use Rattle.txn_names.proofs.Names.{label_eq_self}
 use Rattle.txn_names.specs.declared.change.Change.{Change}
-use Rattle.txn_tree.specs.States.{States, names, status_in}
+use Rattle.txn_tree.specs.States.{States}
+use Rattle.txn_tree.specs.Asked.{IsNumberOf, IsRootless}
+use Rattle.inherit.specs.Assets.{IsParent}
 use Rattle.txn_tree.specs.Causes as tree
-use Rattle.txn_tree.specs.declared.status.Status.TheVariants.{Committed}
-use Rattle.orphans.specs.Marked.{Marked}
 use Rattle.serial_spec.specs.declared.entry.By.{By}
 use Rattle.serial_spec.specs.declared.operation.Reply.TheVariants.{Ok}
 use Rattle.serial_spec.specs.declared.entry.Refusal.TheVariants.{Store}
@@ -28,25 +26,23 @@ use Rattle.serial_spec.specs.Changes.{change_at, overlay, IsChanges}
 use Rattle.serial_spec.specs.Allowed.{cause_at_commit, asks_store, writes}
 use Rattle.serial_spec.specs.Legal.{AreAllowed}
 use Rattle.txn_history.proofs.Causes.{neither}
-use Rattle.txn_history.proofs.Theorems.{changes_made, value_stored, writes_somewhere}
+use Rattle.txn_history.proofs.Theorems.{changes_made, writes_somewhere}
 use Rattle.durable_top.specs.declared.store.TopStore.{Ghosts}
 use Rattle.durable_top.specs.Store.{counted}
 use Rattle.manager_core.specs.State.{entry}
 use Rattle.manager_core.specs.Lines.{IsLine}
 use Rattle.manager_core.specs.Kept.{IsKept, IsTreeOf}
+use Rattle.manager_core.specs.Tables.{Tabled, CommitsIn, IsParentNumber, rows_in}
 use Rattle.manager_core.specs.Sound.{is_store_refusal, IsBacked, IsTrusted}
 use Rattle.manager_core.specs.Asked.{IsLater, Takes, Refuses}
 use Rattle.manager_core.proofs.Answers.{allowed_next, commit_allowed}
-use Rattle.manager_core.proofs.Kept.{kept_same}
-use Rattle.manager_core.proofs.Steps.{kept_commits, table_same}
+use Rattle.manager_core.proofs.Facts.{backed_next}
+use Rattle.manager_core.proofs.Kept.{backed_over}
+use Rattle.manager_core.proofs.Steps.{table_same}
+use Rattle.manager_core.proofs.Tabled.{tables_committed, tables_nothing}
 use Rattle.manager_core.proofs.Trees.{same_at_abort, same_children}
 
 -- ---- what is handed to the store
-
--- the root sees the table
-pub sees_table : (rows table : Rows) (h : History) → AreAllowed rows h → ((k : List ℕ) → value_in table k ≡ stored (value_in rows) h k)
-    → (k : List ℕ) → value_in table k ≡ seen (value_in rows) h [] k
-sees_table rows table h allowed current k = current k ∙ value_stored rows h allowed k
 
 -- where something is changed it was written
 is_some_change : (b : Bool) (v w : Option ℤ) (x : Option (Option ℤ)) → or_else x (Some v) ≡ cond b (Some w) None → b ≡ true
@@ -83,7 +79,7 @@ unasked opening h t [] one are n = refl
 unasked opening h t (c ∷ cs) one are n =
     absurd (false≢true (sym n ∙ asked opening h t (c ∷ cs) one are (λ e. cc)))
 
--- ---- the tables afterwards
+-- ---- the tree
 
 -- the tree does not refuse what no cause refuses
 pub tree_commits : (rows : Rows) (h : History) (states : States) (by : By) (t : Name) → AreAllowed rows h → IsTreeOf h states → 0 < length t → None ≡ cause_at_commit h by t
@@ -94,53 +90,31 @@ tree_commits rows h states by t allowed is some none =
     let at_end : tree.cause_at_abort states t ≡ None = same_at_abort rows h states allowed is t some ∙ p.0 in
     sym (rw (at_end, same_children rows h states allowed is t) q.0)
 
--- so its commit is done
-pub commits : {A E : Type 0} (r : Result A E) (c : Option E) → result_err r ≡ c → None ≡ c → IsOk r
-commits (Ok x) c e none = refl
-commits (Err x) c e none = cc
+-- ---- the tables
 
-pub on_commit : {A E : Type 0} (r : Result A E) (P : Type 0) → IsOk r → OnOk r P → P
-on_commit (Ok x) P ok p = p
-on_commit (Err x) P ok p = absurd (false≢true ok)
+-- no number is the root's, so a top-level transaction's parent has none
+pub root_is_nobody : (states : States) (t : Name) → length t ≡ 1 → IsRootless states → IsParentNumber states t None
+root_is_nobody states [] top rootless n = absurd (omega (arith, top))
+root_is_nobody states (l ∷ []) top rootless n = sym (rootless n)
+root_is_nobody states (l ∷ m ∷ ls) top rootless n = absurd (omega (arith, top))
 
--- a subtransaction's commit
-pub kept_child : (rows : Rows) (h : History) (old new : States) (marks : Marked) (table : Rows) (by : By) (t : Name)
-    → IsKept rows h old marks table → IsLine by → 1 < length t → None ≡ cause_at_commit h by t
-    → names new ≡ names old → ((u : Name) → status_in new u ≡ cond (path_eq t u) Committed (status_in old u))
-    → IsKept rows (entry by (Commit t) (Done Ok) ∷ h) new marks table
-kept_child rows h old new marks table by [] kept line below none same sets = absurd (omega (arith, below))
-kept_child rows h old new marks table by (l ∷ []) kept line below none same sets = absurd (omega (arith, below))
-kept_child rows h old new marks table by (l ∷ m ∷ ls) kept line below none same sets =
-    let t = l ∷ m ∷ ls in
-    let e : Entry = entry by (Commit t) (Done Ok) in
-    let allowed = allowed_next rows h by _ _ kept.allowed line (commit_allowed rows h by t None none) in
-    kept_commits rows e h allowed old new marks table table t kept refl same sets
-    (λ k. kept.current k ∙ sym (table_same rows e h allowed k refl))
+-- what a subtransaction had stays out of the table
+pub goes_below : (old new : Tabled) (t : Name) (child : ℕ) (above : Option ℕ) → IsParent old.tree t above → 1 < length t → CommitsIn old new t child above → rows_in new ≡ rows_in old
+goes_below old new t child None top below commits = absurd (omega (arith, top, below))
+goes_below old new t child (Some p) of below commits = commits.up.same (λ q. refl)
 
--- a top-level one's that the store took
-pub kept_top : (rows : Rows) (h : History) (old new : States) (marks : Marked) (before after : Rows) (by : By) (t : Name) (changes : List Change)
-    → IsKept rows h old marks before → IsLine by → length t ≡ 1 → None ≡ cause_at_commit h by t
-    → IsChanges (value_in rows) h t changes → value_in after ≡ overlay changes (value_in before)
-    → names new ≡ names old → ((u : Name) → status_in new u ≡ cond (path_eq t u) Committed (status_in old u))
-    → IsKept rows (entry by (Commit t) (Done Ok) ∷ h) new marks after
-kept_top rows h old new marks before after by [] changes kept line top none are overlays same sets = absurd (omega arith)
-kept_top rows h old new marks before after by (l ∷ []) changes kept line top none are overlays same sets =
-    let e : Entry = entry by (Commit (l ∷ [])) (Done Ok) in
-    let allowed = allowed_next rows h by _ _ kept.allowed line (commit_allowed rows h by (l ∷ []) None none) in
-    let was : value_in before ≡ stored (value_in rows) h = λ i k. kept.current k i in
-    kept_commits rows e h allowed old new marks before after (l ∷ []) kept refl same sets
-    (λ k.
-    ap (λ (m : Map). m k) overlays ∙ ap (λ (m : Map). overlay changes m k) was
-    ∙ sym (changes_made rows e h allowed l refl changes are k))
-kept_top rows h old new marks before after by (l ∷ m ∷ ls) changes kept line top none are overlays same sets = absurd (omega arith)
+stored_below : (rows : Rows) (h : History) (by : By) (t : Name) → 1 < length t → AreAllowed rows (entry by (Commit t) (Done Ok) ∷ h)
+    → (k : List ℕ) → stored (value_in rows) (entry by (Commit t) (Done Ok) ∷ h) k ≡ stored (value_in rows) h k
+stored_below rows h by [] below allowed k = absurd (omega (arith, below))
+stored_below rows h by (l ∷ []) below allowed k = absurd (omega (arith, below))
+stored_below rows h by (l ∷ m ∷ ls) below allowed k = table_same rows (entry by (Commit (l ∷ m ∷ ls)) (Done Ok)) h allowed k refl
 
--- and one that the store refused, with the tables as they were
-pub kept_unstored : (rows : Rows) (h : History) (states : States) (marks : Marked) (table : Rows) (by : By) (t : Name) (changes : List Change)
-    → IsKept rows h states marks table → IsLine by → length t ≡ 1 → None ≡ cause_at_commit h by t → IsChanges (value_in rows) h t changes → (changes ≡ [] → ⊥)
-    → IsKept rows (entry by (Commit t) (Refused Store) ∷ h) states marks table
-kept_unstored rows h states marks table by t changes kept line top none are some =
-    kept_same rows h states marks table by (Commit t) (Refused Store) kept line
-    (commit_allowed rows h by t None none, asked (value_in rows) h t changes top are some) refl
+stored_top : (rows : Rows) (h : History) (by : By) (t : Name) (changes : List Change) → length t ≡ 1 → AreAllowed rows (entry by (Commit t) (Done Ok) ∷ h)
+    → IsChanges (value_in rows) h t changes → (k : List ℕ)
+    → overlay changes (stored (value_in rows) h) k ≡ stored (value_in rows) (entry by (Commit t) (Done Ok) ∷ h) k
+stored_top rows h by [] changes top allowed are k = absurd (omega (arith, top))
+stored_top rows h by (l ∷ []) changes top allowed are k = sym (changes_made rows (entry by (Commit (l ∷ [])) (Done Ok)) h allowed l refl changes are k)
+stored_top rows h by (l ∷ m ∷ ls) changes top allowed are k = absurd (omega (arith, top))
 
 -- ---- the store afterwards
 
@@ -172,3 +146,46 @@ backed_refused g h table opened before after by t backed refuses later = record 
       refuses.faults ∙ ap (λ n. counted (n + 1)) backed.refusals
       ∙ rw (sum_by-cons (λ (e : Entry). cond (is_store_refusal e.answer) 1 0) (entry by (Commit t) (Refused Store)) h) (omega arith);
 }
+
+-- ---- what the type keeps afterwards
+
+module _ {S : Type 0} (g : Ghosts S) (rows : Rows) (h : History) (old new : Tabled) (opened : ℕ) (before : S) (kept : IsKept g rows h old opened before)
+    (by : By) (t : Name) (line : IsLine by) (none : None ≡ cause_at_commit h by t) where
+  done_next : AreAllowed rows (entry by (Commit t) (Done Ok) ∷ h)
+  done_next = allowed_next rows h by (Commit t) (Done Ok) kept.allowed line (commit_allowed rows h by t None none)
+
+  -- a subtransaction's commit
+  pub kept_child : (child : ℕ) (above : Option ℕ) → 1 < length t → IsNumberOf old.tree t child → IsParentNumber old.tree t above → IsParent old.tree t above
+      → CommitsIn old new t child above → IsKept g rows (entry by (Commit t) (Done Ok) ∷ h) new opened before
+  kept_child child above below number above_is of commits =
+      let same = goes_below old new t child above of below commits in record {
+        rising = kept.rising;
+        allowed = done_next;
+        are = tables_committed rows (entry by (Commit t) (Done Ok)) h done_next old new kept.are t child above refl number above_is commits
+            (λ k. ap (λ (rs : Rows). value_in rs k) same ∙ kept.are.current k ∙ sym (stored_below rows h by t below done_next k));
+        backed = backed_over g same (backed_next g h (rows_in old) opened before by (Commit t) (Done Ok) kept.backed refl);
+      }
+
+  -- a top-level one's that the store took
+  pub kept_top : (child : ℕ) (after : S) (changes : List Change) → length t ≡ 1 → IsNumberOf old.tree t child → IsRootless old.tree
+      → CommitsIn old new t child None → IsChanges (value_in rows) h t changes → value_in (rows_in new) ≡ overlay changes (value_in (rows_in old))
+      → Takes g before after changes → IsLater g before after → IsKept g rows (entry by (Commit t) (Done Ok) ∷ h) new opened after
+  kept_top child after changes top number rootless commits are overlays takes later =
+      let was : value_in (rows_in old) ≡ stored (value_in rows) h = λ i k. kept.are.current k i in record {
+        rising = kept.rising;
+        allowed = done_next;
+        are = tables_committed rows (entry by (Commit t) (Done Ok)) h done_next old new kept.are t child None refl number (root_is_nobody old.tree t top rootless) commits
+            (λ k. ap (λ (m : Map). m k) overlays ∙ ap (λ (m : Map). overlay changes m k) was ∙ stored_top rows h by t changes top done_next are k);
+        backed = backed_taken g h (rows_in old) (rows_in new) opened before after by t changes kept.backed takes later overlays;
+      }
+
+  -- and one that the store refused, with the tables as they were
+  pub kept_unstored : (after : S) (changes : List Change) → length t ≡ 1 → IsChanges (value_in rows) h t changes → (changes ≡ [] → ⊥)
+      → Refuses g before after → IsLater g before after → IsKept g rows (entry by (Commit t) (Refused Store) ∷ h) old opened after
+  kept_unstored after changes top are some refuses later =
+      let allowed = allowed_next rows h by (Commit t) (Refused Store) kept.allowed line (commit_allowed rows h by t None none, asked (value_in rows) h t changes top are some) in record {
+        rising = kept.rising;
+        allowed = allowed;
+        are = tables_nothing rows (entry by (Commit t) (Refused Store)) h allowed old old kept.are refl;
+        backed = backed_refused g h (rows_in old) opened before after by t kept.backed refuses later;
+      }

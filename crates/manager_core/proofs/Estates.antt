@@ -22,10 +22,9 @@ use Rattle.serial_spec.specs.Rows.{Rows}
 use Rattle.serial_spec.specs.Legal.{AreAllowed}
 use Rattle.txn_history.specs.Steps.{held_next, retained_next, left_next}
 use Rattle.txn_history.proofs.Theorems.{locks_after, left_after, foot_is_greater, nothing_before}
-use Rattle.manager_core.specs.declared.outcome.Outcome.TheVariants.{Done}
-use Rattle.manager_core.specs.Kept.{IsEstateOf, share_of, lock_at, left_at}
-use Rattle.manager_core.specs.Tables.{AccessesIn, DropsIn, IsParentNumber, is_below}
-use Rattle.manager_core.proofs.Shares.{IsTold, value_next, share_nothing, share_raised, share_merged, share_dropped, share_begun}
+use Rattle.manager_core.specs.Kept.{IsEstateOf, content_of, lock_at, left_at}
+use Rattle.manager_core.specs.Tables.{Tabled, AbortsIn, AccessesIn, IsParentNumber, is_below}
+use Rattle.manager_core.proofs.Contents.{IsTold, value_next, content_nothing, content_raised, content_merged, content_dropped, content_begun}
 
 -- ---- both are told by the entries
 
@@ -79,74 +78,76 @@ told_left k = record {
 -- ---- what each entry does
 
 -- with other room it is the same
-pub owned_roomy : (h : History) (tree : States) (old new : Assets) → IsEstateOf h tree old → IsSame old new → IsEstateOf h tree new
-owned_roomy h tree old new is same = record {
+pub estate_roomy : (h : History) (tree : States) (old new : Assets) → IsEstateOf h tree old → IsSame old new → IsEstateOf h tree new
+estate_roomy h tree old new is same = record {
   modes = λ n k. same.modes n k ∙ is.modes n k;
   left = λ n k. same.left n k ∙ is.left n k;
 }
 
 module _ (rows : Rows) (e : Entry) (h : History) (allowed : AreAllowed rows (e ∷ h)) where
   -- an entry that does nothing
-  pub owned_nothing : (tree : States) (estate : Assets) → IsEstateOf h tree estate → effect e ≡ Nothing → IsEstateOf (e ∷ h) tree estate
-  owned_nothing tree estate is does = record {
-    modes = λ n k. is.modes n k ∙ share_nothing k free (lock_at k) raise retain (told_modes k) rows e h allowed (slice_get (names tree) n) does;
-    left = λ n k. is.left n k ∙ share_nothing k None (left_at k) leave or_else (told_left k) rows e h allowed (slice_get (names tree) n) does;
+  pub estate_nothing : (tree : States) (estate : Assets) → IsEstateOf h tree estate → effect e ≡ Nothing → IsEstateOf (e ∷ h) tree estate
+  estate_nothing tree estate is does = record {
+    modes = λ n k. is.modes n k ∙ content_nothing k free (lock_at k) raise retain (told_modes k) rows e h allowed (slice_get (names tree) n) does;
+    left = λ n k. is.left n k ∙ content_nothing k None (left_at k) leave or_else (told_left k) rows e h allowed (slice_get (names tree) n) does;
   }
 
   -- an access that was answered
-  pub owned_accessed : (tree : States) (old new : Assets) (t : Name) (q : List ℕ) (op : Op) (r : Reply) → IsEstateOf h tree old → effect e ≡ Accesses t q op r
-      → AccessesIn tree old new t q op (Done r) → IsEstateOf (e ∷ h) tree new
-  owned_accessed tree old new t q op r is does has = record {
+  pub estate_accessed : (old new : Tabled) (t : Name) (q : List ℕ) (op : Op) (r : Reply) → IsEstateOf h old.tree old.estate → effect e ≡ Accesses t q op r
+      → AccessesIn old new t q op r → IsEstateOf (e ∷ h) old.tree new.estate
+  estate_accessed old new t q op r is does has = record {
     modes = λ n k.
-        has.0 n k
-        ∙ ap (λ m. cond (is_name (slice_get (names tree) n) t && label_eq q k) (with_held m (mode_of (kind op))) m) (is.modes n k)
-        ∙ share_raised k free (lock_at k) raise retain (told_modes k) rows e h allowed t q op r does (slice_get (names tree) n);
+        has.modes n k
+        ∙ ap (λ m. cond (is_name (slice_get (names old.tree) n) t && label_eq q k) (with_held m (mode_of (kind op))) m) (is.modes n k)
+        ∙ content_raised k free (lock_at k) raise retain (told_modes k) rows e h allowed t q op r does (slice_get (names old.tree) n);
     left = λ n k.
-        has.1 n k
-        ∙ ap (λ v. cond (is_name (slice_get (names tree) n) t && label_eq q k) (or_else (leaves op r) v) v) (is.left n k)
-        ∙ share_raised k None (left_at k) leave or_else (told_left k) rows e h allowed t q op r does (slice_get (names tree) n);
+        has.left n k
+        ∙ ap (λ v. cond (is_name (slice_get (names old.tree) n) t && label_eq q k) (or_else (leaves op r) v) v) (is.left n k)
+        ∙ content_raised k None (left_at k) leave or_else (told_left k) rows e h allowed t q op r does (slice_get (names old.tree) n);
   }
 
   -- a commit
-  pub owned_gone_up : (old_tree tree : States) (old new : Assets) (t : Name) (child : ℕ) (above : Option ℕ) → IsEstateOf h old_tree old → effect e ≡ Commits t
+  pub estate_gone_up : (old_tree tree : States) (old new : Assets) (t : Name) (child : ℕ) (above : Option ℕ) → IsEstateOf h old_tree old → effect e ≡ Commits t
       → names tree ≡ names old_tree → IsNumberOf old_tree t child → IsParentNumber old_tree t above → HasGoneUp old new child above → IsEstateOf (e ∷ h) tree new
-  owned_gone_up old_tree tree old new t child above is does same number above_is up = record {
+  estate_gone_up old_tree tree old new t child above is does same number above_is up = record {
     modes = λ n k.
         up.modes n k
         ∙ (λ i. cond (nat_eq child n) free (cond (is_it above n) (with_retained (is.modes n k i) (whole (is.modes child k i))) (is.modes n k i)))
-        ∙ share_merged k free (lock_at k) raise retain (told_modes k) rows e h allowed old_tree t child above n does number above_is
-        ∙ ap (λ xs. share_of free (lock_at k) (e ∷ h) (slice_get xs n)) (sym same);
+        ∙ content_merged k free (lock_at k) raise retain (told_modes k) rows e h allowed old_tree t child above n does number above_is
+        ∙ ap (λ xs. content_of free (lock_at k) (e ∷ h) (slice_get xs n)) (sym same);
     left = λ n k.
         up.left n k
         ∙ (λ i. cond (nat_eq child n) None (cond (is_it above n) (or_else (is.left child k i) (is.left n k i)) (is.left n k i)))
-        ∙ share_merged k None (left_at k) leave or_else (told_left k) rows e h allowed old_tree t child above n does number above_is
-        ∙ ap (λ xs. share_of None (left_at k) (e ∷ h) (slice_get xs n)) (sym same);
+        ∙ content_merged k None (left_at k) leave or_else (told_left k) rows e h allowed old_tree t child above n does number above_is
+        ∙ ap (λ xs. content_of None (left_at k) (e ∷ h) (slice_get xs n)) (sym same);
   }
 
   -- an abort
-  pub owned_dropped : (old_tree tree : States) (old new : Assets) (t : Name) → IsEstateOf h old_tree old → effect e ≡ Aborts t
-      → names tree ≡ names old_tree → DropsIn tree old new t None → IsEstateOf (e ∷ h) tree new
-  owned_dropped old_tree tree old new t is does same drops = record {
+  pub estate_dropped : (old new : Tabled) (t : Name) → IsEstateOf h old.tree old.estate → effect e ≡ Aborts t
+      → AbortsIn old new t → IsEstateOf (e ∷ h) new.tree new.estate
+  estate_dropped old new t is does aborts = record {
     modes = λ n k.
-        drops.0 n k
-        ∙ ap (λ m. cond (is_below (slice_get (names tree) n) t) free m) (is.modes n k ∙ ap (λ xs. share_of free (lock_at k) h (slice_get xs n)) (sym same))
-        ∙ share_dropped k free (lock_at k) raise retain (told_modes k) rows e h allowed t does (slice_get (names tree) n);
+        aborts.modes n k
+        ∙ ap (λ m. cond (is_below (slice_get (names old.tree) n) t) free m) (is.modes n k)
+        ∙ content_dropped k free (lock_at k) raise retain (told_modes k) rows e h allowed t does (slice_get (names old.tree) n)
+        ∙ ap (λ xs. content_of free (lock_at k) (e ∷ h) (slice_get xs n)) (sym aborts.same_names);
     left = λ n k.
-        drops.1 n k
-        ∙ ap (λ v. cond (is_below (slice_get (names tree) n) t) None v) (is.left n k ∙ ap (λ xs. share_of None (left_at k) h (slice_get xs n)) (sym same))
-        ∙ share_dropped k None (left_at k) leave or_else (told_left k) rows e h allowed t does (slice_get (names tree) n);
+        aborts.left n k
+        ∙ ap (λ v. cond (is_below (slice_get (names old.tree) n) t) None v) (is.left n k)
+        ∙ content_dropped k None (left_at k) leave or_else (told_left k) rows e h allowed t does (slice_get (names old.tree) n)
+        ∙ ap (λ xs. content_of None (left_at k) (e ∷ h) (slice_get xs n)) (sym aborts.same_names);
   }
 
   -- a begin
-  pub owned_begun : (old new : States) (estate : Assets) (t : Name) → IsEstateOf h old estate → effect e ≡ Begins t
+  pub estate_begun : (old new : States) (estate : Assets) (t : Name) → IsEstateOf h old estate → effect e ≡ Begins t
       → names new ≡ names old ++ t ∷ [] → IsEstateOf (e ∷ h) new estate
-  owned_begun old new estate t is does more = record {
+  estate_begun old new estate t is does more = record {
     modes = λ n k.
         is.modes n k
-        ∙ share_begun k free (lock_at k) raise retain (told_modes k) rows e h allowed t does (names old) n
-        ∙ ap (λ xs. share_of free (lock_at k) (e ∷ h) (slice_get xs n)) (sym more);
+        ∙ content_begun k free (lock_at k) raise retain (told_modes k) rows e h allowed t does (names old) n
+        ∙ ap (λ xs. content_of free (lock_at k) (e ∷ h) (slice_get xs n)) (sym more);
     left = λ n k.
         is.left n k
-        ∙ share_begun k None (left_at k) leave or_else (told_left k) rows e h allowed t does (names old) n
-        ∙ ap (λ xs. share_of None (left_at k) (e ∷ h) (slice_get xs n)) (sym more);
+        ∙ content_begun k None (left_at k) leave or_else (told_left k) rows e h allowed t does (names old) n
+        ∙ ap (λ xs. content_of None (left_at k) (e ∷ h) (slice_get xs n)) (sym more);
   }

@@ -1,31 +1,29 @@
 -- What callers are told of the manager, from what its type keeps.
-use Rattle.std.proofs.Common.{◌≡◌, ℕ, ◌∷◌, false, cond, zero-add}
+use Rattle.std.proofs.Common.{◌≡◌, ℕ, ◌∷◌, false, cond, zero-add, sym, ap, subst, ◌∙◌}
 use Rattle.std.proofs.lemmas.List.Sums.{sum_by-cons}
 use Rattle.serial_spec.specs.declared.entry.By.{By}
 use Rattle.serial_spec.specs.declared.event.Event.{Event}
 use Rattle.serial_spec.specs.declared.entry.Answer.{Answer}
 use Rattle.serial_spec.specs.declared.entry.Entry.{Entry}
-use Rattle.serial_spec.specs.Rows.{Rows}
+use Rattle.serial_spec.specs.Rows.{Rows, value_in}
 use Rattle.serial_spec.specs.History.{History}
-use Rattle.txn_tree.specs.States.{States}
-use Rattle.orphans.specs.Marked.{Marked}
 use Rattle.txn_history.proofs.Theorems.{table_correctness}
 use Rattle.txn_history.proofs.Theorems as theorems
 use Rattle.durable_top.specs.declared.store.TopStore.{Ghosts}
 use Rattle.manager_core.specs.State.{State, entry}
 use Rattle.manager_core.specs.Kept.{IsKept}
+use Rattle.manager_core.specs.Tables.{Tabled, rows_in}
 use Rattle.manager_core.specs.Sound.{is_store_refusal, IsBacked, IsSound}
 
 -- all that callers are told
-pub sound : {S : Type 0} (g : Ghosts S) (m : State S) (tree : States) (marks : Marked)
-    → IsKept m.rows m.history tree marks m.table → IsBacked g m.history m.table m.opened m.store → IsSound g m
-sound g m tree marks kept backed = record {
+pub sound : {S : Type 0} (g : Ghosts S) (m : State S) (tables : Tabled) → IsKept g m.rows m.history tables m.opened m.store → m.table ≡ rows_in tables → IsSound g m
+sound g m tables kept table = record {
   rising = kept.rising;
   allowed = kept.allowed;
   right = theorems.serial_correctness m.rows m.history kept.allowed;
   root = (table_correctness m.rows m.history kept.allowed).0;
-  stored = kept.current;
-  backed = backed;
+  stored = λ k. ap (λ (rs : Rows). value_in rs k) table ∙ kept.are.current k;
+  backed = subst (λ (rs : Rows). IsBacked g m.history rs m.opened m.store) (sym table) kept.backed;
 }
 
 -- an entry that is no refusal of the store

@@ -5,20 +5,20 @@ pub mod Trees
 pub mod Named
 pub mod Blocking
 pub mod Locks
-pub mod Shares
+pub mod Contents
 pub mod Estates
 pub mod Causes
 pub mod Seen
 pub mod Steps
+pub mod Tabled
 -- An entry more
 pub mod Answers
-pub mod Kept
-pub mod Owned
-pub mod Commits
 pub mod Facts
+pub mod Kept
+pub mod Commits
 pub mod Reaching
 pub mod Stored
-pub mod Roomy
+pub mod TopCommits
 pub mod Opening
 pub mod Tops
 pub mod Waits

@@ -3,7 +3,7 @@ use Rattle.std.proofs.Common.{◌≡◌, ℕ, suc, ◌+◌, Bool, true, false, c
 use Rattle.std.specs.Prelude.{slice_get}
 use Rattle.std.specs.List.{list_any, range_with_len}
 use Rattle.std.proofs.lemmas.Bool.{false≢true, eq-eqb, and_parts}
-use Rattle.txn_names.specs.Path.{is_front}
+use Rattle.txn_names.specs.Path.{is_front, path_eq}
 use Rattle.txn_names.proofs.Names.{same_path}
 use Rattle.txn_tree.specs.States.{States, names, status_in, is_absent as is_absent_state}
 use Rattle.txn_tree.specs.declared.status.Status.{Status as State}
@@ -11,15 +11,18 @@ use Rattle.txn_tree.specs.declared.status.Status.TheVariants as state
 use Rattle.txn_tree.specs.Asked.{is_name, is_absent_in, IsNumberOf}
 use Rattle.lock_table.specs.declared.modes.Modes.{Modes}
 use Rattle.lock_table.specs.Inherited.{free, whole}
-use Rattle.inherit.specs.Assets.{Assets, modes_of}
+use Rattle.inherit.specs.Assets.{Assets, modes_of, left_of}
+use Rattle.inherit.specs.Steps.{HasDropped}
+use Rattle.orphans.specs.Marked.{Marked, is_marked}
 use Rattle.lock_table.specs.Blocking.{is_front_of, is_blocker_in, is_blocked_in}
 use Rattle.serial_spec.specs.declared.mode.Mode.{Mode}
 use Rattle.serial_spec.specs.declared.operation.Kind.{Kind}
 use Rattle.serial_spec.specs.History.{Name, History, is_active, is_live, is_live_status, is_orphan}
 use Rattle.serial_spec.specs.Locks.{conflicts, foot, is_blocker, is_blocked}
 use Rattle.txn_history.proofs.Theorems.{foot_is_greater}
-use Rattle.manager_core.specs.Kept.{status_of, IsTreeOf, IsEstateOf, lock_at, share_of}
-use Rattle.manager_core.specs.Tables.{is_below}
+use Rattle.serial_spec.specs.Rows.{Rows}
+use Rattle.manager_core.specs.Kept.{status_of, AreTablesOf, IsTreeOf, lock_at, content_of}
+use Rattle.manager_core.specs.Tables.{Tabled, AbortsIn, is_below}
 use Rattle.manager_core.proofs.Blocking.{any_named}
 
 -- ---- numbers
@@ -50,19 +53,19 @@ blocks_as true m all front x e = ap (λ w. not front && conflicts w x) (sym e)
 blocks_as false m all true x e = refl
 blocks_as false m all false x e = refl
 
-module _ (h : History) (tree : States) (estate : Assets) (is : IsTreeOf h tree) (are : IsEstateOf h tree estate) (t : Name) (n : ℕ) (number : IsNumberOf tree t n) (k : List ℕ) (x : Kind) where
-  blocker_as : (m : ℕ) (u : Name) → slice_get (names tree) m ≡ Some u → is_blocker_in tree estate.locks n k x m ≡ is_blocker h t k x u
+module _ (rows : Rows) (h : History) (tables : Tabled) (are : AreTablesOf rows h tables) (t : Name) (n : ℕ) (number : IsNumberOf tables.tree t n) (k : List ℕ) (x : Kind) where
+  blocker_as : (m : ℕ) (u : Name) → slice_get (names tables.tree) m ≡ Some u → is_blocker_in tables.tree tables.estate.locks n k x m ≡ is_blocker h t k x u
   blocker_as m u at =
-      ap (λ o. is_some o && (not (is_front_of o (slice_get (names tree) n)) && conflicts (whole (modes_of estate m k)) x)) at
-      ∙ ap (λ o. not (is_front_of (Some u) o) && conflicts (whole (modes_of estate m k)) x) (name_at tree t n number)
-      ∙ ap (λ l. not (is_front u t) && conflicts (whole l) x) (are.modes m k ∙ ap (share_of free (lock_at k) h) at)
+      ap (λ o. is_some o && (not (is_front_of o (slice_get (names tables.tree) n)) && conflicts (whole (modes_of tables.estate m k)) x)) at
+      ∙ ap (λ o. not (is_front_of (Some u) o) && conflicts (whole (modes_of tables.estate m k)) x) (name_at tables.tree t n number)
+      ∙ ap (λ l. not (is_front u t) && conflicts (whole l) x) (are.estate.modes m k ∙ ap (content_of free (lock_at k) h) at)
       ∙ blocks_as (is_active h u) (lock_at k h u) (foot h u k) (is_front u t) x (foot_is_greater h u k)
 
-  pub blocked_as : is_blocked_in tree estate.locks n k x ≡ is_blocked h t k x
+  pub blocked_as : is_blocked_in tables.tree tables.estate.locks n k x ≡ is_blocked h t k x
   blocked_as =
-      any_by_number (is_blocker_in tree estate.locks n k x) (is_blocker h t k x) (names tree) 0
-      (λ m u at. let same : 0 + m ≡ m = omega arith in ap (is_blocker_in tree estate.locks n k x) same ∙ blocker_as m u at)
-      ∙ any_named (is_blocker h t k x) h tree is
+      any_by_number (is_blocker_in tables.tree tables.estate.locks n k x) (is_blocker h t k x) (names tables.tree) 0
+      (λ m u at. let same : 0 + m ≡ m = omega arith in ap (is_blocker_in tables.tree tables.estate.locks n k x) same ∙ blocker_as m u at)
+      ∙ any_named (is_blocker h t k x) h tables.tree are.in_tree
 
 -- ---- small steps
 
@@ -84,3 +87,23 @@ present h tree is t acts =
     by state.Live e = refl
     by state.Committed e = refl
     by state.Aborted e = refl
+
+-- what was dropped by number is dropped by name
+pub aborts_by_name : (old : Tabled) (tree : States) (marks : Marked) (estate : Assets) (t : Name) (n : ℕ) → names tree ≡ names old.tree
+    → ((u : Name) → status_in tree u ≡ cond (path_eq t u) state.Aborted (status_in old.tree u))
+    → ((u : Name) → is_marked marks u ≡ (path_eq t u || is_marked old.marks u))
+    → IsNumberOf tree t n → HasDropped tree old.estate estate n → AbortsIn old (record { tree = tree; marks = marks; estate = estate }) t
+aborts_by_name old tree marks estate t n same sets marked number dropped = record {
+  same_names = same;
+  status = sets;
+  marks = marked;
+  modes = λ u k. dropped.modes u k ∙ ap (λ b. cond b free (modes_of old.estate u k)) (below u);
+  left = λ u k. dropped.left u k ∙ ap (λ b. cond b None (left_of old.estate u k)) (below u);
+  rows = dropped.rows;
+}
+  where
+    below : (u : ℕ) → is_front_of (slice_get (names tree) n) (slice_get (names tree) u) ≡ is_below (slice_get (names old.tree) u) t
+    below u =
+        ap (λ o. is_front_of o (slice_get (names tree) u)) (name_at tree t n number)
+        ∙ under_as t (slice_get (names tree) u)
+        ∙ ap (λ xs. is_below (slice_get xs u) t) same

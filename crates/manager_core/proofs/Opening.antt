@@ -1,17 +1,18 @@
 -- The rows of the opening.
-use Rattle.std.proofs.Common.{◌≡◌, ℕ, ◌<◌, ◌^◌, List, [], ◌∷◌, length, refl, ap, sym, ◌∙◌, arith}
+use Rattle.std.proofs.Common.{◌≡◌, ℕ, ◌<◌, ◌^◌, List, [], ◌∷◌, length, None, refl, ap, sym, ◌∙◌, arith}
 use Rattle.std.specs.List.{list_any}
 use Rattle.txn_names.specs.Path.{path_eq}
 use Rattle.txn_tree.specs.States.{States}
-use Rattle.orphans.specs.Marked.{Marked}
+use Rattle.inherit.specs.Assets.{Assets, free, modes_of, left_of}
 use Rattle.serial_spec.specs.History.{Name, status}
 use Rattle.serial_spec.specs.Serial.{Map}
-use Rattle.serial_spec.specs.Rows.{Rows, value_in, IsRising}
+use Rattle.serial_spec.specs.Rows.{Rows, value_in}
 use Rattle.txn_tree.specs.States.{status_in}
 use Rattle.durable_top.specs.declared.store.Row.{Row}
 use Rattle.durable_top.specs.Store.{plain}
 use Rattle.durable_top.specs.declared.store.TopStore.{Ghosts}
-use Rattle.manager_core.specs.Kept.{IsKept, IsTreeOf, status_of}
+use Rattle.manager_core.specs.Kept.{AreTablesOf, IsEstateOf, IsTreeOf, status_of}
+use Rattle.manager_core.specs.Tables.{Tabled, rows_in}
 use Rattle.manager_core.specs.Sound.{IsBacked}
 
 -- rows are as many from either form
@@ -30,14 +31,21 @@ empty_tree states e = record {
     absent [] = refl
     absent (l ∷ ls) = refl
 
--- an empty history keeps what the type keeps, over any rows in order
-pub kept_open : (rows table : Rows) (states : States) (marks : Marked) → IsRising rows → value_in table ≡ value_in rows → states ≡ [] → marks.names ≡ []
-    → IsKept rows [] states marks table
-kept_open rows table states marks rising e empty unmarked = record {
-  rising = rising;
-  allowed = tt;
-  in_tree = empty_tree states empty;
+-- nor has anybody locked or left anything
+empty_estate : (states : States) (estate : Assets) → states ≡ [] → ((n : ℕ) (k : List ℕ) → modes_of estate n k ≡ free) → ((n : ℕ) (k : List ℕ) → left_of estate n k ≡ None)
+    → IsEstateOf [] states estate
+empty_estate states estate e unlocked unleft = record {
+  modes = λ n k. rw e (unlocked n k);
+  left = λ n k. rw e (unleft n k);
+}
+
+-- so the tables are what an empty history says, over any rows in order
+pub tables_open : (rows : Rows) (tables : Tabled) → value_in (rows_in tables) ≡ value_in rows → tables.tree ≡ [] → tables.marks.names ≡ []
+    → ((n : ℕ) (k : List ℕ) → modes_of tables.estate n k ≡ free) → ((n : ℕ) (k : List ℕ) → left_of tables.estate n k ≡ None) → AreTablesOf rows [] tables
+tables_open rows tables e empty unmarked unlocked unleft = record {
+  in_tree = empty_tree tables.tree empty;
   marked = λ t. ap (list_any (path_eq t)) unmarked;
+  estate = empty_estate tables.tree tables.estate empty unlocked unleft;
   current = λ k. ap (λ (m : Map). m k) e;
 }
 

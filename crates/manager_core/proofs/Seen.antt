@@ -13,15 +13,16 @@ use Rattle.txn_tree.specs.States.{States, names, is_absent}
 use Rattle.txn_tree.specs.Asked.{is_absent_in, IsNumberOf}
 use Rattle.txn_cells.proofs.Reserving.{found_by_key}
 use Rattle.version_stack.specs.Seen.{left_at as left_at_number, left_by, seen_by, seen_in}
-use Rattle.inherit.specs.Assets.{Assets, base_of}
+use Rattle.inherit.specs.Assets.{base_of}
 use Rattle.serial_spec.specs.History.{Name, History, is_active}
 use Rattle.serial_spec.specs.Items.{items}
 use Rattle.serial_spec.specs.Values.{last_left, seen_of, seen}
 use Rattle.serial_spec.specs.Rows.{Rows, value_in}
 use Rattle.serial_spec.specs.Legal.{AreAllowed}
 use Rattle.serial_spec.proofs.Seen.{seen_of-same}
-use Rattle.txn_history.proofs.Theorems.{ancestors_act}
-use Rattle.manager_core.specs.Kept.{IsTreeOf, IsEstateOf, share_of, left_at}
+use Rattle.txn_history.proofs.Theorems.{ancestors_act, value_stored}
+use Rattle.manager_core.specs.Kept.{AreTablesOf, content_of, left_at}
+use Rattle.manager_core.specs.Tables.{Tabled}
 use Rattle.manager_core.proofs.Locks.{name_at, present}
 
 -- ---- a name is found under its number
@@ -53,25 +54,28 @@ among tree l ls there = sym (found_by_key (path_eq (l ∷ ls)) tree) ∙ by (loo
 
 -- ---- what it left, and what it sees
 
-module _ (h : History) (tree : States) (estate : Assets) (in_tree : IsTreeOf h tree) (is : IsEstateOf h tree estate) (k : List ℕ) where
-  left_as : (l : List ℕ) (ls : Name) → is_active h (l ∷ ls) ≡ true → left_by tree estate.versions k (l ∷ ls) ≡ last_left (items h (l ∷ ls)) k
+module _ (rows : Rows) (h : History) (tables : Tabled) (allowed : AreAllowed rows h) (are : AreTablesOf rows h tables) (k : List ℕ) where
+  left_as : (l : List ℕ) (ls : Name) → is_active h (l ∷ ls) ≡ true → left_by tables.tree tables.estate.versions k (l ∷ ls) ≡ last_left (items h (l ∷ ls)) k
   left_as l ls acts =
       let t : Name = l ∷ ls in
-      let f = found_from (path_eq t) 0 (names tree) (among tree l ls (present h tree in_tree t acts)) in
-      let place : position (path_eq t) (names tree) ≡ Some f.place = position_from-zero (path_eq t) (names tree) ∙ f.first ∙ (let same : 0 + f.place ≡ f.place = omega arith in ap (λ m. Some m) same) in
-      let name : slice_get (names tree) f.place ≡ Some t = f.at ∙ ap (λ (u : Name). Some u) (sym (same_path t f.name f.passes)) in
-      ap (left_at_number estate.versions k) place
-      ∙ is.left f.place k
-      ∙ ap (share_of None (left_at k) h) name
+      let f = found_from (path_eq t) 0 (names tables.tree) (among tables.tree l ls (present h tables.tree are.in_tree t acts)) in
+      let place : position (path_eq t) (names tables.tree) ≡ Some f.place = position_from-zero (path_eq t) (names tables.tree) ∙ f.first ∙ (let same : 0 + f.place ≡ f.place = omega arith in ap (λ m. Some m) same) in
+      let name : slice_get (names tables.tree) f.place ≡ Some t = f.at ∙ ap (λ (u : Name). Some u) (sym (same_path t f.name f.passes)) in
+      ap (left_at_number tables.estate.versions k) place
+      ∙ are.estate.left f.place k
+      ∙ ap (content_of None (left_at k) h) name
       ∙ ap (λ b. cond b (left_at k h t) None) acts
 
-  module _ (rows : Rows) (allowed : AreAllowed rows h) (base : (q : List ℕ) → base_of estate q ≡ seen (value_in rows) h [] q) where
-    by_name : (t : Name) → is_active h t ≡ true → seen_of (left_by tree estate.versions k) t (base_of estate k) ≡ seen (value_in rows) h t k
-    by_name [] acts = base k
-    by_name (l ∷ ls) acts =
-        seen_of-same (λ u. left_by tree estate.versions k (l ∷ u)) (λ u. last_left (items h (l ∷ u)) k) ls (base_of estate k)
-        (λ u front. left_as l u (ancestors_act rows h allowed (l ∷ ls) (l ∷ u) acts (ap (λ b. b && is_front u ls) (label_eq_self l) ∙ front)))
-        ∙ ap (λ v. seen_of (λ u. last_left (items h (l ∷ u)) k) ls v) (base k)
+  -- the root sees the table
+  base : base_of tables.estate k ≡ seen (value_in rows) h [] k
+  base = are.current k ∙ value_stored rows h allowed k
 
-    pub seen_as : (t : Name) (n : ℕ) → is_active h t ≡ true → IsNumberOf tree t n → seen_in tree estate.versions n k ≡ seen (value_in rows) h t k
-    seen_as t n acts number = ap (seen_by tree estate.versions k) (name_at tree t n number) ∙ by_name t acts
+  by_name : (t : Name) → is_active h t ≡ true → seen_of (left_by tables.tree tables.estate.versions k) t (base_of tables.estate k) ≡ seen (value_in rows) h t k
+  by_name [] acts = base
+  by_name (l ∷ ls) acts =
+      seen_of-same (λ u. left_by tables.tree tables.estate.versions k (l ∷ u)) (λ u. last_left (items h (l ∷ u)) k) ls (base_of tables.estate k)
+      (λ u front. left_as l u (ancestors_act rows h allowed (l ∷ ls) (l ∷ u) acts (ap (λ b. b && is_front u ls) (label_eq_self l) ∙ front)))
+      ∙ ap (λ v. seen_of (λ u. last_left (items h (l ∷ u)) k) ls v) base
+
+  pub seen_as : (t : Name) (n : ℕ) → is_active h t ≡ true → IsNumberOf tables.tree t n → seen_in tables.tree tables.estate.versions n k ≡ seen (value_in rows) h t k
+  seen_as t n acts number = ap (seen_by tables.tree tables.estate.versions k) (name_at tables.tree t n number) ∙ by_name t acts

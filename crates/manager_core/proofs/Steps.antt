@@ -1,13 +1,12 @@
--- What an entry does to the tree, the marks and the table.
-use Rattle.std.proofs.Common.{◌≡◌, ℕ, Bool, true, false, cond, ◌||◌, List, [], ◌∷◌, ◌++◌, reverse, None, refl, sym, ap, ◌∙◌}
+-- What an entry does to the tree, to the marks and to the table.
+use Rattle.std.proofs.Common.{◌≡◌, ℕ, Bool, true, false, cond, ◌||◌, List, [], ◌∷◌, ◌++◌, reverse, refl, sym, ap, ◌∙◌}
 use Rattle.std.proofs.lemmas.Bool.{false≢true}
 use Rattle.std.proofs.lemmas.List.{reverse-append}
-use Rattle.std.specs.List.{list_any}
 use Rattle.txn_names.specs.Path.{path_eq}
 use Rattle.txn_tree.specs.States.{States, names, status_in}
 use Rattle.txn_tree.specs.declared.status.Status.{Status as State}
 use Rattle.txn_tree.specs.declared.status.Status.TheVariants as state
-use Rattle.orphans.specs.Marked.{Marked}
+use Rattle.orphans.specs.Marked.{Marked, is_marked}
 use Rattle.serial_spec.specs.declared.entry.Entry.{Entry}
 use Rattle.serial_spec.specs.History.{Name, History, Status, Effect, Begins, Accesses, Commits, Aborts, Nothing, effect, begun, begun_by, has_aborted, is_abort, status}
 use Rattle.serial_spec.specs.Serial.{Map, stored}
@@ -16,8 +15,7 @@ use Rattle.serial_spec.specs.Legal.{AreAllowed}
 use Rattle.txn_history.specs.Steps.{sets_status}
 use Rattle.txn_history.specs.Laws.{table_next}
 use Rattle.txn_history.proofs.Theorems.{status_after, table_after}
-use Rattle.manager_core.specs.Kept.{status_of, IsTreeOf, AreMarksOf, IsKept}
-use Rattle.manager_core.specs.Tables.{BeginsIn, AbortsIn}
+use Rattle.manager_core.specs.Kept.{status_of, IsTreeOf, AreMarksOf}
 
 -- a state that is set
 status_set : (b : Bool) (s old : State) → status_of (cond b s old) ≡ cond b (status_of s) (status_of old)
@@ -58,17 +56,6 @@ plain_table opening h (Commits t) k p = absurd (false≢true p)
 plain_table opening h (Aborts t) k p = absurd (false≢true p)
 plain_table opening h Nothing k p = refl
 
--- marks with other room
-pub kept_with_room : (rows : Rows) (h : History) (states : States) (marks roomy : Marked) (table : Rows) → IsKept rows h states marks table → roomy.names ≡ marks.names
-    → IsKept rows h states roomy table
-kept_with_room rows h states marks roomy table kept same = record {
-  rising = kept.rising;
-  allowed = kept.allowed;
-  in_tree = kept.in_tree;
-  marked = λ t. ap (list_any (path_eq t)) same ∙ kept.marked t;
-  current = kept.current;
-}
-
 module _ (rows : Rows) (e : Entry) (h : History) (allowed : AreAllowed rows (e ∷ h)) where
   -- the tree afterwards, by the effect
   tree_next : (old new : States) (x : Effect) → IsTreeOf h old → effect e ≡ x
@@ -87,10 +74,12 @@ module _ (rows : Rows) (e : Entry) (h : History) (allowed : AreAllowed rows (e �
       (is.begun ∙ ap reverse (sym (plain_begun x (begun h) p)))
       (λ u. plain_status x u (status_of (status_in states u)) p)
 
-  pub tree_begins : (old new : States) (t : Name) → IsTreeOf h old → effect e ≡ Begins t → BeginsIn old new t None → IsTreeOf (e ∷ h) new
-  tree_begins old new t is does begins = tree_next old new (Begins t) is does
-      (begins.0 ∙ ap (λ ts. ts ++ t ∷ []) is.begun ∙ sym (reverse-append (t ∷ []) (begun h)))
-      (λ u. ap status_of (begins.1 u) ∙ status_set (path_eq t u) state.Live (status_in old u))
+  pub tree_begins : (old new : States) (t : Name) → IsTreeOf h old → effect e ≡ Begins t → names new ≡ names old ++ t ∷ []
+      → ((u : Name) → status_in new u ≡ cond (path_eq t u) state.Live (status_in old u))
+      → IsTreeOf (e ∷ h) new
+  tree_begins old new t is does more sets = tree_next old new (Begins t) is does
+      (more ∙ ap (λ ts. ts ++ t ∷ []) is.begun ∙ sym (reverse-append (t ∷ []) (begun h)))
+      (λ u. ap status_of (sets u) ∙ status_set (path_eq t u) state.Live (status_in old u))
 
   pub tree_commits : (old new : States) (t : Name) → IsTreeOf h old → effect e ≡ Commits t → names new ≡ names old
       → ((u : Name) → status_in new u ≡ cond (path_eq t u) state.Committed (status_in old u))
@@ -99,68 +88,23 @@ module _ (rows : Rows) (e : Entry) (h : History) (allowed : AreAllowed rows (e �
       (same ∙ is.begun)
       (λ u. ap status_of (sets u) ∙ status_set (path_eq t u) state.Committed (status_in old u))
 
-  pub tree_aborts : (old new : States) (old_marks new_marks : Marked) (t : Name) → IsTreeOf h old → effect e ≡ Aborts t
-      → AbortsIn old new old_marks new_marks t None → IsTreeOf (e ∷ h) new
-  tree_aborts old new old_marks new_marks t is does aborts = tree_next old new (Aborts t) is does
-      (aborts.0 ∙ is.begun)
-      (λ u. ap status_of (aborts.1 u) ∙ status_set (path_eq t u) state.Aborted (status_in old u))
+  pub tree_aborts : (old new : States) (t : Name) → IsTreeOf h old → effect e ≡ Aborts t → names new ≡ names old
+      → ((u : Name) → status_in new u ≡ cond (path_eq t u) state.Aborted (status_in old u))
+      → IsTreeOf (e ∷ h) new
+  tree_aborts old new t is does same sets = tree_next old new (Aborts t) is does
+      (same ∙ is.begun)
+      (λ u. ap status_of (sets u) ∙ status_set (path_eq t u) state.Aborted (status_in old u))
 
   -- the marks afterwards
   pub marks_same : (marks : Marked) → AreMarksOf h marks → ((u : Name) → is_abort u (effect e) ≡ false) → AreMarksOf (e ∷ h) marks
   marks_same marks are none u = are u ∙ sym (ap (λ b. b || has_aborted h u) (none u))
 
-  pub marks_aborts : (old new : States) (old_marks new_marks : Marked) (t : Name) → AreMarksOf h old_marks → effect e ≡ Aborts t
-      → AbortsIn old new old_marks new_marks t None → AreMarksOf (e ∷ h) new_marks
-  marks_aborts old new old_marks new_marks t are does aborts u =
-      aborts.2 u ∙ ap (λ b. path_eq t u || b) (are u) ∙ ap (λ x. is_abort u x || has_aborted h u) (sym does)
+  pub marks_aborts : (old new : Marked) (t : Name) → AreMarksOf h old → effect e ≡ Aborts t
+      → ((u : Name) → is_marked new u ≡ (path_eq t u || is_marked old u)) → AreMarksOf (e ∷ h) new
+  marks_aborts old new t are does marks u =
+      marks u ∙ ap (λ b. path_eq t u || b) (are u) ∙ ap (λ x. is_abort u x || has_aborted h u) (sym does)
 
   -- the table afterwards
   pub table_same : (k : List ℕ) → table_next (value_in rows) h (effect e) k ≡ stored (value_in rows) h k
       → stored (value_in rows) (e ∷ h) k ≡ stored (value_in rows) h k
   table_same k same = table_after rows e h allowed k ∙ same
-
-  -- ---- what the type keeps
-
-  -- an entry that begins and ends nobody keeps it all
-  pub kept_plain : (states : States) (marks : Marked) (table : Rows) (x : Effect) → IsKept rows h states marks table → effect e ≡ x → is_plain x ≡ true
-      → IsKept rows (e ∷ h) states marks table
-  kept_plain states marks table x kept does p = record {
-    rising = kept.rising;
-    allowed = allowed;
-    in_tree = tree_plain states x kept.in_tree does p;
-    marked = marks_same marks kept.marked (λ u. ap (is_abort u) does ∙ plain_abort x u p);
-    current = λ k. kept.current k ∙ sym (table_same k (ap (λ y. table_next (value_in rows) h y k) does ∙ plain_table (value_in rows) h x k p));
-  }
-
-  pub kept_begins : (old new : States) (marks : Marked) (table : Rows) (t : Name) → IsKept rows h old marks table → effect e ≡ Begins t
-      → BeginsIn old new t None → IsKept rows (e ∷ h) new marks table
-  kept_begins old new marks table t kept does begins = record {
-    rising = kept.rising;
-    allowed = allowed;
-    in_tree = tree_begins old new t kept.in_tree does begins;
-    marked = marks_same marks kept.marked (λ u. ap (is_abort u) does);
-    current = λ k. kept.current k ∙ sym (table_same k (ap (λ y. table_next (value_in rows) h y k) does));
-  }
-
-  pub kept_aborts : (old new : States) (old_marks new_marks : Marked) (table : Rows) (t : Name) → IsKept rows h old old_marks table
-      → effect e ≡ Aborts t → AbortsIn old new old_marks new_marks t None → IsKept rows (e ∷ h) new new_marks table
-  kept_aborts old new old_marks new_marks table t kept does aborts = record {
-    rising = kept.rising;
-    allowed = allowed;
-    in_tree = tree_aborts old new old_marks new_marks t kept.in_tree does aborts;
-    marked = marks_aborts old new old_marks new_marks t kept.marked does aborts;
-    current = λ k. kept.current k ∙ sym (table_same k (ap (λ y. table_next (value_in rows) h y k) does));
-  }
-
-  -- a commit, with the table that is due
-  pub kept_commits : (old new : States) (marks : Marked) (before after : Rows) (t : Name) → IsKept rows h old marks before → effect e ≡ Commits t
-      → names new ≡ names old → ((u : Name) → status_in new u ≡ cond (path_eq t u) state.Committed (status_in old u))
-      → ((k : List ℕ) → value_in after k ≡ stored (value_in rows) (e ∷ h) k)
-      → IsKept rows (e ∷ h) new marks after
-  kept_commits old new marks before after t kept does same sets current = record {
-    rising = kept.rising;
-    allowed = allowed;
-    in_tree = tree_commits old new t kept.in_tree does same sets;
-    marked = marks_same marks kept.marked (λ u. ap (is_abort u) does);
-    current = current;
-  }

@@ -10,23 +10,20 @@ use Rattle.txn_tree.specs.States.{States, names, status_in, is_live as is_live_s
 use Rattle.txn_tree.specs.Asked.{is_live_in}
 use Rattle.txn_tree.specs.declared.status.Status.{Status as State}
 use Rattle.txn_tree.specs.declared.status.Status.TheVariants as state
-use Rattle.orphans.specs.Marked.{Marked}
-use Rattle.inherit.specs.Assets.{Assets}
 use Rattle.serial_spec.specs.History.{Name, History, or_else, is_live, begun, has_begun}
-use Rattle.serial_spec.specs.Serial.{stored}
-use Rattle.serial_spec.specs.Rows.{Rows, value_in}
+use Rattle.serial_spec.specs.Rows.{Rows}
 use Rattle.serial_spec.specs.Legal.{AreAllowed, is_top_level, first_live}
 use Rattle.serial_spec.specs.Interleaving.{closing}
 use Rattle.txn_history.proofs.Begun.{any_begun}
 use Rattle.durable_top.specs.declared.store.TopStore.{Ghosts}
 use Rattle.manager_core.specs.Sound.{IsBacked}
-use Rattle.manager_core.specs.Kept.{IsTreeOf, AreMarksOf, IsEstateOf, IsKept}
-use Rattle.manager_core.specs.Tables.{AbortsIn, DropsIn, is_live_top_in}
+use Rattle.manager_core.specs.Kept.{AreTablesOf, IsKept, IsTreeOf}
+use Rattle.manager_core.specs.Tables.{Tabled, AbortsIn, is_live_top_in, rows_in}
 use Rattle.manager_core.specs.Closing.{closings, Closes}
 use Rattle.manager_core.proofs.Facts.{backed_next}
 use Rattle.manager_core.proofs.Trees.{live_in}
-use Rattle.manager_core.proofs.Steps.{tree_aborts, marks_aborts, table_same}
-use Rattle.manager_core.proofs.Estates.{owned_dropped}
+use Rattle.manager_core.proofs.Kept.{backed_over}
+use Rattle.manager_core.proofs.Tabled.{tables_aborted}
 use Rattle.manager_core.proofs.Named.{any_next, counted_at}
 use Rattle.manager_core.proofs.Blocking.{any_named, all_named}
 
@@ -88,21 +85,19 @@ fewer p q f (x ∷ xs) none =
 
 -- ---- at a place of the loop
 
-pub record ClosingAt (rows : Rows) (old new : History) (before states : States) (marks : Marked) (estate : Assets) (room marks_room i : ℕ) : Type 0 where
+pub record ClosingAt (rows : Rows) (old new : History) (before tables : Tabled) (room i : ℕ) : Type 0 where
   pub closed : List Name
   pub added : new ≡ closings closed ++ old
   pub allowed : AreAllowed rows new
-  pub in_tree : IsTreeOf new states
-  pub marked : AreMarksOf new marks
-  pub owned : IsEstateOf new states estate
-  pub same_table : (k : List ℕ) → stored (value_in rows) new k ≡ stored (value_in rows) old k
-  pub same_names : names states ≡ names before
+  pub are : AreTablesOf rows new tables
+  pub same_rows : rows_in tables ≡ rows_in before
+  pub same_names : names tables.tree ≡ names before.tree
   -- those that have been gone through are live no more, and nobody has come to life
-  pub gone : list_any (is_live_top_in states) (take i (names states)) ≡ false
-  pub lasting : (u : Name) → is_live_top_in states u ≡ true → is_live_top_in before u ≡ true
+  pub gone : list_any (is_live_top_in tables.tree) (take i (names tables.tree)) ≡ false
+  pub lasting : (u : Name) → is_live_top_in tables.tree u ≡ true → is_live_top_in before.tree u ≡ true
   -- there is room for those that are left
-  pub enough : count_by (is_live_top_in before) (drop i (names before)) ≤ room
-  pub enough_marks : count_by (is_live_top_in before) (drop i (names before)) ≤ marks_room
+  pub enough : count_by (is_live_top_in before.tree) (drop i (names before.tree)) ≤ room
+  pub enough_marks : count_by (is_live_top_in before.tree) (drop i (names before.tree)) ≤ tables.marks.room
 
 -- an abort leaves nobody live who was not
 still_live : (b : Bool) (s : State) → is_live_state (cond b state.Aborted s) ≡ true → is_live_state s ≡ true
@@ -114,89 +109,84 @@ counts : (b : Bool) → b ≡ true → ◌≡◌ {A = ℕ} (cond b 1 0) 1
 counts true e = refl
 counts false e = absurd (false≢true e)
 
-module _ (rows : Rows) (old new : History) (before states : States) (marks : Marked) (estate : Assets) (room marks_room i : ℕ) (far : ClosingAt rows old new before states marks estate room marks_room i)
-    (t : Name) (at : slice_get (names states) i ≡ Some t) where
-  at_before : slice_get (names before) i ≡ Some t
+module _ (rows : Rows) (old new : History) (before tables : Tabled) (room i : ℕ) (far : ClosingAt rows old new before tables room i)
+    (t : Name) (at : slice_get (names tables.tree) i ≡ Some t) where
+  at_before : slice_get (names before.tree) i ≡ Some t
   at_before = ap (λ xs. slice_get xs i) (sym far.same_names) ∙ at
 
-  same_top : is_live_top_in states ≡ is_top new
-  same_top = λ j u. is_top_level u && live_in rows new states far.allowed far.in_tree u j
+  same_top : is_live_top_in tables.tree ≡ is_top new
+  same_top = λ j u. is_top_level u && live_in rows new tables.tree far.allowed far.are.in_tree u j
 
-  module _ (live : is_live_top_in states t ≡ true) where
-    left : count_by (is_live_top_in before) (drop i (names before)) ≡ 1 + count_by (is_live_top_in before) (drop (i + 1) (names before))
+  module _ (live : is_live_top_in tables.tree t ≡ true) where
+    left : count_by (is_live_top_in before.tree) (drop i (names before.tree)) ≡ 1 + count_by (is_live_top_in before.tree) (drop (i + 1) (names before.tree))
     left =
-        counted_at (is_live_top_in before) (names before) i t at_before
-        ∙ ap (λ n. n + count_by (is_live_top_in before) (drop (i + 1) (names before))) (counts (is_live_top_in before t) (far.lasting t live))
+        counted_at (is_live_top_in before.tree) (names before.tree) i t at_before
+        ∙ ap (λ n. n + count_by (is_live_top_in before.tree) (drop (i + 1) (names before.tree))) (counts (is_live_top_in before.tree t) (far.lasting t live))
 
     -- there is room to close one
     pub room_for : 0 < room
     room_for = omega (arith, left, far.enough)
 
-    pub marks_room_for : 0 < marks_room
+    pub marks_room_for : 0 < tables.marks.room
     marks_room_for = omega (arith, left, far.enough_marks)
 
     -- it is the first that is live
     pub is_first : first_live new (begun new) ≡ Some t
     is_first =
-        first_named new states far.in_tree
-        ∙ first_at (is_top new) (names states) i t at
-        (ap (λ p. list_any p (take i (names states))) (sym same_top) ∙ far.gone)
+        first_named new tables.tree far.are.in_tree
+        ∙ first_at (is_top new) (names tables.tree) i t at
+        (ap (λ p. list_any p (take i (names tables.tree))) (sym same_top) ∙ far.gone)
         (ap (λ (p : Name → Bool). p t) (sym same_top) ∙ live)
 
     next_allowed : AreAllowed rows (closing t ∷ new)
     next_allowed = (far.allowed, is_first)
 
-    module _ (after : States) (marks_after : Marked) (estate_after : Assets) (room_after marks_room_after : ℕ) (aborts : AbortsIn states after marks marks_after t None)
-        (drops : DropsIn after estate estate_after t None)
-        (less : room ≤ room_after + 1) (marks_less : marks_room ≤ marks_room_after + 1) where
-      lives_on : (u : Name) → is_live_top_in after u ≡ true → is_live_top_in states u ≡ true
+    module _ (after : Tabled) (room_after : ℕ) (aborts : AbortsIn tables after t)
+        (less : room ≤ room_after + 1) (marks_less : tables.marks.room ≤ after.marks.room + 1) where
+      lives_on : (u : Name) → is_live_top_in after.tree u ≡ true → is_live_top_in tables.tree u ≡ true
       lives_on u e =
-          let parts = and_parts (is_top_level u) (is_live_in after u) e in
-          let lived : is_live_in states u ≡ true = still_live (path_eq t u) (status_in states u) (sym (ap is_live_state (aborts.1 u)) ∙ parts.1) in
+          let parts = and_parts (is_top_level u) (is_live_in after.tree u) e in
+          let lived : is_live_in tables.tree u ≡ true = still_live (path_eq t u) (status_in tables.tree u) (sym (ap is_live_state (aborts.status u)) ∙ parts.1) in
           rw (parts.0, lived) refl
 
-      ended_here : is_live_top_in after t ≡ false
+      ended_here : is_live_top_in after.tree t ≡ false
       ended_here =
-          let dead : is_live_in after t ≡ false = ap is_live_state (aborts.1 t ∙ ap (λ b. cond b state.Aborted (status_in states t)) (path_eq_self t)) in
+          let dead : is_live_in after.tree t ≡ false = ap is_live_state (aborts.status t ∙ ap (λ b. cond b state.Aborted (status_in tables.tree t)) (path_eq_self t)) in
           ap (λ b. is_top_level t && b) dead ∙ and_false (is_top_level t)
         where
           and_false : (b : Bool) → b && false ≡ false
           and_false true = refl
           and_false false = refl
 
-      pub closed_one : ClosingAt rows old (closing t ∷ new) before after marks_after estate_after room_after marks_room_after (i + 1)
+      pub closed_one : ClosingAt rows old (closing t ∷ new) before after room_after (i + 1)
       closed_one =
-          let still : list_any (is_live_top_in after) (take i (names after)) ≡ false =
-          ap (λ xs. list_any (is_live_top_in after) (take i xs)) aborts.0 ∙ fewer (is_live_top_in states) (is_live_top_in after) lives_on (take i (names states)) far.gone in
+          let still : list_any (is_live_top_in after.tree) (take i (names after.tree)) ≡ false =
+          ap (λ xs. list_any (is_live_top_in after.tree) (take i xs)) aborts.same_names ∙ fewer (is_live_top_in tables.tree) (is_live_top_in after.tree) lives_on (take i (names tables.tree)) far.gone in
           record {
             closed = t ∷ far.closed;
             added = ap (λ h. closing t ∷ h) far.added;
             allowed = next_allowed;
-            in_tree = tree_aborts rows (closing t) new next_allowed states after marks marks_after t far.in_tree refl aborts;
-            marked = marks_aborts rows (closing t) new next_allowed states after marks marks_after t far.marked refl aborts;
-            owned = owned_dropped rows (closing t) new next_allowed states after estate estate_after t far.owned refl aborts.0 drops;
-            same_table = λ k. table_same rows (closing t) new next_allowed k refl ∙ far.same_table k;
-            same_names = aborts.0 ∙ far.same_names;
-            gone = any_next (is_live_top_in after) (names after) i t (ap (λ xs. slice_get xs i) aborts.0 ∙ at) still ended_here;
+            are = tables_aborted rows (closing t) new next_allowed tables after far.are t refl aborts;
+            same_rows = aborts.rows ∙ far.same_rows;
+            same_names = aborts.same_names ∙ far.same_names;
+            gone = any_next (is_live_top_in after.tree) (names after.tree) i t (ap (λ xs. slice_get xs i) aborts.same_names ∙ at) still ended_here;
             lasting = λ u e. far.lasting u (lives_on u e);
             enough = omega (arith, left, far.enough, less);
             enough_marks = omega (arith, left, far.enough_marks, marks_less);
           }
 
   -- one that is not live is passed over
-  pub passed_one : is_live_top_in states t ≡ false → ClosingAt rows old new before states marks estate room marks_room (i + 1)
+  pub passed_one : is_live_top_in tables.tree t ≡ false → ClosingAt rows old new before tables room (i + 1)
   passed_one dead =
-      let one = counted_at (is_live_top_in before) (names before) i t at_before in
+      let one = counted_at (is_live_top_in before.tree) (names before.tree) i t at_before in
       record {
         closed = far.closed;
         added = far.added;
         allowed = far.allowed;
-        in_tree = far.in_tree;
-        marked = far.marked;
-        owned = far.owned;
-        same_table = far.same_table;
+        are = far.are;
+        same_rows = far.same_rows;
         same_names = far.same_names;
-        gone = any_next (is_live_top_in states) (names states) i t at far.gone dead;
+        gone = any_next (is_live_top_in tables.tree) (names tables.tree) i t at far.gone dead;
         lasting = far.lasting;
         enough = omega (arith, one, far.enough);
         enough_marks = omega (arith, one, far.enough_marks);
@@ -207,37 +197,23 @@ module _ (rows : Rows) (old new : History) (before states : States) (marks : Mar
 live_has_begun : (h : History) (l : List ℕ) → is_live h (l ∷ []) ≡ true → has_begun h (l ∷ []) ≡ true
 live_has_begun h l e = on_test (has_begun h (l ∷ [])) (λ b. b ≡ true) (λ b. refl) (λ b. absurd (false≢true (sym (rw b refl) ∙ e)))
 
-pub all_closed : (rows : Rows) (old new : History) (before states : States) (marks : Marked) (estate : Assets) (room marks_room i : ℕ)
-    → ClosingAt rows old new before states marks estate room marks_room i → length states ≤ i → Closes rows old new states marks estate
-all_closed rows old new before states marks estate room marks_room i far end =
-    let same : is_live_top_in states ≡ is_top new = λ j u. is_top_level u && live_in rows new states far.allowed far.in_tree u j in
-    let none : list_any (is_top new) (names states) ≡ false =
-    ap (λ p. list_any p (names states)) (sym same) ∙ sym (all_named (is_live_top_in states) states i end) ∙ far.gone in
+pub all_closed : (rows : Rows) (old new : History) (before tables : Tabled) (room i : ℕ)
+    → ClosingAt rows old new before tables room i → length tables.tree ≤ i → Closes rows old new tables
+all_closed rows old new before tables room i far end =
+    let same : is_live_top_in tables.tree ≡ is_top new = λ j u. is_top_level u && live_in rows new tables.tree far.allowed far.are.in_tree u j in
+    let none : list_any (is_top new) (names tables.tree) ≡ false =
+    ap (λ p. list_any p (names tables.tree)) (sym same) ∙ sym (all_named (is_live_top_in tables.tree) tables.tree i end) ∙ far.gone in
     record {
       names = far.closed;
       added = far.added;
       allowed = far.allowed;
-      in_tree = far.in_tree;
-      marked = far.marked;
-      owned = far.owned;
-      same_table = far.same_table;
-      none_left = first_named new states far.in_tree ∙ no_first (is_top new) (names states) none;
+      are = far.are;
+      none_left = first_named new tables.tree far.are.in_tree ∙ no_first (is_top new) (names tables.tree) none;
       ended = λ l. false_from_ne_true _
-          (λ e. false≢true (sym (sym (any_named (is_top new) new states far.in_tree) ∙ none) ∙ any_begun (is_top new) (l ∷ []) new (live_has_begun new l e) e));
+          (λ e. false≢true (sym (sym (any_named (is_top new) new tables.tree far.are.in_tree) ∙ none) ∙ any_begun (is_top new) (l ∷ []) new (live_has_begun new l e) e));
     }
 
 -- ---- the manager
-
--- the close keeps what the type keeps
-pub kept_closed : (rows : Rows) (old new : History) (before states : States) (marks_before marks : Marked) (estate : Assets) (table : Rows)
-    → IsKept rows old before marks_before table → Closes rows old new states marks estate → IsKept rows new states marks table
-kept_closed rows old new before states marks_before marks estate table kept closes = record {
-  rising = kept.rising;
-  allowed = closes.allowed;
-  in_tree = closes.in_tree;
-  marked = closes.marked;
-  current = λ k. kept.current k ∙ sym (closes.same_table k);
-}
 
 -- closing entries are no refusals of the store
 backed_by : {S : Type 0} (g : Ghosts S) (old : History) (table : Rows) (opened : ℕ) (store : S) (closed : List Name)
@@ -245,7 +221,12 @@ backed_by : {S : Type 0} (g : Ghosts S) (old : History) (table : Rows) (opened :
 backed_by g old table opened store [] backed = backed
 backed_by g old table opened store (t ∷ ts) backed = backed_next g _ table opened store _ _ _ (backed_by g old table opened store ts backed) refl
 
-pub backed_closed : {S : Type 0} (g : Ghosts S) (rows : Rows) (old new : History) (table : Rows) (opened : ℕ) (store : S) (states : States) (marks : Marked) (estate : Assets)
-    → IsBacked g old table opened store → Closes rows old new states marks estate → IsBacked g new table opened store
-backed_closed g rows old new table opened store states marks estate backed closes =
-    subst (λ h. IsBacked g h table opened store) (sym closes.added) (backed_by g old table opened store closes.names backed)
+-- the close keeps what the type keeps
+pub kept_closed : {S : Type 0} (g : Ghosts S) (rows : Rows) (old new : History) (before after : Tabled) (opened : ℕ) (store : S)
+    → IsKept g rows old before opened store → Closes rows old new after → rows_in after ≡ rows_in before → IsKept g rows new after opened store
+kept_closed g rows old new before after opened store kept closes same = record {
+  rising = kept.rising;
+  allowed = closes.allowed;
+  are = closes.are;
+  backed = backed_over g same (subst (λ h. IsBacked g h (rows_in before) opened store) (sym closes.added) (backed_by g old (rows_in before) opened store closes.names kept.backed));
+}

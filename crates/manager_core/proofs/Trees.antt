@@ -16,8 +16,8 @@ use Rattle.serial_spec.specs.Rows.{Rows}
 use Rattle.serial_spec.specs.Legal.{AreAllowed}
 use Rattle.serial_spec.specs.Allowed.{has_live_child, cause_at_begin, cause_at_end}
 use Rattle.txn_history.proofs.Theorems.{ended_begun}
-use Rattle.manager_core.specs.Kept.{status_of, IsTreeOf, AreMarksOf}
-use Rattle.manager_core.specs.Tables.{acts_in, cause_in}
+use Rattle.manager_core.specs.Kept.{status_of, IsTreeOf, AreMarksOf, AreTablesOf}
+use Rattle.manager_core.specs.Tables.{Tabled, acts_in, cause_in}
 use Rattle.manager_core.proofs.Reversed.{any_reversed}
 
 -- ---- states
@@ -113,15 +113,18 @@ module _ (rows : Rows) (h : History) (states : States) (allowed : AreAllowed row
   pub same_at_abort : (t : Name) → 0 < length t → tree.cause_at_abort states t ≡ cause_at_end h t
   same_at_abort t some = rw (unknown_as t some, top_by_states t, committed_in t) refl
 
-  -- and with the marks it is the same
-  pub same_at_end : (marks : Marked) → AreMarksOf h marks → (t : Name) → 0 < length t → cause_in states marks t ≡ cause_at_end h t
-  same_at_end marks are t some = rw (unknown_as t some, top_by_marks h marks are t, committed_in t) refl
-
   pub same_children : (t : Name) → list_any (is_live_child_in states t) (names states) ≡ has_live_child h t
   same_children t =
       let each : is_live_child_in states t ≡ (λ u. path_eq (parent u) t && is_live h u) = λ i u. path_eq (parent u) t && live_in u i in
       ap (λ p. list_any p (names states)) each ∙ ap (list_any (λ u. path_eq (parent u) t && is_live h u)) is.begun
       ∙ any_reversed (λ u. path_eq (parent u) t && is_live h u) (begun h)
 
-  pub same_active : (marks : Marked) → AreMarksOf h marks → (t : Name) → acts_in states marks t ≡ is_active h t
-  same_active marks are t = rw (live_in t, top_by_marks h marks are t) refl
+-- ---- with the marks
+
+module _ (rows : Rows) (h : History) (tables : Tabled) (allowed : AreAllowed rows h) (are : AreTablesOf rows h tables) (t : Name) where
+  pub same_at_end : 0 < length t → cause_in tables t ≡ cause_at_end h t
+  same_at_end some =
+      rw (unknown_as rows h tables.tree allowed are.in_tree t some, top_by_marks h tables.marks are.marked t, committed_in rows h tables.tree allowed are.in_tree t) refl
+
+  pub same_active : acts_in tables t ≡ is_active h t
+  same_active = rw (live_in rows h tables.tree allowed are.in_tree t, top_by_marks h tables.marks are.marked t) refl

@@ -1,4 +1,4 @@
--- What the manager's type keeps of its history and of the tables that are read off it.
+-- What the manager's type keeps: the tables are what the history says, and the store has the table.
 use Rattle.std.specs.Prelude.{◌≡◌, ℕ, ℤ, if◌then◌else◌, List, reverse, slice_get, Option, Some, None}
 use Rattle.txn_tree.specs.States.{States, names, status_in}
 use Rattle.txn_tree.specs.declared.status.Status.{Status as State}
@@ -14,6 +14,9 @@ use Rattle.serial_spec.specs.Values.{last_left}
 use Rattle.serial_spec.specs.Serial.{stored}
 use Rattle.serial_spec.specs.Rows.{Rows, value_in, IsRising}
 use Rattle.serial_spec.specs.Legal.{AreAllowed}
+use Rattle.durable_top.specs.declared.store.TopStore.{Ghosts}
+use Rattle.manager_core.specs.Tables.{Tabled, rows_in}
+use Rattle.manager_core.specs.Sound.{IsBacked}
 
 -- a state of the tree, as the definitions call it
 abbrev pub status_of : State → Status
@@ -32,9 +35,9 @@ abbrev pub AreMarksOf : History → Marked → Type 0
 AreMarksOf h marks = (t : Name) → is_marked marks t ≡ has_aborted h t
 
 -- what a transaction has at a key, read off the history: one that does not act has nothing, nor has a number that is nobody's
-abbrev pub share_of : {X : Type 0} → X → (History → Name → X) → History → Option Name → X
-share_of nothing value h None = nothing
-share_of nothing value h (Some t) = if is_active h t then value h t else nothing
+abbrev pub content_of : {X : Type 0} → X → (History → Name → X) → History → Option Name → X
+content_of nothing value h None = nothing
+content_of nothing value h (Some t) = if is_active h t then value h t else nothing
 
 abbrev pub lock_at : List ℕ → History → Name → Modes
 lock_at k h t = record { held = held h t k; retained = retained h t k }
@@ -44,12 +47,19 @@ left_at k h t = last_left (items h t) k
 
 -- so is what live transactions lock, and what they left
 pub record IsEstateOf (h : History) (tree : States) (estate : Assets) : Type 0 where
-  pub modes : (n : ℕ) (k : List ℕ) → modes_of estate n k ≡ share_of free (lock_at k) h (slice_get (names tree) n)
-  pub left : (n : ℕ) (k : List ℕ) → left_of estate n k ≡ share_of None (left_at k) h (slice_get (names tree) n)
+  pub modes : (n : ℕ) (k : List ℕ) → modes_of estate n k ≡ content_of free (lock_at k) h (slice_get (names tree) n)
+  pub left : (n : ℕ) (k : List ℕ) → left_of estate n k ≡ content_of None (left_at k) h (slice_get (names tree) n)
 
-pub record IsKept (rows : Rows) (h : History) (tree : States) (marks : Marked) (table : Rows) : Type 0 where
+-- all tables are what the history over these rows says
+pub record AreTablesOf (rows : Rows) (h : History) (tables : Tabled) : Type 0 where
+  pub in_tree : IsTreeOf h tables.tree
+  pub marked : AreMarksOf h tables.marks
+  pub estate : IsEstateOf h tables.tree tables.estate
+  -- the table is what the committed top-level transactions left
+  pub current : (k : List ℕ) → value_in (rows_in tables) k ≡ stored (value_in rows) h k
+
+pub record IsKept {S : Type 0} (g : Ghosts S) (rows : Rows) (h : History) (tables : Tabled) (opened : ℕ) (store : S) : Type 0 where
   pub rising : IsRising rows
   pub allowed : AreAllowed rows h
-  pub in_tree : IsTreeOf h tree
-  pub marked : AreMarksOf h marks
-  pub current : (k : List ℕ) → value_in table k ≡ stored (value_in rows) h k
+  pub are : AreTablesOf rows h tables
+  pub backed : IsBacked g h (rows_in tables) opened store

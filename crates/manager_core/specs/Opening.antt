@@ -1,5 +1,6 @@
 -- What an opening comes to.
 use Rattle.std.specs.Prelude.{◌≡◌, ◌≤◌, ◌<◌, ℕ, [], length}
+use Rattle.serial_spec.specs.declared.limits.TheConstants.{MOST_ROWS}
 use Rattle.serial_spec.specs.Rows.{Rows, value_in, IsRising}
 use Rattle.durable_top.specs.declared.store.StoreFault.{StoreFault}
 use Rattle.durable_top.specs.declared.store.StoreFault.TheVariants.{Failed}
@@ -11,7 +12,7 @@ use Rattle.manager_core.specs.State.{State}
 use Rattle.manager_core.specs.Asked.{IsLater}
 
 abbrev pub most_rows : ℕ
-most_rows = 4096
+most_rows = MOST_ROWS
 
 -- the manager over this store as it was given
 pub record IsOpened {S : Type 0} (g : Ghosts S) (store : S) (m : State S) : Type 0 where

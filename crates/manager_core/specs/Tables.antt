@@ -1,19 +1,20 @@
--- What is asked of the tree and the marks, and what each step does to them and to the estate.
+-- The tables as contracts see them, what is asked of them, and what each step does to them.
 use Rattle.std.specs.Prelude.{◌≡◌, ℕ, Bool, true, false, not, ◌&&◌, ◌||◌, if◌then◌else◌, List, [], ◌∷◌, ◌++◌, slice_get, Option, Some, None, is_some, option_map}
-use Rattle.txn_names.specs.Path.{path_eq, label_eq, is_front, top_of}
+use Rattle.txn_names.specs.Path.{path_eq, label_eq, is_front, parent, top_of}
 use Rattle.txn_tree.specs.States.{States, names, status_in}
 use Rattle.txn_tree.specs.Asked.{is_absent_in, is_live_in, has_committed_in, is_name}
-use Rattle.txn_tree.specs.declared.status.Status.TheVariants.{Live, Aborted}
+use Rattle.txn_tree.specs.declared.status.Status.TheVariants.{Live, Committed, Aborted}
 use Rattle.orphans.specs.Marked.{Marked, is_marked}
 use Rattle.lock_table.specs.Inherited.{free, with_held}
 use Rattle.inherit.specs.Assets.{Assets, IsSame, modes_of, left_of, rows_of}
+use Rattle.inherit.specs.Steps.{HasGoneUp}
 use Rattle.serial_spec.specs.declared.entry.By.{By}
 use Rattle.serial_spec.specs.declared.operation.Op.{Op}
+use Rattle.serial_spec.specs.declared.operation.Reply.{Reply}
 use Rattle.serial_spec.specs.Operations.{kind, leaves, reply_of}
 use Rattle.serial_spec.specs.History.{Name, History, or_else}
 use Rattle.serial_spec.specs.Locks.{mode_of, is_blocked}
 use Rattle.txn_cells.specs.Cells.{is_it}
-use Rattle.txn_names.specs.Path.{parent}
 use Rattle.serial_spec.specs.Values.{seen}
 use Rattle.serial_spec.specs.Rows.{Rows, value_in}
 use Rattle.serial_spec.specs.Allowed.{when, cause_at_access}
@@ -23,59 +24,89 @@ use Rattle.serial_spec.specs.Legal.{is_top_level}
 use Rattle.serial_spec.specs.declared.entry.Refusal.{Refusal}
 use Rattle.serial_spec.specs.declared.entry.Refusal.TheVariants.{Unknown, Done as HasCommitted, Orphan}
 
+-- who has begun with the state of each, who has aborted, and what live transactions lock and have left, over the table
+pub record Tabled : Type 0 where
+  pub tree : States
+  pub marks : Marked
+  pub estate : Assets
+
+-- the rows of the table
+abbrev pub rows_in : Tabled → Rows
+rows_in tables = rows_of tables.estate
+
+-- ---- what is asked
+
 -- live, and no orphan
-abbrev pub acts_in : States → Marked → Name → Bool
-acts_in tree marks t = is_live_in tree t && not (is_some (top_of (is_marked marks) t))
+abbrev pub acts_in : Tabled → Name → Bool
+acts_in tables t = is_live_in tables.tree t && not (is_some (top_of (is_marked tables.marks) t))
 
 -- the first of the causes that access, commit and abort share
-abbrev pub cause_in : States → Marked → Name → Option Refusal
-cause_in tree marks t =
-    or_else (when (is_absent_in tree t) Unknown)
-    (or_else (option_map (λ a. Orphan a) (top_of (is_marked marks) t))
-    (when (has_committed_in tree t) HasCommitted))
+abbrev pub cause_in : Tabled → Name → Option Refusal
+cause_in tables t =
+    or_else (when (is_absent_in tables.tree t) Unknown)
+    (or_else (option_map (λ a. Orphan a) (top_of (is_marked tables.marks) t))
+    (when (has_committed_in tables.tree t) HasCommitted))
 
 abbrev pub is_live_top_in : States → Name → Bool
 is_live_top_in tree t = is_top_level t && is_live_in tree t
-
--- t has begun, unless it was refused
-abbrev pub BeginsIn : States → States → Name → Option Refusal → Type 0
-BeginsIn old new t None =
-    (names new ≡ names old ++ t ∷ [])
-    × ((u : Name) → status_in new u ≡ (if path_eq t u then Live else status_in old u))
-BeginsIn old new t (Some refusal) = new ≡ old
-
--- t has aborted and is marked, unless it was refused
-abbrev pub AbortsIn : States → States → Marked → Marked → Name → Option Refusal → Type 0
-AbortsIn old new old_marks new_marks t None =
-    (names new ≡ names old)
-    × ((u : Name) → status_in new u ≡ (if path_eq t u then Aborted else status_in old u))
-    × ((u : Name) → is_marked new_marks u ≡ (path_eq t u || is_marked old_marks u))
-AbortsIn old new old_marks new_marks t (Some refusal) = (new ≡ old) × (new_marks ≡ old_marks)
 
 -- whether there is a name, and it is t or below it
 abbrev pub is_below : Option Name → Name → Bool
 is_below None t = false
 is_below (Some u) t = is_front t u
 
--- what t and all below it had is gone, unless it was refused
-abbrev pub DropsIn : States → Assets → Assets → Name → Option Refusal → Type 0
-DropsIn tree old new t None =
-    ((n : ℕ) (k : List ℕ) → modes_of new n k ≡ (if is_below (slice_get (names tree) n) t then free else modes_of old n k))
-    × ((n : ℕ) (k : List ℕ) → left_of new n k ≡ (if is_below (slice_get (names tree) n) t then None else left_of old n k))
-    × (rows_of new ≡ rows_of old)
-DropsIn tree old new t (Some refusal) = new ≡ old
-
 -- p is the number of t's parent, and there is none where that is the root
 abbrev pub IsParentNumber : States → Name → Option ℕ → Type 0
 IsParentNumber tree t p = (m : ℕ) → is_it p m ≡ is_name (slice_get (names tree) m) (parent t)
 
--- t has locked k and left there what its access leaves, if it was done
-abbrev pub AccessesIn : States → Assets → Assets → Name → List ℕ → Op → Outcome → Type 0
-AccessesIn tree old new t k op (Done reply) =
-    ((n : ℕ) (q : List ℕ) → modes_of new n q ≡ (if is_name (slice_get (names tree) n) t && label_eq k q then with_held (modes_of old n q) (mode_of (kind op)) else modes_of old n q))
-    × ((n : ℕ) (q : List ℕ) → left_of new n q ≡ (if is_name (slice_get (names tree) n) t && label_eq k q then or_else (leaves op reply) (left_of old n q) else left_of old n q))
-    × (rows_of new ≡ rows_of old)
-AccessesIn tree old new t k op outcome = IsSame old new
+-- ---- what each step does
+
+-- with other room they are the same
+pub record HasOtherRoom (old new : Tabled) : Type 0 where
+  pub tree : new.tree ≡ old.tree
+  pub marks : new.marks.names ≡ old.marks.names
+  pub estate : IsSame old.estate new.estate
+
+-- the step was made, unless it was refused
+abbrev pub MadeUnless : Option Refusal → Tabled → Tabled → Type 0 → Type 0
+MadeUnless None old new Step = Step
+MadeUnless (Some refusal) old new Step = new ≡ old
+
+-- t has begun
+pub record BeginsIn (old new : Tabled) (t : Name) : Type 0 where
+  pub begun : names new.tree ≡ names old.tree ++ t ∷ []
+  pub status : (u : Name) → status_in new.tree u ≡ (if path_eq t u then Live else status_in old.tree u)
+  pub marks : new.marks ≡ old.marks
+  pub estate : new.estate ≡ old.estate
+
+-- t has aborted and is marked, and what it and all below it had is gone
+pub record AbortsIn (old new : Tabled) (t : Name) : Type 0 where
+  pub same_names : names new.tree ≡ names old.tree
+  pub status : (u : Name) → status_in new.tree u ≡ (if path_eq t u then Aborted else status_in old.tree u)
+  pub marks : (u : Name) → is_marked new.marks u ≡ (path_eq t u || is_marked old.marks u)
+  pub modes : (n : ℕ) (k : List ℕ) → modes_of new.estate n k ≡ (if is_below (slice_get (names old.tree) n) t then free else modes_of old.estate n k)
+  pub left : (n : ℕ) (k : List ℕ) → left_of new.estate n k ≡ (if is_below (slice_get (names old.tree) n) t then None else left_of old.estate n k)
+  pub rows : rows_in new ≡ rows_in old
+
+-- t has committed, and what it had has gone up from its number to its parent's, or into the table where there is none
+pub record CommitsIn (old new : Tabled) (t : Name) (child : ℕ) (above : Option ℕ) : Type 0 where
+  pub same_names : names new.tree ≡ names old.tree
+  pub status : (u : Name) → status_in new.tree u ≡ (if path_eq t u then Committed else status_in old.tree u)
+  pub marks : new.marks ≡ old.marks
+  pub up : HasGoneUp old.estate new.estate child above
+
+-- t has locked k and left there what its access leaves
+pub record AccessesIn (old new : Tabled) (t : Name) (k : List ℕ) (op : Op) (reply : Reply) : Type 0 where
+  pub tree : new.tree ≡ old.tree
+  pub marks : new.marks ≡ old.marks
+  pub modes : (n : ℕ) (q : List ℕ) → modes_of new.estate n q ≡ (if is_name (slice_get (names old.tree) n) t && label_eq k q then with_held (modes_of old.estate n q) (mode_of (kind op)) else modes_of old.estate n q)
+  pub left : (n : ℕ) (q : List ℕ) → left_of new.estate n q ≡ (if is_name (slice_get (names old.tree) n) t && label_eq k q then or_else (leaves op reply) (left_of old.estate n q) else left_of old.estate n q)
+  pub rows : rows_in new ≡ rows_in old
+
+-- the access was made, if it was done
+abbrev pub ReachesIn : Tabled → Tabled → Name → List ℕ → Op → Outcome → Type 0
+ReachesIn old new t k op (Done reply) = AccessesIn old new t k op reply
+ReachesIn old new t k op outcome = HasOtherRoom old new
 
 -- what an access comes to
 abbrev pub ComesTo : Rows → History → By → Name → List ℕ → Op → Outcome → Type 0

@@ -7,7 +7,7 @@ use durable_top::TopStore;
 use txn_names::Change;
 
 /// Whether the store took the changes. It is not asked where there are none.
-pub(crate) fn stores<S: TopStore>(store: &mut S, changes: Vec<Change>) -> bool
+pub(crate) fn are_taken<S: TopStore>(store: &mut S, changes: Vec<Change>) -> bool
     requires { AreRising changes.items }
     ensures took { IsTrue result → Takes S.TopStore store.old store.new changes.items }
     ensures refused { IsFalse result → Refuses S.TopStore store.old store.new × (changes.items ≢ []) }

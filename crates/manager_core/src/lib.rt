@@ -2,14 +2,18 @@
 //! became of them, who locks what, and what each left, stand in tables; waits are still read off the history.
 #![tactic(auto)]
 
+mod aborting;
+mod accessing;
+mod beginning;
 mod changes;
 mod closing;
+mod committing;
 mod deciding;
 mod log;
 mod manager;
 mod outcome;
-mod owning;
 mod reading;
+mod tables;
 mod waiting;
 
 pub use manager::{Manager, Parts};

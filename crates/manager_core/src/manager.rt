@@ -10,20 +10,16 @@ ghost use Rattle.manager_core.specs.Lines.{IsFree, IsLine, IsWaitOf, waits_no_mo
 ghost use Rattle.manager_core.specs.Outcomes.{answer_of};
 ghost use Rattle.manager_core.specs.State.{entry};
 
-use crate::changes::stores;
-use crate::closing::{close_tops, count_live_tops};
-use crate::deciding::{Request, abort_in, access_in, acts, begin_in, refusal_of_commit};
+use crate::accessing::Request;
+use crate::changes::are_taken;
 use crate::log::Log;
 use crate::outcome::{OpenFault, Outcome};
-use crate::owning::{hand_up, number_of, reserve_commit};
+use crate::tables::Tables;
 use durable_top::{Row, TopStore, table_of};
-use inherit::Estate;
-use orphans::Marks;
-use serial_spec::{By, Entry, Event, NoMemory, Op, PlainTable, Refusal, Reply};
+use serial_spec::{By, Entry, Event, MOST_ROWS, NoMemory, Op, PlainTable, Refusal, Reply};
 use std::alloc::Global;
 use std::marker::Model;
 use txn_names::{Key, Name};
-use txn_tree::Tree;
 
 /// Runs nested transactions over a store, by locks that are inherited (Moss 1981). Each call that takes a line
 /// asks that the line is free for its event (`free` tells), and adds one entry to the history. After want of
@@ -31,19 +27,16 @@ use txn_tree::Tree;
 #[derive(Drop)]
 pub struct Manager<S: TopStore> {
     log: Log,
-    tree: Tree,
-    marks: Marks,
-    estate: Estate,
+    tables: Tables,
     store: S,
     // How many faults the store had counted when it was opened.
     opened: u64,
 }
 
 impl<S: TopStore> Model for Manager<S> {
-    ghost use Rattle.inherit.specs.Assets.{rows_of};
-    ghost use Rattle.manager_core.specs.Kept.{IsEstateOf, IsKept};
-    ghost use Rattle.manager_core.specs.Sound.{IsBacked};
+    ghost use Rattle.manager_core.specs.Kept.{IsKept};
     ghost use Rattle.manager_core.specs.State.{State};
+    ghost use Rattle.manager_core.specs.Tables.{rows_in};
 
     ghost Value = { State S };
 
@@ -51,14 +44,11 @@ impl<S: TopStore> Model for Manager<S> {
       rows = m.log.rows;
       opened = m.opened;
       history = m.log.entries;
-      table = rows_of m.estate;
+      table = rows_in m.tables;
       store = m.store;
     } };
 
-    ghost invariant = { λ m.
-        IsKept m.log.rows m.log.entries m.tree m.marks (rows_of m.estate)
-        × IsEstateOf m.log.entries m.tree m.estate
-        × IsBacked S.TopStore m.log.entries (rows_of m.estate) m.opened m.store };
+    ghost invariant = { λ m. IsKept S.TopStore m.log.rows m.log.entries m.tables m.opened m.store };
 }
 
 /// What is left where a manager is taken apart.
@@ -72,9 +62,6 @@ pub struct Parts<S: TopStore> {
     pub table: PlainTable,
     pub store: S,
 }
-
-/// The most rows of an opening.
-const MOST_ROWS: usize = 4096;
 
 fn is_line(by: By) -> bool
     ensures { IsTrue result ↔ IsLine by }
@@ -124,9 +111,7 @@ impl<S: TopStore> Manager<S> {
         let opened = store.faults();
         Ok(Manager {
             log,
-            tree: Tree::new(alloc),
-            marks: Marks::new(alloc),
-            estate: Estate::new(alloc, table),
+            tables: Tables::new(alloc, table),
             store,
             opened,
         })
@@ -143,7 +128,7 @@ impl<S: TopStore> Manager<S> {
         ensures sound { OnOk result (IsSound S.TopStore self.new) }
     {
         self.log.reserve(1)?;
-        let outcome = Outcome::of(begin_in(&mut self.tree, name)?);
+        let outcome = Outcome::of(self.tables.begin(name)?);
         self.log.add(by, Event::Begin(*name), &outcome);
         Ok(outcome)
     }
@@ -165,13 +150,7 @@ impl<S: TopStore> Manager<S> {
             key: *key,
             op,
         };
-        let outcome = access_in(
-            &self.log,
-            &self.tree,
-            &self.marks,
-            &mut self.estate,
-            &request,
-        )?;
+        let outcome = self.tables.access(&self.log, &request)?;
         self.log.add(by, Event::Access(*name, *key, op), &outcome);
         Ok(outcome)
     }
@@ -192,13 +171,7 @@ impl<S: TopStore> Manager<S> {
             key,
             op,
         };
-        let outcome = access_in(
-            &self.log,
-            &self.tree,
-            &self.marks,
-            &mut self.estate,
-            &request,
-        )?;
+        let outcome = self.tables.access(&self.log, &request)?;
         match outcome {
             Outcome::Waits => {}
             _ => self.log.add(by, Event::Access(*name, key, op), &outcome),
@@ -217,7 +190,7 @@ impl<S: TopStore> Manager<S> {
         ensures err { OnErr result (self.new ≡ self.old) }
         ensures sound { OnOk result (IsSound S.TopStore self.new) }
     {
-        match refusal_of_commit(&self.log, &self.tree, &self.marks, by, name) {
+        match self.tables.refusal_of_commit(&self.log, by, name) {
             Some(refusal) => self.refuse_commit(by, name, refusal),
             None => {
                 if name.depth() > 1 {
@@ -253,9 +226,10 @@ impl<S: TopStore> Manager<S> {
         ensures sound { OnOk result (IsSound S.TopStore self.new) }
     {
         self.log.reserve(1)?;
-        let heirs = reserve_commit(&self.tree, &mut self.estate, name)?;
-        self.tree.commit(name).unwrap();
-        hand_up(&mut self.estate, &heirs);
+        let txn = self.tables.number_of(name);
+        let parent = self.tables.parent_number(name);
+        self.tables.reserve_commit(name, txn, Some(parent))?;
+        self.tables.commit(name, txn, Some(parent));
         let outcome = Outcome::Done(Reply::Ok);
         self.log.add(by, Event::Commit(*name), &outcome);
         Ok(outcome)
@@ -272,13 +246,11 @@ impl<S: TopStore> Manager<S> {
         ensures sound { OnOk result (IsSound S.TopStore self.new) }
     {
         self.log.reserve(1)?;
-        let changes = self
-            .estate
-            .changes(&self.tree, number_of(&self.tree, name))?;
-        let heirs = reserve_commit(&self.tree, &mut self.estate, name)?;
-        if stores(&mut self.store, changes) {
-            self.tree.commit(name).unwrap();
-            hand_up(&mut self.estate, &heirs);
+        let txn = self.tables.number_of(name);
+        self.tables.reserve_commit(name, txn, None)?;
+        let changes = self.tables.changes(txn)?;
+        if are_taken(&mut self.store, changes) {
+            self.tables.commit(name, txn, None);
             let outcome = Outcome::Done(Reply::Ok);
             self.log.add(by, Event::Commit(*name), &outcome);
             Ok(outcome)
@@ -300,15 +272,10 @@ impl<S: TopStore> Manager<S> {
         ensures sound { OnOk result (IsSound S.TopStore self.new) }
     {
         self.log.reserve(1)?;
-        self.marks.reserve(1)?;
+        self.tables.reserve_aborts(1)?;
         // Asked for what it tells: that a name has a label.
         let _ = name.depth();
-        let outcome = Outcome::of(abort_in(
-            &mut self.tree,
-            &mut self.marks,
-            &mut self.estate,
-            name,
-        ));
+        let outcome = Outcome::of(self.tables.abort(name));
         self.log.add(by, Event::Abort(*name), &outcome);
         Ok(outcome)
     }
@@ -331,15 +298,10 @@ impl<S: TopStore> Manager<S> {
         ensures err { OnErr result (self.new ≡ self.old) }
         ensures sound { OnOk result (IsSound S.TopStore self.new) }
     {
-        let live = count_live_tops(&self.tree);
+        let live = self.tables.count_live_tops();
         self.log.reserve(live)?;
-        self.marks.reserve(live)?;
-        close_tops(
-            &mut self.log,
-            &mut self.tree,
-            &mut self.marks,
-            &mut self.estate,
-        );
+        self.tables.reserve_aborts(live)?;
+        self.tables.close_tops(&mut self.log);
         Ok(())
     }
 
@@ -347,7 +309,7 @@ impl<S: TopStore> Manager<S> {
     pub fn waiting(&self, name: &Name) -> bool
         ensures { result ≡ is_some (wait_of self.now.history name.now) }
     {
-        acts(&self.tree, &self.marks, name) && self.log.has_open_wait(name)
+        self.tables.acts(name) && self.log.has_open_wait(name)
     }
 
     // Whether no access of the event's transaction waits.
@@ -383,7 +345,7 @@ impl<S: TopStore> Manager<S> {
         ensures table { result.now.rows ≡ self.now.table }
         ensures sound { IsSound S.TopStore self.now }
     {
-        self.estate.versions().base()
+        self.tables.base()
     }
 
     /// The opening rows, in byte order.
@@ -402,7 +364,7 @@ impl<S: TopStore> Manager<S> {
     {
         let Manager {
             log,
-            estate,
+            tables,
             store,
             ..
         } = self;
@@ -410,7 +372,7 @@ impl<S: TopStore> Manager<S> {
         Parts {
             opening,
             history,
-            table: estate.into_base(),
+            table: tables.into_base(),
             store,
         }
     }

@@ -2,7 +2,7 @@ use Rattle.std.proofs.Common.{refl, sym, ap, ◌∙◌}
 use Rattle.std.specs.Prelude.{is_some}
 use Rattle.manager_core.proofs.Answers.{retry_comes}
 use Rattle.manager_core.proofs.Retrying.{waiting_is, some_access, retried, waits_on}
-use Rattle.manager_core.proofs.Roomy.{all_roomy, all_accessed, same_rows}
+use Rattle.manager_core.proofs.Kept.{kept_roomy, kept_access, same_rows}
 use Rattle.manager_core.proofs.Facts.{sound}
 use Rattle.manager_core.proofs.manager.Manager.retry.Goals as goal
 use Rattle.manager_core.proofs.manager.Manager.retry.Goals.{in-Waits, in_default}
@@ -17,7 +17,7 @@ pub invariant_of-self-in_err-outcome : goal.invariant_of-self-in_err-outcome
 invariant_of-self-in_err-outcome g c =
     let m = c.self.inside in
     rw (c.reserve.ensures.rows, c.reserve.ensures.entries)
-    (all_roomy g.S.TopStore m.log.rows m.log.entries m.tree m.marks m.estate _ m.opened m.store c.self.invariant c.in_err-outcome.ensures.err)
+    (kept_roomy g.S.TopStore m.log.rows m.log.entries m.tables _ m.opened m.store c.self.invariant c.in_err-outcome.ensures.err)
 
 pub invariant_of-self-in_default : goal.invariant_of-self-in_default
 invariant_of-self-in_default g c =
@@ -28,11 +28,11 @@ invariant_of-self-in_default g c =
     let k = c.unwrap-by.result.1 in
     let op = c.unwrap-by.result.2 in
     let found = rw c.reserve.ensures.entries at c.open_access.ensures in
-    let is = waiting_is m.log.rows m.log.entries c.self.invariant.0.allowed t by k op some (sym found ∙ c.unwrap-by.ensures) in
+    let is = waiting_is m.log.rows m.log.entries c.self.invariant.allowed t by k op some (sym found ∙ c.unwrap-by.ensures) in
     let comes = rw (c.reserve.ensures.rows, c.reserve.ensures.entries) at c.in_ok-outcome.ensures.comes in
     rw (c.add.ensures.rows, c.add.ensures.entries, c.reserve.ensures.rows, c.reserve.ensures.entries)
-    (all_accessed g.S.TopStore m.log.rows m.log.entries m.tree m.marks m.estate _ m.opened m.store c.self.invariant by t k op c.in_ok-outcome.outcome is.line
-    (retry_comes m.log.rows m.log.entries by t k op c.in_ok-outcome.outcome comes c.in_default.not-Waits) comes c.in_ok-outcome.ensures.accesses)
+    (kept_access g.S.TopStore m.log.rows m.log.entries m.tables _ m.opened m.store c.self.invariant by t k op c.in_ok-outcome.outcome is.line
+    (retry_comes m.log.rows m.log.entries by t k op c.in_ok-outcome.outcome comes c.in_default.not-Waits) comes c.in_ok-outcome.ensures.reaches)
 
 pub returns-clause-ok : goal.returns-clause-ok
 returns-clause-ok g c =
@@ -44,9 +44,9 @@ returns-clause-ok g c =
     let op = c.unwrap-by.result.2 in
     let outcome = c.in_ok-outcome.outcome in
     let found = rw c.reserve.ensures.entries at c.open_access.ensures in
-    let is = waiting_is m.log.rows m.log.entries c.self.invariant.0.allowed t by k op some (sym found ∙ c.unwrap-by.ensures) in
+    let is = waiting_is m.log.rows m.log.entries c.self.invariant.allowed t by k op some (sym found ∙ c.unwrap-by.ensures) in
     let comes = rw (c.reserve.ensures.rows, c.reserve.ensures.entries) at c.in_ok-outcome.ensures.comes in
-    let table = same_rows m.tree m.estate _ t k op outcome c.in_ok-outcome.ensures.accesses in
+    let table = same_rows m.tables _ t k op outcome c.in_ok-outcome.ensures.reaches in
     elim c.match-outcome.branch [
       | in-Waits w ↦ rw (w.self-is, ← c.self.view_is, c.reserve.ensures.rows, c.reserve.ensures.entries, table) (waits_on _ t by k op is outcome comes w.in-Waits.is)
       | in_default w ↦ rw (w.self-is, ← c.self.view_is, w.add.ensures.rows, w.add.ensures.entries, c.reserve.ensures.rows, c.reserve.ensures.entries, table)
@@ -66,14 +66,14 @@ returns-clause-sound g c =
     let op = c.unwrap-by.result.2 in
     let outcome = c.in_ok-outcome.outcome in
     let found = rw c.reserve.ensures.entries at c.open_access.ensures in
-    let is = waiting_is m.log.rows m.log.entries c.self.invariant.0.allowed t by k op some (sym found ∙ c.unwrap-by.ensures) in
+    let is = waiting_is m.log.rows m.log.entries c.self.invariant.allowed t by k op some (sym found ∙ c.unwrap-by.ensures) in
     let comes = rw (c.reserve.ensures.rows, c.reserve.ensures.entries) at c.in_ok-outcome.ensures.comes in
     elim c.match-outcome.branch [
       | in-Waits w ↦
-          let next = all_roomy g.S.TopStore m.log.rows m.log.entries m.tree m.marks m.estate _ m.opened m.store c.self.invariant (rw w.in-Waits.is at c.in_ok-outcome.ensures.accesses) in
-          rw (w.self-is, c.reserve.ensures.rows, c.reserve.ensures.entries) (sound g.S.TopStore _ _ _ next.0 next.2)
+          let next = kept_roomy g.S.TopStore m.log.rows m.log.entries m.tables _ m.opened m.store c.self.invariant (rw w.in-Waits.is at c.in_ok-outcome.ensures.reaches) in
+          rw (w.self-is, c.reserve.ensures.rows, c.reserve.ensures.entries) (sound g.S.TopStore _ _ next refl)
       | in_default w ↦
-          let next = all_accessed g.S.TopStore m.log.rows m.log.entries m.tree m.marks m.estate _ m.opened m.store c.self.invariant by t k op outcome is.line
-          (retry_comes m.log.rows m.log.entries by t k op outcome comes w.in_default.not-Waits) comes c.in_ok-outcome.ensures.accesses in
-          rw (w.self-is, w.add.ensures.rows, w.add.ensures.entries, c.reserve.ensures.rows, c.reserve.ensures.entries) (sound g.S.TopStore _ _ _ next.0 next.2)
+          let next = kept_access g.S.TopStore m.log.rows m.log.entries m.tables _ m.opened m.store c.self.invariant by t k op outcome is.line
+          (retry_comes m.log.rows m.log.entries by t k op outcome comes w.in_default.not-Waits) comes c.in_ok-outcome.ensures.reaches in
+          rw (w.self-is, w.add.ensures.rows, w.add.ensures.entries, c.reserve.ensures.rows, c.reserve.ensures.entries) (sound g.S.TopStore _ _ next refl)
     ]

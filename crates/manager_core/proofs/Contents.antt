@@ -15,7 +15,7 @@ use Rattle.serial_spec.specs.Rows.{Rows}
 use Rattle.serial_spec.specs.Legal.{AreAllowed}
 use Rattle.txn_history.specs.Steps.{acts_next, Before}
 use Rattle.txn_history.proofs.Theorems.{active_after, before_each, ancestors_act}
-use Rattle.manager_core.specs.Kept.{share_of}
+use Rattle.manager_core.specs.Kept.{content_of}
 use Rattle.manager_core.specs.Tables.{IsParentNumber, is_below}
 use Rattle.manager_core.proofs.Locks.{name_at}
 
@@ -32,13 +32,13 @@ pub record IsTold {X : Type 0} (k : List ℕ) (nothing : X) (value : History →
 
 module _ {X : Type 0} (k : List ℕ) (nothing : X) (value : History → Name → X) (raise : Op → Reply → X → X) (merge : X → X → X)
     (told : IsTold k nothing value raise merge) (rows : Rows) (e : Entry) (h : History) (allowed : AreAllowed rows (e ∷ h)) where
-  abbrev pub share : History → Option Name → X
-  share g o = share_of nothing value g o
+  abbrev pub content : History → Option Name → X
+  content g o = content_of nothing value g o
 
-  share_after : (x : Effect) → effect e ≡ x → (u : Name)
-      → share (e ∷ h) (Some u) ≡ cond (acts_next x u (is_active h u)) (value_next k raise merge x u (value h) (value h u)) nothing
-  share_after x does u =
-      let step : share (e ∷ h) (Some u) ≡ cond (acts_next (effect e) u (is_active h u)) (value_next k raise merge (effect e) u (value h) (value h u)) nothing =
+  content_after : (x : Effect) → effect e ≡ x → (u : Name)
+      → content (e ∷ h) (Some u) ≡ cond (acts_next x u (is_active h u)) (value_next k raise merge x u (value h) (value h u)) nothing
+  content_after x does u =
+      let step : content (e ∷ h) (Some u) ≡ cond (acts_next (effect e) u (is_active h u)) (value_next k raise merge (effect e) u (value h) (value h u)) nothing =
       λ i. cond (active_after rows e h allowed u i) (told.next e h u i) nothing in
       step ∙ ap (λ y. cond (acts_next y u (is_active h u)) (value_next k raise merge y u (value h) (value h u)) nothing) does
 
@@ -46,36 +46,36 @@ module _ {X : Type 0} (k : List ℕ) (nothing : X) (value : History → Name →
   before x does = subst (Before h) does (before_each rows e h allowed)
 
   -- an entry that does nothing
-  pub share_nothing : (o : Option Name) → effect e ≡ Nothing → share h o ≡ share (e ∷ h) o
-  share_nothing None does = refl
-  share_nothing (Some u) does = sym (share_after Nothing does u)
+  pub content_nothing : (o : Option Name) → effect e ≡ Nothing → content h o ≡ content (e ∷ h) o
+  content_nothing None does = refl
+  content_nothing (Some u) does = sym (content_after Nothing does u)
 
   -- an access that was answered
-  pub share_raised : (t : Name) (q : List ℕ) (op : Op) (r : Reply) → effect e ≡ Accesses t q op r → (o : Option Name)
-      → cond (is_name o t && label_eq q k) (raise op r (share h o)) (share h o) ≡ share (e ∷ h) o
-  share_raised t q op r does None = refl
-  share_raised t q op r does (Some u) =
+  pub content_raised : (t : Name) (q : List ℕ) (op : Op) (r : Reply) → effect e ≡ Accesses t q op r → (o : Option Name)
+      → cond (is_name o t && label_eq q k) (raise op r (content h o)) (content h o) ≡ content (e ∷ h) o
+  content_raised t q op r does None = refl
+  content_raised t q op r does (Some u) =
       raised (path_eq t u && label_eq q k) (is_active h u) (value h u)
       (λ b. subst (λ (v : Name). is_active h v ≡ true) (same_path t u (and_parts (path_eq t u) (label_eq q k) b).0) (before (Accesses t q op r) does))
-      ∙ sym (share_after (Accesses t q op r) does u)
+      ∙ sym (content_after (Accesses t q op r) does u)
     where
       raised : (b a : Bool) (v : X) → (b ≡ true → a ≡ true) → cond b (raise op r (cond a v nothing)) (cond a v nothing) ≡ cond a (cond b (raise op r v) v) nothing
       raised true a v f = rw (f refl) refl
       raised false a v f = refl
 
   -- a commit
-  pub share_merged : (tree : States) (t : Name) (child : ℕ) (above : Option ℕ) (n : ℕ) → effect e ≡ Commits t → IsNumberOf tree t child → IsParentNumber tree t above
-      → cond (nat_eq child n) nothing (cond (is_it above n) (merge (share h (slice_get (names tree) child)) (share h (slice_get (names tree) n))) (share h (slice_get (names tree) n)))
-      ≡ share (e ∷ h) (slice_get (names tree) n)
-  share_merged tree t child above n does number above_is =
-      (λ i. cond (number n i) nothing (cond (above_is n i) (merge (childs i) (share h (slice_get (names tree) n))) (share h (slice_get (names tree) n))))
+  pub content_merged : (tree : States) (t : Name) (child : ℕ) (above : Option ℕ) (n : ℕ) → effect e ≡ Commits t → IsNumberOf tree t child → IsParentNumber tree t above
+      → cond (nat_eq child n) nothing (cond (is_it above n) (merge (content h (slice_get (names tree) child)) (content h (slice_get (names tree) n))) (content h (slice_get (names tree) n)))
+      ≡ content (e ∷ h) (slice_get (names tree) n)
+  content_merged tree t child above n does number above_is =
+      (λ i. cond (number n i) nothing (cond (above_is n i) (merge (childs i) (content h (slice_get (names tree) n))) (content h (slice_get (names tree) n))))
       ∙ by (slice_get (names tree) n)
     where
       acts : is_active h t ≡ true
       acts = before (Commits t) does
 
-      childs : share h (slice_get (names tree) child) ≡ value h t
-      childs = ap (share h) (name_at tree t child number) ∙ ap (λ b. cond b (value h t) nothing) acts
+      childs : content h (slice_get (names tree) child) ≡ value h t
+      childs = ap (content h) (name_at tree t child number) ∙ ap (λ b. cond b (value h t) nothing) acts
 
       merged : (c p a : Bool) (own all : X) → (p ≡ true → a ≡ true)
           → cond c nothing (cond p (merge all (cond a own nothing)) (cond a own nothing)) ≡ cond (not c && a) (cond p (merge all own) own) nothing
@@ -83,25 +83,25 @@ module _ {X : Type 0} (k : List ℕ) (nothing : X) (value : History → Name →
       merged false true a own all f = rw (f refl) refl
       merged false false a own all f = refl
 
-      by : (o : Option Name) → cond (is_name o t) nothing (cond (is_name o (parent t)) (merge (value h t) (share h o)) (share h o)) ≡ share (e ∷ h) o
+      by : (o : Option Name) → cond (is_name o t) nothing (cond (is_name o (parent t)) (merge (value h t) (content h o)) (content h o)) ≡ content (e ∷ h) o
       by None = refl
       by (Some u) =
           merged (path_eq t u) (path_eq (parent t) u) (is_active h u) (value h u) (value h t)
           (λ b. subst (λ (v : Name). is_active h v ≡ true) (same_path (parent t) u b) (ancestors_act rows h allowed.0 t (parent t) acts (is_front-parent t)))
-          ∙ sym (share_after (Commits t) does u)
+          ∙ sym (content_after (Commits t) does u)
 
   -- an abort
-  pub share_dropped : (t : Name) → effect e ≡ Aborts t → (o : Option Name) → cond (is_below o t) nothing (share h o) ≡ share (e ∷ h) o
-  share_dropped t does None = refl
-  share_dropped t does (Some u) = dropped (is_front t u) (is_active h u) (value h u) ∙ sym (share_after (Aborts t) does u)
+  pub content_dropped : (t : Name) → effect e ≡ Aborts t → (o : Option Name) → cond (is_below o t) nothing (content h o) ≡ content (e ∷ h) o
+  content_dropped t does None = refl
+  content_dropped t does (Some u) = dropped (is_front t u) (is_active h u) (value h u) ∙ sym (content_after (Aborts t) does u)
     where
       dropped : (b a : Bool) (v : X) → cond b nothing (cond a v nothing) ≡ cond (not b && a) v nothing
       dropped true a v = refl
       dropped false a v = refl
 
   -- a begin
-  pub share_begun : (t : Name) → effect e ≡ Begins t → (xs : List Name) (n : ℕ) → share h (slice_get xs n) ≡ share (e ∷ h) (slice_get (xs ++ t ∷ []) n)
-  share_begun t does = by
+  pub content_begun : (t : Name) → effect e ≡ Begins t → (xs : List Name) (n : ℕ) → content h (slice_get xs n) ≡ content (e ∷ h) (slice_get (xs ++ t ∷ []) n)
+  content_begun t does = by
     where
       unlocked : (u : Name) → path_eq t u ≡ true → value h u ≡ nothing
       unlocked u same = subst (λ (v : Name). value h v ≡ nothing) (same_path t u same) (at t (before (Begins t) does))
@@ -114,19 +114,19 @@ module _ {X : Type 0} (k : List ℕ) (nothing : X) (value : History → Name →
       nothing_of true v p = p
       nothing_of false v p = refl
 
-      stays : (u : Name) → share h (Some u) ≡ share (e ∷ h) (Some u)
+      stays : (u : Name) → content h (Some u) ≡ content (e ∷ h) (Some u)
       stays u =
-          on_test (path_eq t u) (λ b. share h (Some u) ≡ cond (b || is_active h u) (value h u) nothing)
+          on_test (path_eq t u) (λ b. content h (Some u) ≡ cond (b || is_active h u) (value h u) nothing)
           (λ same. let none = unlocked u same in nothing_of (is_active h u) (value h u) none ∙ sym (nothing_of true (value h u) none))
           (λ other. refl)
-          ∙ sym (share_after (Begins t) does u)
+          ∙ sym (content_after (Begins t) does u)
 
-      new_one : nothing ≡ share (e ∷ h) (Some t)
+      new_one : nothing ≡ content (e ∷ h) (Some t)
       new_one =
           sym (nothing_of (acts_next (Begins t) t (is_active h t)) (value h t) (unlocked t (path_eq_self t)))
-          ∙ sym (share_after (Begins t) does t)
+          ∙ sym (content_after (Begins t) does t)
 
-      by : (xs : List Name) (m : ℕ) → share h (slice_get xs m) ≡ share (e ∷ h) (slice_get (xs ++ t ∷ []) m)
+      by : (xs : List Name) (m : ℕ) → content h (slice_get xs m) ≡ content (e ∷ h) (slice_get (xs ++ t ∷ []) m)
       by [] zero = new_one
       by [] (suc m) = refl
       by (x ∷ xs) zero = stays x

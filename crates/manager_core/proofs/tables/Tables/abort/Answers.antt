@@ -1,0 +1,9 @@
+use Rattle.manager_core.specs.Tables.{Tabled}
+use Rattle.manager_core.proofs.Locks.{aborts_by_name}
+use Rattle.manager_core.proofs.tables.Tables.abort.Goals as goal
+
+pub returns-in-Ok-clause-aborts : goal.returns-in-Ok-clause-aborts
+returns-in-Ok-clause-aborts c =
+    let m : Tabled = record { tree = c.self.inside.tree; marks = c.self.inside.marks; estate = c.self.inside.estate } in
+    rw (← c.self.view_is)
+    (aborts_by_name m c.abort.new.self c.mark.new.self c.abort-in-Ok.new.self c.args.name.now c.number_of-txn.result c.in-Ok.ensures.names c.in-Ok.ensures.aborted c.mark.ensures.marked c.number_of-txn.ensures.number c.abort-in-Ok.ensures)

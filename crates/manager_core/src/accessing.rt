@@ -1,0 +1,45 @@
+//! An access, in the tables.
+ghost use Rattle.std.specs.Prelude.{◌≡◌, IfOk, OnErr};
+ghost use Rattle.serial_spec.specs.Legal.{AreAllowed};
+ghost use Rattle.manager_core.specs.Kept.{AreTablesOf};
+ghost use Rattle.manager_core.specs.Tables.{ComesTo, HasOtherRoom, ReachesIn};
+
+use crate::log::Log;
+use crate::outcome::Outcome;
+use crate::tables::Tables;
+use serial_spec::{By, Event, NoMemory, Op};
+use txn_names::{Key, Name};
+
+/// An access that is asked for, with its line.
+#[derive(Clone, Copy)]
+pub(crate) struct Request {
+    pub(crate) by: By,
+    pub(crate) name: Name,
+    pub(crate) key: Key,
+    pub(crate) op: Op,
+}
+
+impl Tables {
+    /// What an access comes to: a lock may keep it out (Moss 1981). The tables have it, if it is done.
+    pub(crate) fn access(&mut self, log: &Log, request: &Request) -> Result<Outcome, NoMemory>
+        requires allowed { AreAllowed log.now.rows log.now.entries }
+        requires are { AreTablesOf log.now.rows log.now.entries self.old }
+        ensures comes { IfOk result (λ outcome. ComesTo log.now.rows log.now.entries request.now.by request.now.name request.now.key request.now.op outcome) }
+        ensures reaches { IfOk result (λ outcome. ReachesIn self.old self.new request.now.name request.now.key request.now.op outcome) }
+        ensures err { OnErr result (HasOtherRoom self.old self.new) }
+    {
+        let Request { by, name, key, op } = request;
+        match self.refusal_of_access(log, *by, name, key) {
+            Some(refusal) => Ok(Outcome::Refused(refusal)),
+            None => {
+                self.estate
+                    .reserve_for(&self.tree, &Event::Access(*name, *key, *op))?;
+                let txn = self.number_of(name);
+                match self.estate.access(&self.tree, txn, key, *op) {
+                    Some(reply) => Ok(Outcome::Done(reply)),
+                    None => Ok(Outcome::Waits),
+                }
+            }
+        }
+    }
+}

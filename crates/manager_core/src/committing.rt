@@ -1,0 +1,49 @@
+//! A commit, in the tables: all growths first, then what takes no memory.
+ghost use Rattle.std.specs.Prelude.{◌≡◌, None, IfOk, OnOk};
+ghost use Rattle.txn_tree.specs.Asked.{IsNumberOf};
+ghost use Rattle.txn_tree.specs.Causes.{cause_at_commit};
+ghost use Rattle.inherit.specs.Assets.{IsParent, MayGoUp};
+ghost use Rattle.inherit.specs.Changes.{AreChangesOf};
+ghost use Rattle.manager_core.specs.Tables.{CommitsIn, HasOtherRoom};
+
+use crate::tables::Tables;
+use serial_spec::{Event, NoMemory};
+use txn_names::{Change, Name};
+use txn_tree::TxnNo;
+
+impl Tables {
+    /// What the transaction would put into the table.
+    pub(crate) fn changes(&self, txn: TxnNo) -> Result<Vec<Change>, NoMemory>
+        ensures { IfOk result (λ changes. AreChangesOf self.now.tree self.now.estate txn changes.items) }
+    {
+        self.estate.changes(&self.tree, txn)
+    }
+
+    /// Makes room for what goes up at the commit, from the transaction's number to its parent's.
+    pub(crate) fn reserve_commit(
+        &mut self,
+        name: &Name,
+        child: TxnNo,
+        parent: Option<TxnNo>,
+    ) -> Result<(), NoMemory>
+        requires child { IsNumberOf self.old.tree name.now child }
+        requires parent { IsParent self.old.tree name.now parent }
+        ensures room { OnOk result (MayGoUp self.new.estate child parent) }
+        ensures same { HasOtherRoom self.old self.new }
+    {
+        self.estate.reserve_for(&self.tree, &Event::Commit(*name))
+    }
+
+    /// Commits a transaction that nothing refuses, and hands up what it has, for which there is room. It takes no memory.
+    pub(crate) fn commit(&mut self, name: &Name, child: TxnNo, parent: Option<TxnNo>)
+        requires live { None ≡ cause_at_commit self.old.tree name.now }
+        requires room { MayGoUp self.old.estate child parent }
+        ensures { CommitsIn self.old self.new name.now child parent }
+    {
+        self.tree.commit(name).unwrap();
+        match parent {
+            Some(parent) => self.estate.commit_child(child, parent),
+            None => self.estate.commit_top(child),
+        }
+    }
+}

@@ -1,0 +1,94 @@
+//! The tables beside the history.
+ghost use Rattle.std.specs.Prelude.{◌≡◌, ◌≤◌, ◌<◌, ℕ, List, [], length, None, IsFalse, OnOk};
+ghost use Rattle.txn_names.specs.Path.{parent};
+ghost use Rattle.txn_tree.specs.Asked.{IsNumberOf, IsRootless, is_absent_in};
+ghost use Rattle.inherit.specs.Assets.{free, left_of, modes_of};
+ghost use Rattle.manager_core.specs.Tables.{HasOtherRoom, rows_in};
+
+use inherit::Estate;
+use orphans::Marks;
+use serial_spec::{NoMemory, PlainTable};
+use std::alloc::Global;
+use std::marker::Model;
+use txn_names::Name;
+use txn_tree::{Tree, TxnNo};
+
+/// What the history says of transactions, kept so that it need not be gone through: who has begun and what became of each,
+/// who has aborted, and what live transactions lock and have left, over the table of what is committed.
+#[derive(Drop)]
+pub(crate) struct Tables {
+    pub(crate) tree: Tree,
+    pub(crate) marks: Marks,
+    pub(crate) estate: Estate,
+}
+
+impl Model for Tables {
+    ghost use Rattle.manager_core.specs.Tables.{Tabled};
+
+    ghost Value = { Tabled };
+
+    ghost view = { λ t. record {
+      tree = t.tree;
+      marks = t.marks;
+      estate = t.estate;
+    } };
+}
+
+impl Tables {
+    /// Nobody has begun, over this table. It takes no memory yet.
+    pub(crate) fn new(alloc: Global, base: PlainTable) -> Tables
+        ensures tree { result.tree ≡ [] }
+        ensures marks { result.marks.names ≡ [] }
+        ensures modes { (n : ℕ) → (k : List ℕ) → modes_of result.estate n k ≡ free }
+        ensures left { (n : ℕ) → (k : List ℕ) → left_of result.estate n k ≡ None }
+        ensures base { result.estate.versions.base ≡ base }
+    {
+        Tables {
+            tree: Tree::new(alloc),
+            marks: Marks::new(alloc),
+            estate: Estate::new(alloc, base),
+        }
+    }
+
+    /// The table that the committed top-level transactions left.
+    pub(crate) fn base(&self) -> &PlainTable
+        ensures { result.now.rows ≡ rows_in self.now }
+    {
+        self.estate.versions().base()
+    }
+
+    /// That table alone.
+    pub(crate) fn into_base(self) -> PlainTable
+        ensures { result.rows ≡ rows_in self }
+    {
+        let Tables { estate, .. } = self;
+        estate.into_base()
+    }
+
+    /// The number of a transaction that has begun.
+    pub(crate) fn number_of(&self, name: &Name) -> TxnNo
+        requires { IsFalse (is_absent_in self.now.tree name.now) }
+        ensures number { IsNumberOf self.now.tree name.now result }
+        ensures rootless { IsRootless self.now.tree }
+    {
+        self.tree.no_of(name).unwrap()
+    }
+
+    /// The number of a subtransaction's parent, which has begun.
+    pub(crate) fn parent_number(&self, name: &Name) -> TxnNo
+        requires below { 1 < length name.now }
+        requires begun { IsFalse (is_absent_in self.now.tree (parent name.now)) }
+        ensures { IsNumberOf self.now.tree (parent name.now) result }
+    {
+        let parent = name.parent().unwrap();
+        self.number_of(&parent)
+    }
+
+    /// Makes room for the marks of so many aborts.
+    pub(crate) fn reserve_aborts(&mut self, additional: usize) -> Result<(), NoMemory>
+        ensures room { OnOk result (additional ≤ self.new.marks.room) }
+        ensures same { HasOtherRoom self.old self.new }
+    {
+        self.marks.reserve(additional)
+    }
+}
