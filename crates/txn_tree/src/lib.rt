@@ -11,7 +11,7 @@ mod tree;
 
 pub use fault::TreeFault;
 pub use number::TxnNo;
-pub use register::MOST_TRANSACTIONS;
+pub use serial_spec::MOST_TRANSACTIONS;
 pub use status::Status;
 pub use tree::Tree;
 

@@ -12,13 +12,10 @@ ghost use Rattle.txn_tree.specs.Causes.{cause_at_abort, cause_at_begin, cause_at
 use crate::number::TxnNo;
 use crate::status::Status;
 use indexmap::IndexMap;
-use serial_spec::Refusal;
+use serial_spec::{MOST_TRANSACTIONS, Refusal};
 use std::alloc::{AllocError, Global};
 use std::marker::Model;
 use txn_names::Name;
-
-/// The most transactions of a tree.
-pub const MOST_TRANSACTIONS: usize = 4096;
 
 /// The transactions that have begun, in order of beginning, each with its own state.
 #[derive(Drop)]
