@@ -1,5 +1,5 @@
 -- Commits: what is handed to the store, the tables afterwards, and the store.
-use Rattle.std.proofs.Common.{◌≡◌, ℕ, ℤ, ◌+◌, ◌<◌, Bool, true, false, cond, List, [], ◌∷◌, length, Option, Some, None, refl, sym, ap, ◌∙◌, arith}
+use Rattle.std.proofs.Common.{◌≡◌, ℕ, ℤ, ◌+◌, ◌<◌, Bool, true, false, ◌&&◌, cond, List, [], ◌∷◌, length, Option, Some, None, refl, sym, ap, ◌∙◌, arith}
 use Rattle.std.proofs.lemmas.Bool.{false≢true}
 use Rattle.std.proofs.lemmas.List.Sums.{sum_by-cons}
 use Rattle.txn_names.proofs.Names.{label_eq_self}
@@ -10,7 +10,10 @@ use Rattle.inherit.specs.Assets.{IsParent}
 use Rattle.txn_tree.specs.Causes as tree
 use Rattle.serial_spec.specs.declared.entry.By.{By}
 use Rattle.serial_spec.specs.declared.operation.Reply.TheVariants.{Ok}
-use Rattle.serial_spec.specs.declared.entry.Refusal.TheVariants.{Store}
+use Rattle.serial_spec.specs.declared.entry.Refusal.{Refusal}
+use Rattle.serial_spec.specs.declared.entry.Refusal.TheVariants.{Unknown, Used, NoParent, Done as HasCommitted, Orphan, Children, Waiting, Full, Store}
+use Rattle.manager_core.specs.declared.outcome.Outcome.TheVariants as made
+use Rattle.manager_core.specs.Outcomes.{is_of_store}
 use Rattle.serial_spec.specs.declared.event.Event.TheVariants.{Commit}
 use Rattle.serial_spec.specs.declared.entry.Answer.TheVariants.{Done, Refused}
 use Rattle.serial_spec.specs.declared.entry.Entry.{Entry}
@@ -78,6 +81,45 @@ pub unasked : (opening : Map) (h : History) (t : Name) (changes : List Change) �
 unasked opening h t [] one are n = refl
 unasked opening h t (c ∷ cs) one are n =
     absurd (false≢true (sym n ∙ asked opening h t (c ∷ cs) one are (λ e. cc)))
+
+-- and where it is there are some
+not_none : (b : Bool) (v : Option ℤ) → b ≡ true → ◌≡◌ {A = Option (Option ℤ)} None (cond b (Some v) None) → ⊥
+not_none true v e n = cc
+not_none false v e n = false≢true e
+
+pub some_due : (opening : Map) (h : History) (t : Name) (changes : List Change) → length t ≡ 1 → IsChanges opening h t changes → asks_store h (Commit t) ≡ true → changes ≡ [] → ⊥
+some_due opening h [] changes one are asks none = absurd (omega (arith, one))
+some_due opening h (l ∷ []) changes one are asks none =
+    let key = (writes_somewhere (items h (l ∷ []))).0 asks in
+    not_none (wrote h (l ∷ []) key.0) (seen opening h (l ∷ []) key.0) (ap is_exclusive key.1)
+    (sym (ap (λ (cs : List Change). change_at cs key.0) none) ∙ are.each key.0)
+some_due opening h (l ∷ m ∷ ls) changes one are asks none = absurd (omega (arith, one))
+
+-- only done and refused by the store are of the store
+pub of_store : (r : Refusal) → is_of_store (made.Refused r) ≡ is_store_refusal (Refused r)
+of_store Unknown = refl
+of_store Used = refl
+of_store NoParent = refl
+of_store HasCommitted = refl
+of_store (Orphan t) = refl
+of_store Children = refl
+of_store Waiting = refl
+of_store Full = refl
+of_store Store = refl
+
+pub not_first : (a b : Bool) → a ≡ false → a && b ≡ true → ⊥
+not_first true b e both = false≢true (sym e)
+not_first false b e both = false≢true both
+
+pub not_second : (a b : Bool) → b ≡ false → a && b ≡ true → ⊥
+not_second true b e both = false≢true (sym e ∙ both)
+not_second false b e both = false≢true both
+
+-- nor is it asked at the commit of a subtransaction
+pub unasked_below : (h : History) (t : Name) → 1 < length t → asks_store h (Commit t) ≡ false
+unasked_below h [] below = absurd (omega (arith, below))
+unasked_below h (l ∷ []) below = absurd (omega (arith, below))
+unasked_below h (l ∷ m ∷ ls) below = refl
 
 -- ---- the tree
 

@@ -20,12 +20,16 @@ use Rattle.manager_core.specs.State.{entry}
 use Rattle.manager_core.specs.Lines.{IsLine}
 use Rattle.manager_core.specs.Kept.{IsKept}
 use Rattle.manager_core.specs.Tables.{Tabled, CommitsIn, HasOtherRoom, rows_in}
-use Rattle.manager_core.specs.Asked.{IsLater, Takes, Refuses}
+use Rattle.manager_core.specs.Asked.{IsLater, IsAsked, Takes, Refuses}
 use Rattle.manager_core.specs.Calls.{Committed}
 use Rattle.manager_core.proofs.Answers.{commit_allowed}
-use Rattle.manager_core.proofs.Commits.{asked, unasked, kept_top, kept_unstored}
+use Rattle.manager_core.proofs.Commits.{asked, unasked, some_due, kept_top, kept_unstored}
 use Rattle.manager_core.proofs.Kept.{kept_roomy}
 use Rattle.manager_core.proofs.Stored.{are_changes, table_overlays, table_unchanged}
+
+first_true : (b : Bool) → b && true ≡ true → b ≡ true
+first_true true e = refl
+first_true false e = e
 
 first_false : (b : Bool) → b && true ≡ false → b ≡ false
 first_false true e = e
@@ -52,21 +56,22 @@ module _ {S : Type 0} (g : Ghosts S) (rows : Rows) (h : History) (old mid : Tabl
     kept_taken takes =
         kept_top g rows h mid new opened before roomy by t line none n after changes top number_mid (subst (λ (s : States). IsRootless s) (sym same.tree) rootless) commits are overlays takes later
 
-    pub committed_taken : (changes ≡ [] → after ≡ before) → Committed g
+    pub committed_taken : (changes ≡ [] → after ≡ before) → ((changes ≡ [] → ⊥) → IsAsked g before after changes true) → Committed g
         (record { rows = rows; opened = opened; history = h; table = rows_in old; store = before })
         (record { rows = rows; opened = opened; history = entry by (Commit t) (Done Ok) ∷ h; table = rows_in new; store = after })
         by t (made.Done Ok)
-    committed_taken idle = record {
+    committed_taken idle once = record {
       allowed = commit_allowed rows h by t None none;
       added = refl;
       undone = λ e. absurd (true≢false e);
       unasked = λ e.
           let nothing = unasked (value_in rows) h t changes top are (first_false _ e) in
           (table_unchanged rows h mid roomy.allowed roomy.are t n number_mid by none new commits changes overlays nothing ∙ same.estate.rows, idle nothing);
+      asked = λ e. record { changes = changes; due = are; asked = once (some_due (value_in rows) h t changes top are (first_true _ e)) };
       later = later;
     }
 
-  module _ (after : S) (later : IsLater g before after) (some : changes ≡ [] → ⊥) where
+  module _ (after : S) (later : IsLater g before after) (some : changes ≡ [] → ⊥) (once : IsAsked g before after changes false) where
     -- the store refused them
     pub kept_refused : Refuses g before after → IsKept g rows (entry by (Commit t) (Refused Store) ∷ h) mid opened after
     kept_refused refuses = kept_unstored g rows h mid mid opened before roomy by t line none after changes top are some refuses later
@@ -80,5 +85,6 @@ module _ {S : Type 0} (g : Ghosts S) (rows : Rows) (h : History) (old mid : Tabl
       added = refl;
       undone = λ e. refl;
       unasked = λ e. absurd (some (unasked (value_in rows) h t changes top are (first_false _ e)));
+      asked = λ e. record { changes = changes; due = are; asked = once };
       later = later;
     }

@@ -1,7 +1,8 @@
 -- What came of the store that was asked to take changes.
-use Rattle.std.specs.Prelude.{◌≡◌, ◌≤◌, ◌+◌, List}
+use Rattle.std.specs.Prelude.{◌≡◌, ◌≤◌, ◌+◌, Bool, List, Result, is_ok}
 use Rattle.txn_names.specs.declared.change.Change.{Change}
 use Rattle.serial_spec.specs.Changes.{overlay}
+use Rattle.durable_top.specs.declared.store.StoreFault.{StoreFault}
 use Rattle.durable_top.specs.declared.store.TopStore.{Ghosts}
 use Rattle.durable_top.specs.Store.{counted}
 use Rattle.manager_core.specs.Sound.{IsTrusted}
@@ -10,6 +11,12 @@ use Rattle.manager_core.specs.Sound.{IsTrusted}
 pub record IsLater {S : Type 0} (g : Ghosts S) (old new : S) : Type 0 where
   pub doubt : g.doubt old ≤ g.doubt new
   pub failures : g.failures old ≤ g.failures new
+
+-- it was asked once to make these changes, and this is whether it took them
+pub record IsAsked {S : Type 0} (g : Ghosts S) (old new : S) (changes : List Change) (taken : Bool) : Type 0 where
+  pub answer : Result (Unit {0}) StoreFault
+  pub asked : g.commits old new changes answer
+  pub told : is_ok answer ≡ taken
 
 -- it took them
 pub record Takes {S : Type 0} (g : Ghosts S) (old new : S) (changes : List Change) : Type 0 where

@@ -1,10 +1,13 @@
 -- What each call does to the manager.
-use Rattle.std.specs.Prelude.{◌≡◌, ◌⊎◌, ℕ, ◌&&◌, IsFalse, List, [], ◌∷◌, ◌++◌, Some, None}
+use Rattle.std.specs.Prelude.{◌≡◌, ◌⊎◌, ℕ, ◌&&◌, IsTrue, IsFalse, List, [], ◌∷◌, ◌++◌, Some, None}
+use Rattle.txn_names.specs.declared.change.Change.{Change}
 use Rattle.serial_spec.specs.declared.entry.By.{By}
 use Rattle.serial_spec.specs.declared.event.Event.{Event}
 use Rattle.serial_spec.specs.declared.event.Event.TheVariants.{Commit}
 use Rattle.serial_spec.specs.History.{Name, is_live, begun}
 use Rattle.serial_spec.specs.Waits.{wait_of}
+use Rattle.serial_spec.specs.Rows.{value_in}
+use Rattle.serial_spec.specs.Changes.{IsChanges}
 use Rattle.serial_spec.specs.Allowed.{Allowed, answer, asks_store}
 use Rattle.serial_spec.specs.declared.entry.Entry.{Entry}
 use Rattle.manager_core.specs.declared.outcome.Outcome.TheVariants.{Waits}
@@ -14,7 +17,7 @@ use Rattle.manager_core.specs.declared.outcome.Outcome.{Outcome}
 use Rattle.manager_core.specs.Outcomes.{answer_of, is_done, is_of_store}
 use Rattle.manager_core.specs.State.{State, entry}
 use Rattle.manager_core.specs.Closing.{closings}
-use Rattle.manager_core.specs.Asked.{IsLater}
+use Rattle.manager_core.specs.Asked.{IsLater, IsAsked}
 
 -- the call's entry was allowed, and nothing changed but that the history has it
 pub record Answered {S : Type 0} (old new : State S) (by : By) (event : Event) (outcome : Outcome) : Type 0 where
@@ -33,6 +36,12 @@ pub record Retried {S : Type 0} (old new : State S) (t : Name) (outcome : Outcom
   pub waits : wait_of old.history t ≡ Some wait
   pub told : Answered old new wait.by wait.event outcome ⊎ WaitsOn old new wait outcome
 
+-- the store was asked once, to make the changes that are due, and what it answered decided the commit
+pub record IsDecided {S : Type 0} (g : Ghosts S) (old new : State S) (t : Name) (outcome : Outcome) : Type 0 where
+  pub changes : List Change
+  pub due : IsChanges (value_in old.rows) old.history t changes
+  pub asked : IsAsked g old.store new.store changes (is_done outcome)
+
 -- the commit's entry was allowed
 pub record Committed {S : Type 0} (g : Ghosts S) (old new : State S) (by : By) (t : Name) (outcome : Outcome) : Type 0 where
   pub allowed : Allowed old.rows old.history by (Commit t) (answer_of outcome)
@@ -42,6 +51,7 @@ pub record Committed {S : Type 0} (g : Ghosts S) (old new : State S) (by : By) (
   pub undone : IsFalse (is_done outcome) → new.table ≡ old.table
   -- both only where the store was asked: where there are changes, and no cause refuses the commit
   pub unasked : IsFalse (asks_store old.history (Commit t) && is_of_store outcome) → (new.table ≡ old.table) × (new.store ≡ old.store)
+  pub asked : IsTrue (asks_store old.history (Commit t) && is_of_store outcome) → IsDecided g old new t outcome
   pub later : IsLater g old.store new.store
 
 -- only closing entries were added, and no top-level transaction is live any more

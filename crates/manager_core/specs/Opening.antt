@@ -1,13 +1,14 @@
 -- What an opening comes to.
-use Rattle.std.specs.Prelude.{◌≡◌, ◌≤◌, ◌<◌, ℕ, [], length}
+use Rattle.std.specs.Prelude.{◌≡◌, ◌≤◌, ◌<◌, ℕ, List, [], length, Ok, Err}
 use Rattle.serial_spec.specs.declared.limits.TheConstants.{MOST_ROWS}
-use Rattle.serial_spec.specs.Rows.{Rows, value_in, IsRising}
+use Rattle.serial_spec.specs.Rows.{value_in, IsRising}
+use Rattle.durable_top.specs.declared.store.Row.{Row}
 use Rattle.durable_top.specs.declared.store.StoreFault.{StoreFault}
 use Rattle.durable_top.specs.declared.store.StoreFault.TheVariants.{Failed}
 use Rattle.durable_top.specs.declared.store.TopStore.{Ghosts}
 use Rattle.manager_core.specs.declared.outcome.OpenFault.{OpenFault}
 use Rattle.manager_core.specs.declared.outcome.OpenFault.TheVariants.{NoMemory, Store, TooManyRows}
-use Rattle.durable_top.specs.Store.{TellsFailure}
+use Rattle.durable_top.specs.Store.{TellsFailure, plain}
 use Rattle.manager_core.specs.State.{State}
 use Rattle.manager_core.specs.Asked.{IsLater}
 
@@ -17,6 +18,10 @@ most_rows = MOST_ROWS
 -- the manager over this store as it was given
 pub record IsOpened {S : Type 0} (g : Ghosts S) (store : S) (m : State S) : Type 0 where
   pub history : m.history ≡ []
+  -- it was asked once, and the rows are what it answered
+  pub given : List Row
+  pub loaded : g.loads store m.store (Ok given)
+  pub are : m.rows ≡ plain given
   -- the rows are those of the store, in byte order
   pub rows : g.doubt m.store ≡ 0 → value_in m.rows ≡ g.table store
   pub rising : IsRising m.rows
@@ -26,18 +31,20 @@ pub record IsOpened {S : Type 0} (g : Ghosts S) (store : S) (m : State S) : Type
   pub later : IsLater g store m.store
   pub unfailed : g.failures m.store ≡ 0
 
--- the store had more rows than may be, as it was left after they were loaded
+-- the store was asked once, answered more rows than may be, and was left so
 pub record HasTooMany {S : Type 0} (g : Ghosts S) (store : S) : Type 0 where
   pub left : S
+  pub rows : List Row
+  pub loaded : g.loads store left (Ok rows)
   pub later : IsLater g store left
-  pub rows : Rows
-  pub are : g.doubt left ≡ 0 → value_in rows ≡ g.table store
-  pub rising : IsRising rows
+  pub are : g.doubt left ≡ 0 → value_in (plain rows) ≡ g.table store
+  pub rising : IsRising (plain rows)
   pub many : most_rows < length rows
 
--- the store answered this fault in place of its rows, and was left so
+-- the store was asked once, answered this fault in place of its rows, and was left so
 pub record FailsToLoad {S : Type 0} (g : Ghosts S) (store : S) (fault : StoreFault) : Type 0 where
   pub left : S
+  pub loaded : g.loads store left (Err fault)
   pub later : IsLater g store left
   pub failures : TellsFailure (g.failures store) (g.failures left) (fault ≡ Failed)
   pub faults : g.faults left ≡ g.faults store

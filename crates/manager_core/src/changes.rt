@@ -1,7 +1,7 @@
 //! What a top-level commit hands to the store.
 ghost use Rattle.std.specs.Prelude.{◌≡◌, ◌≢◌, [], IsTrue, IsFalse};
 ghost use Rattle.serial_spec.specs.Changes.{AreRising};
-ghost use Rattle.manager_core.specs.Asked.{IsLater, Refuses, Takes};
+ghost use Rattle.manager_core.specs.Asked.{IsAsked, IsLater, Refuses, Takes};
 
 use durable_top::TopStore;
 use txn_names::Change;
@@ -11,6 +11,7 @@ pub(crate) fn are_taken<S: TopStore>(store: &mut S, changes: Vec<Change>) -> boo
     requires { AreRising changes.items }
     ensures took { IsTrue result → Takes S.TopStore store.old store.new changes.items }
     ensures refused { IsFalse result → Refuses S.TopStore store.old store.new × (changes.items ≢ []) }
+    ensures asked { changes.items ≢ [] → IsAsked S.TopStore store.old store.new changes.items result }
     ensures unasked { changes.items ≡ [] → store.new ≡ store.old }
     ensures later { IsLater S.TopStore store.old store.new }
 {

@@ -5,7 +5,7 @@ use Rattle.txn_tree.specs.States.{States}
 use Rattle.txn_tree.specs.Asked.{IsNumberOf}
 use Rattle.txn_history.proofs.Theorems.{ancestors_act}
 use Rattle.manager_core.proofs.Answers.{active_at_commit, commit_allowed}
-use Rattle.manager_core.proofs.Commits.{tree_commits, goes_below, kept_child}
+use Rattle.manager_core.proofs.Commits.{tree_commits, goes_below, kept_child, not_first, unasked_below}
 use Rattle.manager_core.proofs.Kept.{kept_roomy}
 use Rattle.manager_core.proofs.Locks.{present}
 use Rattle.manager_core.proofs.Facts.{sound}
@@ -68,5 +68,6 @@ returns-clause-ok g c =
       added = refl;
       undone = λ n. refl;
       unasked = λ n. (refl, refl);
+      asked = λ e. absurd (not_first _ _ (unasked_below m.log.entries t c.requires.below) e);
       later = record { doubt = omega arith; failures = omega arith };
     }
