@@ -148,22 +148,47 @@ fn numbered_key(rt: &impl Abort, index: u8) -> Key {
     Key::parse(&[b'a' + index / 8, b'a' + index % 8]).expect(rt, "a key")
 }
 
+fn number_of(rt: &impl Abort, tree: &mut Tree, name: &Name) -> TxnNo {
+    match begin_once(tree, name) {
+        Some(number) => number,
+        None => begin_once(tree, name).expect(rt, "it begins"),
+    }
+}
+
+// Every second key is written, from the last to the first, and the others are read.
+fn touch_keys(rt: &impl Abort, tree: &Tree, estate: &mut Estate, name: &Name) {
+    for index in 0..KEYS {
+        let key = numbered_key(rt, (KEYS - 1).wrapping_sub(index));
+        let op = if index % 2 == 0 { Op::Set(7) } else { Op::Get };
+        let reply = access(estate, tree, name, &key, op).expect(rt, "memory");
+        assert!(rt; reply.is_some());
+    }
+}
+
+// Whether these are the keys that were written, in byte order.
+fn are_written(rt: &impl Abort, found: &[Change]) -> bool {
+    for index in 0..found.len().min(20) {
+        let key = numbered_key(rt, (index as u8).wrapping_mul(2).wrapping_add(1));
+        if found[index]
+            != (Change {
+                key,
+                value: Some(7),
+            })
+        {
+            return false;
+        }
+    }
+    found.len() == 20
+}
+
 // The keys in byte order, whatever order they were written in, and none that was read alone.
 #[test]
-fn changes_stand_in_byte_order(rt: HostRuntime) -> Result<(), Fail> {
+fn changes_stand_in_byte_order(rt: HostRuntime) {
     let (mut tree, base) = (Tree::new(rt.alloc()), PlainTable::new(rt.alloc()));
     let mut estate = Estate::new(rt.alloc(), base);
-    let (a, top) = begin(&mut tree, "a")?;
-    for index in 0..KEYS {
-        let key = numbered_key(&rt, KEYS - 1 - index);
-        let op = if index % 2 == 0 { Op::Set(7) } else { Op::Get };
-        assert!(rt; access(&mut estate, &tree, &a, &key, op)?.is_some());
-    }
-    let found = changes(&estate, &tree, top)?;
-    assert!(rt; found.len() == 20);
-    for index in 0..20 {
-        let (key, value) = (numbered_key(&rt, 2 * index + 1), Some(7));
-        assert!(rt; found.get(index as usize).copied() == Some(Change { key, value }));
-    }
-    Ok(())
+    let a = Name::parse(b"a").expect(&rt, "a name");
+    let top = number_of(&rt, &mut tree, &a);
+    touch_keys(&rt, &tree, &mut estate, &a);
+    let found = changes(&estate, &tree, top).expect(&rt, "memory");
+    assert!(rt; are_written(&rt, &found));
 }
