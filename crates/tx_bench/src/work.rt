@@ -49,16 +49,26 @@ impl Workload {
 
 /// Runs the workload once, by this seed, and tells how many lines were answered. `None` where a line was not done.
 pub fn run(alloc: Global, workload: Workload, size: u32, seed: u64) -> Option<u32> {
-    let mut driver = Driver::open(alloc)?;
+    // One place where the driver is dropped: each further one is proved anew.
+    match Driver::open(alloc) {
+        Some(mut driver) => {
+            let done = serve(&mut driver, workload, size, seed).is_some();
+            let lines = driver.lines();
+            if done { Some(lines) } else { None }
+        }
+        None => None,
+    }
+}
+
+fn serve(driver: &mut Driver, workload: Workload, size: u32, seed: u64) -> Option<()> {
     let mut random = Pcg32::new(seed, 54);
     match workload {
-        Workload::Small => small(&mut driver, &mut random, size / LINES)?,
-        Workload::Wide => wide(&mut driver, size)?,
-        Workload::Children => children(&mut driver, &mut random, size / 1024 * 63)?,
-        Workload::Deep => deep(&mut driver, &mut random, size / (LINES * 8))?,
-        Workload::Readers => readers(&mut driver, size / 1024 * 62)?,
+        Workload::Small => small(driver, &mut random, size / LINES),
+        Workload::Wide => wide(driver, size),
+        Workload::Children => children(driver, &mut random, size / 1024 * 63),
+        Workload::Deep => deep(driver, &mut random, size / (LINES * 8)),
+        Workload::Readers => readers(driver, size / 1024 * 62),
     }
-    Some(driver.lines())
 }
 
 // Reads one key and adds to the next.
