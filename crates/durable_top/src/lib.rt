@@ -6,7 +6,7 @@ mod rows;
 mod store;
 
 pub use memory::MemStore;
-pub use rows::{are_rising, table_after, table_of};
+pub use rows::{are_rising, table_of};
 pub use store::{Row, StoreFault, TopStore};
 
 #[cfg(test)]

@@ -5,7 +5,7 @@ ghost use Rattle.serial_spec.specs.Rows.{IsRising, value_in};
 ghost use Rattle.durable_top.specs.Store.{plain};
 ghost use Rattle.durable_top.specs.Memory.{fresh, planned, MemoryLoads, MemoryCommits};
 
-use crate::rows::{table_after, table_of};
+use crate::rows::{change, table_of};
 use crate::store::{Row, StoreFault, TopStore};
 use serial_spec::{NoMemory, PlainTable};
 use std::alloc::Global;
@@ -97,17 +97,14 @@ fn rows_of(alloc: Global, table: &PlainTable) -> Result<Vec<Row>, NoMemory>
     Ok(rows)
 }
 
-// Makes the changes in the table, or leaves it as it is.
-fn change(table: &mut PlainTable, changes: &[Change]) -> Result<(), StoreFault>
+// What the store answers where it makes the changes.
+fn made(table: &mut PlainTable, changes: &[Change]) -> Result<(), StoreFault>
     ensures ok { OnOk result (value_in table.new.rows ≡ overlay changes.now (value_in table.old.rows)) }
     ensures err { OnErr result (table.new.rows ≡ table.old.rows) }
     ensures memory { IfErr result (λ fault. fault ≡ StoreFault.Memory) }
 {
-    match table_after(table, changes) {
-        Ok(next) => {
-            *table = next;
-            Ok(())
-        }
+    match change(table, changes) {
+        Ok(()) => Ok(()),
         Err(_) => Err(StoreFault::Memory),
     }
 }
@@ -144,7 +141,7 @@ impl TopStore for MemStore {
         self.refuses_in = self.refuses_in.saturating_sub(1);
         let answer = match planned {
             Some(fault) => Err(fault),
-            None => change(&mut self.table, changes),
+            None => made(&mut self.table, changes),
         };
         if answer.is_err() {
             self.faults = self.faults.saturating_add(1);

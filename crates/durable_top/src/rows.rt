@@ -1,7 +1,8 @@
 //! Rows and changes over one plain table.
-ghost use Rattle.std.specs.Prelude.{◌≡◌, ◌↔◌, ℕ, [], IfOk, IsTrue};
+ghost use Rattle.std.specs.Prelude.{◌≡◌, ◌<◌, ◌≤◌, ◌+◌, ◌↔◌, ℕ, length, IfOk, IsOk, IsTrue, OnErr, OnOk};
 ghost use Rattle.serial_spec.specs.Changes.{overlay};
 ghost use Rattle.serial_spec.specs.Rows.{IsRising, value_in};
+ghost use Rattle.serial_spec.specs.Serial.{put};
 ghost use Rattle.durable_top.specs.Store.{plain};
 
 use crate::store::Row;
@@ -37,14 +38,25 @@ pub fn table_of(alloc: Global, rows: &[Row]) -> Result<PlainTable, NoMemory>
     Ok(table)
 }
 
-/// A copy of the table with the changes made, the first of them first. The only error is want of memory.
-pub fn table_after(table: &PlainTable, changes: &[Change]) -> Result<PlainTable, NoMemory>
-    ensures made { IfOk result (λ next. value_in next.rows ≡ overlay changes.now (value_in table.now.rows)) }
-    ensures unchanged { IfOk result (λ next. changes.now ≡ [] → next.rows ≡ table.now.rows) }
+// Makes a change for which there is room.
+fn put_reserved(table: &mut PlainTable, change: &Change)
+    requires { 0 < table.old.room }
+    ensures put { value_in table.new.rows ≡ put (value_in table.old.rows) change.now.key change.now.value }
+    ensures room { table.old.room ≤ table.new.room + 1 }
 {
-    let mut next = table.copy()?;
+    table.put(&change.key, change.value).unwrap();
+}
+
+/// Makes the changes in the table, the first of them first. It wants memory only where the changes may outgrow the table's
+/// room; if memory runs out, the only error, the rows are as before.
+pub(crate) fn change(table: &mut PlainTable, changes: &[Change]) -> Result<(), NoMemory>
+    ensures ok { OnOk result (value_in table.new.rows ≡ overlay changes.now (value_in table.old.rows)) }
+    ensures err { OnErr result (table.new.rows ≡ table.old.rows) }
+    ensures succeeds { length changes.now ≤ table.old.room → IsOk result }
+{
+    table.reserve(changes.len())?;
     for change in changes {
-        next.put(&change.key, change.value)?;
+        put_reserved(table, change);
     }
-    Ok(next)
+    Ok(())
 }

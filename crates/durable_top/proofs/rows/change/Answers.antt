@@ -5,7 +5,7 @@ use Rattle.serial_spec.specs.Serial.{Map, put}
 use Rattle.serial_spec.specs.Rows.{value_in}
 use Rattle.serial_spec.specs.Changes.{overlay}
 use Rattle.durable_top.proofs.Tables.{overlay_push}
-use Rattle.durable_top.proofs.rows.table_after.Goals as goal
+use Rattle.durable_top.proofs.rows.change.Goals as goal
 
 pub loop-change-preserved : goal.loop-change-preserved
 loop-change-preserved c =
@@ -13,9 +13,9 @@ loop-change-preserved c =
     let i : ℕ = c.loop-change.change-index in
     let d : Change = c.change-item.result in
     let more : take (i + 1) changes ≡ take i changes ++ d ∷ [] = take_more changes i d (omega arith) ∙ ap (λ x. take i changes ++ x ∷ []) (sym c.change-item.is) in (
-      c.in_ok-put.ensures.ok
+      c.put_reserved.ensures.put
           ∙ ap (λ (m : Map). put m d.key d.value) c.loop-change.invariant.0
-          ∙ sym (overlay_push (take i changes) d (value_in c.args.table.now.rows))
-          ∙ ap (λ cs. overlay cs (value_in c.args.table.now.rows)) (sym more),
-      λ n. absurd (omega arith),
+          ∙ sym (overlay_push (take i changes) d (value_in c.reserve.new.self.rows))
+          ∙ ap (λ cs. overlay cs (value_in c.reserve.new.self.rows)) (sym more),
+      omega arith,
     )
