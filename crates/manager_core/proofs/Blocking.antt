@@ -9,7 +9,7 @@ use Rattle.txn_names.specs.Path.{is_front}
 use Rattle.serial_spec.specs.History.{Name, History, begun, is_active}
 use Rattle.serial_spec.specs.Locks.{conflicts, foot, is_blocker}
 use Rattle.manager_core.specs.Kept.{IsTreeOf}
-use Rattle.manager_core.proofs.Reversed.{any_reversed}
+use Rattle.txn_history.proofs.Reversed.{any_reversed}
 
 -- whoever passes among the names in order of beginning has begun, and the other way about
 pub any_named : (p : Name → Bool) (h : History) (states : States) → IsTreeOf h states → list_any p (names states) ≡ list_any p (begun h)

@@ -1,5 +1,3 @@
-pub mod Reversed
-pub mod Keys
 -- The tables beside the history
 pub mod Trees
 pub mod Named

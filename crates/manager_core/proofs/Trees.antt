@@ -18,7 +18,7 @@ use Rattle.serial_spec.specs.Allowed.{has_live_child, cause_at_begin, cause_at_e
 use Rattle.txn_history.proofs.Theorems.{ended_begun}
 use Rattle.manager_core.specs.Kept.{status_of, IsTreeOf, AreMarksOf, AreTablesOf}
 use Rattle.manager_core.specs.Tables.{Tabled, acts_in, cause_in}
-use Rattle.manager_core.proofs.Reversed.{any_reversed}
+use Rattle.txn_history.proofs.Reversed.{any_reversed}
 
 -- ---- states
 

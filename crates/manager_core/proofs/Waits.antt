@@ -1,9 +1,7 @@
 -- Waits and lines, entry by entry.
-use Rattle.std.proofs.Common.{◌≡◌, ℕ, ap₂, Bool, true, false, not, cond, ◌&&◌, ◌||◌, ◌==◌, List, [], ◌∷◌, ◌++◌, length, drop, reverse, count_by, filter, find, Some, None, is_some, ⊎_elim, refl, sym, ap, subst, ◌∙◌, arith}
+use Rattle.std.proofs.Common.{◌≡◌, ℕ, ap₂, Bool, true, false, not, cond, ◌&&◌, ◌||◌, ◌==◌, List, [], ◌∷◌, ◌++◌, length, drop, reverse, filter, find, Some, None, is_some, ⊎_elim, refl, sym, ap, subst, ◌∙◌, arith}
 use Rattle.std.proofs.lemmas.Bool.{false≢true, and_parts, and_from, and_left, or_parts, or_from, or_left, or_right, not-true, not_from_false, eqb-true, eq-eqb}
-use Rattle.std.proofs.lemmas.List.{append_assoc, append-nil, drop_all, drop_at, reverse-append, reverse-reverse}
-use Rattle.std.proofs.lemmas.List.Elements.{filter-append}
-use Rattle.std.proofs.lemmas.List.Sums.{length-filter}
+use Rattle.std.proofs.lemmas.List.{append_assoc, append-nil, drop_all, drop_at}
 use Rattle.std.proofs.lemmas.Map.Views.{any-filter_same}
 use Rattle.std.specs.List.{list_any}
 use Rattle.txn_names.proofs.Names.{on_test, path_eq_self}
@@ -12,7 +10,6 @@ use Rattle.serial_spec.specs.declared.entry.By.{By}
 use Rattle.serial_spec.specs.declared.entry.By.TheVariants.{Line, Victim, Close}
 use Rattle.serial_spec.specs.declared.event.Event.{Event}
 use Rattle.serial_spec.specs.declared.event.Event.TheVariants.{Access}
-use Rattle.serial_spec.specs.declared.entry.Answer.TheVariants.{Waits}
 use Rattle.serial_spec.specs.declared.entry.Entry.{Entry}
 use Rattle.serial_spec.specs.History.{Name, History, is_active}
 use Rattle.serial_spec.specs.Waits.{same_line, is_waits, open_waits, accesses, wait_of}
@@ -20,8 +17,8 @@ use Rattle.serial_spec.specs.Allowed.{has_waited}
 use Rattle.txn_history.proofs.Tests.{clash, same_tests}
 use Rattle.txn_history.proofs.Lists.{any_cases}
 use Rattle.manager_core.specs.Lines.{entries_of, OnlyWaits, IsRetried, IsFree}
-use Rattle.manager_core.proofs.Reversed.{newest, any_reversed}
-use Rattle.manager_core.proofs.Lines.{none_filtered, filtered_none}
+use Rattle.txn_history.proofs.Reversed.{newest}
+use Rattle.manager_core.proofs.Lines.{filtered_none}
 
 -- ---- lines
 
@@ -51,66 +48,6 @@ same_by (Line s l) Victim e = absurd (false≢true e)
 same_by (Line s l) Close e = absurd (false≢true e)
 same_by Victim b e = absurd (false≢true e)
 same_by Close b e = absurd (false≢true e)
-
--- a line without an entry, from either end
-pub unused_reversed : (entries : List Entry) (by : By) → list_any (λ e. same_line e.by by) entries ≡ false → entries_of (reverse entries) by ≡ []
-unused_reversed entries by n = none_filtered (λ e. same_line e.by by) (reverse entries) (any_reversed (λ e. same_line e.by by) entries ∙ n)
-
-pub used_reversed : (entries : List Entry) (by : By) → entries_of (reverse entries) by ≡ [] → list_any (λ e. same_line e.by by) entries ≡ false
-used_reversed entries by e = sym (any_reversed (λ e. same_line e.by by) entries) ∙ filtered_none (λ e. same_line e.by by) (reverse entries) e
-
--- ---- a line with one entry
-
--- the first that passes is the first that is kept
-first_kept : {X : Type 0} (p : X → Bool) (xs : List X) → find (λ y. true) (filter p xs) ≡ find p xs
-first_kept p [] = refl
-first_kept p (x ∷ xs) =
-    on_test (p x) (λ b. find (λ y. true) (cond b (x ∷ filter p xs) (filter p xs)) ≡ cond b (Some x) (find p xs)) (λ _. refl) (λ _. first_kept p xs)
-
--- a list of one is its first
-first_alone : {X : Type 0} (xs : List X) (x : X) → length xs ≡ 1 → find (λ y. true) xs ≡ Some x → xs ≡ x ∷ []
-first_alone [] x n f = cc
-first_alone (y ∷ []) x n f = let same : y ≡ x = cc in ap (λ z. z ∷ []) same
-first_alone (y ∷ z ∷ zs) x n f = absurd (omega arith)
-
--- so where one passes, it is kept alone
-one_kept : {X : Type 0} (p : X → Bool) (xs : List X) (x : X) → count_by p xs ≡ 1 → find p xs ≡ Some x → filter p xs ≡ x ∷ []
-one_kept p xs x n f = first_alone (filter p xs) x (length-filter p xs ∙ n) (first_kept p xs ∙ f)
-
--- a filter keeps the same from the other end
-filter-reverse : {X : Type 0} (p : X → Bool) (xs : List X) → filter p (reverse xs) ≡ reverse (filter p xs)
-filter-reverse p [] = refl
-filter-reverse p (x ∷ xs) =
-    ap (filter p) (reverse-append (x ∷ []) xs) ∙ filter-append p (reverse xs) (x ∷ []) ∙ on_test (p x)
-    (λ b. filter p (reverse xs) ++ cond b (x ∷ []) [] ≡ reverse (cond b (x ∷ filter p xs) (filter p xs)))
-    (λ _. ap (λ ys. ys ++ x ∷ []) (filter-reverse p xs) ∙ sym (reverse-append (x ∷ []) (filter p xs)))
-    (λ _. append-nil (filter p (reverse xs)) ∙ filter-reverse p xs)
-
--- the one entry of a line, where it waits with this event
-pub only_from : (entries : List Entry) (by : By) (event : Event) (w : Entry) → find (λ e. same_line e.by by) entries ≡ Some w
-    → count_by (λ e. same_line e.by by) entries ≡ 1 → w.answer ≡ Waits → w.event ≡ event
-    → OnlyWaits (reverse entries) by event
-only_from entries by event w f n a e =
-    record {
-      waited = w;
-      alone = filter-reverse (λ e. same_line e.by by) entries ∙ ap (λ (es : List Entry). reverse es) (one_kept (λ e. same_line e.by by) entries w n f);
-      waits = a;
-      event_is = e;
-    }
-
--- what is left of a line with one entry alone, the oldest first
-only_kept : (entries : List Entry) (by : By) (event : Event) (o : OnlyWaits (reverse entries) by event) → filter (λ e. same_line e.by by) entries ≡ o.waited ∷ []
-only_kept entries by event o =
-    sym (reverse-reverse (filter (λ e. same_line e.by by) entries)) ∙ ap (λ (es : List Entry). reverse es) (sym (filter-reverse (λ e. same_line e.by by) entries) ∙ o.alone)
-
--- it is counted once
-pub only_counted : (entries : List Entry) (by : By) (event : Event) → OnlyWaits (reverse entries) by event → count_by (λ e. same_line e.by by) entries ≡ 1
-only_counted entries by event o = sym (length-filter (λ e. same_line e.by by) entries) ∙ ap length (only_kept entries by event o)
-
--- and found
-pub only_found : (entries : List Entry) (by : By) (event : Event) (o : OnlyWaits (reverse entries) by event) → find (λ e. same_line e.by by) entries ≡ Some o.waited
-only_found entries by event o =
-    sym (first_kept (λ e. same_line e.by by) entries) ∙ ap (λ (es : List Entry). find (λ e. true) es) (only_kept entries by event o)
 
 -- ---- open waits
 

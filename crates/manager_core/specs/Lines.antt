@@ -1,23 +1,13 @@
 -- Which line may have an entry.
-use Rattle.std.specs.Prelude.{◌≡◌, ℕ, ◌⊎◌, Bool, true, not, IsTrue, List, [], ◌∷◌, Option, Some, None, is_some, filter}
+use Rattle.std.specs.Prelude.{◌≡◌, ℕ, ◌⊎◌, Bool, true, not, IsTrue, List, [], Option, Some, None, is_some}
 use Rattle.serial_spec.specs.declared.entry.By.{By}
-use Rattle.serial_spec.specs.declared.entry.By.TheVariants.{Line}
 use Rattle.serial_spec.specs.declared.operation.Op.{Op}
 use Rattle.serial_spec.specs.declared.event.Event.{Event}
 use Rattle.serial_spec.specs.declared.event.Event.TheVariants.{Access}
-use Rattle.serial_spec.specs.declared.entry.Answer.TheVariants.{Waits}
 use Rattle.serial_spec.specs.declared.entry.Entry.{Entry}
 use Rattle.serial_spec.specs.History.{Name, History}
 use Rattle.serial_spec.specs.Waits.{same_line, wait_of}
-
--- of a session's line, and not of the manager itself
-abbrev pub IsLine : By → Type 0
-IsLine (Line session line) = Unit {0}
-IsLine by = ⊥
-
--- the entries of the line
-abbrev pub entries_of : History → By → List Entry
-entries_of h by = filter (λ e. same_line e.by by) h
+pub use Rattle.txn_history.specs.Lines.{IsLine, entries_of, OnlyWaits}
 
 -- the transaction that an access is of
 abbrev pub accessor : Event → Option Name
@@ -28,13 +18,6 @@ accessor e = None
 abbrev pub waits_no_more : History → Option Name → Bool
 waits_no_more h None = true
 waits_no_more h (Some t) = not (is_some (wait_of h t))
-
--- the line has one entry alone, that it waits with this event
-pub record OnlyWaits (h : History) (by : By) (event : Event) : Type 0 where
-  pub waited : Entry
-  pub alone : entries_of h by ≡ waited ∷ []
-  pub waits : waited.answer ≡ Waits
-  pub event_is : waited.event ≡ event
 
 -- the line has waited with this event, and the transaction waits no more
 pub record IsRetried (h : History) (by : By) (event : Event) : Type 0 where

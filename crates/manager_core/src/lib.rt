@@ -12,7 +12,6 @@ mod deciding;
 mod log;
 mod manager;
 mod outcome;
-mod reading;
 mod tables;
 mod waiting;
 

@@ -6,7 +6,7 @@ ghost use Rattle.serial_spec.specs.Allowed.{Allowed, cause_at_commit};
 ghost use Rattle.serial_spec.specs.Rows.{IsRising, value_in};
 ghost use Rattle.serial_spec.specs.Waits.{is_waits, wait_of};
 ghost use Rattle.durable_top.specs.Store.{plain};
-ghost use Rattle.manager_core.specs.Lines.{IsFree, IsLine, IsWaitOf, waits_no_more, accessor};
+ghost use Rattle.manager_core.specs.Lines.{IsFree, IsWaitOf, waits_no_more, accessor};
 ghost use Rattle.manager_core.specs.Outcomes.{answer_of};
 ghost use Rattle.manager_core.specs.State.{entry};
 
@@ -63,12 +63,6 @@ pub struct Parts<S: TopStore> {
     pub store: S,
 }
 
-fn is_line(by: By) -> bool
-    ensures { IsTrue result ↔ IsLine by }
-{
-    matches!(by, By::Line { .. })
-}
-
 impl<S: TopStore> Manager<S> {
     ghost use Rattle.manager_core.specs.Calls.{Answered, Closed, Committed, Retried};
     ghost use Rattle.manager_core.specs.Opening.{HasCause, IsOpened};
@@ -107,7 +101,9 @@ impl<S: TopStore> Manager<S> {
         ensures sound { IfOk result (λ m. IsSound S.TopStore m) }
     {
         let table = table_of(alloc, &rows)?;
-        let log = Log::new(alloc, rows)?;
+        // By this its rows are known to be in order, and so to be these.
+        let _ = table.len();
+        let log = Log::new(alloc, rows, &table)?;
         let opened = store.faults();
         Ok(Manager {
             log,
@@ -327,10 +323,7 @@ impl<S: TopStore> Manager<S> {
     pub fn free(&self, by: By, event: &Event) -> bool
         ensures { IsTrue result ↔ IsFree self.now.history by event.now }
     {
-        if !is_line(by) {
-            return false;
-        }
-        self.log.is_unused(by) || (self.log.only_waits(by, event) && self.waits_no_more(event))
+        self.log.free(by, event) && (!self.log.waits_with(by, event) || self.waits_no_more(event))
     }
 
     /// The entries, the oldest first.
