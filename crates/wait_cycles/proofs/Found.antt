@@ -7,7 +7,7 @@ use Rattle.std.proofs.lemmas.List.{length-append}
 use Rattle.wait_cycles.specs.declared.reached.Reached.{Reached}
 use Rattle.wait_cycles.specs.Cycles.{Pairs, waits_in, is_member, is_distinct}
 use Rattle.wait_cycles.specs.Trails.{ComesFrom, Covers, IsAt, IsFound, IsLonger, nodes, open_pairs}
-use Rattle.wait_cycles.proofs.Lists.{any-map, distinct_push, get_front, get_pushed, map_append, member_append, member_push, pushed_member, one_less}
+use Rattle.wait_cycles.proofs.Lists.{few_pass, any-map, distinct_push, get_front, get_pushed, map_append, member_append, member_push, pushed_member, one_less}
 
 -- ---- pairs
 
@@ -80,6 +80,16 @@ module _ (pairs : Pairs) (trail : List Reached) (r : Reached) (new : is_member r
           by false n = refl
       still false b f e = refl
 
+pub nobody : (pairs : Pairs) (start : ℕ) → IsFound pairs start []
+nobody pairs start = record { distinct = refl; sound = λ i r at. absurd (false≢true (ap is_some at)) }
+
+-- there is room for one a pair
+pub room_first : (pairs : Pairs) (trail : List Reached) (capacity : ℕ) → trail ≡ [] → length pairs ≤ capacity → open_pairs pairs trail + length trail ≤ capacity
+room_first pairs trail capacity empty room =
+    let few = few_pass (λ (p : ℕ × ℕ). not (is_member p.1 (nodes trail))) pairs in
+    let none = ap length empty in
+    omega (arith, few, none, room)
+
 -- at the start none has been found
 pub longer_none : (pairs : Pairs) (trail : List Reached) → IsLonger pairs trail trail
 longer_none pairs trail = record { more = ([], sym (append_nil trail)); fewer = omega arith }
@@ -106,7 +116,7 @@ module _ (pairs : Pairs) (old trail : List Reached) (a : ℕ) (from : Option ℕ
     fresh : is_member p.1 (nodes trail) ≡ false
     fresh = sym (any-map (λ (r : Reached). r.txn) p.1 trail) ∙ not_true _ parts.1
 
-    abbrev next : Reached
+    abbrev pub next : Reached
     next = record { txn = p.1; from = from }
 
     pub found_next : ((start : ℕ) → IsFound pairs start old → IsAt start (nodes old) (length old) from a → IsFound pairs start trail) → IsLonger pairs old trail

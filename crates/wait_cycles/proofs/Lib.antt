@@ -5,3 +5,4 @@ pub mod Closed
 pub mod Tops
 pub mod Slots
 pub mod Agreement
+pub mod Again

@@ -122,6 +122,14 @@ pub map_append : {X Y : Type 0} (f : X → Y) (xs ys : List X) → map f (xs ++ 
 map_append f [] ys = refl
 map_append f (x ∷ xs) ys = ap (λ zs. f x ∷ zs) (map_append f xs ys)
 
+pub few_pass : {X : Type 0} (p : X → Bool) (xs : List X) → length (filter p xs) ≤ length xs
+few_pass p [] = omega arith
+few_pass p (x ∷ xs) = by (p x) (few_pass p xs)
+  where
+    by : (b : Bool) → length (filter p xs) ≤ length xs → length (cond b (x ∷ filter p xs) (filter p xs)) ≤ length (x ∷ xs)
+    by true le = omega (arith, le)
+    by false le = omega (arith, le)
+
 module _ {X : Type 0} (p q : X → Bool) (f : (x : X) → q x ≡ true → p x ≡ true) where
   -- where fewer pass there are no more of them
   pub fewer : (xs : List X) → length (filter q xs) ≤ length (filter p xs)

@@ -39,14 +39,8 @@ module _ (pairs : Pairs) where
             absurd (none xs cycle (subst (λ (x : ℕ). is_member x xs ≡ true) same e))
       ]
 
-  pub is_last : (top start : ℕ) → start + 1 ≡ top → AllBelow pairs top → (xs : List ℕ) → IsCycle pairs xs → is_member start xs ≡ true → IsLastCycle pairs xs
-  is_last top start is all xs cycle member = record {
-    cycle = cycle;
-    last = λ ys other b e a greatest.
-        let less = all ys other b e in
-        let more = greatest.others start member in
-        omega (arith, is, less, more);
-  }
+  pub at_most : (top start : ℕ) → start + 1 ≡ top → AllBelow pairs top → (xs : List ℕ) → IsCycle pairs xs → (b : ℕ) → is_member b xs ≡ true → b ≤ start
+  at_most top start is all xs cycle b e = let less = all xs cycle b e in omega (arith, is, less)
 
   -- below 0 there is nobody
   pub nobody_left : (top : ℕ) → top ≤ 0 → AllBelow pairs top → (xs : List ℕ) → IsCycle pairs xs → ⊥

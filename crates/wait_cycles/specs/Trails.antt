@@ -1,7 +1,7 @@
 -- Those that are reached from a start, as they were found.
 use Rattle.std.specs.Prelude.{◌≡◌, ◌<◌, ◌≤◌, ◌+◌, ℕ, not, IsTrue, List, ◌++◌, length, map, filter, slice_get, Option, Some, None}
 use Rattle.wait_cycles.specs.declared.reached.Reached.{Reached}
-use Rattle.wait_cycles.specs.Cycles.{Pairs, waits_in, is_member, is_distinct}
+use Rattle.wait_cycles.specs.Cycles.{Pairs, IsCycle, waits_in, is_member, is_distinct}
 
 abbrev pub nodes : List Reached → List ℕ
 nodes trail = map (λ r. r.txn) trail
@@ -42,3 +42,9 @@ open_pairs pairs trail = length (filter (λ p. not (is_member p.1 (nodes trail))
 pub record IsLonger (pairs : Pairs) (old new : List Reached) : Type 0 where
   pub more : (rest : List Reached) × (new ≡ old ++ rest)
   pub fewer : open_pairs pairs new + length new ≤ open_pairs pairs old + length old
+
+-- the start is among those that were reached from it, and no greater number lies on a cycle
+pub record IsLastReached (pairs : Pairs) (start : ℕ) (trail : List Reached) : Type 0 where
+  pub found : IsFound pairs start trail
+  pub again : IsTrue (is_member start (nodes trail))
+  pub last : (ys : List ℕ) → IsCycle pairs ys → (b : ℕ) → IsTrue (is_member b ys) → b ≤ start

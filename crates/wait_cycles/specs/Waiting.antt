@@ -1,8 +1,8 @@
 -- Accesses that wait, at most one of a transaction.
-use Rattle.std.specs.Prelude.{◌≡◌, ℕ, nat_eq, Bool, false, List, Option, Some, None, IsSome, find, slice_get, slice_index_or}
+use Rattle.std.specs.Prelude.{◌≡◌, ℕ, nat_eq, Bool, false, List, Option, Some, None, find, slice_get, slice_index_or}
 use Rattle.slab.specs.Slab.{Slab, get}
-use Rattle.txn_names.specs.Path.{Path, is_front}
-use Rattle.txn_tree.specs.States.{States, names}
+pub use Rattle.txn_tree.specs.Numbered.{is_under}
+use Rattle.txn_tree.specs.States.{States}
 use Rattle.wait_cycles.specs.declared.waits.Wait.{Wait}
 
 -- the waits, in the order in which they are gone through, and how many more may be added without memory
@@ -30,15 +30,6 @@ IsHeldAt records t key = (w : Wait) × (get records key ≡ Some w) × (w.txn �
 abbrev pub AreApart : List (Option Wait) → Type 0
 AreApart slots =
     (i j : ℕ) (v w : Wait) → slice_index_or slots i None ≡ Some v → slice_index_or slots j None ≡ Some w → v.txn ≡ w.txn → i ≡ j
-
--- there are both names, and the first is the second or an ancestor of it
-abbrev pub is_front_of : Option Path → Option Path → Bool
-is_front_of (Some a) (Some b) = is_front a b
-is_front_of a b = false
-
--- both have begun, and u is t or below it
-abbrev pub is_under : States → ℕ → ℕ → Bool
-is_under tree t u = is_front_of (slice_get (names tree) t) (slice_get (names tree) u)
 
 -- it is the wait of one that is t or below it
 abbrev pub is_wait_under : States → ℕ → Option Wait → Bool

@@ -9,7 +9,7 @@ mod reached;
 mod waits;
 
 pub use cycle::{Cycle, victim};
-pub use finder::find_cycle;
+pub use finder::{Work, find_cycle};
 pub use waits::{Wait, Waits};
 
 #[cfg(test)]

@@ -61,22 +61,12 @@ fn wait_at(records: &Slab<Wait>, place: usize) -> Option<&Wait>
     }
 }
 
-// Whether both have begun, and the inferior is the transaction or below it.
-fn is_under(tree: &Tree, txn: TxnNo, inferior: TxnNo) -> bool
-    ensures { result ≡ is_under tree.now txn inferior }
-{
-    match (tree.name_of(txn), tree.name_of(inferior)) {
-        (Some(name), Some(below)) => name.is_ancestor_or_self(below),
-        _ => false,
-    }
-}
-
 // Whether a wait of the transaction or of one below it is kept under the key.
 fn is_kept_under(records: &Slab<Wait>, key: usize, tree: &Tree, txn: TxnNo) -> bool
     ensures { result ≡ is_wait_under tree.now txn (get records.now key) }
 {
     match records.get(key) {
-        Some(wait) => is_under(tree, txn, wait.txn),
+        Some(wait) => tree.is_under(txn, wait.txn),
         None => false,
     }
 }

@@ -1,27 +1,27 @@
-use Rattle.std.proofs.Common.{◌≡◌, ◌<◌, ◌≤◌, ◌+◌, ◌-◌, ◌^◌, ℕ, sym, ap, ◌∙◌, arith, rules}
-use Rattle.wait_cycles.proofs.Tops.{lower, all_fit, next_lower, is_last, nobody_left}
+use Rattle.std.proofs.Common.{◌≡◌, ℕ, Some, sym, ap, ◌∙◌, true≢false}
+use Rattle.wait_cycles.proofs.Again.{is_last_cycle, met, not_again, not_met}
 use Rattle.wait_cycles.proofs.finder.find_cycle.Goals as goal
 
-pub loop-top-init : goal.loop-top-init
-loop-top-init c =
-    let e = c.top_below-top.ensures in
-    (omega (arith, e.within), lower c.args.pairs.now (2 ^ 32) c.top_below-top.result e.below (all_fit c.args.pairs.now e.fits))
+pub cycle_to-requires-clause-place : goal.cycle_to-requires-clause-place
+cycle_to-requires-clause-place c =
+    let found = rw c.deref.ensures.value at c.place_of.ensures in
+    rw c.deref-in-Some-place_of.ensures.value (met c.last_on.new.trail.items c.in-Some.start c.in-Some-place_of.place (sym found ∙ c.in-Some-place_of.is))
 
-pub loop-top-preserved : goal.loop-top-preserved
-loop-top-preserved c =
-    let i = c.loop-top.invariant in
-    let e = c.top_below-top-in-loop-top.ensures in
-    let start : c.new-start.result + 1 ≡ c.loop-top.top = omega (arith, c.new-start.ensures, c.loop-top-test.true, i.0) in
-    let none = rw c.in_default.is at c.in_ok-cycle.ensures.none in
-    let all = next_lower c.args.pairs.now c.loop-top.top c.new-start.result start i.1 none in
-    (omega (arith, e.within, i.0), lower c.args.pairs.now c.new-start.result c.top_below-top-in-loop-top.result (λ n p at less. e.below n p at (omega (arith, less, start))) all)
+pub returns-in_err-cycle_to-in-Some-place_of-clause-succeeds : goal.returns-in_err-cycle_to-in-Some-place_of-clause-succeeds
+returns-in_err-cycle_to-in-Some-place_of-clause-succeeds c = λ none.
+    let found = rw c.deref.ensures.value at c.place_of.ensures in
+    let trail = c.last_on.new.trail.items in
+    let at = met trail c.in-Some.start c.in-Some-place_of.place (sym found ∙ c.in-Some-place_of.is) in
+    absurd (not_again c.args.pairs.now c.in-Some.start trail c.in-Some.ensures.some.found c.in-Some-place_of.place at none)
 
-pub returns-in-Some-clause-some : goal.returns-in-Some-clause-some
-returns-in-Some-clause-some c =
-    let i = c.loop-top.invariant in
-    let start : c.new-start.result + 1 ≡ c.loop-top.top = omega (arith, c.new-start.ensures, c.loop-top-test.true, i.0) in
-    let found = rw c.in-Some.is at c.in_ok-cycle.ensures.some in
-    is_last c.args.pairs.now c.loop-top.top c.new-start.result start i.1 c.in-Some.cycle found.0 found.1
+pub returns-in-Some-place_of-clause-some : goal.returns-in-Some-place_of-clause-some
+returns-in-Some-place_of-clause-some c =
+    let told = rw c.deref-in-Some-place_of.ensures.value at c.in_ok-cycle_to-in-Some-place_of.ensures in
+    let last = c.in-Some.ensures.some in
+    is_last_cycle c.args.pairs.now c.in-Some.start c.last_on.new.trail.items last c.in_ok-cycle_to-in-Some-place_of.field-0
+    (told.cycle c.args.pairs.now last.found) told.start
 
 pub returns-clause-none : goal.returns-clause-none
-returns-clause-none c = nobody_left c.args.pairs.now c.loop-top.top (omega (arith, c.loop-top-test.false)) c.loop-top.invariant.1
+returns-clause-none c =
+    let found = rw c.deref.ensures.value at c.place_of.ensures in
+    absurd (true≢false (sym c.in-Some.ensures.some.again ∙ not_met c.last_on.new.trail.items c.in-Some.start (sym found ∙ c.in-None.is)))

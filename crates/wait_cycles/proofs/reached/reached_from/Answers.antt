@@ -1,8 +1,29 @@
-use Rattle.std.proofs.Common.{◌≡◌, ◌<◌, ◌≤◌, ℕ, Some, sym, arith}
-use Rattle.std.specs.Prelude.{slice_get}
+use Rattle.std.proofs.Common.{◌≡◌, ◌<◌, ◌≤◌, ◌+◌, ◌∙◌, ℕ, List, [], Some, length, not, refl, subst, sym, arith}
+use Rattle.std.specs.Prelude.{slice_get, vec_capacity}
+use Rattle.wait_cycles.specs.declared.reached.Reached.{Reached}
+use Rattle.wait_cycles.specs.Cycles.{is_member}
+use Rattle.wait_cycles.specs.Trails.{IsFound, nodes, open_pairs}
+use Rattle.wait_cycles.proofs.Found.{nobody, room_first}
 use Rattle.wait_cycles.proofs.Lists.{item_at}
 use Rattle.wait_cycles.proofs.Closed.{covers_longer, is_at_place, gone_on, place_within, all_gone}
 use Rattle.wait_cycles.proofs.reached.reached_from.Goals as goal
+
+pub reach_from-requires : goal.reach_from-requires
+reach_from-requires c = room_first c.args.pairs.now c.clear.new.self.items (vec_capacity c.clear.new.self) c.clear.ensures.items (omega (arith, c.requires, c.clear.ensures.capacity))
+
+pub loop-done-init : goal.loop-done-init
+loop-done-init c =
+    let pairs = c.args.pairs.now in
+    let e = c.reach_from.ensures in
+    let empty = c.clear.ensures.items in
+    let room = room_first pairs c.clear.new.self.items (vec_capacity c.clear.new.self) empty (omega (arith, c.requires, c.clear.ensures.capacity)) in (
+      e.found c.args.start (subst (λ (xs : List Reached). IsFound pairs c.args.start xs) (sym empty) (nobody pairs c.args.start)) refl,
+      e.covers,
+      λ i a less. absurd (omega (arith, less)),
+      omega arith,
+      omega (arith, e.longer.fewer, e.capacity, room),
+      e.capacity ∙ c.clear.ensures.capacity,
+    )
 
 pub loop-done-preserved : goal.loop-done-preserved
 loop-done-preserved c =
@@ -13,14 +34,16 @@ loop-done-preserved c =
     let n = c.loop-done.done in
     let r = c.index.result.now in
     let at : slice_get old n ≡ Some r = item_at old n r (omega (arith, c.loop-done-test.true, c.len.ensures)) c.index.ensures in
-    let e = c.in_ok-reach_from-2.ensures in (
+    let e = c.reach_from-in-loop-done.ensures in (
       e.found c.args.start i.0 (is_at_place pairs c.args.start old new e.longer n r at e.covers i.2 c.args.start),
       covers_longer pairs c.args.start old new e.longer c.args.start i.1,
       gone_on pairs c.args.start old new e.longer n r at e.covers i.2,
       place_within pairs c.args.start old new e.longer n r at e.covers i.2,
+      omega (arith, e.longer.fewer, e.capacity, i.4),
+      e.capacity ∙ i.5,
     )
 
-pub returns : goal.returns
-returns c =
+pub returns-clause-trail : goal.returns-clause-trail
+returns-clause-trail c =
     let i = c.loop-done.invariant in
     all_gone c.args.pairs.now c.args.start c.loop-done.trail.items c.loop-done.done i.0 i.1 i.2 (omega (arith, c.loop-done-test.false, c.len.ensures))

@@ -1,5 +1,5 @@
 use Rattle.std.proofs.Common.{◌≡◌, ◌<◌, ◌≤◌, ◌+◌, ◌-◌, ℕ, length, Some}
-use Rattle.std.specs.Prelude.{slice_get}
+use Rattle.std.specs.Prelude.{slice_get, vec_capacity}
 use Rattle.wait_cycles.specs.Trails.{Covers, IsFound, nodes, open_pairs}
 use Rattle.wait_cycles.proofs.reached.reached_from.Given as goal
 
@@ -10,6 +10,8 @@ invariant-loop-done l =
     × Covers l.pairs l.trail.items l.fn.start
     × ((i a : ℕ) → i < l.done → slice_get (nodes l.trail.items) i ≡ Some a → Covers l.pairs l.trail.items a)
     × (l.done ≤ length l.trail.items)
+    × (open_pairs l.pairs l.trail.items + length l.trail.items ≤ vec_capacity l.trail)
+    × (vec_capacity l.trail ≡ vec_capacity l.fn.trail)
 
 abbrev pub decreases-loop-done : goal.decreases-loop-done
 decreases-loop-done l = open_pairs l.pairs l.trail.items + length l.trail.items - l.done
