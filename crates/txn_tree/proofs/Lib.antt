@@ -1,10 +1,16 @@
+pub mod Begun
 pub mod Changes
 pub mod Children
 pub mod Counts
+pub mod Ended
 pub mod Links
+pub mod Nodes
 pub mod Numbers
 pub mod Places
 pub mod Refusals
 pub mod Told
+pub mod Subtrees
+pub mod Threads
+pub mod Siblings
 pub mod Tops
 pub mod Under

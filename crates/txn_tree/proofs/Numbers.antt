@@ -1,9 +1,9 @@
 -- The number of a name, found among distinct names.
-use Rattle.std.proofs.Common.{◌≡◌, ℕ, ◌<◌, ◌≤◌, Bool, true, false, not, List, [], ◌∷◌, length, get_or, Option, Some, None, is_some, unwrap_or, inl, inr, ⊎_elim, refl, sym, ap, subst, ◌∙◌, All, arith}
+use Rattle.std.proofs.Common.{◌≡◌, ℕ, ◌<◌, Bool, true, false, not, List, [], ◌∷◌, length, get_or, Option, Some, None, is_some, unwrap_or, inl, inr, refl, sym, ap, subst, ◌∙◌, arith}
 use Rattle.std.specs.Prelude.{◌==◌, ◌≢◌, slice_get, position, IfSome}
 use Rattle.std.specs.List.{IsDistinct}
 use Rattle.std.specs.Map.{lookup}
-use Rattle.std.proofs.lemmas.Bool.{true≢false, false≢true, eqb-true, eq-eqb, ne_eqb, cases_lt}
+use Rattle.std.proofs.lemmas.Bool.{true≢false, eqb-true, eq-eqb, ne_eqb, cases_lt}
 use Rattle.std.proofs.lemmas.Option.{slice_get_cases}
 use Rattle.std.proofs.lemmas.List.Elements.{All-get_or}
 use Rattle.std.proofs.lemmas.List.Quantifiers.{position-Some}
@@ -15,7 +15,7 @@ use Rattle.txn_names.proofs.Names.{same_path, path_eq-from}
 use Rattle.txn_tree.specs.declared.status.Status.{Status}
 use Rattle.txn_tree.specs.declared.status.Status.TheVariants.{Absent}
 use Rattle.txn_tree.specs.States.{States, IsTree, names, is_absent}
-use Rattle.txn_tree.specs.Asked.{is_name, is_absent_in, IsNumberOf, IsRootless}
+use Rattle.txn_tree.specs.Asked.{is_name, is_absent_in, IsRootless}
 use Rattle.txn_tree.proofs.Children.{same_tests}
 
 module _ (xs : List Path) (distinct : IsDistinct path_eq xs) (t : Path) (n : ℕ) (at : position (path_eq t) xs ≡ Some n) where

@@ -1,5 +1,5 @@
 -- Items of lists by their places, and names that stand at one place each.
-use Rattle.std.proofs.Common.{◌≡◌, ℕ, zero, suc, ◌+◌, ◌<◌, ◌≤◌, nat_eq, Bool, true, false, cond, List, [], ◌∷◌, ◌++◌, length, get_or, set, Option, Some, None, is_some, unwrap_or, ◌⊎◌, inl, inr, refl, sym, ap, subst, ◌∙◌, true≢false, arith}
+use Rattle.std.proofs.Common.{◌≡◌, ℕ, zero, suc, ◌<◌, nat_eq, true, cond, List, [], ◌∷◌, ◌++◌, length, get_or, set, Option, Some, is_some, unwrap_or, ◌⊎◌, inl, inr, refl, sym, ap, subst, ◌∙◌, true≢false, arith}
 use Rattle.std.specs.Prelude.{slice_get, IfSome}
 use Rattle.std.specs.List.{IsDistinct}
 use Rattle.std.proofs.lemmas.Bool.{false≢true, eqb-true, eq-eqb, ne_eqb, cases_lt}
@@ -9,12 +9,18 @@ use Rattle.txn_names.specs.Path.{Path, path_eq}
 use Rattle.txn_names.proofs.Names.{path_eq-from}
 use Rattle.txn_tree.proofs.Children.{same_tests}
 use Rattle.txn_tree.specs.declared.node.Node.{Node}
-use Rattle.txn_tree.specs.Linked.{live_below, live_in, update_at, with_live, with_live_below}
+use Rattle.txn_tree.specs.declared.node.Children.{Children}
+use Rattle.txn_tree.specs.Linked.{below, children_in, followed, update_at, with_below, with_children, with_next}
 
 pub get_front : {X : Type 0} (xs ys : List X) (i : ℕ) (x : X) → slice_get xs i ≡ Some x → slice_get (xs ++ ys) i ≡ Some x
 get_front [] ys i x e = absurd (false≢true (ap is_some e))
 get_front (y ∷ xs) ys zero x e = e
 get_front (y ∷ xs) ys (suc i) x e = get_front xs ys i x e
+
+pub get_before : {X : Type 0} (xs : List X) (y : X) (i : ℕ) → i < length xs → slice_get (xs ++ y ∷ []) i ≡ slice_get xs i
+get_before [] y i within = absurd (omega (arith, within))
+get_before (x ∷ xs) y zero within = refl
+get_before (x ∷ xs) y (suc i) within = get_before xs y i (omega (arith, within))
 
 -- what stands in a longer list stands in the front or is the last
 pub get_pushed : {X : Type 0} (xs : List X) (y : X) (i : ℕ) (x : X) → slice_get (xs ++ y ∷ []) i ≡ Some x → (slice_get xs i ≡ Some x) ⊎ ((i ≡ length xs) × (x ≡ y))
@@ -67,14 +73,27 @@ module _ (ns : List Path) (distinct : IsDistinct path_eq ns) (t : Path) where
         ]
       ]
 
-module _ (f : ℕ → ℕ) where
-  update_is : (nodes : List Node) (p : ℕ) (d e : Node) → p < length nodes
-      → set nodes p (record { parent = (get_or nodes p d).parent; live = f (get_or nodes p e).live }) ≡ update_at nodes p (with_live (f (live_in (slice_get nodes p))))
-  update_is [] p d e within = absurd (omega (arith, within))
-  update_is (x ∷ xs) zero d e within = refl
-  update_is (x ∷ xs) (suc p) d e within = ap (λ ys. x ∷ ys) (update_is xs p d e (omega (arith, within)))
+-- ---- a node written to, as the code does it
 
-  -- the count of the parent, changed
-  pub counted : (nodes : List Node) (tops : ℕ) (o : Option ℕ) (p i : ℕ) (d e : Node) → o ≡ Some p → i ≡ p → IfSome o (λ q. q < length nodes)
-      → set nodes i (record { parent = (get_or nodes i d).parent; live = f (get_or nodes i e).live }) ≡ with_live_below nodes o (f (live_below nodes tops o))
-  counted nodes tops o p i d e is at within = rw (is, at) (update_is nodes p d e (subst (λ (q : Option ℕ). IfSome q (λ r. r < length nodes)) is within))
+update_is : (f : Node → Node) (nodes : List Node) (p : ℕ) (d : Node) → p < length nodes → set nodes p (f (get_or nodes p d)) ≡ update_at nodes p f
+update_is f [] p d within = absurd (omega (arith, within))
+update_is f (x ∷ xs) zero d within = refl
+update_is f (x ∷ xs) (suc p) d within = ap (λ ys. x ∷ ys) (update_is f xs p d (omega (arith, within)))
+
+read_is : (nodes : List Node) (p : ℕ) (d : Node) → p < length nodes → (get_or nodes p d).children ≡ children_in (slice_get nodes p)
+read_is [] p d within = absurd (omega (arith, within))
+read_is (x ∷ xs) zero d within = refl
+read_is (x ∷ xs) (suc p) d within = read_is xs p d (omega (arith, within))
+
+-- what is kept of the parent's children, changed
+pub counted : (f : Children → Children) (nodes : List Node) (tops c : Children) (o : Option ℕ) (p i : ℕ) (d e : Node) → o ≡ Some p → i ≡ p
+    → IfSome o (λ q. q < length nodes) → c ≡ f (get_or nodes i e).children
+    → set nodes i (with_children c (get_or nodes i d)) ≡ with_below nodes o (f (below nodes tops o))
+counted f nodes tops c o p i d e is at within changed =
+    let here : p < length nodes = subst (λ (q : Option ℕ). IfSome q (λ r. r < length nodes)) is within in
+    let same : c ≡ f (children_in (slice_get nodes p)) = changed ∙ ap (λ k. f (get_or nodes k e).children) at ∙ ap f (read_is nodes p e here) in
+    rw (is, at) (update_is (with_children c) nodes p d here ∙ ap (λ x. update_at nodes p (with_children x)) same)
+
+pub linked_to : (nodes : List Node) (o : Option ℕ) (l i n : ℕ) (d : Node) → o ≡ Some l → i ≡ l → IfSome o (λ q. q < length nodes)
+    → set nodes i (with_next n (get_or nodes i d)) ≡ followed nodes o n
+linked_to nodes o l i n d is at within = rw (is, at) (update_is (with_next n) nodes l d (subst (λ (q : Option ℕ). IfSome q (λ r. r < length nodes)) is within))

@@ -1,6 +1,6 @@
 -- What is told of a transaction by its number.
-use Rattle.std.proofs.Common.{◌≡◌, ◌≢◌, ℕ, zero, suc, ◌+◌, ◌-◌, ◌<◌, ◌≤◌, ◌==◌, nat_lt, Bool, true, false, not, cond, List, [], ◌∷◌, length, get_or, Option, Some, None, is_some, unwrap_or, option_map, ◌⊎◌, inl, inr, refl, sym, ap, subst, ◌∙◌, true≢false, arith}
-use Rattle.std.specs.Prelude.{slice_get, IfSome, IsTrue, IsFalse}
+use Rattle.std.proofs.Common.{◌≡◌, ℕ, suc, ◌<◌, nat_lt, Bool, true, false, not, cond, List, [], ◌∷◌, length, Option, Some, None, is_some, unwrap_or, option_map, inl, inr, refl, sym, ap, subst, ◌∙◌, true≢false, arith}
+use Rattle.std.specs.Prelude.{slice_get, IfSome}
 use Rattle.std.specs.Map.{lookup}
 use Rattle.std.proofs.lemmas.Bool.{false≢true, eq-eqb, lt-ltb, le-ltb}
 use Rattle.std.proofs.lemmas.Option.{slice_get_within, slice_get_cases, slice_get_past, get_or_from_slice_get}
@@ -13,16 +13,17 @@ use Rattle.serial_spec.specs.History.{or_else}
 use Rattle.serial_spec.specs.Allowed.{when}
 use Rattle.serial_spec.specs.declared.entry.Refusal.{Refusal}
 use Rattle.serial_spec.specs.declared.entry.Refusal.TheVariants.{Unknown, Done, Used, NoParent, Orphan}
+use Rattle.txn_tree.specs.declared.node.Children.{Children}
 use Rattle.txn_tree.specs.declared.node.Node.{Node}
 use Rattle.txn_tree.specs.declared.status.Status.{Status}
 use Rattle.txn_tree.specs.declared.status.Status.TheVariants.{Absent, Live, Committed, Aborted}
 use Rattle.txn_tree.specs.States.{States, IsTree, names, status_in, is_absent, is_committed, is_aborted}
-use Rattle.txn_tree.specs.Asked.{IsNumberOf, is_name, is_absent_in, has_aborted_in, has_committed_in, live_children_of, top_aborted_in}
+use Rattle.txn_tree.specs.Asked.{IsNumberOf, is_name, is_absent_in, has_aborted_in, live_children_of, top_aborted_in}
 use Rattle.txn_tree.specs.Causes.{cause_at_abort, cause_at_begin, cause_at_commit, orphaned}
 use Rattle.txn_tree.specs.Numbered.{IsClosed, has_parent, is_parent_of}
 use Rattle.txn_tree.specs.Linked.{IsLinked, IsParentAt, kept_parent}
 use Rattle.txn_tree.proofs.Numbers.{is_begun}
-use Rattle.txn_tree.proofs.Links.{node_at, no_children}
+use Rattle.txn_tree.proofs.Links.{node_at, no_live_child}
 use Rattle.txn_tree.proofs.Under.{nowhere, absent_nowhere}
 
 -- the name at a number that is its own
@@ -89,7 +90,7 @@ row_place (r ∷ rs) t e = by (row_place rs t) (path_eq t r.0) refl
     by later true f = (0, ap Some (sym (same_path t r.0 f)))
     by later false f = let w = later (ap is_some (sym (lookup_tail (path_eq t) r rs f)) ∙ e) in (suc w.0, w.1)
 
-module _ (tree : States) (nodes : List Node) (tops : ℕ) (is : IsTree tree) (linked : IsLinked tree nodes tops) where
+module _ (tree : States) (nodes : List Node) (tops : Children) (is : IsTree tree) (linked : IsLinked tree nodes tops) where
   pub name_at : (n : ℕ) (u : Path) → slice_get (names tree) n ≡ Some u → IsName u
   name_at n u at = subst IsName (get_or_from_slice_get (names tree) n u u at) (All-get_or IsName (names tree) n u (slice_get_within (names tree) n u at) is.named)
 
@@ -139,9 +140,9 @@ module _ (tree : States) (nodes : List Node) (tops : ℕ) (is : IsTree tree) (li
       by t name (Some p) found = (has_one n t (Some p) name found, rw found.1 (path_eq-from (parent t) (parent t) refl), found.0)
 
 -- whoever has not begun has no live child
-pub nobody_below : (tree : States) (nodes : List Node) (tops : ℕ) → IsTree tree → IsLinked tree nodes tops → (t : Path) → IsName t → not (is_absent_in tree t) ≡ false → 0 ≡ live_children_of tree t
+pub nobody_below : (tree : States) (nodes : List Node) (tops : Children) → IsTree tree → IsLinked tree nodes tops → (t : Path) → IsName t → not (is_absent_in tree t) ≡ false → 0 ≡ live_children_of tree t
 nobody_below tree nodes tops is linked t name absent =
-    sym (no_children tree nodes tops linked t (absent_nowhere tree is t name (flip (is_absent_in tree t) absent)) (labelled t name))
+    sym (no_live_child tree nodes tops linked t (absent_nowhere tree is t name (flip (is_absent_in tree t) absent)) (labelled t name))
   where
     flip : (b : Bool) → not b ≡ false → b ≡ true
     flip true e = refl

@@ -1,19 +1,18 @@
 -- Who stands below whom, by number: a superior has the smaller number.
-use Rattle.std.proofs.Common.{◌≡◌, ℕ, zero, suc, ◌<◌, ◌≤◌, ◌==◌, nat_eq, nat_lt, Bool, true, false, not, ◌&&◌, List, [], ◌∷◌, length, get_or, Option, Some, None, is_some, unwrap_or, ◌⊎◌, inl, inr, refl, sym, ap, subst, ◌∙◌, true≢false, arith}
-use Rattle.std.specs.Prelude.{slice_get, ◌↔◌, IsTrue, IsFalse}
+use Rattle.std.proofs.Common.{◌≡◌, ℕ, zero, suc, ◌<◌, ◌≤◌, Bool, true, false, not, ◌&&◌, List, [], ◌∷◌, Option, Some, None, is_some, unwrap_or, ◌⊎◌, inl, inr, refl, sym, ap, subst, ◌∙◌, true≢false, arith}
+use Rattle.std.specs.Prelude.{slice_get}
 use Rattle.std.specs.Map.{lookup}
-use Rattle.std.proofs.lemmas.Bool.{false≢true, eqb-true, eq-eqb, ne_eqb, lt-ltb, le-ltb, and_parts, cases_lt}
-use Rattle.std.proofs.lemmas.Option.{slice_get_within, slice_get_cases, slice_get_past}
-use Rattle.std.proofs.lemmas.Map.Entries.{length-keys_of, lookup_head, lookup_tail}
+use Rattle.std.proofs.lemmas.Bool.{false≢true, and_parts}
+use Rattle.std.proofs.lemmas.Map.Entries.{lookup_head, lookup_tail}
 use Rattle.txn_names.specs.Path.{Path, path_eq, label_eq, is_front, parent}
 use Rattle.txn_names.specs.Text.{IsName}
-use Rattle.txn_names.proofs.Names.{same_label, label_eq_self, path_eq-from, path_eq_self, is_front_self, is_front-trans, is_front-parent, front_cases}
+use Rattle.txn_names.proofs.Names.{same_label, label_eq_self, path_eq-from, is_front_self, front_cases}
+use Rattle.txn_tree.specs.declared.node.Children.{Children}
 use Rattle.txn_tree.specs.declared.node.Node.{Node}
 use Rattle.txn_tree.specs.States.{States, IsTree, names}
 use Rattle.txn_tree.specs.Asked.{is_absent_in}
-use Rattle.txn_tree.specs.Numbered.{is_front_of, is_under, RisesDown}
+use Rattle.txn_tree.specs.Numbered.{is_front_of, is_under}
 use Rattle.txn_tree.specs.Linked.{IsLinked, IsParentAt}
-use Rattle.txn_tree.proofs.Children.{same_tests}
 use Rattle.txn_tree.proofs.Numbers.{is_begun}
 use Rattle.txn_tree.proofs.Places.{one_place}
 use Rattle.txn_tree.proofs.Links.{node_at, some_label}
@@ -52,7 +51,7 @@ comparable (x ∷ xs) (y ∷ ys) (z ∷ zs) f g =
     both : (a b : Bool) → a ≡ true → b ≡ true → (a && b) ≡ true
     both a b e f = ap (λ c. c && b) e ∙ f
 
-module _ (tree : States) (nodes : List Node) (tops : ℕ) (is : IsTree tree) (linked : IsLinked tree nodes tops) where
+module _ (tree : States) (nodes : List Node) (tops : Children) (is : IsTree tree) (linked : IsLinked tree nodes tops) where
   no_root_above : (a : ℕ) (u : Path) → slice_get (names tree) a ≡ Some u → is_front u [] ≡ true → ⊥
   no_root_above a u at f = by u (some_label (names tree) a u is.named at) f
     where
@@ -77,7 +76,7 @@ module _ (tree : States) (nodes : List Node) (tops : ℕ) (is : IsTree tree) (li
   pub le_above : (a b : ℕ) (u v : Path) → slice_get (names tree) a ≡ Some u → slice_get (names tree) b ≡ Some v → is_front u v ≡ true → a ≤ b
   le_above a b = above_le (suc b) b (omega arith) a
 
-  under_parts : (a b : ℕ) → is_under tree a b ≡ true → (u : Path) × (v : Path) × (slice_get (names tree) a ≡ Some u) × (slice_get (names tree) b ≡ Some v) × (is_front u v ≡ true)
+  pub under_parts : (a b : ℕ) → is_under tree a b ≡ true → (u : Path) × (v : Path) × (slice_get (names tree) a ≡ Some u) × (slice_get (names tree) b ≡ Some v) × (is_front u v ≡ true)
   under_parts a b e = by (slice_get (names tree) a) (slice_get (names tree) b) refl refl e
     where
       by : (o q : Option Path) → slice_get (names tree) a ≡ o → slice_get (names tree) b ≡ q → is_front_of o q ≡ true → (u : Path) × (v : Path) × (slice_get (names tree) a ≡ Some u) × (slice_get (names tree) b ≡ Some v) × (is_front u v ≡ true)

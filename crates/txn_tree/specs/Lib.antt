@@ -2,4 +2,5 @@ pub mod States
 pub mod Asked
 pub mod Causes
 pub mod Numbered
+pub mod Siblings
 pub mod Linked

@@ -1,5 +1,5 @@
 -- What is asked of a transaction by its number: functions of `names` and `status_in` alone.
-use Rattle.std.specs.Prelude.{◌≡◌, ◌≤◌, ◌↔◌, ℕ, Bool, false, nat_lt, length, IsTrue, IsFalse, slice_get, Option, Some, None}
+use Rattle.std.specs.Prelude.{◌≤◌, ◌↔◌, ℕ, Bool, false, nat_lt, length, IsTrue, IsFalse, slice_get, Option, Some, None}
 use Rattle.txn_names.specs.Path.{Path, path_eq, is_front, parent}
 use Rattle.txn_tree.specs.declared.status.Status.{Status}
 use Rattle.txn_tree.specs.declared.status.Status.TheVariants.{Absent}

@@ -7,11 +7,12 @@ ghost use Rattle.txn_names.specs.Text.{IsName};
 ghost use Rattle.txn_tree.specs.States.{IsTree, is_live, names, status_in};
 ghost use Rattle.txn_tree.specs.Asked.{IsNumberOf, IsRootless, ended_by_abort, is_absent_in, is_active_in, live_children_of, top_aborted_in};
 ghost use Rattle.txn_tree.specs.Numbered.{IsClosed, RisesDown, is_active_at, has_parent, is_parent_of, is_under, live_children_at, status_at};
-ghost use Rattle.txn_tree.specs.Linked.{begun_node, kept_parent, live_below, with_live_below};
+ghost use Rattle.txn_tree.specs.Siblings.{HasBranches, IsFirst, IsNext, is_child_at, is_sibling_at, is_top_at};
+ghost use Rattle.txn_tree.specs.Linked.{begun_node, below, children_in, followed, kept_next, kept_parent, top_with, with_below, with_child, with_one_ended};
 ghost use Rattle.txn_tree.specs.Causes.{cause_at_abort, cause_at_begin, cause_at_commit, cause_at_parent, refusal_of};
 
 use crate::fault::TreeFault;
-use crate::node::Node;
+use crate::node::{Children, Node};
 use crate::number::TxnNo;
 use crate::register::Register;
 use crate::status::Status;
@@ -29,8 +30,8 @@ pub struct Tree {
     register: Register,
     // Of each transaction, at its number.
     nodes: Vec<Node>,
-    // How many children of the root are live.
-    tops: u32,
+    // The children of the root.
+    tops: Children,
 }
 
 impl Model for Tree {
@@ -51,38 +52,88 @@ fn parent_in(nodes: &Vec<Node>, txn: TxnNo) -> Option<TxnNo>
     nodes.get(txn.place() as usize)?.parent
 }
 
+// The kept number of the next sibling.
+fn next_in(nodes: &Vec<Node>, txn: TxnNo) -> Option<TxnNo>
+    ensures { result ≡ kept_next (slice_get nodes.now.items txn) }
+{
+    nodes.get(txn.place() as usize)?.next
+}
+
+// What is kept of the children of a transaction.
+fn children_at(nodes: &Vec<Node>, txn: TxnNo) -> Children
+    ensures { result ≡ children_in (slice_get nodes.now.items txn) }
+{
+    match nodes.get(txn.place() as usize) {
+        Some(node) => node.children,
+        None => Children::none(),
+    }
+}
+
 // A node for a transaction that begins.
 fn add_node(nodes: &mut Vec<Node>, parent: Option<TxnNo>) -> Result<(), AllocError>
     ensures ok { OnOk result (nodes.new.items ≡ nodes.old.items ++ begun_node parent ∷ []) }
     ensures err { OnErr result (nodes.new.items ≡ nodes.old.items) }
 {
-    nodes.push(Node { parent, live: 0 })?;
+    let children = Children::none();
+    nodes.push(Node {
+        parent,
+        next: None,
+        children,
+    })?;
     Ok(())
 }
 
-// One live child more, of the parent or of the root.
-fn count_child(nodes: &mut [Node], tops: &mut u32, parent: Option<TxnNo>)
+// A child more, of the parent or of the root. It gives who was the last one before.
+fn add_child(
+    nodes: &mut [Node],
+    tops: &mut Children,
+    parent: Option<TxnNo>,
+    child: TxnNo,
+) -> Option<TxnNo>
     requires within { IfSome parent (λ p. p < length nodes.old) }
-    requires fits { live_below nodes.old tops.old parent + 1 < 2 ^ 32 }
-    ensures nodes { nodes.new ≡ with_live_below nodes.old parent (live_below nodes.old tops.old parent + 1) }
-    ensures tops { tops.new ≡ (if is_some parent then tops.old else tops.old + 1) }
+    requires fits { (below nodes.old tops.old parent).live + 1 < 2 ^ 32 }
+    ensures last { result ≡ (below nodes.old tops.old parent).last }
+    ensures nodes { nodes.new ≡ with_below nodes.old parent (with_child child (below nodes.old tops.old parent)) }
+    ensures tops { tops.new ≡ top_with tops.old parent (with_child child (below nodes.old tops.old parent)) }
 {
     match parent {
-        Some(txn) => nodes[txn.place() as usize].live += 1,
-        None => *tops += 1,
+        Some(txn) => nodes[txn.place() as usize].children.add(child),
+        None => tops.add(child),
     }
 }
 
-// One live child less, of the parent or of the root.
-fn discount_child(nodes: &mut [Node], tops: &mut u32, parent: Option<TxnNo>)
+// Who was last has a next sibling.
+fn put_next(nodes: &mut [Node], last: Option<TxnNo>, child: TxnNo)
+    requires within { IfSome last (λ l. l < length nodes.old) }
+    ensures { nodes.new ≡ followed nodes.old last child }
+{
+    if let Some(txn) = last {
+        nodes[txn.place() as usize].next = Some(child);
+    }
+}
+
+// Puts the child behind the others of the parent or of the root.
+fn append_child(nodes: &mut [Node], tops: &mut Children, parent: Option<TxnNo>, child: TxnNo)
     requires within { IfSome parent (λ p. p < length nodes.old) }
-    requires some { 0 < live_below nodes.old tops.old parent }
-    ensures nodes { nodes.new ≡ with_live_below nodes.old parent (live_below nodes.old tops.old parent - 1) }
-    ensures tops { tops.new ≡ (if is_some parent then tops.old else tops.old - 1) }
+    requires last { IfSome (below nodes.old tops.old parent).last (λ l. l < length nodes.old) }
+    requires fits { (below nodes.old tops.old parent).live + 1 < 2 ^ 32 }
+    ensures nodes { nodes.new ≡ followed (with_below nodes.old parent (with_child child (below nodes.old tops.old parent))) (below nodes.old tops.old parent).last child }
+    ensures tops { tops.new ≡ top_with tops.old parent (with_child child (below nodes.old tops.old parent)) }
+{
+    let last = add_child(nodes, tops, parent, child);
+    put_next(nodes, last, child);
+}
+
+// A live child less, of the parent or of the root.
+fn end_child(nodes: &mut [Node], tops: &mut Children, parent: Option<TxnNo>)
+    requires within { IfSome parent (λ p. p < length nodes.old) }
+    requires some { 0 < (below nodes.old tops.old parent).live }
+    ensures nodes { nodes.new ≡ with_below nodes.old parent (with_one_ended (below nodes.old tops.old parent)) }
+    ensures tops { tops.new ≡ top_with tops.old parent (with_one_ended (below nodes.old tops.old parent)) }
 {
     match parent {
-        Some(txn) => nodes[txn.place() as usize].live -= 1,
-        None => *tops -= 1,
+        Some(txn) => nodes[txn.place() as usize].children.end_one(),
+        None => tops.end_one(),
     }
 }
 
@@ -94,7 +145,7 @@ impl Tree {
         Tree {
             register: Register::new(alloc),
             nodes: Vec::new(alloc),
-            tops: 0,
+            tops: Children::none(),
         }
     }
 
@@ -169,6 +220,32 @@ impl Tree {
         parent_in(&self.nodes, txn)
     }
 
+    /// The number of the transaction's child that began first. It is `None` exactly if nobody has this number or
+    /// the transaction has no child.
+    pub fn first_child(&self, txn: TxnNo) -> Option<TxnNo>
+        ensures first { IsFirst (is_child_at self.now txn) result }
+        ensures later { IfSome result (λ c. txn < c) }
+        ensures branches { HasBranches self.now txn }
+    {
+        children_at(&self.nodes, txn).first
+    }
+
+    /// The number of the next begun child of the same parent, or of the next top-level transaction. It is `None`
+    /// exactly if nobody has this number or none of the siblings began later.
+    pub fn next_sibling(&self, txn: TxnNo) -> Option<TxnNo>
+        ensures { IsNext (is_sibling_at self.now txn) txn result }
+    {
+        next_in(&self.nodes, txn)
+    }
+
+    /// The number of the top-level transaction that began first. It is `None` exactly if nobody has begun.
+    pub fn first_top(&self) -> Option<TxnNo>
+        ensures first { IsFirst (is_top_at self.now) result }
+        ensures begun { IsTrue (is_some result) ↔ (self.now ≢ []) }
+    {
+        self.tops.first
+    }
+
     /// Whether both have begun and the second is the first or a descendant of it.
     pub fn is_under(&self, txn: TxnNo, inferior: TxnNo) -> bool
         ensures under { result ≡ is_under self.now txn inferior }
@@ -182,17 +259,14 @@ impl Tree {
     pub fn live_children_at(&self, txn: TxnNo) -> u32
         ensures { result ≡ live_children_at self.now txn }
     {
-        match self.nodes.get(txn.place() as usize) {
-            Some(node) => node.live,
-            None => 0,
-        }
+        children_at(&self.nodes, txn).live
     }
 
     /// How many top-level transactions are live.
     pub fn live_tops(&self) -> u32
         ensures { result ≡ live_children_of self.now [] }
     {
-        self.tops
+        self.tops.live
     }
 
     // Why a commit is refused.
@@ -234,7 +308,12 @@ impl Tree {
             return Err(TreeFault::NoMemory);
         }
         self.register.is_tree();
-        count_child(&mut self.nodes, &mut self.tops, parent);
+        append_child(
+            &mut self.nodes,
+            &mut self.tops,
+            parent,
+            TxnNo::new(place as u32),
+        );
         Ok(TxnNo::new(place as u32))
     }
 
@@ -250,7 +329,7 @@ impl Tree {
         let parent = self.nodes[txn.place() as usize].parent;
         self.register.set(name, status);
         self.register.is_tree();
-        discount_child(&mut self.nodes, &mut self.tops, parent);
+        end_child(&mut self.nodes, &mut self.tops, parent);
     }
 
     /// Commits the transaction with this number, which the caller knows to be live, no orphan and without a live

@@ -1,4 +1,4 @@
-use Rattle.std.proofs.Common.{◌≡◌, ℕ, Option, subst, rules}
+use Rattle.std.proofs.Common.{ℕ, Option, subst}
 use Rattle.std.specs.Prelude.{IfSome}
 use Rattle.txn_tree.specs.Asked.{IsNumberOf}
 use Rattle.txn_tree.proofs.Told.{named_at}

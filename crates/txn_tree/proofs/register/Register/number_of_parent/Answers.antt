@@ -1,4 +1,4 @@
-use Rattle.std.proofs.Common.{◌≡◌, ℕ, refl, Option, sym, subst}
+use Rattle.std.proofs.Common.{◌≡◌, refl, Option, subst}
 use Rattle.std.specs.Prelude.{IfSome}
 use Rattle.txn_names.specs.Path.{Path, parent}
 use Rattle.txn_tree.proofs.Links.{parent_none, parent_some}

@@ -1,8 +1,10 @@
-use Rattle.std.proofs.Common.{◌≡◌, ◌∙◌, ◌+◌, ◌∷◌, ◌++◌, [], List, take, sym, ap}
+use Rattle.std.proofs.Common.{◌≡◌, ◌∙◌, ◌∷◌, ◌++◌, [], List, length, take, sym, ap}
 use Rattle.std.proofs.lemmas.List.{take_at}
 use Rattle.txn_tree.specs.declared.node.Node.{Node}
-use Rattle.txn_tree.specs.Linked.{begun_node, live_below, with_live_below}
-use Rattle.txn_tree.proofs.Links.{linked_begun, length_kept, may_go_up, on_ok, on_err}
+use Rattle.txn_tree.specs.Linked.{begun_node, below, followed, top_with, with_below, with_child}
+use Rattle.txn_tree.proofs.Begun.{linked_begun, may_go_up}
+use Rattle.txn_tree.proofs.Links.{on_ok, on_err}
+use Rattle.txn_tree.proofs.Nodes.{length_changed}
 use Rattle.txn_tree.proofs.Refusals.{new_to_begin}
 use Rattle.txn_tree.proofs.Under.{nowhere}
 use Rattle.txn_tree.proofs.tree.Tree.begin.Goals as goal
@@ -16,12 +18,12 @@ invariant_of-self-then-is_err-2 c =
     ∙ take_at items _ c.len-place.result (c.self.invariant.1.level ∙ sym c.len-place.ensures.len) in
     rw (same, back) c.self.invariant
 
-pub count_child-requires-clause-fits : goal.count_child-requires-clause-fits
-count_child-requires-clause-fits c =
+pub append_child-requires-clause-fits : goal.append_child-requires-clause-fits
+append_child-requires-clause-fits c =
     let grown = on_ok c.add_node.result _ (sym c.is_err.ensures.value ∙ c.if-is_err.false) c.add_node.ensures.ok in
     rw (c.deref_mut.ensures.value, grown)
     (may_go_up c.self.inside.register c.self.inside.nodes.items c.self.inside.tops c.self.invariant.0 c.self.invariant.1 c.args.name.now
-    (begun_node c.number_of_parent-parent.result) c.number_of_parent-parent.result c.number_of_parent-parent.ensures)
+    c.number_of_parent-parent.result c.len-place.result c.len-place.ensures.len c.number_of_parent-parent.ensures)
 
 pub invariant_of-self-2 : goal.invariant_of-self-2
 invariant_of-self-2 c =
@@ -29,15 +31,26 @@ invariant_of-self-2 c =
     let t = c.args.name.now in
     let tops = c.self.inside.tops in
     let o = c.number_of_parent-parent.result in
-    let told = c.count_child.ensures in
+    let k = c.len-place.result in
+    let told = c.append_child.ensures in
     let grown = on_ok c.add_node.result _ (sym c.is_err.ensures.value ∙ c.if-is_err.false) c.add_node.ensures.ok in
+    let nodes : List Node = c.self.inside.nodes.items ++ begun_node o ∷ [] in
+    let same = c.deref_mut.ensures.value ∙ grown in
     let added = sym c.is_err-2.ensures.value ∙ c.if-is_err-2.false in
-    let long = length_kept c.count_child.new.nodes _ _ _ c.add_node.new.nodes.len told.nodes c.deref_mut.ensures.len in (
+    let child = c.new.ensures in
+    let changed : c.append_child.new.nodes ≡ followed (with_below nodes o (with_child k (below nodes tops o))) (below nodes tops o).last k =
+    told.nodes ∙ ap (λ (ns : List Node). followed (with_below ns o (with_child c.new.result (below ns tops o))) (below ns tops o).last c.new.result) same
+    ∙ ap (λ n. followed (with_below nodes o (with_child n (below nodes tops o))) (below nodes tops o).last n) child in
+    let changed_tops : c.append_child.new.tops ≡ top_with tops o (with_child k (below nodes tops o)) =
+    told.tops ∙ ap (λ (ns : List Node). top_with tops o (with_child c.new.result (below ns tops o))) same
+    ∙ ap (λ n. top_with tops o (with_child n (below nodes tops o))) child in
+    let long : length c.append_child.new.nodes ≡ c.add_node.new.nodes.len =
+    ap length told.nodes ∙ length_changed c.deref_mut.result.now o _ _ _ ∙ c.deref_mut.ensures.len in (
       c.is_tree.ensures,
-      rw (take_at c.count_child.new.nodes _ c.add_node.new.nodes.len long)
-          (linked_begun tree c.self.inside.nodes.items tops c.self.invariant.0 c.self.invariant.1 t o c.cause_at_begin.ensures.name
+      rw (take_at c.append_child.new.nodes _ c.add_node.new.nodes.len long)
+          (linked_begun tree c.self.inside.nodes.items tops c.self.invariant.0 c.self.invariant.1 t o k c.len-place.ensures.len c.number_of_parent-parent.ensures
+          c.cause_at_begin.ensures.name
           (nowhere tree t (new_to_begin tree t (sym c.in_default.ensures.cause) c.self.invariant.0 c.cause_at_begin.ensures.name))
-          c.number_of_parent-parent.ensures c.add.new.self (on_ok c.add.result _ added c.add.ensures.last) c.is_tree.ensures (on_ok c.add.result _ added c.add.ensures.live)
-          c.count_child.new.nodes c.count_child.new.tops
-          (told.nodes ∙ ap (λ (ns : List Node). with_live_below ns o (live_below ns tops o + 1)) (c.deref_mut.ensures.value ∙ grown)) told.tops),
+          c.add.new.self (on_ok c.add.result _ added c.add.ensures.last) c.is_tree.ensures (on_ok c.add.result _ added c.add.ensures.live)
+          c.append_child.new.nodes c.append_child.new.tops changed changed_tops),
     )

@@ -1,13 +1,14 @@
-use Rattle.std.proofs.Common.{◌≡◌, Some, sym, subst, ap, ◌∙◌}
+use Rattle.std.proofs.Common.{◌≡◌, Some, sym, subst}
 use Rattle.std.specs.Prelude.{slice_get}
 use Rattle.std.proofs.lemmas.List.{take_at}
 use Rattle.txn_tree.specs.declared.status.Status.TheVariants.{Live}
 use Rattle.txn_tree.specs.States.{States, names, status_in}
-use Rattle.txn_tree.proofs.Links.{may_go_down, ended, length_kept}
+use Rattle.txn_tree.proofs.Ended.{may_go_down, ended}
+use Rattle.txn_tree.proofs.Nodes.{length_kept}
 use Rattle.txn_tree.proofs.tree.Tree.end.Goals as goal
 
-pub discount_child-requires-clause-some : goal.discount_child-requires-clause-some
-discount_child-requires-clause-some c =
+pub end_child-requires-clause-some : goal.end_child-requires-clause-some
+end_child-requires-clause-some c =
     let tree = c.self.inside.register in
     let t = c.args.name.now in
     let at = subst (λ (s : States). slice_get (names s) c.args.txn ≡ Some t) (sym c.self.view_is) c.requires.named in
@@ -22,11 +23,11 @@ invariant_of-self c =
     let t = c.args.name.now in
     let at = subst (λ (s : States). slice_get (names s) c.args.txn ≡ Some t) (sym c.self.view_is) c.requires.named in
     let lived = subst (λ (s : States). status_in s t ≡ Live) (sym c.self.view_is) c.requires.live in
-    let told = c.discount_child.ensures in
-    let long = length_kept c.discount_child.new.nodes _ _ _ c.self.inside.nodes.len told.nodes c.deref_mut.ensures.len in (
+    let told = c.end_child.ensures in
+    let long = length_kept c.end_child.new.nodes _ _ _ c.self.inside.nodes.len told.nodes c.deref_mut.ensures.len in (
       c.is_tree.ensures,
-      rw (take_at c.discount_child.new.nodes _ c.self.inside.nodes.len long)
+      rw (take_at c.end_child.new.nodes _ c.self.inside.nodes.len long)
           (ended tree c.self.inside.nodes.items c.self.inside.tops c.self.invariant.0 c.self.invariant.1 c.args.txn c.place.result t c.index.result.now
           at c.index.ensures c.place.ensures lived c.set.new.self c.args.status c.set.ensures.names c.requires.ended c.set.ensures.status
-          c.discount_child.new.nodes c.discount_child.new.tops (rw (sym c.deref_mut.ensures.value) told.nodes) told.tops),
+          c.end_child.new.nodes c.end_child.new.tops (rw (sym c.deref_mut.ensures.value) told.nodes) (rw (sym c.deref_mut.ensures.value) told.tops)),
     )

@@ -1,7 +1,4 @@
-use Rattle.std.proofs.Common.{◌≡◌, sym, ap, ◌∙◌, subst, Option, ℕ, is_some}
-use Rattle.std.specs.Prelude.{IfSome, IsTrue, slice_get, ◌<◌}
-use Rattle.txn_tree.specs.States.{names}
-use Rattle.txn_tree.specs.Numbered.{is_parent_of}
+use Rattle.std.proofs.Common.{sym}
 use Rattle.txn_tree.proofs.Told.{told, closed}
 use Rattle.txn_tree.proofs.tree.Tree.parent_of.Goals as goal
 

@@ -1,0 +1,8 @@
+use Rattle.txn_tree.specs.Linked.{with_one_ended}
+use Rattle.txn_tree.proofs.Places.{counted}
+use Rattle.txn_tree.proofs.tree.end_child.Goals as goal
+
+pub returns-in-Some-clause-nodes : goal.returns-in-Some-clause-nodes
+returns-in-Some-clause-nodes c =
+    counted with_one_ended c.args.nodes.now c.args.tops.now c.end_one.new.self c.args.parent c.in-Some.txn c.place.result c.index-nodes-place.result _
+    c.in-Some.is c.place.ensures c.requires.within c.end_one.ensures
