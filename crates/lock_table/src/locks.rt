@@ -10,7 +10,7 @@ use crate::modes::{FREE, Modes};
 use serial_spec::{Kind, Mode, NoMemory};
 use std::alloc::Global;
 use std::marker::Model;
-use txn_cells::{CellTable, is_under};
+use txn_cells::CellTable;
 use txn_names::Key;
 use txn_tree::{Tree, TxnNo};
 
@@ -69,7 +69,7 @@ impl Locks {
     fn is_blocker(&self, tree: &Tree, txn: TxnNo, key: &Key, kind: Kind, holder: TxnNo) -> bool
         ensures { result ≡ is_blocker_in tree.now self.now txn key.now kind holder }
     {
-        if tree.name_of(holder).is_none() || is_under(tree, holder, txn) {
+        if tree.name_of(holder).is_none() || tree.is_under(holder, txn) {
             return false;
         }
         let modes = self.modes(holder, key);
@@ -92,7 +92,8 @@ impl Locks {
     }
 
     /// Whether nobody keeps the transaction from an access of this kind: of those that have begun, all but itself and
-    /// its ancestors have locks on the key that do not conflict. It takes no memory.
+    /// its ancestors have locks on the key that do not conflict. It looks at the holders of this key alone, and takes no
+    /// memory.
     pub fn may(&self, tree: &Tree, txn: TxnNo, key: &Key, kind: Kind) -> bool
         ensures { result ≡ not (is_blocked_in tree.now self.now txn key.now kind) }
     {
@@ -112,10 +113,9 @@ impl Locks {
         ensures succeeds { IsFalse (is_blocked_in tree.now self.now txn key.now kind) → IsOk result }
     {
         let mut found = Vec::new(self.alloc);
-        for number in 0..tree.len() {
-            let holder = TxnNo::new(number as u32);
-            if self.is_blocker(tree, txn, key, kind, holder) {
-                found.push(holder)?;
+        for holder in self.table.holders(key) {
+            if self.is_blocker(tree, txn, key, kind, *holder) {
+                found.push(*holder)?;
             }
         }
         Ok(found)

@@ -1,3 +1,4 @@
 pub mod Puts
 pub mod Handing
 pub mod Reserving
+pub mod ByKey

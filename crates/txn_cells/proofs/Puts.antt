@@ -1,11 +1,11 @@
 -- What a look-up finds after one entry has been put.
-use Rattle.std.proofs.Common.{◌≡◌, ℕ, Bool, true, false, cond, not, nat_eq, ◌&&◌, ◌||◌, filter, List, [], ◌∷◌, Option, Some, None, unwrap_or, is_some, refl, sym, ap, subst, ◌∙◌, true≢false}
+use Rattle.std.proofs.Common.{◌≡◌, ℕ, Bool, true, false, cond, not, nat_eq, ◌&&◌, ◌||◌, filter, List, [], Option, Some, None, unwrap_or, is_some, refl, sym, ap, subst, ◌∙◌, true≢false}
 use Rattle.std.specs.Prelude.{Result, Ok, Err, OnOk, OnErr}
 use Rattle.std.specs.Map.{lookup}
-use Rattle.std.proofs.lemmas.Bool.{eqb-true, eq-eqb, false≢true, or_right}
+use Rattle.std.proofs.lemmas.Bool.{eqb-true, false≢true}
 use Rattle.std.proofs.lemmas.Map.Entries.{lookup-filter-keys}
 use Rattle.txn_names.specs.Path.{label_eq}
-use Rattle.txn_names.proofs.Names.{on_test, on_label, label_eq_self}
+use Rattle.txn_names.proofs.Names.{on_test, on_label}
 use Rattle.txn_cells.specs.Cells.{merged}
 use Rattle.txn_cells.specs.Kept.{Cells, Table, has_cell_at, content_at, cells_in, content, has_place}
 

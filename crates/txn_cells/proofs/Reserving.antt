@@ -9,7 +9,6 @@ use Rattle.std.proofs.lemmas.Cmp.{nat_list_eq_equiv}
 use Rattle.txn_names.specs.Path.{label_eq}
 use Rattle.txn_names.proofs.Names.{label_eq_self}
 use Rattle.txn_cells.specs.Cells.{IsTowards, with_childs, with_place}
-use Rattle.txn_cells.specs.Kept.{Cells, Table, content, content_at, holders}
 
 -- a look-up finds what stands under one of the keys
 pub found_by_key : {K X : Type 0} (test : K → Bool) (es : List (K × X)) → is_some (lookup test es) ≡ list_any test (keys_of es)
@@ -19,15 +18,6 @@ found_by_key test (e ∷ es) = by (test e.0) (found_by_key test es)
     by : (b : Bool) → is_some (lookup test es) ≡ list_any test (keys_of es) → is_some (cond b (Some e.1) (lookup test es)) ≡ (b || list_any test (keys_of es))
     by true rest = refl
     by false rest = rest
-
--- one that has something is among those that have cells
-module _ {V : Type 0} (table : Table V) where
-  pub holds_something : (u : ℕ) (k : List ℕ) → is_some (content table u k) ≡ true → list_any (nat_eq u) (holders table) ≡ true
-  holds_something u k there = sym (found_by_key (nat_eq u) table) ∙ by (lookup (nat_eq u) table) there
-    where
-      by : (o : Option (Cells V)) → is_some (content_at (unwrap_or o []) k) ≡ true → is_some o ≡ true
-      by None e = absurd (false≢true e)
-      by (Some cells) e = refl
 
 -- nothing stands where there is no cell
 pub nothing_there : {V : Type 0} (o : Option (Option V)) → is_some o ≡ false → unwrap_or o None ≡ None

@@ -2,10 +2,9 @@
 -- key, and `has_place`, where it has a place. A place may be empty: then the transaction has nothing at the key, as where
 -- there is no place. How a table is kept is told apart, in Kept, and no contract but of this crate's own parts rests on it.
 use Rattle.std.specs.Prelude.{◌≡◌, ℕ, Bool, true, false, nat_eq, ◌&&◌, ◌||◌, if◌then◌else◌, List, Option, Some, None}
-use Rattle.std.specs.Prelude.{slice_get}
 pub use Rattle.txn_cells.specs.Kept.{Table, content, has_place}
-use Rattle.txn_names.specs.Path.{Path, is_front, label_eq}
-use Rattle.txn_tree.specs.States.{States, names}
+use Rattle.txn_names.specs.Path.{label_eq}
+pub use Rattle.txn_tree.specs.Numbered.{is_front_of, is_under}
 
 -- whether u is this one, if there is one
 abbrev pub is_it : Option ℕ → ℕ → Bool
@@ -36,12 +35,3 @@ handed_up inherited content child parent u q =
     if nat_eq child u then None
     else if is_it parent u then merged inherited (content child q) (content u q)
     else content u q
-
--- there are both names, and the first is the second or an ancestor of it
-abbrev pub is_front_of : Option Path → Option Path → Bool
-is_front_of (Some a) (Some b) = is_front a b
-is_front_of a b = false
-
--- both have begun, and u is t or below it
-abbrev pub is_under : States → ℕ → ℕ → Bool
-is_under tree t u = is_front_of (slice_get (names tree) t) (slice_get (names tree) u)

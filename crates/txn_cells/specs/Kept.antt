@@ -1,5 +1,7 @@
--- Cells as they are kept: a list of keys for each transaction, each key with what stands there.
-use Rattle.std.specs.Prelude.{ℕ, Bool, nat_eq, List, [], Option, None, is_some, unwrap_or}
+-- Cells as they are kept: a list of keys for each transaction, each key with what stands there. Beside it an index: for each
+-- key the numbers of the transactions with a place there.
+use Rattle.std.specs.Prelude.{◌≡◌, ℕ, Bool, nat_eq, List, [], Option, None, is_some, unwrap_or}
+use Rattle.std.specs.List.{list_any}
 use Rattle.std.specs.Map.{lookup, keys_of}
 use Rattle.txn_names.specs.Path.{label_eq}
 
@@ -30,6 +32,15 @@ content table t k = content_at (cells_in table t) k
 abbrev pub keys_in : {V : Type 0} → Table V → ℕ → List (List ℕ)
 keys_in table t = keys_of (cells_in table t)
 
--- the transactions that have cells
-abbrev pub holders : {V : Type 0} → Table V → List ℕ
-holders table = keys_of table
+abbrev pub Index : Type 0
+Index = List (List ℕ × List ℕ)
+
+abbrev pub holders_at : Index → List ℕ → List ℕ
+holders_at index k = unwrap_or (lookup (label_eq k) index) []
+
+abbrev pub is_holder : Index → ℕ → List ℕ → Bool
+is_holder index u k = list_any (nat_eq u) (holders_at index k)
+
+-- at each key those have a place that the index names
+abbrev pub AreHoldersOf : {V : Type 0} → Table V → Index → Type 0
+AreHoldersOf table index = (u : ℕ) (q : List ℕ) → is_holder index u q ≡ has_place table u q

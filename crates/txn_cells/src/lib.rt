@@ -3,11 +3,14 @@
 #![tactic(auto)]
 
 mod cells;
+mod holders;
+mod index;
 mod inherit;
+mod rows;
 mod table;
 
 pub use inherit::Inherit;
-pub use table::{CellTable, is_under};
+pub use table::CellTable;
 
 #[cfg(test)]
 mod tests;

@@ -1,16 +1,16 @@
-//! The cells of all transactions.
-ghost use Rattle.std.specs.Prelude.{◌≡◌, ◌&&◌, nat_eq, not, length, is_some, IsFalse, IsOk, IsSome, IsTrue, IfSome, OnErr, OnOk, List, ℕ, if◌then◌else◌, slice_get, false, Some, None};
-ghost use Rattle.std.specs.Map.{lookup};
+//! What all transactions have, by transaction and by key.
+ghost use Rattle.std.specs.Prelude.{◌≡◌, ◌&&◌, nat_eq, not, length, IsFalse, IsOk, IsTrue, IfSome, OnErr, OnOk, List, ℕ, if◌then◌else◌, slice_get, false, Some, None};
 ghost use Rattle.std.specs.List.{IsDistinct, list_any};
+ghost use Rattle.std.specs.List.Sorted.{IsStrictlyIncreasing};
 ghost use Rattle.txn_names.specs.Path.{label_eq};
-ghost use Rattle.txn_cells.specs.Cells.{IsTowards, handed_up, is_under, merged, with_childs, with_place};
-ghost use Rattle.txn_cells.specs.Kept.{cells_in, content, content_at, has_place, has_cell_at, keys_in};
+ghost use Rattle.txn_cells.specs.Cells.{IsTowards, handed_up, is_under, with_childs, with_place};
+ghost use Rattle.txn_cells.specs.Kept.{cells_in, content, has_place, keys_in};
 
-use crate::cells::Cells;
+use crate::index::KeyIndex;
 use crate::inherit::Inherit;
-use indexmap::IndexMap;
+use crate::rows::Rows;
 use serial_spec::NoMemory;
-use std::alloc::{AllocError, Global};
+use std::alloc::Global;
 use std::marker::Model;
 use txn_names::Key;
 use txn_tree::{Tree, TxnNo};
@@ -19,33 +19,18 @@ use txn_tree::{Tree, TxnNo};
 /// is empty.
 #[derive(Drop)]
 pub struct CellTable<V: Copy> {
-    alloc: Global,
-    rows: IndexMap<TxnNo, Cells<V>>,
+    rows: Rows<V>,
+    index: KeyIndex,
 }
 
 impl<V: Copy> Model for CellTable<V> {
-    ghost use Rattle.txn_cells.specs.Kept.{Table};
+    ghost use Rattle.txn_cells.specs.Kept.{AreHoldersOf, Table};
 
     ghost Value = { Table V };
 
-    ghost view = { λ t. t.rows.entries };
-}
+    ghost view = { λ t. t.rows };
 
-/// Whether both have begun, and the inferior is the transaction or below it.
-pub fn is_under(tree: &Tree, txn: TxnNo, inferior: TxnNo) -> bool
-    ensures { result ≡ is_under tree.now txn inferior }
-{
-    match (tree.name_of(txn), tree.name_of(inferior)) {
-        (Some(name), Some(below)) => name.is_ancestor_or_self(below),
-        _ => false,
-    }
-}
-
-// Whether what the holder has stays where the transaction is dropped.
-fn stays(tree: &Tree, txn: TxnNo, holder: TxnNo) -> bool
-    ensures { result ≡ not (is_under tree.now txn holder) }
-{
-    !is_under(tree, txn, holder)
+    ghost invariant = { λ t. AreHoldersOf t.rows t.index };
 }
 
 impl<V: Copy> CellTable<V> {
@@ -55,8 +40,8 @@ impl<V: Copy> CellTable<V> {
         ensures places { (u : ℕ) → (q : List ℕ) → has_place result u q ≡ false }
     {
         CellTable {
-            alloc,
-            rows: IndexMap::new(alloc),
+            rows: Rows::new(alloc),
+            index: KeyIndex::new(alloc),
         }
     }
 
@@ -64,37 +49,17 @@ impl<V: Copy> CellTable<V> {
     pub fn get(&self, txn: TxnNo, key: &Key) -> Option<V>
         ensures { result ≡ content self.now txn key.now }
     {
-        self.rows.get(&txn)?.get(key)
+        self.rows.get(txn, key)
     }
 
-    fn has_place(&self, txn: TxnNo, key: &Key) -> bool
-        ensures { result ≡ has_place self.now txn key.now }
+    /// The transactions that have a place at the key, each once, in the order in which they began. No other has anything
+    /// there.
+    pub fn holders(&self, key: &Key) -> &[TxnNo]
+        ensures each { (u : ℕ) → list_any (nat_eq u) result.now ≡ has_place self.now u key.now }
+        ensures rising { IsStrictlyIncreasing result.now }
+        ensures elsewhere { (u : ℕ) → IsFalse (has_place self.now u key.now) → content self.now u key.now ≡ None }
     {
-        match self.rows.get(&txn) {
-            Some(cells) => cells.has_cell(key),
-            None => false,
-        }
-    }
-
-    /// All transactions that have something at the key, and maybe others.
-    pub fn holders(&self, _key: &Key) -> &[TxnNo]
-        ensures { (u : ℕ) → IsTrue (is_some (content self.now u _key.now)) → IsTrue (list_any (nat_eq u) result.now) }
-    {
-        self.rows.keys().as_slice()
-    }
-
-    // Gives the transaction its cells, none as yet, if it is not there.
-    fn add_holder(&mut self, txn: TxnNo) -> Result<(), NoMemory>
-        ensures cells { (u : ℕ) → cells_in self.new u ≡ cells_in self.old u }
-        ensures ok { OnOk result (IsSome (lookup (nat_eq txn) self.new)) }
-    {
-        if self.rows.contains_key(&txn) {
-            return Ok(());
-        }
-        match self.rows.insert(txn, Cells::new(self.alloc)) {
-            Ok(_) => Ok(()),
-            Err(_) => Err(AllocError),
-        }
+        self.index.holders(key)
     }
 
     // Makes a place as `reserve` does, and leaves the keys of others in their order.
@@ -105,11 +70,15 @@ impl<V: Copy> CellTable<V> {
         ensures succeeds { IsTrue (has_place self.old txn key.now) → IsOk result }
         ensures others { (u : ℕ) → (u ≡ txn → ⊥) → cells_in self.new u ≡ cells_in self.old u }
     {
-        if self.has_place(txn, key) {
+        if self.rows.has_place(txn, key) {
             return Ok(());
         }
-        self.add_holder(txn)?;
-        self.rows.get_mut(&txn).unwrap().add_cell(key)
+        self.index.add(txn, key)?;
+        let made = self.rows.add_place(txn, key);
+        if made.is_err() {
+            self.index.remove(txn, key);
+        }
+        made
     }
 
     /// Makes a place for the transaction and the key, if there is none, so that it can be set without memory. What any
@@ -146,16 +115,13 @@ impl<V: Copy> CellTable<V> {
     fn count(&self, txn: TxnNo) -> usize
         ensures { result ≡ length (keys_in self.now txn) }
     {
-        match self.rows.get(&txn) {
-            Some(cells) => cells.len(),
-            None => 0,
-        }
+        self.rows.count(txn)
     }
 
     fn key_at(&self, txn: TxnNo, index: usize) -> Option<Key>
         ensures { result ≡ slice_get (keys_in self.now txn) index }
     {
-        self.rows.get(&txn)?.key_at(index)
+        self.rows.key_at(txn, index)
     }
 
     /// The keys at which the transaction has a place, each once. It has nothing at any other key.
@@ -164,10 +130,7 @@ impl<V: Copy> CellTable<V> {
         ensures once { IsDistinct label_eq result.now }
         ensures elsewhere { (q : List ℕ) → IsFalse (has_place self.now txn q) → content self.now txn q ≡ None }
     {
-        match self.rows.get(&txn) {
-            Some(cells) => cells.keys(),
-            None => &[],
-        }
+        self.rows.keys(txn)
     }
 
     /// Sets what the transaction has at the key. It takes no memory.
@@ -177,20 +140,16 @@ impl<V: Copy> CellTable<V> {
             content self.new u q ≡ (if nat_eq txn u && label_eq key.now q then Some value else content self.old u q) }
         ensures places { (u : ℕ) → (q : List ℕ) → has_place self.new u q ≡ has_place self.old u q }
     {
-        self.rows.get_mut(&txn).unwrap().set(key, value);
+        self.rows.set(txn, key, value);
     }
 
-    // Takes the transaction's cells out.
-    fn take_out(&mut self, txn: TxnNo) -> Cells<V>
-        ensures taken { (q : List ℕ) → content_at result q ≡ content self.old txn q }
-        ensures taken_cells { (q : List ℕ) → has_cell_at result q ≡ has_place self.old txn q }
+    // Drops the cells of the transaction.
+    fn drop_one(&mut self, txn: TxnNo)
         ensures contents { (u : ℕ) → (q : List ℕ) → content self.new u q ≡ (if nat_eq txn u then None else content self.old u q) }
-        ensures cells { (u : ℕ) → (q : List ℕ) → has_place self.new u q ≡ (not (nat_eq txn u) && has_place self.old u q) }
+        ensures places { (u : ℕ) → (q : List ℕ) → has_place self.new u q ≡ (not (nat_eq txn u) && has_place self.old u q) }
     {
-        match self.rows.swap_remove(&txn) {
-            Some(cells) => cells,
-            None => Cells::new(self.alloc),
-        }
+        let cells = self.rows.take_out(txn);
+        self.index.remove_at(txn, cells.keys());
     }
 
     /// Drops the cells of the transaction and of all below it. It takes no memory.
@@ -198,7 +157,12 @@ impl<V: Copy> CellTable<V> {
         ensures contents { (u : ℕ) → (q : List ℕ) → content self.new u q ≡ (if is_under tree.now txn u then None else content self.old u q) }
         ensures places { (u : ℕ) → (q : List ℕ) → has_place self.new u q ≡ (not (is_under tree.now txn u) && has_place self.old u q) }
     {
-        self.rows.retain(|holder, _| stays(tree, txn, *holder));
+        for place in 0..tree.len() {
+            let number = TxnNo::new(place as u32);
+            if tree.is_under(txn, number) {
+                self.drop_one(number);
+            }
+        }
     }
 }
 
@@ -210,23 +174,12 @@ impl<V: Inherit> CellTable<V> {
         ensures contents { (u : ℕ) → (q : List ℕ) → content self.new u q ≡ handed_up V.inherited (content self.old) child parent u q }
         ensures places { (u : ℕ) → (q : List ℕ) → has_place self.new u q ≡ (not (nat_eq child u) && has_place self.old u q) }
     {
-        let cells = self.take_out(child);
+        let cells = self.rows.take_out(child);
+        self.index.remove_at(child, cells.keys());
         if let Some(parent) = parent {
             if parent != child {
-                self.inherit(parent, &cells);
+                self.rows.inherit(parent, &cells);
             }
-        }
-    }
-
-    // The transaction inherits what stands in these cells.
-    fn inherit(&mut self, txn: TxnNo, child: &Cells<V>)
-        requires cells { (q : List ℕ) → IsTrue (has_cell_at child.now q) → IsTrue (has_place self.old txn q) }
-        ensures contents { (u : ℕ) → (q : List ℕ) →
-            content self.new u q ≡ (if nat_eq txn u then merged V.inherited (content_at child.now q) (content self.old u q) else content self.old u q) }
-        ensures cells { (u : ℕ) → (q : List ℕ) → has_place self.new u q ≡ has_place self.old u q }
-    {
-        if let Some(cells) = self.rows.get_mut(&txn) {
-            cells.inherit(child);
         }
     }
 }

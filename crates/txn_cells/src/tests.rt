@@ -2,7 +2,7 @@
 //! refuses a growth the call is made again.
 ghost use Rattle.std.specs.Prelude.{◌≡◌};
 
-use crate::{CellTable, Inherit, is_under};
+use crate::{CellTable, Inherit};
 use serial_spec::NoMemory;
 use std::process::Abort;
 use txn_names::{Key, Name};
@@ -104,7 +104,6 @@ fn a_parent_has_what_its_children_left(rt: HostRuntime) {
     for index in 0..CHILDREN {
         let txn = child(&rt, &mut tree, index);
         write_all(&rt, &mut table, txn, 1 + index as u32);
-        assert!(rt; is_under(&tree, top, txn) && !is_under(&tree, txn, top));
         if index % 2 == 0 {
             hand_up(&rt, &mut table, txn, top);
             assert!(rt; has_all(&rt, &table, top, Some(Latest(1 + index as u32))));

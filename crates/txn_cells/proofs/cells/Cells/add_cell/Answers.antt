@@ -1,5 +1,5 @@
 use Rattle.std.proofs.Common.{◌≡◌, false, ap, ◌∙◌, sym, rules}
-use Rattle.std.specs.Prelude.{unwrap_or, Some, None}
+use Rattle.std.specs.Prelude.{unwrap_or, None}
 use Rattle.txn_cells.specs.Kept.{has_cell_at}
 use Rattle.txn_cells.proofs.Puts.{cell_empty, set_has}
 use Rattle.txn_cells.proofs.cells.Cells.add_cell.Goals as goal

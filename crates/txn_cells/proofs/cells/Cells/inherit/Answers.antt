@@ -1,6 +1,6 @@
-use Rattle.std.proofs.Common.{◌≡◌, ◌∷◌, List, ℕ, Some, None, Option, subst, refl, ap, sym, ◌∙◌, rules}
+use Rattle.std.proofs.Common.{◌≡◌, ◌∷◌, Some, None, subst, refl, sym, rules}
 use Rattle.txn_cells.specs.Cells.{merged}
-use Rattle.txn_cells.specs.Kept.{Cells, content_at}
+use Rattle.txn_cells.specs.Kept.{content_at}
 use Rattle.txn_cells.proofs.Handing.{IsHanding, handed_next, value_handed, nothing_handed}
 use Rattle.txn_cells.proofs.cells.Cells.inherit.Goals as goal
 

@@ -1,4 +1,4 @@
-use Rattle.std.proofs.Common.{◌≡◌, sym}
+use Rattle.std.proofs.Common.{sym}
 use Rattle.std.specs.Prelude.{IsSome, Some}
 use Rattle.std.specs.Map.{lookup}
 use Rattle.txn_names.specs.Path.{label_eq}

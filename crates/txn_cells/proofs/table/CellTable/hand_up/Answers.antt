@@ -1,4 +1,4 @@
-use Rattle.std.proofs.Common.{◌≡◌, ℕ, List, nat_eq, true, false, not, ◌&&◌, ap, sym, ◌∙◌, rules}
+use Rattle.std.proofs.Common.{◌≡◌, ℕ, List, nat_eq, false, not, ◌&&◌, ap, sym, ◌∙◌, rules}
 use Rattle.std.specs.Prelude.{IsTrue}
 use Rattle.txn_cells.specs.Kept.{has_place}
 use Rattle.txn_cells.proofs.table.CellTable.hand_up.Goals as goal
@@ -12,7 +12,7 @@ inherit-requires g c =
     let cells : (q : List ℕ) → IsTrue (has_place old child q) → IsTrue (has_place old parent q) = rw c.in-Some.is at c.requires.places in
     record {
       cells = λ q there.
-          c.take_out-cells.ensures.cells parent q
+          rw c.self.view_is at (c.take_out-cells.ensures.cells parent q)
           ∙ ap (λ b. not b && has_place old parent q) other
-          ∙ cells q (sym (c.take_out-cells.ensures.taken_cells q) ∙ there);
+          ∙ cells q (sym (rw c.self.view_is at (c.take_out-cells.ensures.taken_cells q)) ∙ there);
     }

@@ -1,11 +1,11 @@
-use Rattle.std.proofs.Common.{◌≡◌, ℕ, List, nat_eq, Some, None, true, refl, ap, sym, subst, ◌∙◌}
+use Rattle.std.proofs.Common.{◌≡◌, nat_eq, Some, None, true, refl, ap, sym, subst, ◌∙◌}
 use Rattle.std.specs.Prelude.{is_some}
 use Rattle.std.specs.Map.{lookup}
 use Rattle.txn_cells.specs.Cells.{merged}
-use Rattle.txn_cells.specs.Kept.{cells_in, content_at, has_cell_at}
+use Rattle.txn_cells.specs.Kept.{content_at, has_cell_at}
 use Rattle.txn_cells.proofs.Puts.{cells_found, content-put, has_place-put, cond_same, none_inherited}
-use Rattle.txn_cells.proofs.table.CellTable.inherit.Goals as goal
-use Rattle.txn_cells.proofs.table.CellTable.inherit.Goals.{in-Some, in_default}
+use Rattle.txn_cells.proofs.rows.Rows.inherit.Goals as goal
+use Rattle.txn_cells.proofs.rows.Rows.inherit.Goals.{in-Some, in_default}
 
 pub inherit-requires : goal.inherit-requires
 inherit-requires g c =

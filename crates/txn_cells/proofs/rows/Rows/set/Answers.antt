@@ -1,10 +1,10 @@
-use Rattle.std.proofs.Common.{◌≡◌, ℕ, nat_eq, List, ap, subst, sym, ◌∙◌, true, if◌then◌else◌}
+use Rattle.std.proofs.Common.{◌≡◌, nat_eq, ap, subst, sym, ◌∙◌, true, if◌then◌else◌}
 use Rattle.std.specs.Prelude.{is_some, Some}
 use Rattle.std.specs.Map.{lookup}
 use Rattle.txn_names.specs.Path.{label_eq}
 use Rattle.txn_cells.specs.Kept.{has_cell_at}
 use Rattle.txn_cells.proofs.Puts.{cells_found, content-put, has_place-put, cond-and, cond_same}
-use Rattle.txn_cells.proofs.table.CellTable.set.Goals as goal
+use Rattle.txn_cells.proofs.rows.Rows.set.Goals as goal
 
 pub set-requires : goal.set-requires
 set-requires g c =

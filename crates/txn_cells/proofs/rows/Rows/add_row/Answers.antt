@@ -1,8 +1,8 @@
-use Rattle.std.proofs.Common.{◌≡◌, nat_eq, ap, ◌∙◌, sym, false, rules, []}
+use Rattle.std.proofs.Common.{◌≡◌, nat_eq, ap, ◌∙◌, sym, false, []}
 use Rattle.std.specs.Prelude.{unwrap_or, is_some}
 use Rattle.std.specs.Map.{lookup}
 use Rattle.txn_cells.proofs.Puts.{cells_empty}
-use Rattle.txn_cells.proofs.table.CellTable.add_holder.Goals as goal
+use Rattle.txn_cells.proofs.rows.Rows.add_row.Goals as goal
 
 pub returns-in-Ok-clause-cells : goal.returns-in-Ok-clause-cells
 returns-in-Ok-clause-cells g c =
