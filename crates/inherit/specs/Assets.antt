@@ -9,6 +9,9 @@ pub use Rattle.lock_table.specs.Locked.{free}
 use Rattle.version_stack.specs.Versioned as versions
 use Rattle.serial_spec.specs.declared.event.Event.{Event}
 use Rattle.serial_spec.specs.declared.event.Event.TheVariants.{Access, Commit}
+use Rattle.serial_spec.specs.declared.operation.Kind.{Kind}
+use Rattle.serial_spec.specs.declared.operation.Kind.TheVariants.{Read, Write}
+use Rattle.serial_spec.specs.Operations.{kind}
 use Rattle.serial_spec.specs.Serial.{Map}
 use Rattle.serial_spec.specs.Rows.{Rows}
 
@@ -31,9 +34,10 @@ base_of a = versions.base_in a.versions
 abbrev pub rows_of : Assets → Rows
 rows_of a = a.versions.base.rows
 
--- t has a place for k, so that it may access k without memory
-abbrev pub has_place : Assets → ℕ → List ℕ → Type 0
-has_place a t k = IsTrue (locks.has_place a.locks t k) × IsTrue (versions.has_place a.versions t k)
+-- t may access k in this way without memory: it has a place for its lock, and for a write one for the value too. A read
+-- leaves no value
+abbrev pub has_place : Assets → ℕ → List ℕ → Kind → Type 0
+has_place a t k x = IsTrue (locks.has_place a.locks t k) × (x ≡ Write → IsTrue (versions.has_place a.versions t k))
 
 -- whatever the child has goes up without memory: to its parent, or into the base where that is the root
 abbrev pub MayGoUp : Assets → ℕ → Option ℕ → Type 0
@@ -49,7 +53,7 @@ IsParent tree t (Some p) = (1 < length t) × IsNumberOf tree (parent t) p
 
 -- the step of this event takes no memory
 abbrev pub IsReady : States → Assets → Event → Type 0
-IsReady tree a (Access t k o) = (n : ℕ) → IsNumberOf tree t n → has_place a n k
+IsReady tree a (Access t k o) = (n : ℕ) → IsNumberOf tree t n → has_place a n k (kind o)
 IsReady tree a (Commit t) = (n : ℕ) → IsNumberOf tree t n → (p : Option ℕ) → IsParent tree t p → MayGoUp a n p
 IsReady tree a event = Unit {0}
 
@@ -58,6 +62,11 @@ abbrev pub HasRoom : States → Assets → Event → Type 0
 HasRoom tree a (Access t k o) = IsReady tree a (Access t k o)
 HasRoom tree a (Commit t) = (length t ≡ 1 → ⊥) × IsReady tree a (Commit t)
 HasRoom tree a event = Unit {0}
+
+-- the step of this event leaves no value anywhere
+abbrev pub IsRead : Event → Type 0
+IsRead (Access t k o) = kind o ≡ Read
+IsRead event = ⊥
 
 -- with other room it is the same
 pub record IsSame (old new : Assets) : Type 0 where

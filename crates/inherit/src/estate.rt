@@ -1,11 +1,12 @@
 //! The steps that touch locks and versions.
 ghost use Rattle.std.specs.Prelude.{◌≡◌, ℕ, List, None, Some, IsOk, OnOk, IfNone, IfSome};
 ghost use Rattle.txn_tree.specs.Asked.{IsNumberOf};
-ghost use Rattle.inherit.specs.Assets.{HasRoom, IsReady, IsSame, MayGoUp, free, has_place, left_of, modes_of};
+ghost use Rattle.serial_spec.specs.Operations.{kind};
+ghost use Rattle.inherit.specs.Assets.{HasRoom, IsRead, IsReady, IsSame, MayGoUp, free, has_place, left_of, modes_of};
 ghost use Rattle.inherit.specs.Steps.{HasAccessed, HasDropped, HasGoneUp, reply_in};
 
 use lock_table::Locks;
-use serial_spec::{Event, NoMemory, Op, PlainTable, Reply, act};
+use serial_spec::{Event, Kind, NoMemory, Op, PlainTable, Reply, act};
 use std::alloc::Global;
 use std::marker::Model;
 use txn_names::{Key, Name};
@@ -68,14 +69,18 @@ impl Estate {
         versions.into_base()
     }
 
-    // Makes a place for the transaction and the key.
-    fn reserve_access(&mut self, txn: TxnNo, key: &Key) -> Result<(), NoMemory>
-        ensures succeeds { has_place self.old txn key.now → IsOk result }
-        ensures ok { OnOk result (has_place self.new txn key.now) }
+    // Makes the places for an access of this kind.
+    fn reserve_access(&mut self, txn: TxnNo, key: &Key, kind: Kind) -> Result<(), NoMemory>
+        ensures succeeds { has_place self.old txn key.now kind → IsOk result }
+        ensures ok { OnOk result (has_place self.new txn key.now kind) }
         ensures same { IsSame self.old self.new }
+        ensures read { kind ≡ Kind.Read → self.new.versions ≡ self.old.versions }
     {
         self.locks.reserve(txn, key)?;
-        self.versions.reserve(txn, key)
+        match kind {
+            Kind::Read => Ok(()),
+            Kind::Write => self.versions.reserve(txn, key),
+        }
     }
 
     // Makes room for what the child hands to a parent that has begun.
@@ -105,16 +110,17 @@ impl Estate {
     }
 
     /// Makes all growths of the event's step beforehand: an access's, or a commit's. What is locked, left and seen stays.
-    /// Where the step has its room already, other than in the table, it takes no memory. The only error is that memory
-    /// runs out.
+    /// For a read no room is made among the versions. Where the step has its room already, other than in the table, it
+    /// takes no memory. The only error is that memory runs out.
     pub fn reserve_for(&mut self, tree: &Tree, event: &Event) -> Result<(), NoMemory>
         ensures ok { OnOk result (IsReady tree.now self.new event.now) }
         ensures same { IsSame self.old self.new }
         ensures succeeds { HasRoom tree.now self.old event.now → IsOk result }
+        ensures read { IsRead event.now → self.new.versions ≡ self.old.versions }
     {
         match event {
-            Event::Access(name, key, _) => match tree.no_of(name) {
-                Some(txn) => self.reserve_access(txn, key),
+            Event::Access(name, key, op) => match tree.no_of(name) {
+                Some(txn) => self.reserve_access(txn, key, op.kind()),
                 None => Ok(()),
             },
             Event::Commit(name) => match tree.no_of(name) {
@@ -129,7 +135,7 @@ impl Estate {
     /// the value that it sees, and the transaction has locked the key and left there what the access leaves. It takes no
     /// memory.
     pub fn access(&mut self, tree: &Tree, txn: TxnNo, key: &Key, op: Op) -> Option<Reply>
-        requires place { has_place self.old txn key.now }
+        requires place { has_place self.old txn key.now (kind op) }
         ensures reply { result ≡ reply_in tree.now self.old txn key.now op }
         ensures blocked { IfNone result (self.new ≡ self.old) }
         ensures accessed { IfSome result (λ reply. HasAccessed self.old self.new txn key.now op reply) }

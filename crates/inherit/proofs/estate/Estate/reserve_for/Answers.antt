@@ -10,7 +10,7 @@ pub returns-in-None-no_of-clause-ok : goal.returns-in-None-no_of-clause-ok
 returns-in-None-no_of-clause-ok c = rw c.in-Commit.is (λ n is. absurd (no_number c.args.tree.now c.in-Commit.name n is (sym c.in-None-no_of.is ∙ c.no_of-in-Commit.ensures.place)))
 
 pub returns-in-Some-clause-succeeds : goal.returns-in-Some-clause-succeeds
-returns-in-Some-clause-succeeds c = rw c.in-Access.is (λ room. c.reserve_access.ensures.succeeds (room c.in-Some.txn c.in-Some.ensures.number))
+returns-in-Some-clause-succeeds c = rw c.in-Access.is (λ room. c.reserve_access.ensures.succeeds (rw c.kind.ensures (room c.in-Some.txn c.in-Some.ensures.number)))
 
 pub returns-in-Some-no_of-clause-succeeds : goal.returns-in-Some-no_of-clause-succeeds
 returns-in-Some-no_of-clause-succeeds c = rw c.in-Commit.is c.reserve_commit.ensures.succeeds
