@@ -95,20 +95,3 @@ module _ (pairs : Pairs) (start : ℕ) (trail : List Reached) (is : IsTrail pair
             reaches start ys start is.first (subst (λ (x : ℕ). WaitInTurn pairs x ys x) (sym same) cycle.1)
         | inr later ↦ reaches_member y ys y (is.all y (reaches_past y ys y later cycle.1)) later cycle.1
       ]
-
--- whoever lies on a cycle waits for somebody
-pub waits_for_next : (pairs : Pairs) (ys : List ℕ) → IsCycle pairs ys → (b : ℕ) → is_member b ys ≡ true → (c : ℕ) × (waits_in pairs b c ≡ true)
-waits_for_next pairs [] cycle b e = absurd cycle
-waits_for_next pairs (y ∷ ys) cycle b e = along y ys y cycle.1 e
-  where
-    along : (a : ℕ) (xs : List ℕ) (last : ℕ) → WaitInTurn pairs a xs last → is_member b (a ∷ xs) ≡ true → (c : ℕ) × (waits_in pairs b c ≡ true)
-    along a [] last turn m =
-        elim (or_cases (nat_eq b a) false m) [
-          | inl here ↦ (last, subst (λ (x : ℕ). waits_in pairs x last ≡ true) (sym (eqb-true b a here)) turn)
-          | inr later ↦ absurd (false≢true later)
-        ]
-    along a (x ∷ xs) last turn m =
-        elim (or_cases (nat_eq b a) (is_member b (x ∷ xs)) m) [
-          | inl here ↦ (x, subst (λ (z : ℕ). waits_in pairs z x ≡ true) (sym (eqb-true b a here)) turn.0)
-          | inr later ↦ along x xs last turn.1 later
-        ]

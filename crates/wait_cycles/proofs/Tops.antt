@@ -1,48 +1,116 @@
--- The numbers gone down through, from the greatest of those that wait.
-use Rattle.std.proofs.Common.{◌≡◌, ◌<◌, ◌≤◌, ◌+◌, ◌-◌, ◌^◌, ℕ, true, List, [], ◌∷◌, Some, inl, inr, sym, ap, subst, ◌∙◌, arith}
+-- The numbers gone down through: the greatest member of a cycle is waited for by one that is no greater.
+use Rattle.std.proofs.Common.{◌≡◌, ◌<◌, ◌≤◌, ◌+◌, ◌^◌, ℕ, nat_eq, Bool, true, false, ◌||◌, refl, List, [], ◌∷◌, Some, inl, inr, sym, ap, subst, ◌∙◌, arith}
 use Rattle.std.specs.Prelude.{slice_get}
-use Rattle.std.proofs.lemmas.Bool.{cases_lt}
-use Rattle.wait_cycles.specs.Cycles.{Pairs, IsCycle, IsGreatest, IsLastCycle, is_member}
+use Rattle.std.proofs.lemmas.Bool.{false≢true, eqb-true, or_cases, or_right, cases_lt}
+use Rattle.wait_cycles.specs.Cycles.{Pairs, IsCycle, IsGreatest, WaitInTurn, is_member, waits_in}
 use Rattle.wait_cycles.specs.Bounds.{AreBelow, Fit}
 use Rattle.wait_cycles.proofs.Lists.{member_here}
 use Rattle.wait_cycles.proofs.Found.{pair_of}
-use Rattle.wait_cycles.proofs.Closed.{waits_for_next}
 
--- whoever lies on a cycle is below this number
-abbrev pub AllBelow : Pairs → ℕ → Type 0
-AllBelow pairs top = (xs : List ℕ) → IsCycle pairs xs → (b : ℕ) → is_member b xs ≡ true → b < top
+-- the greatest member of any cycle is below this number
+abbrev pub TopsBelow : Pairs → ℕ → Type 0
+TopsBelow pairs top = (xs : List ℕ) → IsCycle pairs xs → (a : ℕ) → IsGreatest a xs → a < top
+
+pub greatest_of : (x : ℕ) (xs : List ℕ) → (a : ℕ) × IsGreatest a (x ∷ xs)
+greatest_of x [] = (x, record {
+  member = member_here x [];
+  others = λ b e.
+      elim (or_cases (nat_eq b x) false e) [
+        | inl here ↦ let same = eqb-true b x here in omega (arith, same)
+        | inr later ↦ absurd (false≢true later)
+      ];
+})
+greatest_of x (y ∷ ys) =
+    let g = greatest_of y ys in
+    elim (cases_lt g.0 x) [
+      | inl less ↦ (x, record {
+          member = member_here x (y ∷ ys);
+          others = λ b e.
+              elim (or_cases (nat_eq b x) (is_member b (y ∷ ys)) e) [
+                | inl here ↦ let same = eqb-true b x here in omega (arith, same)
+                | inr later ↦ let most = g.1.others b later in omega (arith, most, less)
+              ];
+        })
+      | inr past ↦ (g.0, record {
+          member = or_right (nat_eq g.0 x) (is_member g.0 (y ∷ ys)) g.1.member;
+          others = λ b e.
+              elim (or_cases (nat_eq b x) (is_member b (y ∷ ys)) e) [
+                | inl here ↦ let same = eqb-true b x here in omega (arith, same, past)
+                | inr later ↦ g.1.others b later
+              ];
+        })
+    ]
 
 module _ (pairs : Pairs) where
+  -- each that is waited for in turn is waited for by one before it
+  before : (b a : ℕ) (xs : List ℕ) (last : ℕ) → WaitInTurn pairs a xs last → (is_member b xs || nat_eq b last) ≡ true
+      → (c : ℕ) × (is_member c (a ∷ xs) ≡ true) × (waits_in pairs c b ≡ true)
+  before b a [] last turn e =
+      (a, member_here a [], subst (λ (x : ℕ). waits_in pairs a x ≡ true) (sym (eqb-true b last e)) turn)
+  before b a (x ∷ xs) last turn e =
+      elim (or_cases (nat_eq b x) (is_member b xs || nat_eq b last) (reassociate (nat_eq b x) (is_member b xs) (nat_eq b last) e)) [
+        | inl here ↦ (a, member_here a (x ∷ xs), subst (λ (y : ℕ). waits_in pairs a y ≡ true) (sym (eqb-true b x here)) turn.0)
+        | inr later ↦ let c = before b x xs last turn.1 later in (c.0, or_right (nat_eq c.0 a) (is_member c.0 (x ∷ xs)) c.1, c.2)
+      ]
+    where
+      reassociate : (p q r : Bool) → ((p || q) || r) ≡ true → (p || (q || r)) ≡ true
+      reassociate true q r f = refl
+      reassociate false q r f = f
+
+  pub waited_for : (ys : List ℕ) → IsCycle pairs ys → (b : ℕ) → is_member b ys ≡ true → (c : ℕ) × (is_member c ys ≡ true) × (waits_in pairs c b ≡ true)
+  waited_for [] cycle b e = absurd cycle
+  waited_for (y ∷ ys) cycle b e = before b y ys y cycle.1 (turned (nat_eq b y) (is_member b ys) e)
+    where
+      turned : (p q : Bool) → (p || q) ≡ true → (q || p) ≡ true
+      turned true true f = refl
+      turned true false f = refl
+      turned false true f = refl
+      turned false false f = f
+
+  -- so the greatest is waited for by one that is no greater
+  greatest_waited_for : (xs : List ℕ) → IsCycle pairs xs → (a : ℕ) → IsGreatest a xs → (i : ℕ) × (p : ℕ × ℕ) × (slice_get pairs i ≡ Some p) × (p.0 ≤ p.1) × (p.1 ≡ a)
+  greatest_waited_for xs cycle a greatest =
+      let c = waited_for xs cycle a greatest.member in
+      let f = pair_of pairs c.0 a c.2 in
+      let most = greatest.others c.0 c.1 in
+      (f.0, f.1, f.2, omega (arith, most, f.3, f.4), f.4)
+
   -- those below the bound are below the top
-  pub lower : (bound top : ℕ) → AreBelow pairs bound top → AllBelow pairs bound → AllBelow pairs top
-  lower bound top below all xs cycle b e =
-      let next = waits_for_next pairs xs cycle b e in
-      let f = pair_of pairs b next.0 next.1 in
-      let less = all xs cycle b e in
-      subst (λ (x : ℕ). x < top) f.3 (below f.0 f.1 f.2 (subst (λ (x : ℕ). x < bound) (sym f.3) less))
+  pub lower : (bound top : ℕ) → AreBelow pairs bound top → TopsBelow pairs bound → TopsBelow pairs top
+  lower bound top below all xs cycle a greatest =
+      let f = greatest_waited_for xs cycle a greatest in
+      let less = all xs cycle a greatest in
+      subst (λ (x : ℕ). x < top) f.4 (below f.0 f.1 f.2 f.3 (subst (λ (x : ℕ). x < bound) (sym f.4) less))
 
   -- all are of 32 bits
-  pub all_fit : Fit pairs → AllBelow pairs (2 ^ 32)
-  all_fit fit xs cycle b e =
-      let next = waits_for_next pairs xs cycle b e in
-      let f = pair_of pairs b next.0 next.1 in
-      subst (λ (x : ℕ). x < 2 ^ 32) f.3 (fit f.0 f.1 f.2)
+  pub all_fit : Fit pairs → TopsBelow pairs (2 ^ 32)
+  all_fit fit xs cycle a greatest =
+      let f = greatest_waited_for xs cycle a greatest in
+      subst (λ (x : ℕ). x < 2 ^ 32) f.4 (fit f.0 f.1 f.2)
 
-  -- nobody at the number below the top lies on a cycle
-  pub next_lower : (top start : ℕ) → start + 1 ≡ top → AllBelow pairs top → ((xs : List ℕ) → IsCycle pairs xs → is_member start xs ≡ true → ⊥) → AllBelow pairs start
-  next_lower top start is all none xs cycle b e =
-      let less = all xs cycle b e in
-      elim (cases_lt b start) [
+  -- the number below the top is on no cycle
+  pub next_lower : (top start : ℕ) → start + 1 ≡ top → TopsBelow pairs top → ((xs : List ℕ) → IsCycle pairs xs → is_member start xs ≡ true → ⊥) → TopsBelow pairs start
+  next_lower top start is all none xs cycle a greatest =
+      let less = all xs cycle a greatest in
+      elim (cases_lt a start) [
         | inl below ↦ below
         | inr past ↦
-            let same : b ≡ start = omega (arith, past, less, is) in
-            absurd (none xs cycle (subst (λ (x : ℕ). is_member x xs ≡ true) same e))
+            let same : a ≡ start = omega (arith, past, less, is) in
+            absurd (none xs cycle (subst (λ (x : ℕ). is_member x xs ≡ true) same greatest.member))
       ]
 
-  pub at_most : (top start : ℕ) → start + 1 ≡ top → AllBelow pairs top → (xs : List ℕ) → IsCycle pairs xs → (b : ℕ) → is_member b xs ≡ true → b ≤ start
-  at_most top start is all xs cycle b e = let less = all xs cycle b e in omega (arith, is, less)
+  pub at_most : (top start : ℕ) → start + 1 ≡ top → TopsBelow pairs top → (xs : List ℕ) → IsCycle pairs xs → (b : ℕ) → is_member b xs ≡ true → b ≤ start
+  at_most top start is all [] cycle b e = absurd cycle
+  at_most top start is all (x ∷ xs) cycle b e =
+      let g = greatest_of x xs in
+      let less = all (x ∷ xs) cycle g.0 g.1 in
+      let most = g.1.others b e in
+      omega (arith, is, less, most)
 
   -- below 0 there is nobody
-  pub nobody_left : (top : ℕ) → top ≤ 0 → AllBelow pairs top → (xs : List ℕ) → IsCycle pairs xs → ⊥
+  pub nobody_left : (top : ℕ) → top ≤ 0 → TopsBelow pairs top → (xs : List ℕ) → IsCycle pairs xs → ⊥
   nobody_left top low all [] cycle = cycle
-  nobody_left top low all (x ∷ xs) cycle = let less = all (x ∷ xs) cycle x (member_here x xs) in absurd (omega (arith, low, less))
+  nobody_left top low all (x ∷ xs) cycle =
+      let g = greatest_of x xs in
+      let less = all (x ∷ xs) cycle g.0 g.1 in
+      absurd (omega (arith, low, less))

@@ -11,16 +11,17 @@ use std::alloc::Global;
 use std::marker::Model;
 use txn_tree::TxnNo;
 
-// One more than the greatest number below the bound of those that wait, or 0 where there is none.
+// One more than the greatest number below the bound for which one that is no greater waits, or 0 where there is none. The
+// greatest member of a cycle is such a number, so that no other need be tried.
 fn top_below(pairs: &[(TxnNo, TxnNo)], bound: u64) -> u64
     ensures within { result ≤ bound }
     ensures below { AreBelow pairs.now bound result }
     ensures fits { Fit pairs.now }
 {
     let mut top = 0;
-    for (waiting, _) in pairs {
-        let after = waiting.place() as u64 + 1;
-        if after <= bound && after > top {
+    for (waiting, other) in pairs {
+        let after = other.place() as u64 + 1;
+        if waiting.place() <= other.place() && after <= bound && after > top {
             top = after;
         }
     }

@@ -24,7 +24,7 @@ loop-top-preserved c =
     let all =
     next_lower pairs c.loop-top.top c.new-start.result start i.1
     (λ xs cycle member. true≢false (sym (reaches_itself pairs c.new-start.result trail c.reached_from.ensures.trail xs cycle member) ∙ nowhere)) in
-    (omega (arith, e.within, i.0), lower pairs c.new-start.result c.top_below-top-in-loop-top.result (λ n p at less. e.below n p at (omega (arith, less, start))) all, c.reached_from.ensures.capacity ∙ i.2)
+    (omega (arith, e.within, i.0), lower pairs c.new-start.result c.top_below-top-in-loop-top.result (λ n p at up less. e.below n p at up (omega (arith, less, start))) all, c.reached_from.ensures.capacity ∙ i.2)
 
 pub returns-then-is_some-clause-some : goal.returns-then-is_some-clause-some
 returns-then-is_some-clause-some c =
