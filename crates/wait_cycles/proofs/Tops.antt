@@ -12,33 +12,42 @@ abbrev pub TopsBelow : Pairs → ℕ → Type 0
 TopsBelow pairs top = (xs : List ℕ) → IsCycle pairs xs → (a : ℕ) → IsGreatest a xs → a < top
 
 pub greatest_of : (x : ℕ) (xs : List ℕ) → (a : ℕ) × IsGreatest a (x ∷ xs)
-greatest_of x [] = (x, record {
-  member = member_here x [];
-  others = λ b e.
-      elim (or_cases (nat_eq b x) false e) [
-        | inl here ↦ let same = eqb-true b x here in omega (arith, same)
-        | inr later ↦ absurd (false≢true later)
-      ];
-})
+greatest_of x [] = (
+  x,
+  record {
+    member = member_here x [];
+    others = λ b e.
+        elim (or_cases (nat_eq b x) false e) [
+          | inl here ↦ let same = eqb-true b x here in omega (arith, same)
+          | inr later ↦ absurd (false≢true later)
+        ];
+  },
+)
 greatest_of x (y ∷ ys) =
     let g = greatest_of y ys in
     elim (cases_lt g.0 x) [
-      | inl less ↦ (x, record {
+      | inl less ↦ (
+        x,
+        record {
           member = member_here x (y ∷ ys);
           others = λ b e.
               elim (or_cases (nat_eq b x) (is_member b (y ∷ ys)) e) [
                 | inl here ↦ let same = eqb-true b x here in omega (arith, same)
                 | inr later ↦ let most = g.1.others b later in omega (arith, most, less)
               ];
-        })
-      | inr past ↦ (g.0, record {
+        },
+      )
+      | inr past ↦ (
+        g.0,
+        record {
           member = or_right (nat_eq g.0 x) (is_member g.0 (y ∷ ys)) g.1.member;
           others = λ b e.
               elim (or_cases (nat_eq b x) (is_member b (y ∷ ys)) e) [
                 | inl here ↦ let same = eqb-true b x here in omega (arith, same, past)
                 | inr later ↦ g.1.others b later
               ];
-        })
+        },
+      )
     ]
 
 module _ (pairs : Pairs) where

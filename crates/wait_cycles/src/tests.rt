@@ -1,5 +1,5 @@
 //! The worked values of the finder, and each call on waits once. Under a trial run that refuses a growth the call is made again.
-use crate::{Cycle, Wait, Waits, find_cycle, victim};
+use crate::{Cycle, Wait, Waits, Work, find_cycle, victim};
 use serial_spec::{By, NoMemory, Op};
 use std::alloc::Global;
 use std::process::Abort;
@@ -11,54 +11,84 @@ fn pair(waiting: u32, other: u32) -> (TxnNo, TxnNo) {
     (TxnNo::new(waiting), TxnNo::new(other))
 }
 
-fn found(alloc: Global, pairs: &[(TxnNo, TxnNo)]) -> Result<Option<Cycle>, NoMemory> {
+fn cycle_of(rt: &impl Abort, alloc: Global, pairs: &[(TxnNo, TxnNo)]) -> Option<Cycle> {
     match find_cycle(alloc, pairs) {
-        Ok(found) => Ok(found),
-        Err(_) => find_cycle(alloc, pairs),
+        Ok(found) => found,
+        Err(_) => find_cycle(alloc, pairs).expect(rt, "memory"),
     }
 }
 
-// Of two cycles the one through the last begun is found.
-fn two_cycles(rt: &impl Abort, alloc: Global) -> Result<(), Fail> {
-    let pairs = [pair(0, 3), pair(3, 0), pair(1, 2), pair(2, 1)];
-    let cycle = found(alloc, &pairs)?.ok_or("no cycle")?;
-    assert!(rt; victim(&cycle) == TxnNo::new(3));
-    assert!(rt; cycle.members() == [TxnNo::new(3), TxnNo::new(0)].as_slice());
-    Ok(())
+fn victim_of(rt: &impl Abort, alloc: Global, pairs: &[(TxnNo, TxnNo)]) -> Option<TxnNo> {
+    let mut work = Work::new(alloc);
+    match work.reserve(pairs.len()) {
+        Ok(()) => work.victim(pairs),
+        Err(_) => {
+            work.reserve(pairs.len()).expect(rt, "memory");
+            work.victim(pairs)
+        }
+    }
+}
+
+// How many lie on the cycle found, and who of them is the victim, which is the one that a search with memory made before finds.
+fn cycle_and_victim(
+    rt: &impl Abort,
+    alloc: Global,
+    pairs: &[(TxnNo, TxnNo)],
+) -> Option<(usize, u32)> {
+    let found = match cycle_of(rt, alloc, pairs) {
+        Some(cycle) => Some((cycle.members().len(), victim(&cycle).place())),
+        None => None,
+    };
+    let searched = victim_of(rt, alloc, pairs);
+    assert!(rt; searched.is_some() == found.is_some());
+    if let (Some(txn), Some((_, last))) = (searched, found) {
+        assert!(rt; txn.place() == last);
+    }
+    found
+}
+
+fn worked(rt: &impl Abort, alloc: Global) {
+    let two = [pair(0, 3), pair(3, 0), pair(1, 2), pair(2, 1)];
+    let neighbours = [pair(0, 1), pair(1, 0), pair(2, 3), pair(3, 2)];
+    let itself = [pair(7, 2), pair(2, 2), pair(5, 7)];
+    let open = [pair(0, 1), pair(1, 2), pair(0, 2)];
+    let two_ways = [pair(4, 1), pair(4, 2), pair(1, 3), pair(2, 3), pair(3, 4)];
+    let table: [(&[(TxnNo, TxnNo)], Option<(usize, u32)>); 7] = [
+        (&[], None),
+        (&two, Some((2, 3))),
+        (&neighbours, Some((2, 3))),
+        (&itself, Some((1, 2))),
+        (&open, None),
+        (&two_ways[..4], None),
+        (&two_ways, Some((3, 4))),
+    ];
+    for (pairs, answer) in table {
+        assert!(rt; cycle_and_victim(rt, alloc, pairs) == answer);
+    }
 }
 
 #[test]
-fn the_last_begun_on_any_cycle(rt: HostRuntime) -> Result<(), Fail> {
-    two_cycles(&rt, rt.alloc())
+fn worked_values(rt: HostRuntime) {
+    worked(&rt, rt.alloc());
 }
 
-// One that waits for itself, behind others on no cycle.
-fn alone(rt: &impl Abort, alloc: Global) -> Result<(), Fail> {
-    let pairs = [pair(7, 2), pair(2, 2), pair(5, 7)];
-    let cycle = found(alloc, &pairs)?.ok_or("no cycle")?;
-    assert!(rt; cycle.members() == [TxnNo::new(2)].as_slice());
-    assert!(rt; victim(&cycle) == TxnNo::new(2));
-    Ok(())
-}
-
-#[test]
-fn one_that_waits_for_itself(rt: HostRuntime) -> Result<(), Fail> {
-    alone(&rt, rt.alloc())
-}
-
-// Two ways to one transaction are no cycle; a longer way round is one.
-fn ways(rt: &impl Abort, alloc: Global) -> Result<(), Fail> {
-    let open = [pair(4, 1), pair(4, 2), pair(1, 3), pair(2, 3)];
-    assert!(rt; found(alloc, &open)?.is_none());
-    let closed = [pair(4, 1), pair(4, 2), pair(1, 3), pair(2, 3), pair(3, 4)];
-    let cycle = found(alloc, &closed)?.ok_or("no cycle")?;
-    assert!(rt; cycle.members().len() == 3 && victim(&cycle) == TxnNo::new(4));
-    Ok(())
+// Sixty-four wait behind each other, each for the one begun after it or before it, and then the last for the first.
+fn chains(rt: &impl Abort, alloc: Global) {
+    let mut up = [pair(63, 0); 64];
+    let mut down = [pair(0, 63); 64];
+    for place in 0..63 {
+        up[place as usize] = pair(place, place + 1);
+        down[place as usize] = pair(place + 1, place);
+    }
+    assert!(rt; cycle_and_victim(rt, alloc, &up[..63]).is_none());
+    assert!(rt; cycle_and_victim(rt, alloc, &down[..63]).is_none());
+    assert!(rt; cycle_and_victim(rt, alloc, &up) == Some((64, 63)));
+    assert!(rt; cycle_and_victim(rt, alloc, &down) == Some((64, 63)));
 }
 
 #[test]
-fn a_way_round(rt: HostRuntime) -> Result<(), Fail> {
-    ways(&rt, rt.alloc())
+fn chains_of_64(rt: HostRuntime) {
+    chains(&rt, rt.alloc());
 }
 
 fn wait(txn: u32, line: u32) -> Result<Wait, Fail> {
