@@ -2,3 +2,4 @@ pub mod Puts
 pub mod Handing
 pub mod Reserving
 pub mod ByKey
+pub mod Dropping

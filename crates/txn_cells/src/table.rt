@@ -152,16 +152,19 @@ impl<V: Copy> CellTable<V> {
         self.index.remove_at(txn, cells.keys());
     }
 
-    /// Drops the cells of the transaction and of all below it. It takes no memory.
+    /// Drops the cells of the transaction and of all below it. It goes to no other transaction, and takes no memory.
     pub fn drop_under(&mut self, tree: &Tree, txn: TxnNo)
         ensures contents { (u : ℕ) → (q : List ℕ) → content self.new u q ≡ (if is_under tree.now txn u then None else content self.old u q) }
         ensures places { (u : ℕ) → (q : List ℕ) → has_place self.new u q ≡ (not (is_under tree.now txn u) && has_place self.old u q) }
     {
-        for place in 0..tree.len() {
-            let number = TxnNo::new(place as u32);
-            if tree.is_under(txn, number) {
-                self.drop_one(number);
-            }
+        if tree.name_of(txn).is_none() {
+            return;
+        }
+        self.drop_one(txn);
+        let mut next = tree.first_child(txn);
+        while let Some(child) = next {
+            self.drop_under(tree, child);
+            next = tree.next_sibling(child);
         }
     }
 }
