@@ -76,6 +76,21 @@ impl Locks {
         modes.held.greater(modes.retained).conflicts(kind)
     }
 
+    /// Whether the holder keeps the transaction from an access of this kind: it has begun, is neither the transaction nor an
+    /// ancestor of it, and its lock on the key conflicts. It takes no memory.
+    pub fn blocks(&self, tree: &Tree, holder: TxnNo, txn: TxnNo, key: &Key, kind: Kind) -> bool
+        ensures { result ≡ is_blocker_in tree.now self.now txn key.now kind holder }
+    {
+        self.is_blocker(tree, txn, key, kind, holder)
+    }
+
+    /// All transactions that lock the key, and maybe others.
+    pub fn holders(&self, key: &Key) -> &[TxnNo]
+        ensures { (u : ℕ) → IsFalse (list_any (nat_eq u) result.now) → modes_in self.now u key.now ≡ free }
+    {
+        self.table.holders(key)
+    }
+
     fn is_any_blocker(
         &self,
         tree: &Tree,

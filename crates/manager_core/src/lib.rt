@@ -12,6 +12,7 @@ mod deciding;
 mod log;
 mod manager;
 mod outcome;
+mod pairs;
 mod tables;
 mod waiting;
 
