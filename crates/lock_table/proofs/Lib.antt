@@ -1,1 +1,2 @@
 pub mod Blockers
+pub mod Lists

@@ -1,6 +1,7 @@
 //! The table of locks.
 ghost use Rattle.std.specs.Prelude.{◌≡◌, ◌&&◌, not, nat_eq, false, IsOk, IsFalse, IsTrue, IfOk, IfSome, OnErr, OnOk, List, ℕ, if◌then◌else◌};
 ghost use Rattle.std.specs.List.{IsDistinct, list_any};
+ghost use Rattle.std.specs.List.Sorted.{IsStrictlyIncreasing};
 ghost use Rattle.txn_names.specs.Path.{label_eq};
 ghost use Rattle.serial_spec.specs.Locks.{mode_of};
 ghost use Rattle.lock_table.specs.Locked.{IsTowards, free, handed_up, has_place, held_by, modes_in, with_childs, with_place};
@@ -84,9 +85,11 @@ impl Locks {
         self.is_blocker(tree, txn, key, kind, holder)
     }
 
-    /// All transactions that lock the key, and maybe others.
+    /// The transactions that have a place at the key, the first begun first. No other locks it.
     pub fn holders(&self, key: &Key) -> &[TxnNo]
-        ensures { (u : ℕ) → IsFalse (list_any (nat_eq u) result.now) → modes_in self.now u key.now ≡ free }
+        ensures each { (u : ℕ) → list_any (nat_eq u) result.now ≡ has_place self.now u key.now }
+        ensures rising { IsStrictlyIncreasing result.now }
+        ensures elsewhere { (u : ℕ) → IsFalse (has_place self.now u key.now) → modes_in self.now u key.now ≡ free }
     {
         self.table.holders(key)
     }

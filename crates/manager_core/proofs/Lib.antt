@@ -22,3 +22,6 @@ pub mod Tops
 pub mod Waits
 pub mod Retrying
 pub mod Lines
+pub mod Branches
+pub mod HeldUp
+pub mod Pairing

@@ -14,10 +14,10 @@ use Rattle.lock_table.specs.Inherited.{free, whole}
 use Rattle.inherit.specs.Assets.{Assets, modes_of, left_of}
 use Rattle.inherit.specs.Steps.{HasDropped}
 use Rattle.orphans.specs.Marked.{Marked, is_marked}
-use Rattle.lock_table.specs.Blocking.{is_front_of, is_blocker_in, is_blocked_in}
+use Rattle.lock_table.specs.Blocking.{is_front_of, is_blocker_in, is_blocked_in, numbers}
 use Rattle.serial_spec.specs.declared.mode.Mode.{Mode}
 use Rattle.serial_spec.specs.declared.operation.Kind.{Kind}
-use Rattle.serial_spec.specs.History.{Name, History, is_active, is_live, is_live_status, is_orphan}
+use Rattle.serial_spec.specs.History.{Name, History, begun, is_active, is_live, is_live_status, is_orphan}
 use Rattle.serial_spec.specs.Locks.{conflicts, foot, is_blocker, is_blocked}
 use Rattle.txn_history.proofs.Theorems.{foot_is_greater}
 use Rattle.serial_spec.specs.Rows.{Rows}
@@ -53,19 +53,26 @@ blocks_as true m all front x e = ap (λ w. not front && conflicts w x) (sym e)
 blocks_as false m all true x e = refl
 blocks_as false m all false x e = refl
 
-module _ (rows : Rows) (h : History) (tables : Tabled) (are : AreTablesOf rows h tables) (t : Name) (n : ℕ) (number : IsNumberOf tables.tree t n) (k : List ℕ) (x : Kind) where
-  blocker_as : (m : ℕ) (u : Name) → slice_get (names tables.tree) m ≡ Some u → is_blocker_in tables.tree tables.estate.locks n k x m ≡ is_blocker h t k x u
+module _ (rows : Rows) (h : History) (tables : Tabled) (are : AreTablesOf rows h tables) (t : Name) (n : ℕ) (here : slice_get (names tables.tree) n ≡ Some t) (k : List ℕ) (x : Kind) where
+  pub blocker_as : (m : ℕ) (u : Name) → slice_get (names tables.tree) m ≡ Some u → is_blocker_in tables.tree tables.estate.locks n k x m ≡ is_blocker h t k x u
   blocker_as m u at =
       ap (λ o. is_some o && (not (is_front_of o (slice_get (names tables.tree) n)) && conflicts (whole (modes_of tables.estate m k)) x)) at
-      ∙ ap (λ o. not (is_front_of (Some u) o) && conflicts (whole (modes_of tables.estate m k)) x) (name_at tables.tree t n number)
+      ∙ ap (λ o. not (is_front_of (Some u) o) && conflicts (whole (modes_of tables.estate m k)) x) here
       ∙ ap (λ l. not (is_front u t) && conflicts (whole l) x) (are.estate.modes m k ∙ ap (content_of free (lock_at k) h) at)
       ∙ blocks_as (is_active h u) (lock_at k h u) (foot h u k) (is_front u t) x (foot_is_greater h u k)
 
+-- whether some number passes is whether some name does
+pub any_numbered : (f : ℕ → Bool) (g : Name → Bool) (h : History) (tree : States) → IsTreeOf h tree → ((m : ℕ) (u : Name) → slice_get (names tree) m ≡ Some u → f m ≡ g u)
+    → list_any f (numbers tree) ≡ list_any g (begun h)
+any_numbered f g h tree is each =
+    any_by_number f g (names tree) 0 (λ m u at. let same : 0 + m ≡ m = omega arith in ap f same ∙ each m u at)
+    ∙ any_named g h tree is
+
+module _ (rows : Rows) (h : History) (tables : Tabled) (are : AreTablesOf rows h tables) (t : Name) (n : ℕ) (number : IsNumberOf tables.tree t n) (k : List ℕ) (x : Kind) where
   pub blocked_as : is_blocked_in tables.tree tables.estate.locks n k x ≡ is_blocked h t k x
   blocked_as =
-      any_by_number (is_blocker_in tables.tree tables.estate.locks n k x) (is_blocker h t k x) (names tables.tree) 0
-      (λ m u at. let same : 0 + m ≡ m = omega arith in ap (is_blocker_in tables.tree tables.estate.locks n k x) same ∙ blocker_as m u at)
-      ∙ any_named (is_blocker h t k x) h tables.tree are.in_tree
+      any_numbered (is_blocker_in tables.tree tables.estate.locks n k x) (is_blocker h t k x) h tables.tree are.in_tree
+      (blocker_as rows h tables are t n (name_at tables.tree t n number) k x)
 
 -- ---- small steps
 

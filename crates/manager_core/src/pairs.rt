@@ -1,6 +1,7 @@
 //! Which of those that wait wait for which.
-ghost use Rattle.std.specs.Prelude.{◌≡◌, ◌≤◌, ◌*◌, ◌↔◌, IsTrue, [], length, vec_capacity};
-ghost use Rattle.manager_core.specs.Pairs.{ArePairs, WaitsFor, is_held_up, is_in_branch};
+ghost use Rattle.std.specs.Prelude.{◌≡◌, ◌≤◌, ◌+◌, ◌*◌, ◌++◌, length, vec_len, vec_capacity};
+ghost use Rattle.std.specs.List.{list_any};
+ghost use Rattle.manager_core.specs.Pairs.{is_held_up, is_in_branch, pairs_of, pairs_with, waits_for_in};
 
 use lock_table::Locks;
 use txn_names::Name;
@@ -31,13 +32,66 @@ fn is_held_up(tree: &Tree, locks: &Locks, wait: &Wait, other: TxnNo, holder: Txn
         && is_in_branch(tree, wait.txn, holder, other)
 }
 
-/// Whether the access waits for the other: that, or one it is in the branch of, has to end or to go on before one that keeps
-/// the access from being answered can.
-pub(crate) fn waits_for(tree: &Tree, locks: &Locks, wait: &Wait, other: TxnNo) -> bool
-    ensures { IsTrue result ↔ WaitsFor tree.now locks.now wait.now other }
+fn is_held_up_by_any(
+    tree: &Tree,
+    locks: &Locks,
+    wait: &Wait,
+    other: TxnNo,
+    holders: &[TxnNo],
+) -> bool
+    ensures { result ≡ list_any (is_held_up tree.now locks.now wait.now other) holders.now }
 {
-    locks
-        .holders(&wait.key)
+    holders
         .iter()
         .any(|holder| is_held_up(tree, locks, wait, other, *holder))
+}
+
+// Whether the access waits for the other: that, or one that it is in the branch of, has to end or to go on before one that
+// keeps the access from being answered can.
+fn waits_for(tree: &Tree, locks: &Locks, wait: &Wait, other: TxnNo) -> bool
+    ensures { result ≡ waits_for_in tree.now locks.now wait.now other }
+{
+    is_held_up_by_any(tree, locks, wait, other, locks.holders(&wait.key))
+}
+
+// Adds the pairs of this one that waits.
+fn add_pairs_of(
+    tree: &Tree,
+    locks: &Locks,
+    waits: &Waits,
+    wait: &Wait,
+    pairs: &mut Vec<(TxnNo, TxnNo)>,
+)
+    requires room { vec_len pairs.old + length waits.now.waits ≤ vec_capacity pairs.old }
+    ensures pairs { pairs.new.items ≡ pairs.old.items ++ pairs_with tree.now locks.now waits.now.waits wait.now }
+    ensures len { vec_len pairs.new ≤ vec_len pairs.old + length waits.now.waits }
+    ensures capacity { vec_capacity pairs.old ≤ vec_capacity pairs.new }
+{
+    for place in 0..waits.len() {
+        if let Some(other) = waits.at(place) {
+            if waits_for(tree, locks, wait, other.txn) {
+                pairs.push_reserved((wait.txn, other.txn));
+            }
+        }
+    }
+}
+
+/// All pairs of those that wait of which the first waits for the second. It takes no memory.
+pub(crate) fn collect_pairs(
+    tree: &Tree,
+    locks: &Locks,
+    waits: &Waits,
+    pairs: &mut Vec<(TxnNo, TxnNo)>,
+)
+    requires room { length waits.now.waits * length waits.now.waits ≤ vec_capacity pairs.old }
+    ensures pairs { pairs.new.items ≡ pairs_of tree.now locks.now waits.now.waits waits.now.waits }
+    ensures len { vec_len pairs.new ≤ length waits.now.waits * length waits.now.waits }
+    ensures capacity { vec_capacity pairs.old ≤ vec_capacity pairs.new }
+{
+    pairs.clear();
+    for place in 0..waits.len() {
+        if let Some(wait) = waits.at(place) {
+            add_pairs_of(tree, locks, waits, wait, pairs);
+        }
+    }
 }

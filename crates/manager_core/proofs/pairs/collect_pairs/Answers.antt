@@ -1,0 +1,31 @@
+use Rattle.std.proofs.Common.{◌≡◌, ℕ, ◌+◌, ◌*◌, List, ◌++◌, length, take, sym, ap, ◌∙◌, add-one, arith}
+use Rattle.std.proofs.Math.Nat.{suc-mul}
+use Rattle.serial_spec.proofs.Taking.{take_past}
+use Rattle.wait_cycles.specs.declared.waits.Wait.{Wait}
+use Rattle.manager_core.specs.Pairs.{pairs_of, pairs_with}
+use Rattle.manager_core.proofs.HeldUp.{pairs_next}
+use Rattle.manager_core.proofs.pairs.collect_pairs.Goals as goal
+use Rattle.manager_core.proofs.pairs.collect_pairs.Goals.{in-Some, in_default}
+
+pub loop-place-preserved : goal.loop-place-preserved
+loop-place-preserved c =
+    let vs : List Wait = c.args.waits.now.waits in
+    let i : ℕ = c.loop-place.place in
+    let inv = c.loop-place.invariant in
+    let more : (i + 1) * length vs ≡ i * length vs + length vs = ap (λ n. n * length vs) (add-one i) ∙ suc-mul i (length vs) in
+    elim c.match-at.branch [
+      | in-Some w ↦
+          rw w.pairs-is (
+            w.add_pairs_of.ensures.pairs
+                ∙ ap (λ xs. xs ++ pairs_with c.args.tree.now c.args.locks.now vs w.in-Some.wait.now) inv.0
+                ∙ sym (pairs_next c.args.tree.now c.args.locks.now vs vs i w.in-Some.wait.now (sym w.in-Some.ensures.wait)),
+            omega (arith, inv.1, w.add_pairs_of.ensures.len, more),
+            omega (arith, inv.2, w.add_pairs_of.ensures.capacity),
+          )
+      | in_default w ↦
+          rw w.pairs-is (
+            inv.0 ∙ ap (λ xs. pairs_of c.args.tree.now c.args.locks.now xs vs) (sym (take_past vs i (sym w.in_default.ensures.wait))),
+            omega (arith, inv.1, more),
+            inv.2,
+          )
+    ]
