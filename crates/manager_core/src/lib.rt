@@ -5,6 +5,7 @@
 mod aborting;
 mod accessing;
 mod beginning;
+mod breaker;
 mod changes;
 mod closing;
 mod committing;
