@@ -17,7 +17,8 @@ use Rattle.manager_core.specs.Outcomes.{is_of_store}
 use Rattle.serial_spec.specs.declared.event.Event.TheVariants.{Commit}
 use Rattle.serial_spec.specs.declared.entry.Answer.TheVariants.{Done, Refused}
 use Rattle.serial_spec.specs.declared.entry.Entry.{Entry}
-use Rattle.serial_spec.specs.History.{Name, History, or_else}
+use Rattle.wait_cycles.specs.Waiting.{Waiting as Waiting_, wait_of as kept_wait}
+use Rattle.serial_spec.specs.History.{Name, History, Commits, Nothing, or_else}
 use Rattle.serial_spec.specs.Items.{items}
 use Rattle.serial_spec.specs.Serial.{Map, stored}
 use Rattle.serial_spec.specs.declared.mode.Mode.{Mode}
@@ -26,21 +27,23 @@ use Rattle.serial_spec.specs.Locks.{foot, is_exclusive}
 use Rattle.serial_spec.specs.Values.{seen}
 use Rattle.serial_spec.specs.Rows.{Rows, value_in}
 use Rattle.serial_spec.specs.Changes.{change_at, overlay, IsChanges}
-use Rattle.serial_spec.specs.Allowed.{cause_at_commit, asks_store, writes}
+use Rattle.serial_spec.specs.Allowed.{cause_at_commit, asks_store, waits_elsewhere, writes}
 use Rattle.serial_spec.specs.Legal.{AreAllowed}
-use Rattle.txn_history.proofs.Causes.{neither}
+use Rattle.txn_history.proofs.Causes.{neither, not_when}
 use Rattle.txn_history.proofs.Theorems.{changes_made, writes_somewhere}
 use Rattle.durable_top.specs.declared.store.TopStore.{Ghosts}
 use Rattle.durable_top.specs.Store.{counted}
 use Rattle.manager_core.specs.State.{entry}
-use Rattle.manager_core.specs.Lines.{IsLine}
-use Rattle.manager_core.specs.Kept.{IsKept, IsTreeOf}
+use Rattle.manager_core.specs.Lines.{IsFree}
+use Rattle.manager_core.specs.Kept.{AreWaitsOf, IsKept, IsTreeOf}
 use Rattle.manager_core.specs.Tables.{Tabled, CommitsIn, IsParentNumber, rows_in}
 use Rattle.manager_core.specs.Sound.{is_store_refusal, IsBacked, IsTrusted}
 use Rattle.manager_core.specs.Asked.{IsLater, Takes, Refuses}
 use Rattle.manager_core.proofs.Answers.{allowed_next, commit_allowed}
 use Rattle.manager_core.proofs.Facts.{backed_next}
-use Rattle.manager_core.proofs.Kept.{backed_over}
+use Rattle.manager_core.proofs.Kept.{backed_over, beside_same}
+use Rattle.manager_core.proofs.Lasting.{none_waiting, unless_free, wait_committed, wait_lasts}
+use Rattle.manager_core.proofs.WaitTables.{waits_stay}
 use Rattle.manager_core.proofs.Steps.{table_same}
 use Rattle.manager_core.proofs.Tabled.{tables_committed, tables_nothing}
 use Rattle.manager_core.proofs.Trees.{same_at_abort, same_children}
@@ -192,9 +195,17 @@ backed_refused g h table opened before after by t backed refuses later = record 
 -- ---- what the type keeps afterwards
 
 module _ {S : Type 0} (g : Ghosts S) (rows : Rows) (h : History) (old new : Tabled) (opened : ℕ) (before : S) (kept : IsKept g rows h old opened before)
-    (by : By) (t : Name) (line : IsLine by) (none : None ≡ cause_at_commit h by t) where
+    (by : By) (t : Name) (free : IsFree h by (Commit t)) (none : None ≡ cause_at_commit h by t) where
   done_next : AreAllowed rows (entry by (Commit t) (Done Ok) ∷ h)
-  done_next = allowed_next rows h by (Commit t) (Done Ok) kept.allowed line (commit_allowed rows h by t None none)
+  done_next = allowed_next rows h by (Commit t) (Done Ok) kept.allowed free.line (commit_allowed rows h by t None none)
+
+  -- whoever commits does not wait, and nobody else waits for the commit's line
+  waits_committed : (child : ℕ) (above : Option ℕ) → CommitsIn old new t child above → AreWaitsOf (entry by (Commit t) (Done Ok) ∷ h) new.tree new.waits
+  waits_committed child above commits =
+      let x : Entry = entry by (Commit t) (Done Ok) in
+      let alone : waits_elsewhere h by t ≡ false = not_when _ _ (neither _ _ (neither _ _ (sym none)).1).1 in
+      waits_stay h (x ∷ h) old new kept.are.waiting commits.same_names (λ n. ap (λ (s : Waiting_). kept_wait s n) commits.waits)
+      (wait_committed rows x h done_next (Commits t) refl refl (unless_free h by (Commit t) free) t refl (none_waiting h by (Commit t) free t alone))
 
   -- a subtransaction's commit
   pub kept_child : (child : ℕ) (above : Option ℕ) → 1 < length t → IsNumberOf old.tree t child → IsParentNumber old.tree t above → IsParent old.tree t above
@@ -203,7 +214,7 @@ module _ {S : Type 0} (g : Ghosts S) (rows : Rows) (h : History) (old new : Tabl
       let same = goes_below old new t child above of below commits in record {
         rising = kept.rising;
         allowed = done_next;
-        are = tables_committed rows (entry by (Commit t) (Done Ok)) h done_next old new kept.are t child above refl number above_is commits
+        are = tables_committed rows (entry by (Commit t) (Done Ok)) h done_next old new kept.are (waits_committed child above commits) t child above refl number above_is commits
             (λ k. ap (λ (rs : Rows). value_in rs k) same ∙ kept.are.current k ∙ sym (stored_below rows h by t below done_next k));
         backed = backed_over g same (backed_next g h (rows_in old) opened before by (Commit t) (Done Ok) kept.backed refl);
       }
@@ -216,7 +227,7 @@ module _ {S : Type 0} (g : Ghosts S) (rows : Rows) (h : History) (old new : Tabl
       let was : value_in (rows_in old) ≡ stored (value_in rows) h = λ i k. kept.are.current k i in record {
         rising = kept.rising;
         allowed = done_next;
-        are = tables_committed rows (entry by (Commit t) (Done Ok)) h done_next old new kept.are t child None refl number (root_is_nobody old.tree t top rootless) commits
+        are = tables_committed rows (entry by (Commit t) (Done Ok)) h done_next old new kept.are (waits_committed child None commits) t child None refl number (root_is_nobody old.tree t top rootless) commits
             (λ k. ap (λ (m : Map). m k) overlays ∙ ap (λ (m : Map). overlay changes m k) was ∙ stored_top rows h by t changes top done_next are k);
         backed = backed_taken g h (rows_in old) (rows_in new) opened before after by t changes kept.backed takes later overlays;
       }
@@ -225,9 +236,12 @@ module _ {S : Type 0} (g : Ghosts S) (rows : Rows) (h : History) (old new : Tabl
   pub kept_unstored : (after : S) (changes : List Change) → length t ≡ 1 → IsChanges (value_in rows) h t changes → (changes ≡ [] → ⊥)
       → Refuses g before after → IsLater g before after → IsKept g rows (entry by (Commit t) (Refused Store) ∷ h) old opened after
   kept_unstored after changes top are some refuses later =
-      let allowed = allowed_next rows h by (Commit t) (Refused Store) kept.allowed line (commit_allowed rows h by t None none, asked (value_in rows) h t changes top are some) in record {
+      let allowed = allowed_next rows h by (Commit t) (Refused Store) kept.allowed free.line (commit_allowed rows h by t None none, asked (value_in rows) h t changes top are some) in record {
         rising = kept.rising;
         allowed = allowed;
-        are = tables_nothing rows (entry by (Commit t) (Refused Store)) h allowed old old kept.are refl;
+        are = tables_nothing rows (entry by (Commit t) (Refused Store)) h allowed old old kept.are
+            (waits_stay h (entry by (Commit t) (Refused Store) ∷ h) old old kept.are.waiting refl (λ n. refl)
+            (wait_lasts rows (entry by (Commit t) (Refused Store)) h allowed Nothing refl refl (unless_free h by (Commit t) free) refl))
+            refl (beside_same old old refl);
         backed = backed_refused g h (rows_in old) opened before after by t kept.backed refuses later;
       }

@@ -20,6 +20,8 @@ pub mod TopCommits
 pub mod Opening
 pub mod Tops
 pub mod Waits
+pub mod Lasting
+pub mod WaitTables
 pub mod Retrying
 pub mod Lines
 pub mod Branches

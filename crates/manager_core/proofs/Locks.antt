@@ -14,7 +14,8 @@ use Rattle.lock_table.specs.Inherited.{free, whole}
 use Rattle.inherit.specs.Assets.{Assets, modes_of, left_of}
 use Rattle.inherit.specs.Steps.{HasDropped}
 use Rattle.orphans.specs.Marked.{Marked, is_marked}
-use Rattle.lock_table.specs.Blocking.{is_front_of, is_blocker_in, is_blocked_in, numbers}
+use Rattle.wait_cycles.specs.Waiting.{Waiting, wait_of as kept_wait}
+use Rattle.lock_table.specs.Blocking.{is_front_of, is_blocker_in, is_blocked_in, is_under, numbers}
 use Rattle.serial_spec.specs.declared.mode.Mode.{Mode}
 use Rattle.serial_spec.specs.declared.operation.Kind.{Kind}
 use Rattle.serial_spec.specs.History.{Name, History, begun, is_active, is_live, is_live_status, is_orphan}
@@ -22,7 +23,7 @@ use Rattle.serial_spec.specs.Locks.{conflicts, foot, is_blocker, is_blocked}
 use Rattle.txn_history.proofs.Theorems.{foot_is_greater}
 use Rattle.serial_spec.specs.Rows.{Rows}
 use Rattle.manager_core.specs.Kept.{status_of, AreTablesOf, IsTreeOf, lock_at, content_of}
-use Rattle.manager_core.specs.Tables.{Tabled, AbortsIn, is_below}
+use Rattle.manager_core.specs.Tables.{Tabled, AbortsIn, is_below, wait_at}
 use Rattle.manager_core.proofs.Blocking.{any_named}
 
 -- ---- numbers
@@ -96,17 +97,19 @@ present h tree is t acts =
     by state.Aborted e = refl
 
 -- what was dropped by number is dropped by name
-pub aborts_by_name : (old : Tabled) (tree : States) (marks : Marked) (estate : Assets) (t : Name) (n : ℕ) → names tree ≡ names old.tree
+pub aborts_by_name : (old : Tabled) (tree : States) (marks : Marked) (estate : Assets) (waits : Waiting) (t : Name) (n : ℕ) → names tree ≡ names old.tree
     → ((u : Name) → status_in tree u ≡ cond (path_eq t u) state.Aborted (status_in old.tree u))
     → ((u : Name) → is_marked marks u ≡ (path_eq t u || is_marked old.marks u))
-    → IsNumberOf tree t n → HasDropped tree old.estate estate n → AbortsIn old (record { tree = tree; marks = marks; estate = estate }) t
-aborts_by_name old tree marks estate t n same sets marked number dropped = record {
+    → IsNumberOf tree t n → HasDropped tree old.estate estate n → ((u : ℕ) → kept_wait waits u ≡ cond (is_under tree n u) None (wait_at old u))
+    → AbortsIn old (record { tree = tree; marks = marks; estate = estate; waits = waits }) t
+aborts_by_name old tree marks estate waits t n same sets marked number dropped gone = record {
   same_names = same;
   status = sets;
   marks = marked;
   modes = λ u k. dropped.modes u k ∙ ap (λ b. cond b free (modes_of old.estate u k)) (below u);
   left = λ u k. dropped.left u k ∙ ap (λ b. cond b None (left_of old.estate u k)) (below u);
   rows = dropped.rows;
+  waits = λ u. gone u ∙ ap (λ b. cond b None (wait_at old u)) (below u);
 }
   where
     below : (u : ℕ) → is_front_of (slice_get (names tree) n) (slice_get (names tree) u) ≡ is_below (slice_get (names old.tree) u) t

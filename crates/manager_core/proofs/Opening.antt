@@ -7,12 +7,15 @@ use Rattle.inherit.specs.Assets.{Assets, free, modes_of, left_of}
 use Rattle.serial_spec.specs.History.{Name, status}
 use Rattle.serial_spec.specs.Serial.{Map}
 use Rattle.serial_spec.specs.Rows.{Rows, value_in}
-use Rattle.txn_tree.specs.States.{status_in}
+use Rattle.std.specs.Prelude.{slice_get}
+use Rattle.wait_cycles.specs.declared.waits.Wait.{Wait}
+use Rattle.wait_cycles.specs.Waiting.{wait_in}
+use Rattle.txn_tree.specs.States.{names, status_in}
 use Rattle.durable_top.specs.declared.store.Row.{Row}
 use Rattle.durable_top.specs.Store.{plain}
 use Rattle.durable_top.specs.declared.store.TopStore.{Ghosts}
-use Rattle.manager_core.specs.Kept.{AreTablesOf, IsEstateOf, IsTreeOf, status_of}
-use Rattle.manager_core.specs.Tables.{Tabled, rows_in}
+use Rattle.manager_core.specs.Kept.{AreTablesOf, IsEstateOf, IsTreeOf, status_of, wait_of_any}
+use Rattle.manager_core.specs.Tables.{Tabled, rows_in, wait_for}
 use Rattle.manager_core.specs.Sound.{IsBacked}
 
 -- rows are as many from either form
@@ -41,11 +44,12 @@ empty_estate states estate e unlocked unleft = record {
 
 -- so the tables are what an empty history says, over any rows in order
 pub tables_open : (rows : Rows) (tables : Tabled) → value_in (rows_in tables) ≡ value_in rows → tables.tree ≡ [] → tables.marks.names ≡ []
-    → ((n : ℕ) (k : List ℕ) → modes_of tables.estate n k ≡ free) → ((n : ℕ) (k : List ℕ) → left_of tables.estate n k ≡ None) → AreTablesOf rows [] tables
-tables_open rows tables e empty unmarked unlocked unleft = record {
+    → ((n : ℕ) (k : List ℕ) → modes_of tables.estate n k ≡ free) → ((n : ℕ) (k : List ℕ) → left_of tables.estate n k ≡ None) → tables.waits.waits ≡ [] → AreTablesOf rows [] tables
+tables_open rows tables e empty unmarked unlocked unleft unwaited = record {
   in_tree = empty_tree tables.tree empty;
   marked = λ t. ap (list_any (path_eq t)) unmarked;
   estate = empty_estate tables.tree tables.estate empty unlocked unleft;
+  waiting = λ n. ap (λ (ws : List Wait). wait_in ws n) unwaited ∙ sym (ap (λ (s : States). wait_for n (wait_of_any [] (slice_get (names s) n))) empty);
   current = λ k. ap (λ (m : Map). m k) e;
 }
 

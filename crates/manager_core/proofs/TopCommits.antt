@@ -17,7 +17,7 @@ use Rattle.serial_spec.specs.Allowed.{cause_at_commit}
 use Rattle.durable_top.specs.declared.store.TopStore.{Ghosts}
 use Rattle.manager_core.specs.declared.outcome.Outcome.TheVariants as made
 use Rattle.manager_core.specs.State.{entry}
-use Rattle.manager_core.specs.Lines.{IsLine}
+use Rattle.manager_core.specs.Lines.{IsFree}
 use Rattle.manager_core.specs.Kept.{IsKept}
 use Rattle.manager_core.specs.Tables.{Tabled, CommitsIn, HasOtherRoom, rows_in}
 use Rattle.manager_core.specs.Asked.{IsLater, IsAsked, Takes, Refuses}
@@ -36,7 +36,7 @@ first_false true e = e
 first_false false e = refl
 
 module _ {S : Type 0} (g : Ghosts S) (rows : Rows) (h : History) (old mid : Tabled) (opened : ℕ) (before : S) (kept : IsKept g rows h old opened before)
-    (same : HasOtherRoom old mid) (by : By) (t : Name) (line : IsLine by) (none : None ≡ cause_at_commit h by t) (top : length t ≡ 1)
+    (same : HasOtherRoom old mid) (by : By) (t : Name) (free : IsFree h by (Commit t)) (none : None ≡ cause_at_commit h by t) (top : length t ≡ 1)
     (n : ℕ) (number : IsNumberOf old.tree t n) (rootless : IsRootless old.tree) (changes : List Change) (told : AreChangesOf mid.tree mid.estate n changes) where
   roomy : IsKept g rows h mid opened before
   roomy = kept_roomy g rows h old mid opened before kept same
@@ -49,12 +49,12 @@ module _ {S : Type 0} (g : Ghosts S) (rows : Rows) (h : History) (old mid : Tabl
 
   module _ (new : Tabled) (after : S) (commits : CommitsIn mid new t n None) (later : IsLater g before after) where
     overlays : value_in (rows_in new) ≡ overlay changes (value_in (rows_in mid))
-    overlays = table_overlays rows h mid roomy.allowed roomy.are t n number_mid by none new commits line top changes are
+    overlays = table_overlays rows h mid roomy.allowed roomy.are t n number_mid by none new commits free.line top changes are
 
     -- the store took the changes
     pub kept_taken : Takes g before after changes → IsKept g rows (entry by (Commit t) (Done Ok) ∷ h) new opened after
     kept_taken takes =
-        kept_top g rows h mid new opened before roomy by t line none n after changes top number_mid (subst (λ (s : States). IsRootless s) (sym same.tree) rootless) commits are overlays takes later
+        kept_top g rows h mid new opened before roomy by t free none n after changes top number_mid (subst (λ (s : States). IsRootless s) (sym same.tree) rootless) commits are overlays takes later
 
     pub committed_taken : (changes ≡ [] → after ≡ before) → ((changes ≡ [] → ⊥) → IsAsked g before after changes true) → Committed g
         (record { rows = rows; opened = opened; history = h; table = rows_in old; store = before })
@@ -74,7 +74,7 @@ module _ {S : Type 0} (g : Ghosts S) (rows : Rows) (h : History) (old mid : Tabl
   module _ (after : S) (later : IsLater g before after) (some : changes ≡ [] → ⊥) (once : IsAsked g before after changes false) where
     -- the store refused them
     pub kept_refused : Refuses g before after → IsKept g rows (entry by (Commit t) (Refused Store) ∷ h) mid opened after
-    kept_refused refuses = kept_unstored g rows h mid mid opened before roomy by t line none after changes top are some refuses later
+    kept_refused refuses = kept_unstored g rows h mid mid opened before roomy by t free none after changes top are some refuses later
 
     pub committed_refused : Committed g
         (record { rows = rows; opened = opened; history = h; table = rows_in old; store = before })

@@ -10,7 +10,7 @@ use Rattle.txn_tree.specs.States.{States, names, status_in, is_live as is_live_s
 use Rattle.txn_tree.specs.Asked.{is_live_in}
 use Rattle.txn_tree.specs.declared.status.Status.{Status as State}
 use Rattle.txn_tree.specs.declared.status.Status.TheVariants as state
-use Rattle.serial_spec.specs.History.{Name, History, or_else, is_live, begun, has_begun}
+use Rattle.serial_spec.specs.History.{Name, History, Aborts, or_else, is_live, begun, has_begun}
 use Rattle.serial_spec.specs.Rows.{Rows}
 use Rattle.serial_spec.specs.Legal.{AreAllowed, is_top_level, first_live}
 use Rattle.serial_spec.specs.Interleaving.{closing}
@@ -24,6 +24,8 @@ use Rattle.manager_core.proofs.Facts.{backed_next}
 use Rattle.manager_core.proofs.Trees.{live_in}
 use Rattle.manager_core.proofs.Kept.{backed_over}
 use Rattle.manager_core.proofs.Tabled.{tables_aborted}
+use Rattle.manager_core.proofs.Lasting.{unless_close, wait_aborted}
+use Rattle.manager_core.proofs.WaitTables.{waits_dropped}
 use Rattle.manager_core.proofs.Named.{any_next, counted_at}
 use Rattle.manager_core.proofs.Blocking.{any_named, all_named}
 
@@ -160,13 +162,15 @@ module _ (rows : Rows) (old new : History) (before tables : Tabled) (room i : �
 
       pub closed_one : ClosingAt rows old (closing t ∷ new) before after room_after (i + 1)
       closed_one =
+          let waiting = waits_dropped new (closing t ∷ new) tables after far.are.waiting t aborts
+          (wait_aborted rows (closing t) new next_allowed (Aborts t) refl refl (unless_close new) t refl) in
           let still : list_any (is_live_top_in after.tree) (take i (names after.tree)) ≡ false =
           ap (λ xs. list_any (is_live_top_in after.tree) (take i xs)) aborts.same_names ∙ fewer (is_live_top_in tables.tree) (is_live_top_in after.tree) lives_on (take i (names tables.tree)) far.gone in
           record {
             closed = t ∷ far.closed;
             added = ap (λ h. closing t ∷ h) far.added;
             allowed = next_allowed;
-            are = tables_aborted rows (closing t) new next_allowed tables after far.are t refl aborts;
+            are = tables_aborted rows (closing t) new next_allowed tables after far.are waiting t refl aborts;
             same_rows = aborts.rows ∙ far.same_rows;
             same_names = aborts.same_names ∙ far.same_names;
             gone = any_next (is_live_top_in after.tree) (names after.tree) i t (ap (λ xs. slice_get xs i) aborts.same_names ∙ at) still ended_here;

@@ -11,13 +11,13 @@ use Rattle.txn_tree.specs.Causes as tree
 use Rattle.txn_tree.specs.declared.status.Status.{Status as State}
 use Rattle.txn_tree.specs.declared.status.Status.TheVariants as state
 use Rattle.orphans.specs.Marked.{Marked, is_marked}
-use Rattle.serial_spec.specs.History.{Name, History, Status, Absent, Live, Committed, Aborted, status, is_absent, is_committed, is_live, is_live_status, is_active, top_aborted, begun, has_begun, has_aborted, has_committed}
+use Rattle.serial_spec.specs.History.{Name, History, Status, Absent, Live, Committed, Aborted, status, is_absent, is_committed, is_live, is_live_status, top_aborted, begun, has_begun, has_aborted, has_committed}
 use Rattle.serial_spec.specs.Rows.{Rows}
 use Rattle.serial_spec.specs.Legal.{AreAllowed}
 use Rattle.serial_spec.specs.Allowed.{has_live_child, cause_at_begin, cause_at_end}
 use Rattle.txn_history.proofs.Theorems.{ended_begun}
 use Rattle.manager_core.specs.Kept.{status_of, IsTreeOf, AreMarksOf, AreTablesOf}
-use Rattle.manager_core.specs.Tables.{Tabled, acts_in, cause_in}
+use Rattle.manager_core.specs.Tables.{Tabled, cause_in}
 use Rattle.txn_history.proofs.Reversed.{any_reversed}
 
 -- ---- states
@@ -125,6 +125,3 @@ module _ (rows : Rows) (h : History) (tables : Tabled) (allowed : AreAllowed row
   pub same_at_end : 0 < length t → cause_in tables t ≡ cause_at_end h t
   same_at_end some =
       rw (unknown_as rows h tables.tree allowed are.in_tree t some, top_by_marks h tables.marks are.marked t, committed_in rows h tables.tree allowed are.in_tree t) refl
-
-  pub same_active : acts_in tables t ≡ is_active h t
-  same_active = rw (live_in rows h tables.tree allowed are.in_tree t, top_by_marks h tables.marks are.marked t) refl

@@ -1,7 +1,6 @@
 -- Waits and lines, entry by entry.
-use Rattle.std.proofs.Common.{◌≡◌, ℕ, ap₂, Bool, true, false, not, cond, ◌&&◌, ◌||◌, ◌==◌, List, [], ◌∷◌, ◌++◌, length, drop, reverse, filter, find, Some, None, is_some, ⊎_elim, refl, sym, ap, subst, ◌∙◌, arith}
+use Rattle.std.proofs.Common.{◌≡◌, ℕ, ap₂, Bool, true, false, not, cond, ◌&&◌, ◌||◌, ◌==◌, List, [], ◌∷◌, filter, find, Some, None, is_some, ⊎_elim, refl, sym, ap, subst, ◌∙◌}
 use Rattle.std.proofs.lemmas.Bool.{false≢true, and_parts, and_from, and_left, or_parts, or_from, or_left, or_right, not-true, not_from_false, eqb-true, eq-eqb}
-use Rattle.std.proofs.lemmas.List.{append_assoc, append-nil, drop_all, drop_at}
 use Rattle.std.proofs.lemmas.Map.Views.{any-filter_same}
 use Rattle.std.specs.List.{list_any}
 use Rattle.txn_names.proofs.Names.{on_test, path_eq_self}
@@ -17,7 +16,6 @@ use Rattle.serial_spec.specs.Allowed.{has_waited}
 use Rattle.txn_history.proofs.Tests.{clash, same_tests}
 use Rattle.txn_history.proofs.Lists.{any_cases}
 use Rattle.manager_core.specs.Lines.{entries_of, OnlyWaits, IsRetried, IsFree}
-use Rattle.txn_history.proofs.Reversed.{newest}
 use Rattle.manager_core.proofs.Lines.{filtered_none}
 
 -- ---- lines
@@ -40,7 +38,7 @@ same_line-swap : (a b : By) → same_line a b ≡ same_line b a
 same_line-swap a b = same_tests (same_line a b) (same_line b a) (line-swap a b) (line-swap b a)
 
 -- and then they are one
-same_by : (a b : By) → same_line a b ≡ true → a ≡ b
+pub same_by : (a b : By) → same_line a b ≡ true → a ≡ b
 same_by (Line s l) (Line t m) e =
     let p = and_parts (s == t) (l == m) e in
     ap₂ Line (eqb-true s t p.0) (eqb-true l m p.1)
@@ -48,85 +46,6 @@ same_by (Line s l) Victim e = absurd (false≢true e)
 same_by (Line s l) Close e = absurd (false≢true e)
 same_by Victim b e = absurd (false≢true e)
 same_by Close b e = absurd (false≢true e)
-
--- ---- open waits
-
--- no entry of these is of the wait's line
-abbrev pub stays_open : List Entry → Entry → Bool
-stays_open later w = not (list_any (λ e. same_line e.by w.by) later)
-
--- a filter of a filter
-filter-filter : {X : Type 0} (p q r : X → Bool) → ((x : X) → r x ≡ q x && p x) → (xs : List X) → filter p (filter q xs) ≡ filter r xs
-filter-filter p q r both [] = refl
-filter-filter p q r both (x ∷ xs) =
-    on_test (q x) (λ b. q x ≡ b → filter p (cond b (x ∷ filter q xs) (filter q xs)) ≡ cond (r x) (x ∷ filter r xs) (filter r xs))
-    (λ _ e. rw (both x, e) (ap (λ ys. cond (p x) (x ∷ ys) ys) (filter-filter p q r both xs)))
-    (λ _ e. rw (both x, e) (filter-filter p q r both xs))
-    refl
-
--- of an older wait's line there is no later entry, and the newest is not of it
-stays-more : (e : Entry) (later : List Entry) (w : Entry) → stays_open (e ∷ later) w ≡ not (same_line w.by e.by) && stays_open later w
-stays-more e later w =
-    ap (λ b. not (b || list_any (λ x. same_line x.by w.by) later)) (same_line-swap e.by w.by)
-    ∙ on_test (same_line w.by e.by) (λ b. not (b || list_any (λ x. same_line x.by w.by) later) ≡ not b && stays_open later w) (λ _. refl) (λ _. refl)
-
--- the first of the open waits that passes is the newest entry, or stands before it
-newest_waits : (p : Entry → Bool) (e : Entry) (h : History) (later : List Entry)
-    → find p (filter (stays_open later) (open_waits (e ∷ h)))
-    ≡ cond ((is_waits e.answer && p e) && stays_open later e) (Some e) (find p (filter (stays_open (e ∷ later)) (open_waits h)))
-newest_waits p e h later =
-    let rest = filter (λ w. not (same_line w.by e.by)) (open_waits h) in
-    let older : filter (stays_open later) rest ≡ filter (stays_open (e ∷ later)) (open_waits h) =
-    filter-filter (stays_open later) (λ w. not (same_line w.by e.by)) (stays_open (e ∷ later)) (stays-more e later) (open_waits h) in
-    on_test (is_waits e.answer) (λ a. find p (filter (stays_open later) (cond a (e ∷ rest) rest)) ≡ cond ((a && p e) && stays_open later e) (Some e) (find p (filter (stays_open (e ∷ later)) (open_waits h))))
-    (λ _. on_test (stays_open later e) (λ b. find p (cond b (e ∷ filter (stays_open later) rest) (filter (stays_open later) rest)) ≡ cond (p e && b) (Some e) (find p (filter (stays_open (e ∷ later)) (open_waits h))))
-    (λ _. on_test (p e) (λ b. cond b (Some e) (find p (filter (stays_open later) rest)) ≡ cond (b && true) (Some e) (find p (filter (stays_open (e ∷ later)) (open_waits h)))) (λ _. refl) (λ _. ap (find p) older))
-    (λ _. on_test (p e) (λ b. find p (filter (stays_open later) rest) ≡ cond (b && false) (Some e) (find p (filter (stays_open (e ∷ later)) (open_waits h)))) (λ _. ap (find p) older) (λ _. ap (find p) older)))
-    (λ _. ap (find p) older)
-
--- where nothing was passed over every wait is open
-kept_whole : {X : Type 0} (xs : List X) → filter (λ x. true) xs ≡ xs
-kept_whole [] = refl
-kept_whole (x ∷ xs) = ap (λ ys. x ∷ ys) (kept_whole xs)
-
--- of the entries from the newest on, those that are left hold the first open wait that passes
-pub record IsLeft (p : Entry → Bool) (entries rest : List Entry) : Type 0 where
-  pub all : entries ≡ rest ++ drop (length rest) entries
-  pub same : find p (filter (stays_open (drop (length rest) entries)) (open_waits (reverse rest))) ≡ find p (open_waits (reverse entries))
-
--- at first all are left
-pub all_left : (p : Entry → Bool) (entries : List Entry) → IsLeft p entries entries
-all_left p entries =
-    let none : drop (length entries) entries ≡ [] = drop_all (length entries) entries (omega arith) in
-    record {
-      all = sym (ap (λ (es : List Entry). entries ++ es) none ∙ append-nil entries);
-      same = ap (λ (es : List Entry). find p (filter (stays_open es) (open_waits (reverse entries)))) none ∙ ap (find p) (kept_whole (open_waits (reverse entries)));
-    }
-
-module _ (p : Entry → Bool) (entries rest earlier : List Entry) (e : Entry) (is : rest ≡ earlier ++ e ∷ []) (left : IsLeft p entries rest) where
-  -- the entries passed over are those behind it
-  behind : entries ≡ earlier ++ e ∷ drop (length rest) entries
-  behind = left.all ∙ ap (λ (es : List Entry). es ++ drop (length rest) entries) is ∙ append_assoc earlier (e ∷ []) (drop (length rest) entries)
-
-  passed : drop (length earlier) entries ≡ e ∷ drop (length rest) entries
-  passed = ap (λ (es : List Entry). drop (length earlier) es) behind ∙ drop_at earlier (e ∷ drop (length rest) entries) (length earlier) refl
-
-  by_newest : find p (open_waits (reverse entries))
-      ≡ cond ((is_waits e.answer && p e) && stays_open (drop (length rest) entries) e) (Some e) (find p (filter (stays_open (e ∷ drop (length rest) entries)) (open_waits (reverse earlier))))
-  by_newest =
-      sym left.same
-      ∙ ap (λ (es : List Entry). find p (filter (stays_open (drop (length rest) entries)) (open_waits es))) (ap (λ (es : List Entry). reverse es) is ∙ newest earlier e)
-      ∙ newest_waits p e (reverse earlier) (drop (length rest) entries)
-
-  -- the newest of them, where it is not the wait, may be passed over
-  pub fewer_left : (is_waits e.answer && p e) && stays_open (drop (length rest) entries) e ≡ false → IsLeft p entries earlier
-  fewer_left n =
-      record {
-        all = behind ∙ ap (λ (es : List Entry). earlier ++ es) (sym passed);
-        same =
-            ap (λ (es : List Entry). find p (filter (stays_open es) (open_waits (reverse earlier)))) passed
-            ∙ sym (by_newest ∙ ap (λ b. cond b (Some e) (find p (filter (stays_open (e ∷ drop (length rest) entries)) (open_waits (reverse earlier))))) n);
-      }
 
 -- ---- whoever acts
 
@@ -168,7 +87,7 @@ not_waited_unused (x ∷ h) by n =
     or_from (same_line x.by by && is_waits x.answer) (has_waited h by) (and_left (same_line x.by by) (is_waits x.answer) q.0) (not_waited_unused h by q.1)
 
 -- where one test passes so does a weaker one
-any_weaker : {X : Type 0} (p q : X → Bool) (xs : List X) → ((x : X) → p x ≡ true → q x ≡ true) → list_any p xs ≡ true → list_any q xs ≡ true
+pub any_weaker : {X : Type 0} (p q : X → Bool) (xs : List X) → ((x : X) → p x ≡ true → q x ≡ true) → list_any p xs ≡ true → list_any q xs ≡ true
 any_weaker p q [] w a = a
 any_weaker p q (x ∷ xs) w a =
     ⊎_elim (λ (e : p x ≡ true). or_left (q x) (list_any q xs) (w x e)) (λ (e : list_any p xs ≡ true). or_right (q x) (list_any q xs) (any_weaker p q xs w e))

@@ -12,10 +12,13 @@ use Rattle.serial_spec.specs.Locks.{held, retained}
 use Rattle.serial_spec.specs.Items.{items}
 use Rattle.serial_spec.specs.Values.{last_left}
 use Rattle.serial_spec.specs.Serial.{stored}
+use Rattle.serial_spec.specs.Waits.{wait_of}
+use Rattle.serial_spec.specs.declared.entry.Entry.{Entry}
+use Rattle.wait_cycles.specs.Waiting.{Waiting, wait_of as kept_wait}
 use Rattle.serial_spec.specs.Rows.{Rows, value_in, IsRising}
 use Rattle.serial_spec.specs.Legal.{AreAllowed}
 use Rattle.durable_top.specs.declared.store.TopStore.{Ghosts}
-use Rattle.manager_core.specs.Tables.{Tabled, rows_in}
+use Rattle.manager_core.specs.Tables.{Tabled, rows_in, wait_for}
 use Rattle.manager_core.specs.Sound.{IsBacked}
 
 -- a state of the tree, as the definitions call it
@@ -50,11 +53,21 @@ pub record IsEstateOf (h : History) (tree : States) (estate : Assets) : Type 0 w
   pub modes : (n : ℕ) (k : List ℕ) → modes_of estate n k ≡ content_of free (lock_at k) h (slice_get (names tree) n)
   pub left : (n : ℕ) (k : List ℕ) → left_of estate n k ≡ content_of None (left_at k) h (slice_get (names tree) n)
 
+-- the entry by which it waits, where there is a name
+abbrev pub wait_of_any : History → Option Name → Option Entry
+wait_of_any h None = None
+wait_of_any h (Some t) = wait_of h t
+
+-- so is who waits: for each number stands the wait of whoever has it
+abbrev pub AreWaitsOf : History → States → Waiting → Type 0
+AreWaitsOf h tree waits = (n : ℕ) → kept_wait waits n ≡ wait_for n (wait_of_any h (slice_get (names tree) n))
+
 -- all tables are what the history over these rows says
 pub record AreTablesOf (rows : Rows) (h : History) (tables : Tabled) : Type 0 where
   pub in_tree : IsTreeOf h tables.tree
   pub marked : AreMarksOf h tables.marks
   pub estate : IsEstateOf h tables.tree tables.estate
+  pub waiting : AreWaitsOf h tables.tree tables.waits
   -- the table is what the committed top-level transactions left
   pub current : (k : List ℕ) → value_in (rows_in tables) k ≡ stored (value_in rows) h k
 

@@ -1,5 +1,5 @@
 -- The tables as contracts see them, what is asked of them, and what each step does to them.
-use Rattle.std.specs.Prelude.{◌≡◌, ℕ, Bool, true, false, not, ◌&&◌, ◌||◌, if◌then◌else◌, List, [], ◌∷◌, ◌++◌, slice_get, Option, Some, None, is_some, option_map}
+use Rattle.std.specs.Prelude.{◌≡◌, ℕ, Bool, true, false, ◌&&◌, ◌||◌, if◌then◌else◌, List, [], ◌∷◌, ◌++◌, slice_get, Option, Some, None, option_map}
 use Rattle.txn_names.specs.Path.{path_eq, label_eq, is_front, parent, top_of}
 use Rattle.txn_tree.specs.States.{States, names, status_in}
 use Rattle.txn_tree.specs.Asked.{is_absent_in, is_live_in, has_committed_in, is_name}
@@ -8,8 +8,14 @@ use Rattle.orphans.specs.Marked.{Marked, is_marked}
 use Rattle.lock_table.specs.Inherited.{free, with_held}
 use Rattle.inherit.specs.Assets.{Assets, IsSame, modes_of, left_of, rows_of}
 use Rattle.inherit.specs.Steps.{HasGoneUp}
+use Rattle.wait_cycles.specs.declared.waits.Wait.{Wait}
+use Rattle.wait_cycles.specs.Waiting.{Waiting, wait_of as kept_wait}
 use Rattle.serial_spec.specs.declared.entry.By.{By}
 use Rattle.serial_spec.specs.declared.operation.Op.{Op}
+use Rattle.serial_spec.specs.declared.event.Event.{Event}
+use Rattle.serial_spec.specs.declared.event.Event.TheVariants.{Access}
+use Rattle.serial_spec.specs.declared.entry.Answer.TheVariants as answer
+use Rattle.serial_spec.specs.declared.entry.Entry.{Entry}
 use Rattle.serial_spec.specs.declared.operation.Reply.{Reply}
 use Rattle.serial_spec.specs.Operations.{kind, leaves, reply_of}
 use Rattle.serial_spec.specs.History.{Name, History, or_else}
@@ -21,24 +27,22 @@ use Rattle.serial_spec.specs.Allowed.{when, cause_at_access}
 use Rattle.manager_core.specs.declared.outcome.Outcome.{Outcome}
 use Rattle.manager_core.specs.declared.outcome.Outcome.TheVariants.{Done, Waits, Refused}
 use Rattle.serial_spec.specs.Legal.{is_top_level}
+use Rattle.manager_core.specs.State.{entry}
 use Rattle.serial_spec.specs.declared.entry.Refusal.{Refusal}
 use Rattle.serial_spec.specs.declared.entry.Refusal.TheVariants.{Unknown, Done as HasCommitted, Orphan}
 
--- who has begun with the state of each, who has aborted, and what live transactions lock and have left, over the table
+-- who has begun with the state of each, who has aborted, what live transactions lock and have left, over the table, and who waits
 pub record Tabled : Type 0 where
   pub tree : States
   pub marks : Marked
   pub estate : Assets
+  pub waits : Waiting
 
 -- the rows of the table
 abbrev pub rows_in : Tabled → Rows
 rows_in tables = rows_of tables.estate
 
 -- ---- what is asked
-
--- live, and no orphan
-abbrev pub acts_in : Tabled → Name → Bool
-acts_in tables t = is_live_in tables.tree t && not (is_some (top_of (is_marked tables.marks) t))
 
 -- the first of the causes that access, commit and abort share
 abbrev pub cause_in : Tabled → Name → Option Refusal
@@ -59,13 +63,33 @@ is_below (Some u) t = is_front t u
 abbrev pub IsParentNumber : States → Name → Option ℕ → Type 0
 IsParentNumber tree t p = (m : ℕ) → is_it p m ≡ is_name (slice_get (names tree) m) (parent t)
 
+-- the wait that is kept for the number n
+abbrev pub wait_at : Tabled → ℕ → Option Wait
+wait_at tables n = kept_wait tables.waits n
+
+-- the wait that an entry begins, as it is kept for the number n
+abbrev pub wait_by : ℕ → By → Event → Option Wait
+wait_by n by (Access t k o) = Some (record { txn = n; key = k; op = o; by = by })
+wait_by n by e = None
+
+abbrev pub wait_for : ℕ → Option Entry → Option Wait
+wait_for n None = None
+wait_for n (Some e) = wait_by n e.by e.event
+
 -- ---- what each step does
+
+-- beside the waits they are the same, with other room
+pub record IsBeside (old new : Tabled) : Type 0 where
+  pub tree : new.tree ≡ old.tree
+  pub marks : new.marks.names ≡ old.marks.names
+  pub estate : IsSame old.estate new.estate
 
 -- with other room they are the same
 pub record HasOtherRoom (old new : Tabled) : Type 0 where
   pub tree : new.tree ≡ old.tree
   pub marks : new.marks.names ≡ old.marks.names
   pub estate : IsSame old.estate new.estate
+  pub waits : (n : ℕ) → wait_at new n ≡ wait_at old n
 
 -- the step was made, unless it was refused
 abbrev pub MadeUnless : Option Refusal → Tabled → Tabled → Type 0 → Type 0
@@ -78,8 +102,9 @@ pub record BeginsIn (old new : Tabled) (t : Name) : Type 0 where
   pub status : (u : Name) → status_in new.tree u ≡ (if path_eq t u then Live else status_in old.tree u)
   pub marks : new.marks ≡ old.marks
   pub estate : new.estate ≡ old.estate
+  pub waits : new.waits ≡ old.waits
 
--- t has aborted and is marked, and what it and all below it had is gone
+-- t has aborted and is marked, what it and all below it had is gone, and they wait no more
 pub record AbortsIn (old new : Tabled) (t : Name) : Type 0 where
   pub same_names : names new.tree ≡ names old.tree
   pub status : (u : Name) → status_in new.tree u ≡ (if path_eq t u then Aborted else status_in old.tree u)
@@ -87,6 +112,7 @@ pub record AbortsIn (old new : Tabled) (t : Name) : Type 0 where
   pub modes : (n : ℕ) (k : List ℕ) → modes_of new.estate n k ≡ (if is_below (slice_get (names old.tree) n) t then free else modes_of old.estate n k)
   pub left : (n : ℕ) (k : List ℕ) → left_of new.estate n k ≡ (if is_below (slice_get (names old.tree) n) t then None else left_of old.estate n k)
   pub rows : rows_in new ≡ rows_in old
+  pub waits : (n : ℕ) → wait_at new n ≡ (if is_below (slice_get (names old.tree) n) t then None else wait_at old n)
 
 -- t has committed, and what it had has gone up from its number to its parent's, or into the table where there is none
 pub record CommitsIn (old new : Tabled) (t : Name) (child : ℕ) (above : Option ℕ) : Type 0 where
@@ -94,6 +120,7 @@ pub record CommitsIn (old new : Tabled) (t : Name) (child : ℕ) (above : Option
   pub status : (u : Name) → status_in new.tree u ≡ (if path_eq t u then Committed else status_in old.tree u)
   pub marks : new.marks ≡ old.marks
   pub up : HasGoneUp old.estate new.estate child above
+  pub waits : new.waits ≡ old.waits
 
 -- t has locked k and left there what its access leaves
 pub record AccessesIn (old new : Tabled) (t : Name) (k : List ℕ) (op : Op) (reply : Reply) : Type 0 where
@@ -106,7 +133,25 @@ pub record AccessesIn (old new : Tabled) (t : Name) (k : List ℕ) (op : Op) (re
 -- the access was made, if it was done
 abbrev pub ReachesIn : Tabled → Tabled → Name → List ℕ → Op → Outcome → Type 0
 ReachesIn old new t k op (Done reply) = AccessesIn old new t k op reply
-ReachesIn old new t k op outcome = HasOtherRoom old new
+ReachesIn old new t k op outcome = IsBeside old new
+
+-- all wait as before
+abbrev pub KeepsWaits : Tabled → Tabled → Type 0
+KeepsWaits old new = (n : ℕ) → wait_at new n ≡ wait_at old n
+
+-- t waits as this entry says, or not at all, and all others wait as before
+abbrev pub SetsWait : Tabled → Tabled → Name → Option Entry → Type 0
+SetsWait old new t w = (n : ℕ) → wait_at new n ≡ (if is_name (slice_get (names old.tree) n) t then wait_for n w else wait_at old n)
+
+-- an access that has to wait does so from then on
+abbrev pub WaitsFrom : Tabled → Tabled → By → Name → List ℕ → Op → Outcome → Type 0
+WaitsFrom old new by t k op Waits = SetsWait old new t (Some (entry by (Access t k op) answer.Waits))
+WaitsFrom old new by t k op outcome = KeepsWaits old new
+
+-- one that waited does so until it is answered
+abbrev pub WaitsUntil : Tabled → Tabled → Name → Outcome → Type 0
+WaitsUntil old new t Waits = KeepsWaits old new
+WaitsUntil old new t outcome = SetsWait old new t None
 
 -- what an access comes to
 abbrev pub ComesTo : Rows → History → By → Name → List ℕ → Op → Outcome → Type 0

@@ -8,8 +8,8 @@ use serial_spec::Refusal;
 use txn_names::Name;
 
 impl Tables {
-    /// Aborts the transaction, marks it and drops what it and all below it have, or tells why that is refused. It takes no
-    /// memory.
+    /// Aborts the transaction, marks it and drops what it and all below it have and wait for, or tells why that is refused.
+    /// It takes no memory.
     pub(crate) fn abort(&mut self, name: &Name) -> Option<Refusal>
         requires { 0 < self.old.marks.room }
         ensures cause { result ≡ cause_at_abort self.old.tree name.now }
@@ -22,6 +22,7 @@ impl Tables {
                 self.marks.mark(name);
                 let txn = self.number_of(name);
                 self.estate.abort(&self.tree, txn);
+                self.waits.drop_under(&self.tree, txn);
                 None
             }
             Err(refusal) => Some(refusal),

@@ -1,8 +1,11 @@
 //! An access, in the tables.
-ghost use Rattle.std.specs.Prelude.{◌≡◌, IfOk, OnErr};
+ghost use Rattle.std.specs.Prelude.{◌≡◌, IfOk, IsTrue, OnErr, is_some};
+ghost use Rattle.serial_spec.specs.declared.event.Event.TheVariants.{Access};
 ghost use Rattle.serial_spec.specs.Legal.{AreAllowed};
+ghost use Rattle.serial_spec.specs.Waits.{wait_of};
+ghost use Rattle.manager_core.specs.Lines.{IsFree};
 ghost use Rattle.manager_core.specs.Kept.{AreTablesOf};
-ghost use Rattle.manager_core.specs.Tables.{ComesTo, HasOtherRoom, ReachesIn};
+ghost use Rattle.manager_core.specs.Tables.{ComesTo, HasOtherRoom, ReachesIn, WaitsFrom, WaitsUntil};
 
 use crate::log::Log;
 use crate::outcome::Outcome;
@@ -20,12 +23,49 @@ pub(crate) struct Request {
 }
 
 impl Tables {
-    /// What an access comes to: a lock may keep it out (Moss 1981). The tables have it, if it is done.
-    pub(crate) fn access(&mut self, log: &Log, request: &Request) -> Result<Outcome, NoMemory>
+    /// An access by a line that is free: one that is kept out waits from now on.
+    pub(crate) fn ask(&mut self, log: &Log, request: &Request) -> Result<Outcome, NoMemory>
+        requires allowed { AreAllowed log.now.rows log.now.entries }
+        requires are { AreTablesOf log.now.rows log.now.entries self.old }
+        requires free { IsFree log.now.entries request.now.by (Access request.now.name request.now.key request.now.op) }
+        ensures comes { IfOk result (λ outcome. ComesTo log.now.rows log.now.entries request.now.by request.now.name request.now.key request.now.op outcome) }
+        ensures reaches { IfOk result (λ outcome. ReachesIn self.old self.new request.now.name request.now.key request.now.op outcome) }
+        ensures waits { IfOk result (λ outcome. WaitsFrom self.old self.new request.now.by request.now.name request.now.key request.now.op outcome) }
+        ensures err { OnErr result (HasOtherRoom self.old self.new) }
+    {
+        self.waits.reserve(1)?;
+        let outcome = self.access(log, request)?;
+        if let Outcome::Waits = outcome {
+            self.start_wait(request);
+        }
+        Ok(outcome)
+    }
+
+    /// The access by which a transaction waits: it waits on, or it is answered and waits no more.
+    pub(crate) fn ask_again(&mut self, log: &Log, request: &Request) -> Result<Outcome, NoMemory>
+        requires allowed { AreAllowed log.now.rows log.now.entries }
+        requires are { AreTablesOf log.now.rows log.now.entries self.old }
+        requires waits { IsTrue (is_some (wait_of log.now.entries request.now.name)) }
+        ensures comes { IfOk result (λ outcome. ComesTo log.now.rows log.now.entries request.now.by request.now.name request.now.key request.now.op outcome) }
+        ensures reaches { IfOk result (λ outcome. ReachesIn self.old self.new request.now.name request.now.key request.now.op outcome) }
+        ensures waits { IfOk result (λ outcome. WaitsUntil self.old self.new request.now.name outcome) }
+        ensures err { OnErr result (HasOtherRoom self.old self.new) }
+    {
+        let outcome = self.access(log, request)?;
+        match outcome {
+            Outcome::Waits => {}
+            _ => self.end_wait(&request.name),
+        }
+        Ok(outcome)
+    }
+
+    // What an access comes to: a lock may keep it out (Moss 1981). The tables have it, if it is done.
+    fn access(&mut self, log: &Log, request: &Request) -> Result<Outcome, NoMemory>
         requires allowed { AreAllowed log.now.rows log.now.entries }
         requires are { AreTablesOf log.now.rows log.now.entries self.old }
         ensures comes { IfOk result (λ outcome. ComesTo log.now.rows log.now.entries request.now.by request.now.name request.now.key request.now.op outcome) }
         ensures reaches { IfOk result (λ outcome. ReachesIn self.old self.new request.now.name request.now.key request.now.op outcome) }
+        ensures waits { self.new.waits ≡ self.old.waits }
         ensures err { OnErr result (HasOtherRoom self.old self.new) }
     {
         let Request { by, name, key, op } = request;

@@ -1,9 +1,9 @@
-//! Why a line is refused, read off the tables and the history.
+//! Why a line is refused, read off the tables.
 ghost use Rattle.std.specs.Prelude.{◌≡◌, ◌<◌, length};
 ghost use Rattle.serial_spec.specs.Allowed.{cause_at_access, cause_at_commit, is_full_for};
 ghost use Rattle.serial_spec.specs.Legal.{AreAllowed};
 ghost use Rattle.manager_core.specs.Kept.{AreTablesOf};
-ghost use Rattle.manager_core.specs.Tables.{acts_in, cause_in};
+ghost use Rattle.manager_core.specs.Tables.{cause_in};
 
 use crate::log::Log;
 use crate::tables::Tables;
@@ -19,13 +19,6 @@ fn is_full_for(log: &Log, key: &Key) -> bool
 }
 
 impl Tables {
-    /// Whether the transaction is live and no orphan.
-    pub(crate) fn acts(&self, name: &Name) -> bool
-        ensures { result ≡ acts_in self.now name.now }
-    {
-        self.tree.status(name) == Status::Live && self.marks.top_aborted(name).is_none()
-    }
-
     // The cause that access, commit and abort share.
     fn refusal_at_end(&self, name: &Name) -> Option<Refusal>
         ensures cause { result ≡ cause_in self.now name.now }
@@ -57,7 +50,7 @@ impl Tables {
     {
         if let Some(refusal) = self.refusal_at_end(name) {
             Some(refusal)
-        } else if log.waits_elsewhere(name, by) {
+        } else if self.waits_elsewhere(name, by) {
             Some(Refusal::Waiting)
         } else if is_full_for(log, key) {
             Some(Refusal::Full)
@@ -76,7 +69,7 @@ impl Tables {
             Some(refusal)
         } else if self.tree.live_children(name) > 0 {
             Some(Refusal::Children)
-        } else if log.waits_elsewhere(name, by) {
+        } else if self.waits_elsewhere(name, by) {
             Some(Refusal::Waiting)
         } else {
             None

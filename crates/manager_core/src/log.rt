@@ -1,24 +1,21 @@
 //! The history over the opening rows as they were loaded.
-ghost use Rattle.std.specs.Prelude.{◌≡◌, ◌+◌, ◌<◌, ◌≤◌, ◌↔◌, [], ◌∷◌, length, reverse, OnOk, IfOk, IsTrue, is_some, find};
+ghost use Rattle.std.specs.Prelude.{◌≡◌, ◌+◌, ◌<◌, ◌≤◌, ◌↔◌, [], ◌∷◌, length, reverse, OnOk, IfOk, IsTrue};
 ghost use Rattle.std.specs.List.{list_any};
 ghost use Rattle.txn_names.specs.Path.{label_eq};
 ghost use Rattle.serial_spec.specs.declared.entry.Answer.TheVariants.{Stuck};
-ghost use Rattle.serial_spec.specs.Allowed.{is_other_line, known};
-ghost use Rattle.serial_spec.specs.Waits.{accesses, open_waits};
+ghost use Rattle.serial_spec.specs.Allowed.{known};
 ghost use Rattle.txn_history.specs.Lines.{IsLineFree, OnlyWaits};
-ghost use Rattle.manager_core.specs.Lines.{waiting_access};
 ghost use Rattle.manager_core.specs.State.{entry};
 ghost use Rattle.manager_core.specs.Outcomes.{answer_of};
 ghost use Rattle.durable_top.specs.Store.{plain};
 
 use crate::outcome::Outcome;
-use crate::waiting::{open_wait, same_line};
 use durable_top::Row;
-use serial_spec::{Answer, By, Entry, Event, NoMemory, Op, PlainTable};
+use serial_spec::{Answer, By, Entry, Event, NoMemory, PlainTable};
 use std::alloc::Global;
 use std::marker::Model;
 use txn_history::History;
-use txn_names::{Key, Name};
+use txn_names::Key;
 
 /// The entries over the opening rows.
 #[derive(Drop)]
@@ -115,34 +112,6 @@ impl Log {
         ensures { result ≡ length (known self.now.rows self.now.entries) }
     {
         self.history.known()
-    }
-
-    /// Whether an access of the transaction waits, if it acts.
-    pub(crate) fn has_open_wait(&self, name: &Name) -> bool
-        ensures { result ≡ is_some (find (λ w. accesses name.now w.event) (open_waits self.now.entries)) }
-    {
-        open_wait(self.entries(), name).is_some()
-    }
-
-    /// Whether an access of the transaction waits by another line, if it acts.
-    pub(crate) fn waits_elsewhere(&self, name: &Name, by: By) -> bool
-        ensures { result ≡ is_other_line by (find (λ w. accesses name.now w.event) (open_waits self.now.entries)) }
-    {
-        match open_wait(self.entries(), name) {
-            Some(wait) => !same_line(wait.by, by),
-            None => false,
-        }
-    }
-
-    /// The access by which the transaction waits, if it acts, with its line.
-    pub(crate) fn open_access(&self, name: &Name) -> Option<(By, Key, Op)>
-        ensures { result ≡ waiting_access (find (λ w. accesses name.now w.event) (open_waits self.now.entries)) }
-    {
-        let wait = open_wait(self.entries(), name)?;
-        match &wait.event {
-            Event::Access(_, key, op) => Some((wait.by, *key, *op)),
-            _ => None,
-        }
     }
 
     /// Whether the line has no entry, or one alone, that it waits with this event.

@@ -146,7 +146,7 @@ impl<S: TopStore> Manager<S> {
             key: *key,
             op,
         };
-        let outcome = self.tables.access(&self.log, &request)?;
+        let outcome = self.tables.ask(&self.log, &request)?;
         self.log.add(by, Event::Access(*name, *key, op), &outcome);
         Ok(outcome)
     }
@@ -160,14 +160,14 @@ impl<S: TopStore> Manager<S> {
         ensures sound { OnOk result (IsSound S.TopStore self.new) }
     {
         self.log.reserve(1)?;
-        let (by, key, op) = self.log.open_access(name).unwrap();
+        let (by, key, op) = self.tables.waiting_access(name).unwrap();
         let request = Request {
             by,
             name: *name,
             key,
             op,
         };
-        let outcome = self.tables.access(&self.log, &request)?;
+        let outcome = self.tables.ask_again(&self.log, &request)?;
         match outcome {
             Outcome::Waits => {}
             _ => self.log.add(by, Event::Access(*name, key, op), &outcome),
@@ -283,7 +283,11 @@ impl<S: TopStore> Manager<S> {
         ensures err { OnErr result (self.new ≡ self.old) }
         ensures sound { OnOk result (IsSound S.TopStore self.new) }
     {
+        let Event::Access(name, _, _) = event else {
+            unreachable!()
+        };
         self.log.reserve(1)?;
+        self.tables.end_wait(name);
         self.log.add_stuck(by, *event);
         Ok(())
     }
@@ -305,7 +309,7 @@ impl<S: TopStore> Manager<S> {
     pub fn waiting(&self, name: &Name) -> bool
         ensures { result ≡ is_some (wait_of self.now.history name.now) }
     {
-        self.tables.acts(name) && self.log.has_open_wait(name)
+        self.tables.waiting_access(name).is_some()
     }
 
     // Whether no access of the event's transaction waits.

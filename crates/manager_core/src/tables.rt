@@ -12,14 +12,16 @@ use std::alloc::Global;
 use std::marker::Model;
 use txn_names::Name;
 use txn_tree::{Tree, TxnNo};
+use wait_cycles::Waits;
 
 /// What the history says of transactions, kept so that it need not be gone through: who has begun and what became of each,
-/// who has aborted, and what live transactions lock and have left, over the table of what is committed.
+/// who has aborted, what live transactions lock and have left, over the table of what is committed, and who waits.
 #[derive(Drop)]
 pub(crate) struct Tables {
     pub(crate) tree: Tree,
     pub(crate) marks: Marks,
     pub(crate) estate: Estate,
+    pub(crate) waits: Waits,
 }
 
 impl Model for Tables {
@@ -31,6 +33,7 @@ impl Model for Tables {
       tree = t.tree;
       marks = t.marks;
       estate = t.estate;
+      waits = t.waits;
     } };
 }
 
@@ -42,11 +45,13 @@ impl Tables {
         ensures modes { (n : ℕ) → (k : List ℕ) → modes_of result.estate n k ≡ free }
         ensures left { (n : ℕ) → (k : List ℕ) → left_of result.estate n k ≡ None }
         ensures base { result.estate.versions.base ≡ base }
+        ensures waits { result.waits.waits ≡ [] }
     {
         Tables {
             tree: Tree::new(alloc),
             marks: Marks::new(alloc),
             estate: Estate::new(alloc, base),
+            waits: Waits::new(alloc),
         }
     }
 

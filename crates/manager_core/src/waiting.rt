@@ -1,14 +1,24 @@
-//! Waits, read off the entries.
-ghost use Rattle.std.specs.Prelude.{◌≡◌, ◌&&◌, find, reverse};
-ghost use Rattle.std.specs.List.{list_any};
-ghost use Rattle.std.specs.Option.{option_copied};
-ghost use Rattle.serial_spec.specs.Waits.{accesses, is_waits, open_waits, same_line};
+//! Waits, in the tables.
+ghost use Rattle.std.specs.Prelude.{◌≡◌, ◌<◌, ℕ, IsFalse, None, Some};
+ghost use Rattle.txn_tree.specs.Asked.{IsNumberOf, is_absent_in};
+ghost use Rattle.serial_spec.specs.declared.entry.Answer.TheVariants as answer;
+ghost use Rattle.serial_spec.specs.declared.event.Event.TheVariants.{Access};
+ghost use Rattle.serial_spec.specs.Allowed.{waits_elsewhere};
+ghost use Rattle.serial_spec.specs.History.{History};
+ghost use Rattle.serial_spec.specs.Rows.{Rows};
+ghost use Rattle.serial_spec.specs.Waits.{same_line, wait_of};
+ghost use Rattle.manager_core.specs.Kept.{AreTablesOf};
+ghost use Rattle.manager_core.specs.Lines.{waiting_access};
+ghost use Rattle.manager_core.specs.State.{entry};
+ghost use Rattle.manager_core.specs.Tables.{SetsWait, wait_at};
 
-use serial_spec::{Answer, By, Entry, Event};
-use txn_names::Name;
+use crate::accessing::Request;
+use crate::tables::Tables;
+use serial_spec::{By, Op};
+use txn_names::{Key, Name};
 
-/// Whether both are of one line of a session.
-pub(crate) fn same_line(a: By, b: By) -> bool
+// Whether both are of one line of a session.
+fn same_line(a: By, b: By) -> bool
     ensures { result ≡ same_line a b }
 {
     match (a, b) {
@@ -23,34 +33,45 @@ pub(crate) fn same_line(a: By, b: By) -> bool
     }
 }
 
-// Whether some entry is of this line.
-fn any_of(entries: &[Entry], by: By) -> bool
-    ensures { result ≡ list_any (λ e. same_line e.by by) entries.now }
-{
-    entries.iter().any(|e| same_line(e.by, by))
-}
-
-// Whether the entry is that an access of the transaction waits.
-fn waits_as(entry: &Entry, name: &Name) -> bool
-    ensures { result ≡ (is_waits entry.now.answer && accesses name.now entry.now.event) }
-{
-    match (&entry.event, &entry.answer) {
-        (Event::Access(t, _, _), Answer::Waits) => *t == *name,
-        _ => false,
+impl Tables {
+    /// The access by which the transaction waits, with its line.
+    pub(crate) fn waiting_access(&self, name: &Name) -> Option<(By, Key, Op)>
+        ensures { (rows : Rows) (h : History) → AreTablesOf rows h self.now → result ≡ waiting_access (wait_of h name.now) }
+    {
+        let wait = self.waits.of(self.tree.no_of(name)?)?;
+        Some((wait.by, wait.key, wait.op))
     }
-}
 
-/// The entry by which an access of the transaction waits: the newest `waits` of it with no later entry of the same
-/// line.
-pub(crate) fn open_wait<'a>(entries: &'a [Entry], name: &Name) -> Option<&'a Entry>
-    ensures { option_copied result ≡ find (λ w. accesses name.now w.event) (open_waits (reverse entries.now)) }
-{
-    let mut rest = entries;
-    while let Some((newest, earlier)) = rest.split_last() {
-        if waits_as(newest, name) && !any_of(&entries[rest.len()..], newest.by) {
-            return Some(newest);
+    /// Whether the transaction waits by another line than this.
+    pub(crate) fn waits_elsewhere(&self, name: &Name, by: By) -> bool
+        ensures { (rows : Rows) (h : History) → AreTablesOf rows h self.now → result ≡ waits_elsewhere h by name.now }
+    {
+        match self.waiting_access(name) {
+            Some((line, _, _)) => !same_line(line, by),
+            None => false,
         }
-        rest = earlier;
     }
-    None
+
+    /// The transaction, which does not wait, waits from now on. There is room for it.
+    pub(crate) fn start_wait(&mut self, request: &Request)
+        requires begun { IsFalse (is_absent_in self.old.tree request.now.name) }
+        requires none { (n : ℕ) → IsNumberOf self.old.tree request.now.name n → wait_at self.old n ≡ None }
+        requires room { 0 < self.old.waits.room }
+        ensures beside { self.new ≡ record self.old { waits = self.new.waits } }
+        ensures waits { SetsWait self.old self.new request.now.name (Some (entry request.now.by (Access request.now.name request.now.key request.now.op) answer.Waits)) }
+    {
+        let txn = self.number_of(&request.name);
+        self.waits
+            .add_reserved(txn, &request.key, request.op, request.by);
+    }
+
+    /// The transaction waits no more.
+    pub(crate) fn end_wait(&mut self, name: &Name)
+        requires { IsFalse (is_absent_in self.old.tree name.now) }
+        ensures beside { self.new ≡ record self.old { waits = self.new.waits } }
+        ensures waits { SetsWait self.old self.new name.now None }
+    {
+        let txn = self.number_of(name);
+        self.waits.cancel(txn);
+    }
 }

@@ -16,8 +16,9 @@ invariant_of-self-2 g c =
     let name = c.args.name.now in
     let some : 0 < length name = omega (arith, c.depth.ensures.name.some) in
     let roomy = kept_roomy g.S.TopStore m.log.rows m.log.entries m.tables c.reserve_aborts.new.self m.opened m.store c.self.invariant c.reserve_aborts.ensures.same in
+    let free = rw (← c.self.view_is) at c.requires.free in
     rw (c.add.ensures.rows, c.add.ensures.entries, c.of-outcome.ensures, c.reserve.ensures.rows, c.reserve.ensures.entries)
-    (kept_abort g.S.TopStore m.log.rows m.log.entries c.reserve_aborts.new.self _ m.opened m.store roomy c.args.by name _ c.requires.free.line some c.abort.ensures.cause c.abort.ensures.aborts)
+    (kept_abort g.S.TopStore m.log.rows m.log.entries c.reserve_aborts.new.self _ m.opened m.store roomy c.args.by name _ free some c.abort.ensures.cause c.abort.ensures.aborts)
 
 pub returns-clause-ok : goal.returns-clause-ok
 returns-clause-ok g c =

@@ -46,10 +46,11 @@ invariant_of-self-2 g c =
     let none = rw (← c.self.view_is) at c.requires.live in
     let same = c.reserve_commit.ensures.same in
     let roomy = kept_roomy g.S.TopStore m.log.rows m.log.entries m.tables c.reserve_commit.new.self m.opened m.store c.self.invariant same in
+    let free = rw (← c.self.view_is) at c.requires.free in
     let number = subst (λ (s : States). IsNumberOf s t c.number_of-txn.result) (sym same.tree) c.number_of-txn.ensures.number in
     let above = subst (λ (s : States). IsNumberOf s (parent t) c.parent_number-parent.result) (sym same.tree) c.parent_number-parent.ensures in
     rw (c.add.ensures.rows, c.add.ensures.entries, c.reserve.ensures.rows, c.reserve.ensures.entries)
-    (kept_child g.S.TopStore m.log.rows m.log.entries c.reserve_commit.new.self _ m.opened m.store roomy c.args.by t c.requires.free.line none
+    (kept_child g.S.TopStore m.log.rows m.log.entries c.reserve_commit.new.self _ m.opened m.store roomy c.args.by t free none
     c.number_of-txn.result (Some c.parent_number-parent.result) c.requires.below number above (c.requires.below, above) c.commit.ensures)
 
 pub returns-clause-sound : goal.returns-clause-sound

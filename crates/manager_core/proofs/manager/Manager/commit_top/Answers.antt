@@ -36,29 +36,32 @@ commit-requires-clause-live g c =
 pub invariant_of-self-then-are_taken : goal.invariant_of-self-then-are_taken
 invariant_of-self-then-are_taken g c =
     let m = c.self.inside in
+    let free = rw (← c.self.view_is) at c.requires.free in
     let none = rw (← c.self.view_is) at c.requires.live in
     rw (c.add.ensures.rows, c.add.ensures.entries, c.reserve.ensures.rows, c.reserve.ensures.entries)
-    (kept_taken g.S.TopStore m.log.rows m.log.entries m.tables c.reserve_commit.new.self m.opened m.store c.self.invariant c.reserve_commit.ensures.same c.args.by c.args.name.now c.requires.free.line none c.requires.top
+    (kept_taken g.S.TopStore m.log.rows m.log.entries m.tables c.reserve_commit.new.self m.opened m.store c.self.invariant c.reserve_commit.ensures.same c.args.by c.args.name.now free none c.requires.top
     c.number_of-txn.result c.number_of-txn.ensures.number c.number_of-txn.ensures.rootless c.in_ok-changes.changes.items c.in_ok-changes.ensures
     _ _ c.commit.ensures c.are_taken.ensures.later (c.are_taken.ensures.took c.if-are_taken.true))
 
 pub invariant_of-self-else-are_taken : goal.invariant_of-self-else-are_taken
 invariant_of-self-else-are_taken g c =
     let m = c.self.inside in
+    let free = rw (← c.self.view_is) at c.requires.free in
     let none = rw (← c.self.view_is) at c.requires.live in
     let refused = c.are_taken.ensures.refused c.if-are_taken.false in
     let once = rw c.if-are_taken.false at (c.are_taken.ensures.asked refused.1) in
     rw (c.add-else-are_taken.ensures.rows, c.add-else-are_taken.ensures.entries, c.reserve.ensures.rows, c.reserve.ensures.entries)
-    (kept_refused g.S.TopStore m.log.rows m.log.entries m.tables c.reserve_commit.new.self m.opened m.store c.self.invariant c.reserve_commit.ensures.same c.args.by c.args.name.now c.requires.free.line none c.requires.top
+    (kept_refused g.S.TopStore m.log.rows m.log.entries m.tables c.reserve_commit.new.self m.opened m.store c.self.invariant c.reserve_commit.ensures.same c.args.by c.args.name.now free none c.requires.top
     c.number_of-txn.result c.number_of-txn.ensures.number c.number_of-txn.ensures.rootless c.in_ok-changes.changes.items c.in_ok-changes.ensures
     _ c.are_taken.ensures.later refused.1 once refused.0)
 
 pub returns-then-are_taken-clause-ok : goal.returns-then-are_taken-clause-ok
 returns-then-are_taken-clause-ok g c =
     let m = c.self.inside in
+    let free = rw (← c.self.view_is) at c.requires.free in
     let none = rw (← c.self.view_is) at c.requires.live in
     rw (← c.self.view_is, c.add.ensures.rows, c.add.ensures.entries, c.reserve.ensures.rows, c.reserve.ensures.entries)
-    (committed_taken g.S.TopStore m.log.rows m.log.entries m.tables c.reserve_commit.new.self m.opened m.store c.self.invariant c.reserve_commit.ensures.same c.args.by c.args.name.now c.requires.free.line none c.requires.top
+    (committed_taken g.S.TopStore m.log.rows m.log.entries m.tables c.reserve_commit.new.self m.opened m.store c.self.invariant c.reserve_commit.ensures.same c.args.by c.args.name.now free none c.requires.top
     c.number_of-txn.result c.number_of-txn.ensures.number c.number_of-txn.ensures.rootless c.in_ok-changes.changes.items c.in_ok-changes.ensures
     _ _ c.commit.ensures c.are_taken.ensures.later c.are_taken.ensures.unasked (λ some. rw c.if-are_taken.true at (c.are_taken.ensures.asked some)))
 
@@ -68,11 +71,12 @@ returns-then-are_taken-clause-sound g c = sound g.S.TopStore _ _ (invariant_of-s
 pub returns-else-are_taken-clause-ok : goal.returns-else-are_taken-clause-ok
 returns-else-are_taken-clause-ok g c =
     let m = c.self.inside in
+    let free = rw (← c.self.view_is) at c.requires.free in
     let none = rw (← c.self.view_is) at c.requires.live in
     let refused = c.are_taken.ensures.refused c.if-are_taken.false in
     let once = rw c.if-are_taken.false at (c.are_taken.ensures.asked refused.1) in
     rw (← c.self.view_is, c.add-else-are_taken.ensures.rows, c.add-else-are_taken.ensures.entries, c.reserve.ensures.rows, c.reserve.ensures.entries, c.reserve_commit.ensures.same.estate.rows)
-    (committed_refused g.S.TopStore m.log.rows m.log.entries m.tables c.reserve_commit.new.self m.opened m.store c.self.invariant c.reserve_commit.ensures.same c.args.by c.args.name.now c.requires.free.line none c.requires.top
+    (committed_refused g.S.TopStore m.log.rows m.log.entries m.tables c.reserve_commit.new.self m.opened m.store c.self.invariant c.reserve_commit.ensures.same c.args.by c.args.name.now free none c.requires.top
     c.number_of-txn.result c.number_of-txn.ensures.number c.number_of-txn.ensures.rootless c.in_ok-changes.changes.items c.in_ok-changes.ensures
     _ c.are_taken.ensures.later refused.1 once)
 

@@ -4,6 +4,6 @@ use Rattle.manager_core.proofs.tables.Tables.abort.Goals as goal
 
 pub returns-in-Ok-clause-aborts : goal.returns-in-Ok-clause-aborts
 returns-in-Ok-clause-aborts c =
-    let m : Tabled = record { tree = c.self.inside.tree; marks = c.self.inside.marks; estate = c.self.inside.estate } in
+    let m : Tabled = record { tree = c.self.inside.tree; marks = c.self.inside.marks; estate = c.self.inside.estate; waits = c.self.inside.waits } in
     rw (← c.self.view_is)
-    (aborts_by_name m c.abort.new.self c.mark.new.self c.abort-in-Ok.new.self c.args.name.now c.number_of-txn.result c.in-Ok.ensures.names c.in-Ok.ensures.aborted c.mark.ensures.marked c.number_of-txn.ensures.number c.abort-in-Ok.ensures)
+    (aborts_by_name m c.abort.new.self c.mark.new.self c.abort-in-Ok.new.self c.drop_under.new.self c.args.name.now c.number_of-txn.result c.in-Ok.ensures.names c.in-Ok.ensures.aborted c.mark.ensures.marked c.number_of-txn.ensures.number c.abort-in-Ok.ensures c.drop_under.ensures.waits)

@@ -8,10 +8,10 @@ pub returns-after-access-clause-comes : goal.returns-after-access-clause-comes
 returns-after-access-clause-comes c =
     let log = c.args.log.now in
     let asked = c.args.request.now in
-    let m : Tabled = record { tree = c.self.inside.tree; marks = c.self.inside.marks; estate = c.self.inside.estate } in
+    let m : Tabled = record { tree = c.self.inside.tree; marks = c.self.inside.marks; estate = c.self.inside.estate; waits = c.self.inside.waits } in
     let are = rw (← c.self.view_is) at c.requires.are in
-    let mid : Tabled = record { tree = m.tree; marks = m.marks; estate = c.reserve_for.new.self } in
-    let same : HasOtherRoom m mid = record { tree = refl; marks = refl; estate = c.reserve_for.ensures.same } in
+    let mid : Tabled = record { tree = m.tree; marks = m.marks; estate = c.reserve_for.new.self; waits = m.waits } in
+    let same : HasOtherRoom m mid = record { tree = refl; marks = refl; estate = c.reserve_for.ensures.same; waits = λ n. refl } in
     let none = sym c.in-None.is ∙ c.refusal_of_access.ensures in
     elim c.match-access.branch [
       | in-Some-access w ↦ rw w.result-is (comes_done log.rows log.entries m mid c.requires.allowed are same

@@ -30,7 +30,7 @@ returns-then-waits_elsewhere c =
     commit_cause log.rows log.entries c.args.self.now c.requires.allowed c.requires.are name c.refusal_at_end.ensures.some c.args.by
     (sym c.in_default.is ∙ c.refusal_at_end.ensures.cause)
     false true (sym (any_counted (is_live_child_in tree name) (names tree) ∙ le-ltb 0 (live_children_of tree name) none))
-    (sym c.if-waits_elsewhere.true ∙ c.waits_elsewhere.ensures)
+    (sym c.if-waits_elsewhere.true ∙ c.waits_elsewhere.ensures log.rows log.entries c.requires.are)
 
 pub returns-else-waits_elsewhere : goal.returns-else-waits_elsewhere
 returns-else-waits_elsewhere c =
@@ -41,4 +41,4 @@ returns-else-waits_elsewhere c =
     commit_cause log.rows log.entries c.args.self.now c.requires.allowed c.requires.are name c.refusal_at_end.ensures.some c.args.by
     (sym c.in_default.is ∙ c.refusal_at_end.ensures.cause)
     false false (sym (any_counted (is_live_child_in tree name) (names tree) ∙ le-ltb 0 (live_children_of tree name) none))
-    (sym c.if-waits_elsewhere.false ∙ c.waits_elsewhere.ensures)
+    (sym c.if-waits_elsewhere.false ∙ c.waits_elsewhere.ensures log.rows log.entries c.requires.are)
