@@ -25,6 +25,15 @@ count_none p (x ∷ xs) f =
     let rest = count_none p xs (λ n. f (suc n)) in
     omega (arith, head, rest)
 
+-- one that passes is counted
+pub count_has : {X : Type 0} (p : X → Bool) (xs : List X) (n : ℕ) (x : X) → slice_get xs n ≡ Some x → p x ≡ true → count_by p xs ≡ 0 → ⊥
+count_has p [] n x at e none = true≢false (sym (ap is_some at))
+count_has p (y ∷ xs) zero x at e none =
+    let same : y ≡ x = ap (λ o. unwrap_or o x) at in
+    let one : count_by p (y ∷ xs) ≡ 1 + count_by p xs = count-cons p y xs ∙ ap (λ b. cond b 1 0 + count_by p xs) (ap p same ∙ e) in
+    omega (arith, one, none)
+count_has p (y ∷ xs) (suc n) x at e none = let all = count-cons p y xs in count_has p xs n x at e (omega (arith, all, none))
+
 -- those that pass are those that fail another test and those that pass it too
 pub count_split : {X : Type 0} (p q : X → Bool) (xs : List X) → count_by p xs ≡ count_by (λ x. p x && not (q x)) xs + count_by (λ x. p x && q x) xs
 count_split p q [] = refl

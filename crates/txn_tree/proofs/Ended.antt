@@ -1,7 +1,7 @@
 -- What is kept beside the states is right after an end.
 use Rattle.std.proofs.Common.{◌≡◌, ℕ, ◌+◌, ◌<◌, Bool, true, false, ◌&&◌, cond, count_by, List, [], ◌∷◌, length, get_or, Option, Some, None, refl, sym, ap, subst, ◌∙◌, true≢false, arith}
-use Rattle.std.specs.Prelude.{slice_get}
-use Rattle.std.proofs.lemmas.Option.{get_or_from_slice_get}
+use Rattle.std.specs.Prelude.{slice_get, IfSome}
+use Rattle.std.proofs.lemmas.Option.{get_or_from_slice_get, slice_get_within}
 use Rattle.std.proofs.lemmas.Map.Entries.{length-keys_of}
 use Rattle.txn_names.specs.Path.{Path, path_eq, parent}
 use Rattle.txn_names.proofs.Names.{path_eq-from, path_eq_self}
@@ -31,6 +31,13 @@ module _ (tree : States) (nodes : List Node) (tops : Children) (is : IsTree tree
 
   parent_at : IsParentAt (names tree) n t x.parent
   parent_at = linked.parents n t x at there
+
+  pub parent_within : IfSome x.parent (λ p. p < length nodes)
+  parent_within = by x.parent parent_at
+    where
+      by : (q : Option ℕ) → IsParentAt (names tree) n t q → IfSome q (λ p. p < length nodes)
+      by None root = tt
+      by (Some p) found = let within = slice_get_within nodes n x there in omega (arith, within, found.0)
 
   left : (p : Path) → live_children_of tree p ≡ live_children_of next p + cond (path_eq (parent t) p) 1 0
   left p = live_ended (names tree) (status_in tree) (status_in next) t to ends n at is.distinct lived over p

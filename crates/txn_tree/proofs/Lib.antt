@@ -3,9 +3,11 @@ pub mod Changes
 pub mod Children
 pub mod Counts
 pub mod Ended
+pub mod Endings
 pub mod Links
 pub mod Nodes
 pub mod Numbers
+pub mod Orphans
 pub mod Places
 pub mod Refusals
 pub mod Told

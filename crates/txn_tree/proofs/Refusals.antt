@@ -42,6 +42,9 @@ module _ (tree : States) (t : Path) (begins : cause_at_begin tree t ≡ None) wh
   pub place_to_begin : length tree < most_transactions
   place_to_begin = leb-false most_transactions (length tree) causes.1
 
+  pub absent_to_begin : is_absent_in tree t ≡ true
+  absent_to_begin = causes.0
+
   -- it has no row
   pub new_to_begin : IsTree tree → IsName t → lookup (path_eq t) tree ≡ None
   new_to_begin is name = by t name causes.0

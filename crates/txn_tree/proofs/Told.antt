@@ -1,5 +1,5 @@
 -- What is told of a transaction by its number.
-use Rattle.std.proofs.Common.{◌≡◌, ℕ, suc, ◌<◌, nat_lt, Bool, true, false, not, cond, List, [], ◌∷◌, length, Option, Some, None, is_some, unwrap_or, option_map, inl, inr, refl, sym, ap, subst, ◌∙◌, true≢false, arith}
+use Rattle.std.proofs.Common.{◌≡◌, ℕ, zero, suc, ◌<◌, nat_lt, Bool, true, false, not, cond, List, [], ◌∷◌, length, Option, Some, None, is_some, unwrap_or, option_map, inl, inr, refl, sym, ap, subst, ◌∙◌, true≢false, arith}
 use Rattle.std.specs.Prelude.{slice_get, IfSome}
 use Rattle.std.specs.Map.{lookup}
 use Rattle.std.proofs.lemmas.Bool.{false≢true, eq-eqb, lt-ltb, le-ltb}
@@ -23,6 +23,7 @@ use Rattle.txn_tree.specs.Causes.{cause_at_abort, cause_at_begin, cause_at_commi
 use Rattle.txn_tree.specs.Numbered.{IsClosed, has_parent, is_parent_of}
 use Rattle.txn_tree.specs.Linked.{IsLinked, IsParentAt, kept_parent}
 use Rattle.txn_tree.proofs.Numbers.{is_begun}
+use Rattle.txn_tree.proofs.Children.{cause_by_children}
 use Rattle.txn_tree.proofs.Links.{node_at, no_live_child}
 use Rattle.txn_tree.proofs.Under.{nowhere, absent_nowhere}
 
@@ -82,7 +83,7 @@ parent_to_begin tree t e = by _ (is_absent_in tree t) (is_absent_in tree (parent
     by o false b q f = absurd (true≢false (ap is_some f))
 
 -- a name with a row stands at a number
-row_place : (tree : States) (t : Path) → is_some (lookup (path_eq t) tree) ≡ true → (n : ℕ) × (slice_get (names tree) n ≡ Some t)
+pub row_place : (tree : States) (t : Path) → is_some (lookup (path_eq t) tree) ≡ true → (n : ℕ) × (slice_get (names tree) n ≡ Some t)
 row_place [] t e = absurd (false≢true e)
 row_place (r ∷ rs) t e = by (row_place rs t) (path_eq t r.0) refl
   where
@@ -159,6 +160,14 @@ commit_ends tree t e = by _ (cause_at_abort tree t) (sym e)
     by : (q o : Option Refusal) → or_else o q ≡ None → o ≡ None
     by q None f = refl
     by q (Some r) f = absurd (true≢false (ap is_some f))
+
+-- what may commit has no live child
+pub childless : (tree : States) (t : Path) → None ≡ cause_at_commit tree t → live_children_of tree t ≡ 0
+childless tree t e = by (live_children_of tree t) refl
+  where
+    by : (k : ℕ) → live_children_of tree t ≡ k → k ≡ 0
+    by zero f = refl
+    by (suc k) f = absurd (true≢false (ap is_some (cause_by_children tree t (sym (commit_ends tree t e)) (omega (arith, f)) ∙ sym e)))
 
 pub begun_to_end : (tree : States) (t : Path) → cause_at_abort tree t ≡ None → is_absent_in tree t ≡ false
 begun_to_end tree t e = ap is_absent (live_to_end tree t e)

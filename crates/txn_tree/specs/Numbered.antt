@@ -4,7 +4,7 @@ use Rattle.txn_names.specs.Path.{Path, path_eq, is_front, parent}
 use Rattle.txn_tree.specs.declared.status.Status.{Status}
 use Rattle.txn_tree.specs.declared.status.Status.TheVariants.{Absent}
 use Rattle.txn_tree.specs.States.{States, names, status_in}
-use Rattle.txn_tree.specs.Asked.{is_absent_in, is_active_in, live_children_of}
+use Rattle.txn_tree.specs.Asked.{ended_by_abort, is_absent_in, is_active_in, is_orphan_in, live_children_of}
 
 -- there are both names, and the first is the second or an ancestor of it
 abbrev pub is_front_of : Option Path → Option Path → Bool
@@ -49,9 +49,29 @@ live_children_named tree (Some t) = live_children_of tree t
 abbrev pub live_children_at : States → ℕ → ℕ
 live_children_at tree n = live_children_named tree (slice_get (names tree) n)
 
+abbrev pub is_below_orphan_named : States → Option Path → Bool
+is_below_orphan_named tree None = false
+is_below_orphan_named tree (Some t) = is_orphan_in tree (parent t)
+
+-- the parent of the transaction with this number is an orphan
+abbrev pub is_below_orphan : States → ℕ → Bool
+is_below_orphan tree n = is_below_orphan_named tree (slice_get (names tree) n)
+
+abbrev pub ended_named : States → Option Path → ℕ
+ended_named tree None = 0
+ended_named tree (Some t) = ended_by_abort tree t
+
+-- how many transactions an abort of the one with this number ends
+abbrev pub ended_at : States → ℕ → ℕ
+ended_at tree n = ended_named tree (slice_get (names tree) n)
+
 -- the parent of each transaction that has begun has begun before it, or is the root
 abbrev pub IsClosed : States → Type 0
 IsClosed tree = (t : Path) → IsFalse (is_absent_in tree t) → IsFalse (is_absent_in tree (parent t))
+
+-- the parent of whoever is live and no orphan is so too
+abbrev pub IsUpward : States → Type 0
+IsUpward tree = (t : Path) → IsTrue (is_active_in tree t) → IsTrue (is_active_in tree (parent t))
 
 -- of two that are a transaction or above it, the deeper one has the greater number
 abbrev pub RisesDown : States → ℕ → Type 0

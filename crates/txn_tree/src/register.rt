@@ -4,7 +4,7 @@ ghost use Rattle.std.specs.Option.{option_copied};
 ghost use Rattle.txn_names.specs.Path.{Path, parent, path_eq};
 ghost use Rattle.txn_names.specs.Text.{IsName};
 ghost use Rattle.txn_tree.specs.States.{IsTree, names, status_in};
-ghost use Rattle.txn_tree.specs.Asked.{IsNumberOf, IsRootless, ended_by_abort, is_absent_in, is_active_in, top_aborted_in};
+ghost use Rattle.txn_tree.specs.Asked.{IsNumberOf, IsRootless, is_absent_in, top_aborted_in};
 ghost use Rattle.txn_tree.specs.Numbered.{is_under, status_at};
 ghost use Rattle.txn_tree.specs.Linked.{IsParentAt};
 ghost use Rattle.txn_tree.specs.Causes.{cause_at_abort, cause_at_begin, cause_at_parent};
@@ -112,23 +112,6 @@ impl Register {
             }
         }
         None
-    }
-
-    // Whether the transaction is live and no orphan.
-    pub(crate) fn is_active(&self, name: &Name) -> bool
-        ensures { result ≡ is_active_in self.now name.now }
-    {
-        self.status(name) == Status::Live && self.top_aborted(name).is_none()
-    }
-
-    // How many transactions an abort ends.
-    pub(crate) fn ended_by_abort(&self, name: &Name) -> u32
-        ensures { result ≡ ended_by_abort self.now name.now }
-    {
-        self.states
-            .keys()
-            .filter(|inferior| name.is_ancestor_or_self(inferior) && self.is_active(inferior))
-            .count() as u32
     }
 
     // Why the transaction can have no more children.

@@ -4,9 +4,9 @@ ghost use Rattle.std.specs.Option.{option_copied};
 ghost use Rattle.std.specs.Result.{result_err};
 ghost use Rattle.txn_names.specs.Path.{Path, parent, path_eq};
 ghost use Rattle.txn_names.specs.Text.{IsName};
-ghost use Rattle.txn_tree.specs.States.{IsTree, is_live, names, status_in};
+ghost use Rattle.txn_tree.specs.States.{IsTree, is_aborted, is_live, names, status_in};
 ghost use Rattle.txn_tree.specs.Asked.{IsNumberOf, IsRootless, ended_by_abort, is_absent_in, is_active_in, live_children_of, top_aborted_in};
-ghost use Rattle.txn_tree.specs.Numbered.{IsClosed, RisesDown, is_active_at, has_parent, is_parent_of, is_under, live_children_at, status_at};
+ghost use Rattle.txn_tree.specs.Numbered.{IsClosed, IsUpward, RisesDown, ended_at, is_active_at, is_below_orphan, has_parent, is_parent_of, is_under, live_children_at, status_at};
 ghost use Rattle.txn_tree.specs.Siblings.{HasBranches, IsFirst, IsNext, is_child_at, is_sibling_at, is_top_at};
 ghost use Rattle.txn_tree.specs.Linked.{begun_node, below, children_in, followed, kept_next, kept_parent, top_with, with_below, with_child, with_one_ended};
 ghost use Rattle.txn_tree.specs.Causes.{cause_at_abort, cause_at_begin, cause_at_commit, cause_at_parent, refusal_of};
@@ -37,12 +37,13 @@ pub struct Tree {
 impl Model for Tree {
     ghost use Rattle.txn_tree.specs.States.{IsTree, States};
     ghost use Rattle.txn_tree.specs.Linked.{IsLinked};
+    ghost use Rattle.txn_tree.specs.Numbered.{IsUpward};
 
     ghost Value = { States };
 
     ghost view = { λ t. t.register };
 
-    ghost invariant = { λ t. IsTree t.register × IsLinked t.register t.nodes.items t.tops };
+    ghost invariant = { λ t. IsTree t.register × IsLinked t.register t.nodes.items t.tops × IsUpward t.register };
 }
 
 // The kept number of the parent.
@@ -323,6 +324,7 @@ impl Tree {
         requires live { status_in self.old name.now ≡ Status.Live }
         requires begun { status ≢ Status.Absent }
         requires ended { is_live status ≡ false }
+        requires lone { is_aborted status ≡ false → live_children_of self.old name.now ≡ 0 }
         ensures names { names self.new ≡ names self.old }
         ensures status { (u : Path) → status_in self.new u ≡ (if path_eq name.now u then status else status_in self.old u) }
     {
@@ -330,6 +332,32 @@ impl Tree {
         self.register.set(name, status);
         self.register.is_tree();
         end_child(&mut self.nodes, &mut self.tops, parent);
+    }
+
+    // Whether the transaction with this number is live by its own state. Below one that is not, nobody is active.
+    fn is_live_at(&self, txn: TxnNo) -> bool
+        ensures live { result ≡ is_live (status_at self.now txn) }
+        ensures upward { IsUpward self.now }
+    {
+        self.register.status_at(txn) == Status::Live
+    }
+
+    // How many transactions an abort of this one, whose parent is no orphan, would end. Below one that is not
+    // live there are none.
+    fn ended_at(&self, txn: TxnNo) -> u32
+        requires upright { is_below_orphan self.now txn ≡ false }
+        ensures { result ≡ ended_at self.now txn }
+    {
+        if !self.is_live_at(txn) {
+            return 0;
+        }
+        let mut ended = 1;
+        let mut child = children_at(&self.nodes, txn).first;
+        while let Some(inferior) = child {
+            ended += self.ended_at(inferior);
+            child = self.next_sibling(inferior);
+        }
+        ended
     }
 
     /// Commits the transaction with this number, which the caller knows to be live, no orphan and without a live
@@ -358,7 +386,7 @@ impl Tree {
     {
         match self.name_of(txn).copied() {
             Some(name) => {
-                let ended = self.register.ended_by_abort(&name);
+                let ended = self.ended_at(txn);
                 self.end(txn, &name, Status::Aborted);
                 ended
             }
@@ -398,7 +426,7 @@ impl Tree {
             return Err(cause);
         }
         let txn = self.register.number(name);
-        let ended = self.register.ended_by_abort(name);
+        let ended = self.ended_at(txn);
         self.end(txn, name, Status::Aborted);
         Ok(ended)
     }

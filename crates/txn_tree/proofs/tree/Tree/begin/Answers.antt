@@ -1,11 +1,12 @@
-use Rattle.std.proofs.Common.{◌≡◌, ◌∙◌, ◌∷◌, ◌++◌, [], List, length, take, sym, ap}
+use Rattle.std.proofs.Common.{◌≡◌, ◌∙◌, ◌∷◌, ◌++◌, [], List, length, length-append, take, sym, ap}
 use Rattle.std.proofs.lemmas.List.{take_at}
 use Rattle.txn_tree.specs.declared.node.Node.{Node}
 use Rattle.txn_tree.specs.Linked.{begun_node, below, followed, top_with, with_below, with_child}
-use Rattle.txn_tree.proofs.Begun.{linked_begun, may_go_up}
+use Rattle.txn_tree.proofs.Begun.{last_within, linked_begun, may_go_up}
 use Rattle.txn_tree.proofs.Links.{on_ok, on_err}
 use Rattle.txn_tree.proofs.Nodes.{length_changed}
-use Rattle.txn_tree.proofs.Refusals.{new_to_begin}
+use Rattle.txn_tree.proofs.Orphans.{begins_below_active, upward_begun}
+use Rattle.txn_tree.proofs.Refusals.{absent_to_begin, new_to_begin}
 use Rattle.txn_tree.proofs.Under.{nowhere}
 use Rattle.txn_tree.proofs.tree.Tree.begin.Goals as goal
 
@@ -17,6 +18,15 @@ invariant_of-self-then-is_err-2 c =
     let back : c.truncate.new.self.items ≡ items = c.truncate.ensures.items ∙ ap (take c.len-place.result) grown
     ∙ take_at items _ c.len-place.result (c.self.invariant.1.level ∙ sym c.len-place.ensures.len) in
     rw (same, back) c.self.invariant
+
+pub append_child-requires-clause-last : goal.append_child-requires-clause-last
+append_child-requires-clause-last c =
+    let nodes = c.self.inside.nodes.items in
+    let o = c.number_of_parent-parent.result in
+    let grown = on_ok c.add_node.result _ (sym c.is_err.ensures.value ∙ c.if-is_err.false) c.add_node.ensures.ok in
+    rw (c.deref_mut.ensures.value, grown)
+    (last_within c.self.inside.register nodes c.self.inside.tops c.self.invariant.0 c.self.invariant.1 c.args.name.now o c.len-place.result c.len-place.ensures.len
+    c.number_of_parent-parent.ensures (length (nodes ++ begun_node o ∷ [])) (sym (length-append nodes (begun_node o ∷ []))))
 
 pub append_child-requires-clause-fits : goal.append_child-requires-clause-fits
 append_child-requires-clause-fits c =
@@ -53,4 +63,6 @@ invariant_of-self-2 c =
           (nowhere tree t (new_to_begin tree t (sym c.in_default.ensures.cause) c.self.invariant.0 c.cause_at_begin.ensures.name))
           c.add.new.self (on_ok c.add.result _ added c.add.ensures.last) c.is_tree.ensures (on_ok c.add.result _ added c.add.ensures.live)
           c.append_child.new.nodes c.append_child.new.tops changed changed_tops),
+      upward_begun tree c.add.new.self t (on_ok c.add.result _ added c.add.ensures.live) (absent_to_begin tree t (sym c.in_default.ensures.cause)) c.self.invariant.2
+          (begins_below_active tree t (sym c.in_default.ensures.cause)),
     )
