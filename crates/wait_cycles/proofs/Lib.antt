@@ -6,3 +6,4 @@ pub mod Tops
 pub mod Slots
 pub mod Agreement
 pub mod Again
+pub mod Sorted

@@ -1,15 +1,9 @@
--- The numbers gone down through: the greatest member of a cycle is waited for by one that is no greater.
+-- The greatest member of a cycle, and who waits for a member.
 use Rattle.std.proofs.Common.{◌≡◌, ◌<◌, ◌≤◌, ◌+◌, ◌^◌, ℕ, nat_eq, Bool, true, false, ◌||◌, refl, List, [], ◌∷◌, Some, inl, inr, sym, ap, subst, ◌∙◌, arith}
 use Rattle.std.specs.Prelude.{slice_get}
 use Rattle.std.proofs.lemmas.Bool.{false≢true, eqb-true, or_cases, or_right, cases_lt}
 use Rattle.wait_cycles.specs.Cycles.{Pairs, IsCycle, IsGreatest, WaitInTurn, is_member, waits_in}
-use Rattle.wait_cycles.specs.Bounds.{AreBelow, Fit}
 use Rattle.wait_cycles.proofs.Lists.{member_here}
-use Rattle.wait_cycles.proofs.Found.{pair_of}
-
--- the greatest member of any cycle is below this number
-abbrev pub TopsBelow : Pairs → ℕ → Type 0
-TopsBelow pairs top = (xs : List ℕ) → IsCycle pairs xs → (a : ℕ) → IsGreatest a xs → a < top
 
 pub greatest_of : (x : ℕ) (xs : List ℕ) → (a : ℕ) × IsGreatest a (x ∷ xs)
 greatest_of x [] = (
@@ -75,51 +69,3 @@ module _ (pairs : Pairs) where
       turned true false f = refl
       turned false true f = refl
       turned false false f = f
-
-  -- so the greatest is waited for by one that is no greater
-  greatest_waited_for : (xs : List ℕ) → IsCycle pairs xs → (a : ℕ) → IsGreatest a xs → (i : ℕ) × (p : ℕ × ℕ) × (slice_get pairs i ≡ Some p) × (p.0 ≤ p.1) × (p.1 ≡ a)
-  greatest_waited_for xs cycle a greatest =
-      let c = waited_for xs cycle a greatest.member in
-      let f = pair_of pairs c.0 a c.2 in
-      let most = greatest.others c.0 c.1 in
-      (f.0, f.1, f.2, omega (arith, most, f.3, f.4), f.4)
-
-  -- those below the bound are below the top
-  pub lower : (bound top : ℕ) → AreBelow pairs bound top → TopsBelow pairs bound → TopsBelow pairs top
-  lower bound top below all xs cycle a greatest =
-      let f = greatest_waited_for xs cycle a greatest in
-      let less = all xs cycle a greatest in
-      subst (λ (x : ℕ). x < top) f.4 (below f.0 f.1 f.2 f.3 (subst (λ (x : ℕ). x < bound) (sym f.4) less))
-
-  -- all are of 32 bits
-  pub all_fit : Fit pairs → TopsBelow pairs (2 ^ 32)
-  all_fit fit xs cycle a greatest =
-      let f = greatest_waited_for xs cycle a greatest in
-      subst (λ (x : ℕ). x < 2 ^ 32) f.4 (fit f.0 f.1 f.2)
-
-  -- the number below the top is on no cycle
-  pub next_lower : (top start : ℕ) → start + 1 ≡ top → TopsBelow pairs top → ((xs : List ℕ) → IsCycle pairs xs → is_member start xs ≡ true → ⊥) → TopsBelow pairs start
-  next_lower top start is all none xs cycle a greatest =
-      let less = all xs cycle a greatest in
-      elim (cases_lt a start) [
-        | inl below ↦ below
-        | inr past ↦
-            let same : a ≡ start = omega (arith, past, less, is) in
-            absurd (none xs cycle (subst (λ (x : ℕ). is_member x xs ≡ true) same greatest.member))
-      ]
-
-  pub at_most : (top start : ℕ) → start + 1 ≡ top → TopsBelow pairs top → (xs : List ℕ) → IsCycle pairs xs → (b : ℕ) → is_member b xs ≡ true → b ≤ start
-  at_most top start is all [] cycle b e = absurd cycle
-  at_most top start is all (x ∷ xs) cycle b e =
-      let g = greatest_of x xs in
-      let less = all (x ∷ xs) cycle g.0 g.1 in
-      let most = g.1.others b e in
-      omega (arith, is, less, most)
-
-  -- below 0 there is nobody
-  pub nobody_left : (top : ℕ) → top ≤ 0 → TopsBelow pairs top → (xs : List ℕ) → IsCycle pairs xs → ⊥
-  nobody_left top low all [] cycle = cycle
-  nobody_left top low all (x ∷ xs) cycle =
-      let g = greatest_of x xs in
-      let less = all (x ∷ xs) cycle g.0 g.1 in
-      absurd (omega (arith, low, less))

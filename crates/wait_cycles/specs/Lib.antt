@@ -1,5 +1,6 @@
 pub mod Cycles
 pub mod Trails
-pub mod Bounds
+pub mod Sorted
 pub mod Waiting
 pub mod Agreement
+pub mod Room

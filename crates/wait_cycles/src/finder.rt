@@ -1,31 +1,49 @@
 //! The finder of cycles.
-ghost use Rattle.std.specs.Prelude.{◌≡◌, ◌≤◌, ℕ, List, IsTrue, IsOk, IfOk, IfSome, IfNone, OnOk, length, slice_get, vec_capacity, Some};
+ghost use Rattle.std.specs.Prelude.{◌≡◌, ◌≤◌, ℕ, List, IsTrue, IsFalse, IsOk, IfOk, IfSome, IfNone, OnOk, length, slice_get, vec_capacity, Some};
 ghost use Rattle.wait_cycles.specs.Cycles.{IsCycle, IsLastCycle, IsLastOn, Pairs, is_member};
 ghost use Rattle.wait_cycles.specs.Trails.{AreBackward, IsFound, IsLastReached, nodes};
-ghost use Rattle.wait_cycles.specs.Bounds.{AreBelow, Fit};
+ghost use Rattle.wait_cycles.specs.Sorted.{AreRising, AreSorted, IsAwaited, IsNoGreatest};
+ghost use Rattle.wait_cycles.specs.Room.{room_of};
 
 use crate::cycle::Cycle;
+use crate::order::{list_starts, sort_pairs};
 use crate::reached::{Reached, place_of, reached_from};
 use serial_spec::NoMemory;
 use std::alloc::Global;
 use std::marker::Model;
 use txn_tree::TxnNo;
 
-// One more than the greatest number below the bound for which one that is no greater waits, or 0 where there is none. The
-// greatest member of a cycle is such a number, so that no other need be tried.
-fn top_below(pairs: &[(TxnNo, TxnNo)], bound: u64) -> u64
-    ensures within { result ≤ bound }
-    ensures below { AreBelow pairs.now bound result }
-    ensures fits { Fit pairs.now }
+/// What a search works on: the pairs by their first, the numbers at which it starts, and those that it has reached.
+#[derive(Drop)]
+pub(crate) struct Space {
+    pub(crate) sorted: Vec<(TxnNo, TxnNo)>,
+    pub(crate) starts: Vec<TxnNo>,
+    pub(crate) trail: Vec<Reached>,
+}
+
+// None yet, and no memory for any.
+fn no_space(alloc: Global) -> Space
+    ensures { room_of result ≡ 0 }
 {
-    let mut top = 0;
-    for (waiting, other) in pairs {
-        let after = other.place() as u64 + 1;
-        if waiting.place() <= other.place() && after <= bound && after > top {
-            top = after;
-        }
+    Space {
+        sorted: Vec::new(alloc),
+        starts: Vec::new(alloc),
+        trail: Vec::new(alloc),
     }
-    top
+}
+
+// Makes room for so many pairs.
+fn reserve_space(space: &mut Space, pairs: usize) -> Result<(), NoMemory>
+    ensures ok { OnOk result (pairs ≤ room_of space.new) }
+    ensures kept { room_of space.old ≤ room_of space.new }
+    ensures succeeds { pairs ≤ room_of space.old → IsOk result }
+{
+    space.sorted.clear();
+    space.starts.clear();
+    space.trail.clear();
+    space.sorted.reserve(pairs)?;
+    space.starts.reserve(pairs)?;
+    space.trail.reserve(pairs)
 }
 
 // The way back from a place to the start, turned round, behind the start.
@@ -48,24 +66,87 @@ fn cycle_to(alloc: Global, trail: &[Reached], start: TxnNo, place: usize) -> Res
     Ok(Cycle { members })
 }
 
-// The greatest number that lies on any cycle, and then those that are reached from it, itself among them. It takes no memory.
-fn last_on(trail: &mut Vec<Reached>, pairs: &[(TxnNo, TxnNo)]) -> Option<TxnNo>
-    requires { length pairs.now ≤ vec_capacity trail.old }
-    ensures some { IfSome result (λ start. IsLastReached pairs.now start trail.new.items) }
-    ensures none { IfNone result ((xs : List ℕ) → IsCycle pairs.now xs → ⊥) }
+// Whether the start lies on a cycle of which it is the greatest member.
+fn comes_back(trail: &mut Vec<Reached>, sorted: &[(TxnNo, TxnNo)], start: TxnNo) -> bool
+    requires sorted { AreSorted sorted.now }
+    requires room { length sorted.now ≤ vec_capacity trail.old }
+    ensures found { IsFound sorted.now start trail.new.items }
+    ensures again { result ≡ is_member start (nodes trail.new.items) }
+    ensures none { IsFalse result → IsNoGreatest sorted.now start }
     ensures capacity { vec_capacity trail.new ≡ vec_capacity trail.old }
 {
-    // No number is as great as this.
-    let mut top = top_below(pairs, 1 << 32);
-    while top > 0 {
-        let start = TxnNo::new((top - 1) as u32);
-        reached_from(trail, pairs, start);
-        if place_of(trail, start).is_some() {
+    reached_from(trail, sorted, start);
+    place_of(trail, start).is_some()
+}
+
+// Whether this start was the last that was tried.
+fn was_tried(tried: Option<TxnNo>, start: TxnNo) -> bool
+    ensures { IsTrue result → tried ≡ Some start }
+{
+    match tried {
+        Some(last) => last == start,
+        None => false,
+    }
+}
+
+// The same, where the start may be the last that was tried, which is not tried again.
+fn is_last(
+    trail: &mut Vec<Reached>,
+    sorted: &[(TxnNo, TxnNo)],
+    tried: Option<TxnNo>,
+    start: TxnNo,
+) -> bool
+    requires sorted { AreSorted sorted.now }
+    requires tried { IfSome tried (λ t. IsNoGreatest sorted.now t) }
+    requires room { length sorted.now ≤ vec_capacity trail.old }
+    ensures found { IsTrue result → IsFound sorted.now start trail.new.items }
+    ensures again { IsTrue result → IsTrue (is_member start (nodes trail.new.items)) }
+    ensures none { IsFalse result → IsNoGreatest sorted.now start }
+    ensures capacity { vec_capacity trail.new ≡ vec_capacity trail.old }
+{
+    if was_tried(tried, start) {
+        return false;
+    }
+    comes_back(trail, sorted, start)
+}
+
+// The last of the starts that lies on a cycle of which it is the greatest member.
+fn last_start(
+    starts: &mut Vec<TxnNo>,
+    trail: &mut Vec<Reached>,
+    sorted: &[(TxnNo, TxnNo)],
+) -> Option<TxnNo>
+    requires sorted { AreSorted sorted.now }
+    requires rising { AreRising starts.old.items }
+    requires all { (b : ℕ) → IsAwaited sorted.now b → IsTrue (is_member b starts.old.items) }
+    requires room { length sorted.now ≤ vec_capacity trail.old }
+    ensures some { IfSome result (λ start. IsLastReached sorted.now start trail.new.items) }
+    ensures none { IfNone result ((xs : List ℕ) → IsCycle sorted.now xs → ⊥) }
+    ensures starts_capacity { vec_capacity starts.new ≡ vec_capacity starts.old }
+    ensures trail_capacity { vec_capacity trail.new ≡ vec_capacity trail.old }
+{
+    let mut tried = None;
+    while let Some(start) = starts.pop() {
+        if is_last(trail, sorted, tried, start) {
             return Some(start);
         }
-        top = top_below(pairs, top - 1);
+        tried = Some(start);
     }
     None
+}
+
+// The greatest number that lies on any cycle, and then those that are reached from it, itself among them. It takes no memory.
+// The greatest member of a cycle is waited for by one that is no greater, so that only such are tried, and waits for one in turn
+// by way of nobody above it.
+fn last_on(space: &mut Space, pairs: &[(TxnNo, TxnNo)]) -> Option<TxnNo>
+    requires { length pairs.now ≤ room_of space.old }
+    ensures some { IfSome result (λ start. IsLastReached pairs.now start space.new.trail.items) }
+    ensures none { IfNone result ((xs : List ℕ) → IsCycle pairs.now xs → ⊥) }
+    ensures room { room_of space.old ≤ room_of space.new }
+{
+    sort_pairs(&mut space.sorted, pairs);
+    list_starts(&mut space.starts, &space.sorted);
+    last_start(&mut space.starts, &mut space.trail, &space.sorted)
 }
 
 /// A cycle of those that wait, the first of each pair for the second: one through the last begun that lies on any, and
@@ -75,13 +156,13 @@ pub fn find_cycle(alloc: Global, pairs: &[(TxnNo, TxnNo)]) -> Result<Option<Cycl
     ensures none { IfOk result (λ found. IfNone found ((xs : List ℕ) → IsCycle pairs.now xs → ⊥)) }
     ensures succeeds { length pairs.now ≡ 0 → IsOk result }
 {
-    let mut trail = Vec::new(alloc);
-    trail.reserve(pairs.len())?;
-    let Some(start) = last_on(&mut trail, pairs) else {
+    let mut space = no_space(alloc);
+    reserve_space(&mut space, pairs.len())?;
+    let Some(start) = last_on(&mut space, pairs) else {
         return Ok(None);
     };
-    match place_of(&trail, start) {
-        Some(place) => Ok(Some(cycle_to(alloc, &trail, start, place)?)),
+    match place_of(&space.trail, start) {
+        Some(place) => Ok(Some(cycle_to(alloc, &space.trail, start, place)?)),
         None => Ok(None),
     }
 }
@@ -89,15 +170,16 @@ pub fn find_cycle(alloc: Global, pairs: &[(TxnNo, TxnNo)]) -> Result<Option<Cycl
 /// Memory for searches that take none. It is seen as the number of pairs for which it has room.
 #[derive(Drop)]
 pub struct Work {
-    trail: Vec<Reached>,
+    space: Space,
 }
 
 impl Model for Work {
-    ghost use Rattle.std.specs.Prelude.{ℕ, vec_capacity};
+    ghost use Rattle.std.specs.Prelude.{ℕ};
+    ghost use Rattle.wait_cycles.specs.Room.{room_of};
 
     ghost Value = { ℕ };
 
-    ghost view = { λ w. vec_capacity w.trail };
+    ghost view = { λ w. room_of w.space };
 }
 
 impl Work {
@@ -106,7 +188,7 @@ impl Work {
         ensures { result ≡ 0 }
     {
         Work {
-            trail: Vec::new(alloc),
+            space: no_space(alloc),
         }
     }
 
@@ -117,8 +199,7 @@ impl Work {
         ensures kept { self.old ≤ self.new }
         ensures succeeds { pairs ≤ self.old → IsOk result }
     {
-        self.trail.clear();
-        self.trail.reserve(pairs)
+        reserve_space(&mut self.space, pairs)
     }
 
     /// Of those that wait, the first of each pair for the second, the last begun that lies on any cycle: the greatest number, and
@@ -127,8 +208,8 @@ impl Work {
         requires { length pairs.now ≤ self.old }
         ensures some { IfSome result (λ txn. IsLastOn pairs.now txn) }
         ensures none { IfNone result ((xs : List ℕ) → IsCycle pairs.now xs → ⊥) }
-        ensures room { self.new ≡ self.old }
+        ensures room { self.old ≤ self.new }
     {
-        last_on(&mut self.trail, pairs)
+        last_on(&mut self.space, pairs)
     }
 }

@@ -5,6 +5,7 @@
 mod cycle;
 mod finder;
 pub mod laws;
+mod order;
 mod reached;
 mod waits;
 

@@ -1,55 +1,79 @@
-use Rattle.std.proofs.Common.{◌≡◌, ◌<◌, ℕ, ◌∷◌, [], true, sym, subst, ◌∙◌, arith}
+use Rattle.std.proofs.Common.{◌≡◌, ◌≢◌, ◌<◌, ◌≤◌, ◌&&◌, ℕ, ◌∷◌, ◌++◌, [], Some, true, refl, eq-eqb, nat_eq, not, sym, subst, ◌∙◌, arith}
+use Rattle.std.specs.Prelude.{nat_le, slice_get}
+use Rattle.std.specs.List.{list_any}
+use Rattle.std.proofs.lemmas.Bool.{and_parts, and_from, leb-true}
 use Rattle.std.proofs.lemmas.List.{length-append}
 use Rattle.std.proofs.lemmas.Option.{slice_get_within}
 use Rattle.wait_cycles.specs.Cycles.{is_member}
+use Rattle.wait_cycles.specs.Sorted.{up_to}
 use Rattle.wait_cycles.specs.Trails.{nodes}
-use Rattle.wait_cycles.proofs.Lists.{item_at}
-use Rattle.wait_cycles.proofs.Found.{next, pair_of, found_next, longer_next, covered_next, covered_same}
+use Rattle.wait_cycles.proofs.Found.{next, found_next, longer_next, longer_none, member_longer}
+use Rattle.wait_cycles.proofs.Sorted.{covered, covered_more, goes_on, in_up_to, pushed_node, reached_before}
 use Rattle.wait_cycles.proofs.reached.reach_from.Goals as goal
 use Rattle.wait_cycles.proofs.reached.reach_from.Goals.{then-leads_on, else-leads_on}
 
+pub loop-other-init : goal.loop-other-init
+loop-other-init c =
+    let parted = c.first_place-place.ensures in (
+      λ first found is. found,
+      longer_none (up_to c.args.sorted.now c.args.start) c.args.trail.now.items,
+      λ i p less at same low. let below = (parted i p at).0 less in absurd (omega (arith, below, same)),
+      λ i p le at. (parted i p at).1 le,
+      refl,
+    )
+
 pub push_reserved-requires : goal.push_reserved-requires
 push_reserved-requires c =
-    let i = c.loop-pair.invariant in
-    let pairs = c.args.pairs.now in
+    let i = c.loop-other.invariant in
+    let pairs = up_to c.args.sorted.now c.args.start in
     let old = c.args.trail.now.items in
-    let cur = c.loop-pair.trail.items in
-    let n = c.loop-pair.pair-index in
-    let p = c.pair-item.result in
-    let at = item_at pairs n p c.loop-pair-test.true c.pair-item.is in
+    let cur = c.loop-other.trail.items in
+    let b = c.in-Some.other in
     let leads = rw c.deref.ensures.value at c.leads_on.ensures in
-    let less = (longer_next pairs old cur c.args.txn c.args.from n p at (sym leads ∙ c.if-leads_on.true) i.1).fewer in
-    omega (arith, less, length-append cur (next pairs old cur c.args.txn c.args.from n p at (sym leads ∙ c.if-leads_on.true) ∷ []), c.requires, i.3)
+    let on = goes_on c.args.sorted.now c.args.start c.args.txn c.loop-other.place b cur c.in-Some.ensures.some (sym leads ∙ c.if-leads_on.true) in
+    let less = (longer_next pairs old cur c.args.txn c.args.from on.0 (c.args.txn, b) on.1 on.2 i.1).fewer in
+    let long = length-append cur (next pairs old cur c.args.txn c.args.from on.0 (c.args.txn, b) on.1 on.2 ∷ []) in
+    omega (arith, less, long, c.requires.room, i.4)
 
-pub loop-pair-preserved : goal.loop-pair-preserved
-loop-pair-preserved c =
-    let i = c.loop-pair.invariant in
-    let pairs = c.args.pairs.now in
+pub loop-other-smaller : goal.loop-other-smaller
+loop-other-smaller c = let within = slice_get_within c.args.sorted.now c.loop-other.place (c.args.txn, c.in-Some.other) c.in-Some.ensures.some in omega (arith, within)
+
+pub loop-other-preserved : goal.loop-other-preserved
+loop-other-preserved c =
+    let i = c.loop-other.invariant in
+    let sorted = c.args.sorted.now in
+    let start = c.args.start in
+    let txn = c.args.txn in
+    let from = c.args.from in
+    let place = c.loop-other.place in
+    let pairs = up_to sorted start in
     let old = c.args.trail.now.items in
-    let cur = c.loop-pair.trail.items in
-    let n = c.loop-pair.pair-index in
-    let p = c.pair-item.result in
-    let at = item_at pairs n p c.loop-pair-test.true c.pair-item.is in
+    let cur = c.loop-other.trail.items in
+    let b = c.in-Some.other in
+    let at = c.in-Some.ensures.some in
     let leads = rw c.deref.ensures.value at c.leads_on.ensures in
     elim c.if-leads_on.branch [
       | then-leads_on w ↦
-          let on = sym leads ∙ w.if-leads_on.true in
+          let on = goes_on sorted start txn place b cur at (sym leads ∙ w.if-leads_on.true) in
+          let one = next pairs old cur txn from on.0 (txn, b) on.1 on.2 in
           rw (w.trail-is, w.push_reserved.ensures.items) (
-            found_next pairs old cur c.args.txn c.args.from n p at on i.0 i.1,
-            longer_next pairs old cur c.args.txn c.args.from n p at on i.1,
-            covered_next pairs old cur c.args.txn c.args.from n p at on i.2,
-            w.push_reserved.ensures.capacity ∙ i.3,
+            found_next pairs old cur txn from on.0 (txn, b) on.1 on.2 i.0 i.1,
+            longer_next pairs old cur txn from on.0 (txn, b) on.1 on.2 i.1,
+            covered_more sorted start txn place b cur (cur ++ one ∷ []) at (λ a m. member_longer cur (one ∷ []) a m) (λ low. pushed_node cur one) i.2,
+            λ n p less found. i.3 n p (omega (arith, less)) found,
+            w.push_reserved.ensures.capacity ∙ i.4,
           )
       | else-leads_on w ↦
-          let off = sym leads ∙ w.if-leads_on.false in
-          rw w.trail-is (i.0, i.1, covered_same pairs old cur c.args.txn c.args.from n p at off i.2, i.3)
+          rw w.trail-is (
+            i.0,
+            i.1,
+            covered_more sorted start txn place b cur cur at (λ a m. m) (reached_before cur start b (sym leads ∙ w.if-leads_on.false)) i.2,
+            λ n p less found. i.3 n p (omega (arith, less)) found,
+            i.4,
+          )
     ]
 
 pub returns-clause-covers : goal.returns-clause-covers
 returns-clause-covers c =
-    let i = c.loop-pair.invariant in
-    λ b waits.
-    let f = pair_of c.args.pairs.now c.args.txn b waits in
-    let within = slice_get_within c.args.pairs.now f.0 f.1 f.2 in
-    subst (λ (x : ℕ). is_member x (nodes c.loop-pair.trail.items) ≡ true) f.4
-    (i.2 f.0 f.1 (omega (arith, within, c.loop-pair-test.false)) f.2 (sym f.3))
+    let i = c.loop-other.invariant in
+    covered c.args.sorted.now c.args.start c.args.txn c.loop-other.place c.loop-other.trail.items c.requires.sorted c.in_default.ensures.none i.3 i.2

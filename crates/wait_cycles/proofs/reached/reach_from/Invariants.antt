@@ -1,12 +1,18 @@
-use Rattle.std.proofs.Common.{◌≡◌, ◌<◌, ℕ, length, Some, true}
+use Rattle.std.proofs.Common.{◌≡◌, ◌<◌, ◌≤◌, ◌-◌, ℕ, length, Some, true}
 use Rattle.std.specs.Prelude.{slice_get, vec_capacity}
-use Rattle.wait_cycles.specs.Cycles.{is_member}
+use Rattle.wait_cycles.specs.Sorted.{up_to}
 use Rattle.wait_cycles.specs.Trails.{IsAt, IsFound, IsLonger, nodes}
+use Rattle.wait_cycles.proofs.Sorted.{AreCovered}
 use Rattle.wait_cycles.proofs.reached.reach_from.Given as goal
 
-abbrev pub invariant-loop-pair : goal.invariant-loop-pair
-invariant-loop-pair l =
-    ((start : ℕ) → IsFound l.pairs start l.initial.trail.items → IsAt start (nodes l.initial.trail.items) (length l.initial.trail.items) l.from l.txn → IsFound l.pairs start l.trail.items)
-    × IsLonger l.pairs l.initial.trail.items l.trail.items
-    × ((i : ℕ) (p : ℕ × ℕ) → i < l.pair-index → slice_get l.pairs i ≡ Some p → l.txn ≡ p.0 → is_member p.1 (nodes l.trail.items) ≡ true)
+abbrev pub invariant-loop-other : goal.invariant-loop-other
+invariant-loop-other l =
+    ((first : ℕ) → IsFound (up_to l.fn.sorted l.fn.start) first l.initial.trail.items
+    → IsAt first (nodes l.initial.trail.items) (length l.initial.trail.items) l.fn.from l.fn.txn → IsFound (up_to l.fn.sorted l.fn.start) first l.trail.items)
+    × IsLonger (up_to l.fn.sorted l.fn.start) l.initial.trail.items l.trail.items
+    × AreCovered l.fn.sorted l.fn.start l.fn.txn l.place l.trail.items
+    × ((i : ℕ) (p : ℕ × ℕ) → l.place ≤ i → slice_get l.fn.sorted i ≡ Some p → l.fn.txn ≤ p.0)
     × (vec_capacity l.trail ≡ vec_capacity l.initial.trail)
+
+abbrev pub decreases-loop-other : goal.decreases-loop-other
+decreases-loop-other l = length l.fn.sorted - l.place

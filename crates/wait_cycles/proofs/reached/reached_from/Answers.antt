@@ -1,22 +1,23 @@
 use Rattle.std.proofs.Common.{◌≡◌, ◌<◌, ◌≤◌, ◌+◌, ◌∙◌, ℕ, List, [], Some, length, not, refl, subst, sym, arith}
-use Rattle.std.specs.Prelude.{slice_get, vec_capacity}
+use Rattle.std.specs.Prelude.{nat_le, slice_get, vec_capacity}
 use Rattle.wait_cycles.specs.declared.reached.Reached.{Reached}
 use Rattle.wait_cycles.specs.Cycles.{is_member}
+use Rattle.wait_cycles.specs.Sorted.{up_to}
 use Rattle.wait_cycles.specs.Trails.{IsFound, nodes, open_pairs}
 use Rattle.wait_cycles.proofs.Found.{nobody, room_first}
-use Rattle.wait_cycles.proofs.Lists.{item_at}
+use Rattle.wait_cycles.proofs.Lists.{few_pass, item_at}
 use Rattle.wait_cycles.proofs.Closed.{covers_longer, is_at_place, gone_on, place_within, all_gone}
 use Rattle.wait_cycles.proofs.reached.reached_from.Goals as goal
 
-pub reach_from-requires : goal.reach_from-requires
-reach_from-requires c = room_first c.args.pairs.now c.clear.new.self.items (vec_capacity c.clear.new.self) c.clear.ensures.items (omega (arith, c.requires, c.clear.ensures.capacity))
+pub reach_from-requires-clause-room : goal.reach_from-requires-clause-room
+reach_from-requires-clause-room c = room_first (up_to c.args.sorted.now c.args.start) c.clear.new.self.items (vec_capacity c.clear.new.self) c.clear.ensures.items (omega (arith, few_pass (λ (p : ℕ × ℕ). nat_le p.1 c.args.start) c.args.sorted.now, c.requires.room, c.clear.ensures.capacity))
 
 pub loop-done-init : goal.loop-done-init
 loop-done-init c =
-    let pairs = c.args.pairs.now in
+    let pairs = (up_to c.args.sorted.now c.args.start) in
     let e = c.reach_from.ensures in
     let empty = c.clear.ensures.items in
-    let room = room_first pairs c.clear.new.self.items (vec_capacity c.clear.new.self) empty (omega (arith, c.requires, c.clear.ensures.capacity)) in (
+    let room = room_first pairs c.clear.new.self.items (vec_capacity c.clear.new.self) empty (omega (arith, few_pass (λ (p : ℕ × ℕ). nat_le p.1 c.args.start) c.args.sorted.now, c.requires.room, c.clear.ensures.capacity)) in (
       e.found c.args.start (subst (λ (xs : List Reached). IsFound pairs c.args.start xs) (sym empty) (nobody pairs c.args.start)) refl,
       e.covers,
       λ i a less. absurd (omega (arith, less)),
@@ -28,7 +29,7 @@ loop-done-init c =
 pub loop-done-preserved : goal.loop-done-preserved
 loop-done-preserved c =
     let i = c.loop-done.invariant in
-    let pairs = c.args.pairs.now in
+    let pairs = (up_to c.args.sorted.now c.args.start) in
     let old = c.loop-done.trail.items in
     let new = c.reach_from-in-loop-done.new.trail.items in
     let n = c.loop-done.done in
@@ -46,4 +47,4 @@ loop-done-preserved c =
 pub returns-clause-trail : goal.returns-clause-trail
 returns-clause-trail c =
     let i = c.loop-done.invariant in
-    all_gone c.args.pairs.now c.args.start c.loop-done.trail.items c.loop-done.done i.0 i.1 i.2 (omega (arith, c.loop-done-test.false, c.len.ensures))
+    all_gone (up_to c.args.sorted.now c.args.start) c.args.start c.loop-done.trail.items c.loop-done.done i.0 i.1 i.2 (omega (arith, c.loop-done-test.false, c.len.ensures))

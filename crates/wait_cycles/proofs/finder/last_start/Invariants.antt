@@ -1,0 +1,16 @@
+use Rattle.std.proofs.Common.{◌≡◌, length}
+use Rattle.std.specs.Prelude.{IfSome, vec_capacity}
+use Rattle.wait_cycles.specs.Sorted.{AreRising, IsNoGreatest}
+use Rattle.wait_cycles.proofs.Sorted.{AreLeft}
+use Rattle.wait_cycles.proofs.finder.last_start.Given as goal
+
+abbrev pub invariant-loop-start : goal.invariant-loop-start
+invariant-loop-start l =
+    AreRising l.starts.items
+    × AreLeft l.fn.sorted l.starts.items
+    × IfSome l.tried (λ t. IsNoGreatest l.fn.sorted t)
+    × (vec_capacity l.starts ≡ vec_capacity l.fn.starts)
+    × (vec_capacity l.trail ≡ vec_capacity l.fn.trail)
+
+abbrev pub decreases-loop-start : goal.decreases-loop-start
+decreases-loop-start l = length l.starts.items
