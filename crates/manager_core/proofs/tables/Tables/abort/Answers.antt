@@ -1,3 +1,4 @@
+use Rattle.std.proofs.Common.{rules}
 use Rattle.manager_core.specs.Tables.{Tabled}
 use Rattle.manager_core.proofs.Locks.{aborts_by_name}
 use Rattle.manager_core.proofs.tables.Tables.abort.Goals as goal
@@ -6,4 +7,4 @@ pub returns-in-Ok-clause-aborts : goal.returns-in-Ok-clause-aborts
 returns-in-Ok-clause-aborts c =
     let m : Tabled = record { tree = c.self.inside.tree; marks = c.self.inside.marks; estate = c.self.inside.estate; waits = c.self.inside.waits } in
     rw (← c.self.view_is)
-    (aborts_by_name m c.abort.new.self c.mark.new.self c.abort-in-Ok.new.self c.drop_under.new.self c.args.name.now c.number_of-txn.result c.in-Ok.ensures.names c.in-Ok.ensures.aborted c.mark.ensures.marked c.number_of-txn.ensures.number c.abort-in-Ok.ensures c.drop_under.ensures.waits)
+    (aborts_by_name m _ _ _ _ c.args.name.now c.number_of-txn.result c.in-Ok.ensures.names c.in-Ok.ensures.aborted (search rules) c.number_of-txn.ensures.number c.abort-in-Ok.ensures (search rules))
