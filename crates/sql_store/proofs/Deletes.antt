@@ -1,0 +1,108 @@
+-- What a delete by key leaves.
+use Rattle.std.proofs.Common.{◌≡◌, ◌&&◌, if◌then◌else◌, ℕ, Bool, true, false, cond, List, [], ◌∷◌, ◌++◌, map, filter, flat_map, None, Some, Option, Ok, sym, ap, subst, ◌∙◌, refl, is_eq}
+use Rattle.std.proofs.lemmas.Bool.{cases_Bool}
+use Rattle.std.specs.List.Sorted.{IsPermutation}
+use Rattle.std.proofs.lemmas.List.Sorted.{IsPermutation-map}
+use Rattle.std.specs.List.{list_all, AllByRecursion}
+use Rattle.sqlite.specs.declared.types.Value.{Value}
+use Rattle.sqlite.specs.declared.types.Value.TheVariants.{Null, Int, Real, Text, Blob}
+use Rattle.sqlite.specs.Order.{Row, column}
+use Rattle.sqlite.specs.Command.TheVariants.{Delete}
+use Rattle.sqlite.specs.Query.{IsAnswer, output, Output, page, matches}
+use Rattle.sqlite.specs.Program.{overlay}
+use Rattle.sqlite.specs.Collation.TheVariants.{Binary}
+use Rattle.sqlite.specs.Edit.{edit_of, edited}
+use Rattle.sqlite.specs.Rowids.TheVariants.{Given}
+use Rattle.sqlite.specs.Does.{Tally, Does}
+use Rattle.sqlite.specs.Effect.{Database}
+use Rattle.sqlite.specs.Rows.{Written}
+use Rattle.sqlite.specs.Tree.{Trees}
+use Rattle.sqlite.specs.Listing.{understood}
+use Rattle.sqlite.specs.State.{State, mode_of, Executes, ExecutesInside}
+use Rattle.sqlite.proofs.Callers.{statement_of, runs_as, one_step}
+use Rattle.sqlite_sql.specs.Ops.{binary, is_true, from_truth}
+use Rattle.sqlite_sql.specs.Term.{holds, Env}
+use Rattle.sqlite_sql.specs.declared.ops.BinaryOp.TheVariants.{Compare}
+use Rattle.sqlite_sql.specs.declared.ops.CompareOp.TheVariants.{Eq}
+use Rattle.sqlite_value.specs.Order.{value_cmp}
+use Rattle.sqlite_rules.specs.Edit.{without_all}
+use Rattle.sqlite_rules.specs.Calls.{ids_of}
+use Rattle.serial_spec.specs.Serial.{put}
+use Rattle.sql_store.specs.Results.{results, results_schema}
+use Rattle.sql_store.specs.Table.{is_key, map_of, table_of, AreApart, IsReady, IsFree, Makes}
+use Rattle.sql_store.proofs.Texts.{delete_text, delete_is, delete_plain, delete_query}
+use Rattle.sql_store.proofs.Creates.{went, same_value}
+use Rattle.sql_store.proofs.Steps.{kept_by}
+use Rattle.sql_store.proofs.Tables.{key_test, rows_with, rows_without, shown_ids, removed, apart_kept, map_removed, none_left}
+
+told : (b : Bool) → is_true (from_truth (Some b)) ≡ b
+told true = refl
+told false = refl
+
+-- WHERE keeps the rows of the key
+pub equal_key : (k : List ℕ) (v : Value) → is_true (binary (Compare Eq Binary) v (Text k)) ≡ is_key k v
+unfolding binary
+equal_key k Null = refl
+equal_key k (Int n) = told (is_eq (value_cmp (Int n) (Text k))) ∙ key_test k (Int n)
+equal_key k (Real x) = told (is_eq (value_cmp (Real x) (Text k))) ∙ key_test k (Real x)
+equal_key k (Text t) = told (is_eq (value_cmp (Text t) (Text k))) ∙ key_test k (Text t)
+equal_key k (Blob b) = told (is_eq (value_cmp (Blob b) (Text k))) ∙ key_test k (Blob b)
+
+abbrev kept_as : List ℕ → Row → List Env
+kept_as k r = if list_all (holds ((Text k ∷ []) ∷ r ∷ [])) delete_query.filter then ((Text k ∷ []) ∷ r ∷ []) ∷ [] else []
+
+shows : (k : List ℕ) (rows : List Row) → map (λ (o : Output). o.1) (map (output delete_query) (flat_map (kept_as k) rows)) ≡ shown_ids (rows_with k rows)
+shows k [] = refl
+shows k (r ∷ rows) = go (shows k rows) (is_true (binary (Compare Eq Binary) (column r 1) (Text k))) (equal_key k (column r 1))
+  where
+    go : map (λ (o : Output). o.1) (map (output delete_query) (flat_map (kept_as k) rows)) ≡ shown_ids (rows_with k rows) → (b : Bool) → b ≡ is_key k (column r 1)
+        → map (λ (o : Output). o.1) (map (output delete_query) (cond (b && true) (((Text k ∷ []) ∷ r ∷ []) ∷ []) [] ++ flat_map (kept_as k) rows)) ≡ shown_ids (cond (is_key k (column r 1)) (r ∷ rows_with k rows) (rows_with k rows))
+    go more true e = rw (← e, more)
+    go more false e = rw (← e, more)
+
+pub record Deletes (key : List ℕ) (old new : Database) : Type 0 where
+  pub rows : AreApart (old.trees 0) → new.trees 0 ≡ rows_without key (old.trees 0)
+  pub schema : new.schema ≡ results_schema
+
+pub deletes : (old new : State) (key : List ℕ) (count : ℕ) → old.now.schema ≡ results_schema → Executes delete_text (Text key ∷ []) old new (Ok count) → Deletes key old.now new.now
+deletes old new key count has h =
+    let params : Row = Text key ∷ [] in
+    let db : Trees = old.now.trees in
+    let command = Delete 0 (record { lets = []; body = delete_query }) in
+    let w = runs_as delete_text params old new results_schema has command delete_is delete_plain count h in
+    let text = statement_of delete_text (understood results_schema delete_text) in
+    let done = went (subst (λ s. Does old.step_limit (mode_of old) params (record old.now { schema = s }) text None command (Ok (w.tally, new.now))) has w.changed) in
+    let queried = went done.1 in
+    let wrote = went queried.2 in
+    let now = ap (λ (p : Tally × Database). p.1) (same_value (went (went done.2).2).2) in
+    let trees : done.0.trees ≡ wrote.0 = ap (λ (it : Written). it.trees) (same_value wrote.2) in
+    let step = one_step results_schema _ db wrote.0 (edit_of db results (ids_of queried.0) Given 0 []) refl wrote.1 in
+    let a : IsAnswer delete_query (overlay db []) params queried.0 = queried.1.answer Null in
+    let kept : map (λ (o : Output). o.1) a.kept ≡ shown_ids (rows_with key (db 0)) =
+    ap (map (λ (o : Output). o.1)) (a.distinct ∙ ap (map (output delete_query)) a.grouped) ∙ shows key (db 0) in
+    let same : IsPermutation (shown_ids (rows_with key (db 0))) queried.0 =
+    subst (λ rows. IsPermutation rows queried.0) kept (subst (IsPermutation (map (λ (o : Output). o.1) a.kept)) (sym a.shown) (IsPermutation-map (λ (o : Output). o.1) a.kept a.ordered a.same)) in
+    record {
+      rows = λ apart. ap (λ (d : Database). d.trees 0) now ∙ ap (λ (t : Trees). t 0) trees ∙ step.rows ∙ removed key (db 0) queried.0 apart same;
+      schema = ap (λ (d : Database). d.schema) now;
+    }
+
+pub deleted : (old new : Database) (key : List ℕ) → IsReady old → Deletes key old new → IsReady new × (table_of new ≡ put (table_of old) key None)
+deleted old new key ready it =
+    let rows = it.rows ready.apart in
+    (record { schema = it.schema; apart = subst AreApart (sym rows) (apart_kept _ (old.trees 0) ready.apart) }, ap map_of rows ∙ map_removed key (old.trees 0))
+
+pub freed : (old new : Database) (key : List ℕ) → IsReady old → Deletes key old new → IsFree key new
+freed old new key ready it = subst (AllByRecursion (λ r. is_key key (column r 1) ≡ false)) (sym (it.rows ready.apart)) (none_left key (old.trees 0))
+
+pub removes : (old new : State) (key : List ℕ) (count : ℕ) → ExecutesInside 0 delete_text (Text key ∷ []) old new (Ok count) → Makes key None old new
+removes old new key count h = record {
+  was_open = h.1.was_open;
+  inside = h.1.mode;
+  kept = kept_by delete_text (Text key ∷ []) old new (Ok count) h;
+  ready = λ ready. (deleted old.now new.now key ready (deletes old new key count ready.schema h.0)).0;
+  table = λ ready. (deleted old.now new.now key ready (deletes old new key count ready.schema h.0)).1;
+}
+
+pub frees : (old new : State) (key : List ℕ) (count : ℕ) → ExecutesInside 0 delete_text (Text key ∷ []) old new (Ok count) → IsReady old.now → IsFree key new.now
+frees old new key count h ready = freed old.now new.now key ready (deletes old new key count ready.schema h.0)

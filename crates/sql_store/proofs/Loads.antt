@@ -1,0 +1,52 @@
+-- What the query answers, and what it leaves.
+use Rattle.std.proofs.Common.{◌≡◌, ℕ, List, [], ◌∷◌, codes, Option, Some, None, Ok, Err, Result, OnOk, IfErr, inl, inr, refl, sym, ap, subst, ◌∙◌}
+use Rattle.sqlite.specs.Order.{Row}
+use Rattle.sqlite.specs.declared.types.Value.TheVariants.{Null}
+use Rattle.sqlite.specs.declared.error.Error.{Error}
+use Rattle.sqlite.specs.Command.TheVariants.{Select}
+use Rattle.sqlite.specs.Query.{IsAnswer}
+use Rattle.sqlite.specs.Program.{overlay}
+use Rattle.sqlite.specs.Tree.{Trees}
+use Rattle.sqlite.specs.State.{State, Shown, ShowsRows, IsUnchanged, KeepsCommit, IsNotRun, FailsToQuery, FailsToShow, RunsCommand, Fails, Survives, CommitsShowing}
+use Rattle.sqlite.specs.Clock.{timed}
+use Rattle.sqlite.specs.Listing.{understood}
+use Rattle.sqlite.proofs.Callers.{IsPlain, reads_as, never_commits}
+use Rattle.sqlite.proofs.StateLemmas.{survives_weaker}
+use Rattle.sql_store.specs.Results.{results_schema}
+use Rattle.sql_store.specs.Load.{load_text, load_query}
+use Rattle.sql_store.proofs.Texts.{load_is, load_plain}
+
+pub loads : (old new : State) (rows : List Row) → old.now.schema ≡ results_schema → Shown load_text [] old new rows → IsAnswer load_query (overlay old.now.trees []) [] rows
+loads old new rows has h = (reads_as load_text [] old new results_schema has (Select (record { lets = []; body = load_query }) (codes "k" ∷ codes "v" ∷ [])) load_is load_plain.0 load_plain.1 rows h).answer Null
+
+pub stays : (old new : State) (rows : List Row) → old.now.schema ≡ results_schema → Shown load_text [] old new rows → IsUnchanged old new
+unfolding Shown
+stays old new rows has h =
+    let known = sym h.1.is ∙ ap (λ s. understood s load_text) has in
+    let bare = subst IsPlain (sym known) load_plain.0 in
+    let it = subst (ShowsRows old new load_text h.0 (timed [] h.0.formats h.1.now) rows) bare.0 h.2 in
+    it.3
+
+pub same_commit : (old new : State) → IsUnchanged old new → KeepsCommit old new
+same_commit old new same = record { was_open = λ _. same.0.was_open; committed = λ _. same.0.committed_is }
+
+pub fails_keep : (old new : State) (U : Type 0) (e : Error) → Fails old new U e → KeepsCommit old new
+fails_keep old new U e f = record { was_open = f.3.was_open; committed = λ h. (f.3.undone h).1 }
+
+pub not_run_keeps : (old new : State) (sql : List ℕ) (params : Row) (e : Error) → IsNotRun old new sql params e → KeepsCommit old new
+unfolding IsNotRun
+not_run_keeps old new sql params e (inl h) = same_commit old new h.1
+not_run_keeps old new sql params e (inr f) = fails_keep old new _ e f
+
+pub query_keeps : (old new : State) (sql : List ℕ) (params : Row) (e : Error) → FailsToQuery sql params old new e → KeepsCommit old new
+unfolding FailsToQuery
+query_keeps old new sql params e (inl h) = not_run_keeps old new sql params e h
+query_keeps old new sql params e (inr (c, it, h)) = go c.returning h
+  where
+    go : (o : Option _) → FailsToShow old new sql c (timed params c.formats it.now) e o → KeepsCommit old new
+    go None f = same_commit old new f.3
+    go (Some what) (inl f) = same_commit old new f.1
+    go (Some what) (inr f) = fails_keep old new _ e f
+
+pub reads_only : (old new : State) → old.now.schema ≡ results_schema → Survives old new (CommitsShowing load_text [] old) → Survives old new (λ _. ⊥)
+reads_only old new has h = survives_weaker old new (CommitsShowing load_text [] old) (λ _. ⊥) (λ _ db shows. never_commits load_text [] old db (subst (λ s. IsPlain (understood s load_text)) (sym has) load_plain.0) shows) h

@@ -1,0 +1,93 @@
+-- What the texts mean.
+use Rattle.std.proofs.Common.{◌≡◌, ℕ, List, [], ◌∷◌, codes, None, Ok, refl, false, pos, negsuc}
+use Rattle.sqlite.specs.Term.{Term}
+use Rattle.sqlite.specs.Query.{Query}
+use Rattle.sqlite_value.specs.declared.keys.Key.{Key}
+use Rattle.sqlite.specs.declared.types.Value.TheVariants.{Null, Int}
+use Rattle.sqlite.specs.Term.{lit, col, op2}
+use Rattle.sqlite.specs.Query.{inner, end}
+use Rattle.sqlite.specs.Source.TheVariants.{Values}
+use Rattle.sqlite.specs.Collation.TheVariants.{Binary}
+use Rattle.sqlite_sql.specs.declared.ops.BinaryOp.TheVariants.{Compare}
+use Rattle.sqlite_sql.specs.declared.ops.CompareOp.TheVariants.{Eq}
+use Rattle.sqlite.specs.Command.TheVariants.{Insert, Select, CreateTable, Nothing, Delete}
+use Rattle.sqlite.specs.Compile.{table_defined_by}
+use Rattle.sqlite_tied.specs.Compute.{everything}
+use Rattle.sqlite.specs.Listing.{understood, reads_listing}
+use Rattle.sqlite.proofs.Callers.{IsPlain, command_of, statement_of}
+use Rattle.sql_store.specs.Results.{results, results_schema, no_schema}
+use Rattle.sql_store.specs.Load.{load_text, load_query}
+
+abbrev pub create_text : List ℕ
+create_text = codes "CREATE TABLE IF NOT EXISTS results (k TEXT NOT NULL PRIMARY KEY, v INTEGER NOT NULL) STRICT"
+
+abbrev pub insert_text : List ℕ
+insert_text = codes "INSERT INTO results (k, v) VALUES (?1, ?2)"
+
+abbrev pub delete_text : List ℕ
+delete_text = codes "DELETE FROM results WHERE k = ?1"
+
+pub create_table : table_defined_by create_text ≡ Ok results
+unfolding understood everything
+create_table = refl
+
+pub create_is : command_of (understood no_schema create_text) ≡ CreateTable
+unfolding understood everything
+create_is = refl
+
+pub create_again : command_of (understood results_schema create_text) ≡ Nothing
+unfolding understood everything
+create_again = refl
+
+abbrev plain_query : List Term → List Term → Query
+plain_query filter project = record {
+  from = inner 0 end;
+  filter = filter;
+  group = None;
+  project = project;
+  distinct = false;
+  collations = [];
+  order = [];
+  limit = lit (Int (negsuc 0));
+  offset = lit (Int (pos 0));
+}
+
+-- the rowids of the rows with the key
+abbrev pub delete_query : Query
+delete_query = plain_query (op2 (Compare Eq Binary) (col 1 1) (col 0 0) ∷ []) (col 1 0 ∷ [])
+
+-- a row of the parameters, whose rowid is chosen
+abbrev pub insert_terms : List Term
+insert_terms = lit Null ∷ col 0 0 ∷ col 0 1 ∷ []
+
+pub delete_is : command_of (understood results_schema delete_text) ≡ Delete 0 (record { lets = []; body = delete_query })
+unfolding understood everything
+delete_is = refl
+
+pub insert_is : command_of (understood results_schema insert_text) ≡ Insert 0 (Values insert_terms 3)
+unfolding understood everything
+insert_is = refl
+
+pub load_is : command_of (understood results_schema load_text) ≡ Select (record { lets = []; body = load_query }) (codes "k" ∷ codes "v" ∷ [])
+unfolding understood everything
+load_is = refl
+
+pub create_plain : IsPlain (understood no_schema create_text) × (statement_of create_text (understood no_schema create_text) ≡ create_text)
+unfolding understood everything
+create_plain = ((refl, refl), refl)
+
+pub create_again_plain : IsPlain (understood results_schema create_text)
+unfolding understood everything
+create_again_plain = (refl, refl)
+
+pub delete_plain : IsPlain (understood results_schema delete_text)
+unfolding understood everything
+delete_plain = (refl, refl)
+
+pub insert_plain : IsPlain (understood results_schema insert_text)
+unfolding understood everything
+insert_plain = (refl, refl)
+
+pub load_plain : IsPlain (understood results_schema load_text) × (reads_listing results_schema load_text ≡ false)
+unfolding understood everything
+load_plain = ((refl, refl), refl)

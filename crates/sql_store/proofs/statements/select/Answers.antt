@@ -1,0 +1,23 @@
+use Rattle.std.proofs.Common.{[], ◌≡◌, Ok, Err, Result}
+use Rattle.std.proofs.lemmas.Result.{IfOk-weaker}
+use Rattle.sqlite.specs.Held.{state}
+use Rattle.sql_store.proofs.Loads.{loads, stays, same_commit, query_keeps, reads_only}
+use Rattle.sql_store.proofs.Steps.{at_both}
+use Rattle.sql_store.specs.Load.{load_text}
+use Rattle.sql_store.proofs.statements.select.Goals as goal
+
+pub returns-clause-rows : goal.returns-clause-rows
+returns-clause-rows g c clean has =
+    IfOk-weaker c.query_all.result _ _ (λ rows h. loads (state g.S.Store c.args.conn.now) (state g.S.Store c.query_all.new.self) rows.items has h) (c.query_all.ensures.ok clean)
+
+pub returns-clause-open : goal.returns-clause-open
+returns-clause-open g c clean has =
+    IfOk-weaker c.query_all.result _ _ (λ rows h. stays (state g.S.Store c.args.conn.now) (state g.S.Store c.query_all.new.self) rows.items has h) (c.query_all.ensures.ok clean)
+
+pub returns-clause-kept : goal.returns-clause-kept
+returns-clause-kept g c clean has =
+    at_both c.query_all.result _ _ _ (λ rows h. same_commit (state g.S.Store c.args.conn.now) (state g.S.Store c.query_all.new.self) (stays (state g.S.Store c.args.conn.now) (state g.S.Store c.query_all.new.self) rows.items has h))
+    (λ e h. query_keeps (state g.S.Store c.args.conn.now) (state g.S.Store c.query_all.new.self) load_text [] e h) (c.query_all.ensures.ok clean) (c.query_all.ensures.err clean)
+
+pub returns-clause-survives : goal.returns-clause-survives
+returns-clause-survives g c has = reads_only (state g.S.Store c.args.conn.now) (state g.S.Store c.query_all.new.self) has c.query_all.ensures.survives

@@ -1,0 +1,31 @@
+use Rattle.std.proofs.Common.{◌≡◌, ◌∙◌, ◌+◌, ◌++◌, ◌∷◌, [], List, ℕ, take, sym, ap, subst, arith}
+use Rattle.std.proofs.lemmas.List.{take_more}
+use Rattle.std.specs.Prelude.{IsTrue}
+use Rattle.sqlite.specs.Held.{state}
+use Rattle.sqlite.specs.State.{HasCleanDisk}
+use Rattle.sqlite.proofs.StateLemmas.{survives_then}
+use Rattle.txn_names.specs.declared.change.Change.{Change}
+use Rattle.sql_store.specs.Writes.{MakesAll}
+use Rattle.sql_store.proofs.Composed.{makes_more, keeps_then}
+use Rattle.sql_store.proofs.writes.make_all.Goals as goal
+
+pub loop-change-preserved : goal.loop-change-preserved
+loop-change-preserved g c =
+    let x = state g.S.Store c.args.tx.now.conn.now in
+    let y = state g.S.Store c.loop-change.tx.conn.now in
+    let z = state g.S.Store c.make.new.tx.conn.now in
+    let changes : List Change = c.args.changes.now in
+    let i : ℕ = c.loop-change.change-index in
+    let d : Change = c.change-item.result in
+    let more : take (i + 1) changes ≡ take i changes ++ d ∷ [] = take_more changes i d (omega arith) ∙ ap (λ w. take i changes ++ w ∷ []) (sym c.change-item.is) in
+    let was = λ (clean : HasCleanDisk z). let h : HasCleanDisk y = omega (arith, c.make.ensures.survives.clean, clean) in h in
+    record {
+      same = c.make.ensures.same_reference ∙ c.loop-change.invariant.same;
+      made = λ clean ready.
+          let all = c.loop-change.invariant.made (was clean) ready in
+          subst (λ cs. MakesAll cs x z) (sym more) (makes_more (take i changes) d x y z all (c.in_ok-make.ensures.made clean (c.loop-change.invariant.inside (was clean)) all.ready));
+      opened = λ clean some. (c.loop-change.invariant.kept (was clean)).was_open (c.in_ok-make.ensures.opened clean (c.loop-change.invariant.inside (was clean)));
+      inside = λ clean. c.in_ok-make.ensures.inside clean (c.loop-change.invariant.inside (was clean));
+      kept = λ clean. keeps_then x y z (c.loop-change.invariant.kept (was clean)) (c.make.ensures.kept clean (c.loop-change.invariant.inside (was clean)));
+      survives = survives_then x y z _ _ (λ _. ⊥) (λ _ db none. none) (λ _ db none. none) c.loop-change.invariant.survives c.make.ensures.survives;
+    }

@@ -1,0 +1,4 @@
+pub mod Results
+pub mod Load
+pub mod Table
+pub mod Writes

@@ -1,0 +1,88 @@
+//! The statements, one a function.
+ghost use Rattle.std.specs.Prelude.{◌≡◌, ◌≤◌, [], ◌∷◌, Some, None, OnOk, IfOk, IsTrue};
+ghost use Rattle.sqlite_trees.specs.View.{doubt};
+ghost use Rattle.sqlite.specs.Values.{bound};
+ghost use Rattle.sqlite.specs.declared.types.Value.TheVariants.{Text, Int};
+ghost use Rattle.sqlite.specs.Held.{state};
+ghost use Rattle.sqlite.specs.State.{HasCleanDisk, Survives, KeepsCommit, IsUnchanged};
+ghost use Rattle.sqlite.specs.Query.{IsAnswer};
+ghost use Rattle.sqlite.specs.Program.{overlay};
+ghost use Rattle.sql_store.specs.Results.{results_schema, no_schema};
+ghost use Rattle.sql_store.specs.Load.{load_query};
+ghost use Rattle.sql_store.specs.Table.{Makes, IsReady, IsFree};
+
+use durable_top::Row;
+use sqlite::types::ValueRef;
+use sqlite::{Alter, Connection, Error, Transaction};
+use txn_names::Key;
+
+fn of_key(key: &Key) -> [ValueRef<'_>; 1]
+    ensures { bound result ≡ Text key.now ∷ [] }
+{
+    [ValueRef::Text(key.as_bytes())]
+}
+
+fn of_row(row: &Row) -> [ValueRef<'_>; 2]
+    ensures { bound result ≡ Text row.now.key ∷ Int row.now.value ∷ [] }
+{
+    [ValueRef::Text(row.key.as_bytes()), ValueRef::Int(row.value)]
+}
+
+/// Takes the row of the key away, if there is one.
+pub(crate) fn remove<S: Alter>(tx: &mut Transaction<'_, S>, key: &Key) -> Result<(), Error>
+    ensures same_reference { tx.new.conn.ghost_name ≡ tx.old.conn.ghost_name }
+    ensures made { HasCleanDisk (state S.Store tx.new.conn.now) → IsTrue (state S.Store tx.old.conn.now).in_transaction → OnOk result (Makes key.now None (state S.Store tx.old.conn.now) (state S.Store tx.new.conn.now)) }
+    ensures free { HasCleanDisk (state S.Store tx.new.conn.now) → IsTrue (state S.Store tx.old.conn.now).in_transaction → OnOk result (IsReady (state S.Store tx.old.conn.now).now → IsFree key.now (state S.Store tx.new.conn.now).now) }
+    ensures kept { HasCleanDisk (state S.Store tx.new.conn.now) → IsTrue (state S.Store tx.old.conn.now).in_transaction → KeepsCommit (state S.Store tx.old.conn.now) (state S.Store tx.new.conn.now) }
+    ensures survives { Survives (state S.Store tx.old.conn.now) (state S.Store tx.new.conn.now) (λ _. ⊥) }
+{
+    tx.execute("DELETE FROM results WHERE k = ?1", &of_key(key))?;
+    Ok(())
+}
+
+/// Adds a row. The database refuses a key that has one.
+pub(crate) fn add<S: Alter>(tx: &mut Transaction<'_, S>, row: &Row) -> Result<(), Error>
+    ensures same_reference { tx.new.conn.ghost_name ≡ tx.old.conn.ghost_name }
+    ensures made { HasCleanDisk (state S.Store tx.new.conn.now) → IsTrue (state S.Store tx.old.conn.now).in_transaction → IsFree row.now.key (state S.Store tx.old.conn.now).now → OnOk result (Makes row.now.key (Some row.now.value) (state S.Store tx.old.conn.now) (state S.Store tx.new.conn.now)) }
+    ensures inside { HasCleanDisk (state S.Store tx.new.conn.now) → IsTrue (state S.Store tx.old.conn.now).in_transaction → OnOk result (IsTrue (state S.Store tx.new.conn.now).in_transaction) }
+    ensures kept { HasCleanDisk (state S.Store tx.new.conn.now) → IsTrue (state S.Store tx.old.conn.now).in_transaction → KeepsCommit (state S.Store tx.old.conn.now) (state S.Store tx.new.conn.now) }
+    ensures survives { Survives (state S.Store tx.old.conn.now) (state S.Store tx.new.conn.now) (λ _. ⊥) }
+{
+    tx.execute("INSERT INTO results (k, v) VALUES (?1, ?2)", &of_row(row))?;
+    Ok(())
+}
+
+/// Makes the table where there is none.
+pub(crate) fn create<S: Alter>(conn: &mut Connection<S>) -> Result<(), Error>
+    ensures schema { HasCleanDisk (state S.Store conn.new) → OnOk result ((state S.Store conn.old).now.schema ≡ no_schema → (state S.Store conn.new).now.schema ≡ results_schema) }
+    ensures empty { HasCleanDisk (state S.Store conn.new) → OnOk result ((state S.Store conn.old).now.schema ≡ no_schema → (state S.Store conn.new).now.trees 0 ≡ []) }
+    ensures same { HasCleanDisk (state S.Store conn.new) → OnOk result ((state S.Store conn.old).now.schema ≡ results_schema → (state S.Store conn.new).now ≡ (state S.Store conn.old).now) }
+    ensures clean { doubt (state S.Store conn.old).is_clean ≤ doubt (state S.Store conn.new).is_clean }
+{
+    conn.execute(
+        "CREATE TABLE IF NOT EXISTS results (k TEXT NOT NULL PRIMARY KEY, v INTEGER NOT NULL) STRICT",
+        &[],
+    )?;
+    Ok(())
+}
+
+/// All rows, by their keys.
+pub(crate) fn select<S: Alter>(conn: &mut Connection<S>) -> Result<Vec<sqlite::Row>, Error>
+    ensures rows { HasCleanDisk (state S.Store conn.new) → (state S.Store conn.old).now.schema ≡ results_schema → IfOk result (λ rows. IsAnswer load_query (overlay (state S.Store conn.old).now.trees []) [] rows.items) }
+    ensures open { HasCleanDisk (state S.Store conn.new) → (state S.Store conn.old).now.schema ≡ results_schema → OnOk result (IsUnchanged (state S.Store conn.old) (state S.Store conn.new)) }
+    ensures kept { HasCleanDisk (state S.Store conn.new) → (state S.Store conn.old).now.schema ≡ results_schema → KeepsCommit (state S.Store conn.old) (state S.Store conn.new) }
+    ensures clean { doubt (state S.Store conn.old).is_clean ≤ doubt (state S.Store conn.new).is_clean }
+    ensures survives { (state S.Store conn.old).now.schema ≡ results_schema → Survives (state S.Store conn.old) (state S.Store conn.new) (λ _. ⊥) }
+{
+    conn.query_all("SELECT k, v FROM results ORDER BY k", &[])
+}
+
+/// Whether statements can still be run. The answer says why not.
+pub(crate) fn probe<S: Alter>(conn: &mut Connection<S>) -> Result<(), Error>
+    ensures open { HasCleanDisk (state S.Store conn.new) → OnOk result (IsUnchanged (state S.Store conn.old) (state S.Store conn.new)) }
+    ensures kept { HasCleanDisk (state S.Store conn.new) → KeepsCommit (state S.Store conn.old) (state S.Store conn.new) }
+    ensures survives { Survives (state S.Store conn.old) (state S.Store conn.new) (λ _. ⊥) }
+{
+    let _select = conn.prepare("SELECT k, v FROM results ORDER BY k")?;
+    Ok(())
+}

@@ -1,0 +1,91 @@
+//! Changes of the table in one transaction.
+ghost use Rattle.std.specs.Prelude.{◌≡◌, ◌<◌, length, false, Some, None, [], OnOk, OnErr, IsTrue};
+ghost use Rattle.sqlite.specs.Held.{state};
+ghost use Rattle.sqlite.specs.State.{HasCleanDisk, Survives, KeepsCommit};
+ghost use Rattle.sql_store.specs.Table.{Makes, IsReady, table_of};
+ghost use Rattle.sql_store.specs.Writes.{MakesAll, Stores, IsStored};
+
+use crate::statements::{add, probe, remove};
+use durable_top::Row;
+use sqlite::{Alter, Connection, Error, ErrorCode, Transaction};
+use txn_names::Change;
+
+/// Gives the key this value, whether or not it has one.
+fn set<S: Alter>(tx: &mut Transaction<'_, S>, row: &Row) -> Result<(), Error>
+    ensures same_reference { tx.new.conn.ghost_name ≡ tx.old.conn.ghost_name }
+    ensures made { HasCleanDisk (state S.Store tx.new.conn.now) → IsTrue (state S.Store tx.old.conn.now).in_transaction → IsReady (state S.Store tx.old.conn.now).now → OnOk result (Makes row.now.key (Some row.now.value) (state S.Store tx.old.conn.now) (state S.Store tx.new.conn.now)) }
+    ensures opened { HasCleanDisk (state S.Store tx.new.conn.now) → IsTrue (state S.Store tx.old.conn.now).in_transaction → OnOk result (IsTrue (state S.Store tx.old.conn.now).is_open) }
+    ensures inside { HasCleanDisk (state S.Store tx.new.conn.now) → IsTrue (state S.Store tx.old.conn.now).in_transaction → OnOk result (IsTrue (state S.Store tx.new.conn.now).in_transaction) }
+    ensures kept { HasCleanDisk (state S.Store tx.new.conn.now) → IsTrue (state S.Store tx.old.conn.now).in_transaction → KeepsCommit (state S.Store tx.old.conn.now) (state S.Store tx.new.conn.now) }
+    ensures survives { Survives (state S.Store tx.old.conn.now) (state S.Store tx.new.conn.now) (λ _. ⊥) }
+{
+    remove(tx, &row.key)?;
+    add(tx, row)
+}
+
+/// Gives the key the value of the change, or takes its row away.
+fn make<S: Alter>(tx: &mut Transaction<'_, S>, change: &Change) -> Result<(), Error>
+    ensures same_reference { tx.new.conn.ghost_name ≡ tx.old.conn.ghost_name }
+    ensures made { HasCleanDisk (state S.Store tx.new.conn.now) → IsTrue (state S.Store tx.old.conn.now).in_transaction → IsReady (state S.Store tx.old.conn.now).now → OnOk result (Makes change.now.key change.now.value (state S.Store tx.old.conn.now) (state S.Store tx.new.conn.now)) }
+    ensures opened { HasCleanDisk (state S.Store tx.new.conn.now) → IsTrue (state S.Store tx.old.conn.now).in_transaction → OnOk result (IsTrue (state S.Store tx.old.conn.now).is_open) }
+    ensures inside { HasCleanDisk (state S.Store tx.new.conn.now) → IsTrue (state S.Store tx.old.conn.now).in_transaction → OnOk result (IsTrue (state S.Store tx.new.conn.now).in_transaction) }
+    ensures kept { HasCleanDisk (state S.Store tx.new.conn.now) → IsTrue (state S.Store tx.old.conn.now).in_transaction → KeepsCommit (state S.Store tx.old.conn.now) (state S.Store tx.new.conn.now) }
+    ensures survives { Survives (state S.Store tx.old.conn.now) (state S.Store tx.new.conn.now) (λ _. ⊥) }
+{
+    match change.value {
+        Some(value) => set(
+            tx,
+            &Row {
+                key: change.key,
+                value,
+            },
+        ),
+        None => remove(tx, &change.key),
+    }
+}
+
+/// Makes the changes one after another.
+fn make_all<S: Alter>(tx: &mut Transaction<'_, S>, changes: &[Change]) -> Result<(), Error>
+    requires inside { IsTrue (state S.Store tx.old.conn.now).in_transaction }
+    ensures same_reference { tx.new.conn.ghost_name ≡ tx.old.conn.ghost_name }
+    ensures made { HasCleanDisk (state S.Store tx.new.conn.now) → IsReady (state S.Store tx.old.conn.now).now → OnOk result (MakesAll changes.now (state S.Store tx.old.conn.now) (state S.Store tx.new.conn.now)) }
+    ensures opened { HasCleanDisk (state S.Store tx.new.conn.now) → OnOk result (0 < length changes.now → IsTrue (state S.Store tx.old.conn.now).is_open) }
+    ensures kept { HasCleanDisk (state S.Store tx.new.conn.now) → KeepsCommit (state S.Store tx.old.conn.now) (state S.Store tx.new.conn.now) }
+    ensures survives { Survives (state S.Store tx.old.conn.now) (state S.Store tx.new.conn.now) (λ _. ⊥) }
+{
+    for change in changes {
+        make(tx, change)?;
+    }
+    Ok(())
+}
+
+/// Commits the changes, of which there are some, in one transaction.
+fn commit_some<S: Alter>(conn: &mut Connection<S>, changes: &[Change]) -> Result<(), Error>
+    requires outside { (state S.Store conn.old).in_transaction ≡ false }
+    requires settled { IsTrue (state S.Store conn.old).is_open → (state S.Store conn.old).now ≡ (state S.Store conn.old).committed }
+    requires some { 0 < length changes.now }
+    ensures stored { HasCleanDisk (state S.Store conn.new) → OnOk result (Stores changes.now (state S.Store conn.old) (state S.Store conn.new)) }
+    ensures kept { HasCleanDisk (state S.Store conn.new) → OnErr result (KeepsCommit (state S.Store conn.old) (state S.Store conn.new)) }
+    ensures survives { Survives (state S.Store conn.old) (state S.Store conn.new) (IsStored changes.now (state S.Store conn.old)) }
+{
+    let mut tx = conn.transaction();
+    make_all(&mut tx, changes)?;
+    tx.commit()?;
+    Ok(())
+}
+
+/// Commits the changes in one transaction.
+pub(crate) fn write_all<S: Alter>(conn: &mut Connection<S>, changes: &[Change]) -> Result<(), Error>
+    ensures stored { HasCleanDisk (state S.Store conn.new) → OnOk result (Stores changes.now (state S.Store conn.old) (state S.Store conn.new)) }
+    ensures kept { HasCleanDisk (state S.Store conn.new) → OnErr result (KeepsCommit (state S.Store conn.old) (state S.Store conn.new)) }
+    ensures survives { Survives (state S.Store conn.old) (state S.Store conn.new) (IsStored changes.now (state S.Store conn.old)) }
+{
+    if changes.is_empty() {
+        return probe(conn);
+    }
+    if conn.is_autocommit() {
+        commit_some(conn, changes)
+    } else {
+        Err(Error::SqliteFailure(ErrorCode::TransactionState))
+    }
+}
