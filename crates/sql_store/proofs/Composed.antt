@@ -47,11 +47,15 @@ makes_more cs c x y z all one = record {
 }
 
 -- what is in the transaction at its commit is stored
-pub stored_by : {S : Type 0} (changes : List Change) (g : Ghosts S) (old last : Held S) (db : Trees) → (state g old).now ≡ (state g old).committed
+pub stored_by : {S : Type 0} (changes : List Change) (g : Ghosts S) (old last : Held S) (db : Trees) → IsTrue (state g old).is_open → (IsTrue (state g old).is_open → (state g old).now ≡ (state g old).committed)
     → (IsReady (state g old).now → MakesAll changes (state g (record old { in_transaction = true })) (state g last)) → db ≡ (state g last).now.trees → IsStored changes (state g old) db
-stored_by changes g old last db settled made is ready =
-    let all = made (subst IsReady (sym settled) ready) in
-    ap (λ (t : Trees). map_of (t 0)) is ∙ all.table ∙ ap (λ (d : Database). overlay changes (table_of d)) settled
+stored_by changes g old last db was_open settle made is = (
+  was_open,
+  λ ready.
+      let settled = settle was_open in
+      let all = made (subst IsReady (sym settled) ready) in
+      ap (λ (t : Trees). map_of (t 0)) is ∙ all.table ∙ ap (λ (d : Database). overlay changes (table_of d)) settled,
+)
 
 pub stores_by : {S : Type 0} (changes : List Change) (g : Ghosts S) (old last : Held S) (new : State) → IsTrue (state g old).is_open → (state g old).now ≡ (state g old).committed
     → (IsReady (state g old).now → MakesAll changes (state g (record old { in_transaction = true })) (state g last)) → Shows (state g last) new (state g last).now (state g last).now false → Stores changes (state g old) new

@@ -6,3 +6,5 @@ pub mod Deletes
 pub mod Inserts
 pub mod Steps
 pub mod Composed
+pub mod Loaded
+pub mod Doubts

@@ -7,7 +7,9 @@ use Rattle.sqlite.specs.Command.TheVariants.{Select}
 use Rattle.sqlite.specs.Query.{IsAnswer}
 use Rattle.sqlite.specs.Program.{overlay}
 use Rattle.sqlite.specs.Tree.{Trees}
-use Rattle.sqlite.specs.State.{State, Shown, ShowsRows, IsUnchanged, KeepsCommit, IsNotRun, FailsToQuery, FailsToShow, RunsCommand, Fails, Survives, CommitsShowing}
+use Rattle.sqlite.specs.State.{State, Shown, ShowsRows, IsUnchanged, KeepsCommit, IsNotRun, FailsToQuery, FailsToShow, RunsCommand, Fails, Survives, CommitsShowing, HasCleanDisk}
+use Rattle.sqlite.specs.Effect.{Database}
+use Rattle.sql_store.specs.Table.{IsKnown}
 use Rattle.sqlite.specs.Clock.{timed}
 use Rattle.sqlite.specs.Listing.{understood}
 use Rattle.sqlite.proofs.Callers.{IsPlain, reads_as, never_commits}
@@ -50,3 +52,14 @@ query_keeps old new sql params e (inr (c, it, h)) = go c.returning h
 
 pub reads_only : (old new : State) → old.now.schema ≡ results_schema → Survives old new (CommitsShowing load_text [] old) → Survives old new (λ _. ⊥)
 reads_only old new has h = survives_weaker old new (CommitsShowing load_text [] old) (λ _. ⊥) (λ _ db shows. never_commits load_text [] old db (subst (λ s. IsPlain (understood s load_text)) (sym has) load_plain.0) shows) h
+
+-- ---- after a probe that went well
+
+pub still_known : (a b : State) → IsKnown a → IsUnchanged a b → b.now.schema ≡ results_schema
+still_known a b known same = ap (λ (d : Database). d.schema) same.0.now_is ∙ known same.0.was_open
+
+pub still_answers : (a b : State) (rows : List Row) → IsUnchanged a b → IsAnswer load_query (overlay b.now.trees []) [] rows → IsAnswer load_query (overlay a.now.trees []) [] rows
+still_answers a b rows same h = subst (λ (d : Database). IsAnswer load_query (overlay d.trees []) [] rows) same.0.now_is h
+
+pub left_before : (a b : State) → HasCleanDisk b → Survives a b (λ _. ⊥) → (db : Trees) → b.may_leave db → a.may_leave db
+left_before a b clean h db may = elim (h.crash clean db may) [ inl was ↦ was | inr none ↦ absurd none ]

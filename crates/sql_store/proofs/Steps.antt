@@ -23,3 +23,7 @@ at_both (Err e) P Q R f g h k = g e k
 pub on_ok_then : {T E P Q : Type 0} (r : Result T E) → (P → Q) → OnOk r P → OnOk r Q
 on_ok_then (Ok x) f h = f h
 on_ok_then (Err e) f h = tt
+
+pub if_ok_both : {T E : Type 0} (r : Result T E) (P Q R : T → Type 0) → IfOk r P → IfOk r Q → ((x : T) → P x → Q x → R x) → IfOk r R
+if_ok_both (Ok x) P Q R p q f = f x p q
+if_ok_both (Err e) P Q R p q f = tt

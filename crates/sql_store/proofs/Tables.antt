@@ -74,7 +74,7 @@ id_found r id e h = ids_tied (id_of r) id (subst (λ (v : Value). is_eq (value_c
 
 -- ---- lists
 
-has_permuted : {X : Type 0} (xs ys : List X) (x : X) → IsPermutation xs ys → Has xs x → Has ys x
+pub has_permuted : {X : Type 0} (xs ys : List X) (x : X) → IsPermutation xs ys → Has xs x → Has ys x
 has_permuted xs ys x same has = has_contained ys x (Contains-permutation xs ys x same (contains_had xs x has))
 
 pub has_mapped : {X Y : Type 0} (f : X → Y) (xs : List X) (y : Y) → Has (map f xs) y → (x : X) × Has xs x × (y ≡ f x)

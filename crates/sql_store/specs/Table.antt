@@ -58,3 +58,7 @@ pub record Makes (key : List ℕ) (value : Option ℤ) (old new : State) : Type 
   pub kept : KeepsCommit old new
   pub ready : IsReady old.now → IsReady new.now
   pub table : IsReady old.now → table_of new.now ≡ put (table_of old.now) key value
+
+-- while it is open, it has the table of results alone
+abbrev pub IsKnown : State → Type 0
+IsKnown s = IsTrue s.is_open → s.now.schema ≡ results_schema

@@ -18,6 +18,6 @@ pub record Stores (changes : List Change) (old new : State) : Type 0 where
   pub ready : IsReady old.committed → IsReady new.committed
   pub table : IsReady old.committed → table_of new.committed ≡ overlay changes (table_of old.committed)
 
--- a database with the changes
+-- what the connection shows with the changes made
 abbrev pub IsStored : List Change → State → Trees → Type 0
-IsStored changes old db = IsReady old.committed → map_of (db 0) ≡ overlay changes (table_of old.committed)
+IsStored changes old db = IsTrue old.is_open × (IsReady old.committed → map_of (db 0) ≡ overlay changes (table_of old.committed))

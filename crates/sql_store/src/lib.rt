@@ -1,5 +1,11 @@
 //! The table of results in SQLite, as a store of top-level transactions.
 #![tactic(auto)]
 
+mod faults;
+mod load;
+mod reading;
 mod statements;
+mod store;
 mod writes;
+
+pub use store::SqlStore;

@@ -1,12 +1,13 @@
 //! Changes of the table in one transaction.
-ghost use Rattle.std.specs.Prelude.{◌≡◌, ◌<◌, length, false, Some, None, [], OnOk, OnErr, IsTrue};
+ghost use Rattle.std.specs.Prelude.{◌≡◌, ◌<◌, length, false, Some, None, [], OnOk, OnErr, IfErr, IsTrue};
 ghost use Rattle.sqlite.specs.Held.{state};
 ghost use Rattle.sqlite.specs.State.{HasCleanDisk, Survives, KeepsCommit};
 ghost use Rattle.sql_store.specs.Table.{Makes, IsReady, table_of};
 ghost use Rattle.sql_store.specs.Writes.{MakesAll, Stores, IsStored};
 
+use crate::faults::settle;
 use crate::statements::{add, probe, remove};
-use durable_top::Row;
+use durable_top::{Row, StoreFault};
 use sqlite::{Alter, Connection, Error, ErrorCode, Transaction};
 use txn_names::Change;
 
@@ -87,5 +88,21 @@ pub(crate) fn write_all<S: Alter>(conn: &mut Connection<S>, changes: &[Change]) 
         commit_some(conn, changes)
     } else {
         Err(Error::SqliteFailure(ErrorCode::TransactionState))
+    }
+}
+
+/// Commits the changes in one transaction, or tells why not.
+pub(crate) fn store_changes<S: Alter>(
+    conn: &mut Connection<S>,
+    changes: &[Change],
+) -> Result<(), StoreFault>
+    ensures stored { HasCleanDisk (state S.Store conn.new) → OnOk result (Stores changes.now (state S.Store conn.old) (state S.Store conn.new)) }
+    ensures kept { HasCleanDisk (state S.Store conn.new) → OnErr result (KeepsCommit (state S.Store conn.old) (state S.Store conn.new)) }
+    ensures open { HasCleanDisk (state S.Store conn.new) → IfErr result (λ fault. (fault ≡ StoreFault.Failed → ⊥) → IsTrue (state S.Store conn.new).is_open) }
+    ensures survives { Survives (state S.Store conn.old) (state S.Store conn.new) (IsStored changes.now (state S.Store conn.old)) }
+{
+    match write_all(conn, changes) {
+        Ok(()) => Ok(()),
+        Err(error) => Err(settle(conn, error)),
     }
 }

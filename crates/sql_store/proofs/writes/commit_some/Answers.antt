@@ -19,7 +19,21 @@ returns-in_err-commit-clause-survives g c =
     let made = λ (clean : HasCleanDisk (state g.S.Store last)) (ready : IsReady (state g.S.Store old).now). rw begun at (c.in_ok-make_all.ensures.made clean) ready in
     let opened = λ (clean : HasCleanDisk (state g.S.Store last)). rw begun at (c.in_ok-make_all.ensures.opened clean) c.requires.some in
     let whole = survives_then (state g.S.Store old) (state g.S.Store last) (state g.S.Store c.commit.new.self.0) _ _ P (λ _ db none. absurd none)
-    (λ clean db is. stored_by c.args.changes.now g.S.Store old last db (c.requires.settled (opened (omega (arith, c.commit.ensures.survives.clean)))) (made (omega (arith, c.commit.ensures.survives.clean))) is)
+    (λ clean db is. stored_by c.args.changes.now g.S.Store old last db (opened (omega (arith, c.commit.ensures.survives.clean))) c.requires.settled (made (omega (arith, c.commit.ensures.survives.clean))) is)
+    (survives_begin g.S.Store old (state g.S.Store last) _ (rw begun at c.make_all.ensures.survives)) c.commit.ensures.survives in
+    let same : c.commit.new.self.0 ≡ c.conn-2-1.given.0 = search rules in
+    subst (λ h. Survives (state g.S.Store old) (state g.S.Store h) P) same whole
+
+pub returns-clause-survives : goal.returns-clause-survives
+returns-clause-survives g c =
+    let old = c.args.conn.now in
+    let last = c.make_all.new.tx.conn.now in
+    let begun = c.transaction-tx.ensures.begun in
+    let P = IsStored c.args.changes.now (state g.S.Store old) in
+    let made = λ (clean : HasCleanDisk (state g.S.Store last)) (ready : IsReady (state g.S.Store old).now). rw begun at (c.in_ok-make_all.ensures.made clean) ready in
+    let opened = λ (clean : HasCleanDisk (state g.S.Store last)). rw begun at (c.in_ok-make_all.ensures.opened clean) c.requires.some in
+    let whole = survives_then (state g.S.Store old) (state g.S.Store last) (state g.S.Store c.commit.new.self.0) _ _ P (λ _ db none. absurd none)
+    (λ clean db is. stored_by c.args.changes.now g.S.Store old last db (opened (omega (arith, c.commit.ensures.survives.clean))) c.requires.settled (made (omega (arith, c.commit.ensures.survives.clean))) is)
     (survives_begin g.S.Store old (state g.S.Store last) _ (rw begun at c.make_all.ensures.survives)) c.commit.ensures.survives in
     let same : c.commit.new.self.0 ≡ c.conn-2-1.given.0 = search rules in
     subst (λ h. Survives (state g.S.Store old) (state g.S.Store h) P) same whole

@@ -1,0 +1,11 @@
+use Rattle.std.proofs.Common.{◌≡◌}
+use Rattle.sqlite.specs.Held.{state}
+use Rattle.sql_store.proofs.Steps.{if_ok_both}
+use Rattle.sql_store.proofs.Loaded.{answered, same_map}
+use Rattle.sql_store.proofs.load.load_rows.Goals as goal
+
+pub returns-in-Ok-clause-rows : goal.returns-in-Ok-clause-rows
+returns-in-Ok-clause-rows g c clean known =
+    let db = (state g.S.Store c.args.conn.now).now.trees in
+    if_ok_both c.sorted.result _ _ _ c.sorted.ensures.read c.sorted.ensures.rising
+    (λ read is rising. same_map (db 0) c.in-Ok.rows.items read.items (answered db c.in-Ok.rows.items (c.in-Ok.ensures.rows clean known)) (rw c.as_slice.ensures.value at is) rising)

@@ -1,0 +1,56 @@
+-- A store over a connection, as contracts see it.
+use Rattle.std.specs.Prelude.{◌≡◌, ℕ, ◌+◌, Bool, true, false, if◌then◌else◌, List, Result, Ok, Err, IsTrue, is_err, refl}
+use Rattle.std.specs.Coded.{Coded, code_by, coded×, coded_ℕ, coded_bool}
+use Rattle.sqlite.specs.Store.{Ghosts}
+use Rattle.sqlite.specs.Tree.{Trees}
+use Rattle.sqlite.specs.Held.{Held, held_code, state}
+use Rattle.sqlite.specs.State.{HasCleanDisk}
+use Rattle.sqlite_trees.specs.View.{doubt}
+use Rattle.txn_names.specs.declared.change.Change.{Change}
+use Rattle.serial_spec.specs.Serial.{Map}
+use Rattle.durable_top.specs.declared.store.Row.{Row}
+use Rattle.durable_top.specs.declared.store.StoreFault.{StoreFault}
+use Rattle.durable_top.specs.declared.store.StoreFault.TheVariants.{Failed}
+use Rattle.durable_top.specs.Store.{faults_after}
+use Rattle.sql_store.specs.Table.{map_of, table_of, IsReady}
+
+pub record Stored (S : Type 0) : Type 0 where
+  pub connection : Held S
+  pub faults : ℕ
+  pub has_failed : Bool
+  -- the table of results stands alone in the database
+  pub is_known : Bool
+
+abbrev pub stored_code : {S : Type 0} → Coded S → Coded (Stored S)
+stored_code {S} store =
+    code_by (Held S × (ℕ × (Bool × Bool))) (coded× (held_code store) (coded× coded_ℕ (coded× coded_bool coded_bool)))
+    (λ s. (s.connection, (s.faults, (s.has_failed, s.is_known))))
+    (λ p. record { connection = p.0; faults = p.1.0; has_failed = p.1.1.0; is_known = p.1.1.1 })
+    (λ _. refl)
+
+module _ {S : Type 0} (g : Ghosts S) where
+  -- what the last commit left
+  abbrev pub table : Held S → Map
+  table h = table_of (state g h).committed
+
+  abbrev pub may_leave : Held S → Map → Type 0
+  may_leave h left = (trees : Trees) × (state g h).may_leave trees × (left ≡ map_of (trees 0))
+
+  -- while it is open, a known database has the table
+  abbrev pub IsKept : Bool → Held S → Type 0
+  IsKept known h = IsTrue known → HasCleanDisk (state g h) → IsTrue (state g h).is_open → IsReady (state g h).committed
+
+  -- 0 while the database is known and the disk has returned what was written
+  abbrev pub doubt_of : Stored S → ℕ
+  doubt_of s = doubt (state g s.connection).is_clean + (if s.is_known then 0 else 1)
+
+  -- a store that has failed is not asked
+  pub record SqlLoads (old new : Stored S) (result : Result (List Row) StoreFault) : Type 0 where
+    pub failed : old.has_failed ≡ true → (result ≡ Err Failed) × (new ≡ old)
+    pub faults : new.faults ≡ old.faults
+    pub known : new.is_known ≡ old.is_known
+
+  pub record SqlCommits (old new : Stored S) (changes : List Change) (result : Result (Unit {0}) StoreFault) : Type 0 where
+    pub failed : old.has_failed ≡ true → (result ≡ Err Failed) × (new.connection ≡ old.connection)
+    pub faults : new.faults ≡ faults_after (is_err result) old.faults
+    pub known : new.is_known ≡ old.is_known

@@ -1,0 +1,37 @@
+//! What an error of the database says of the store.
+ghost use Rattle.std.specs.Prelude.{◌≡◌};
+ghost use Rattle.sqlite.specs.Held.{state};
+ghost use Rattle.sqlite.specs.State.{HasCleanDisk, Survives, KeepsCommit, IsUnchanged};
+ghost use Rattle.sql_store.specs.Faults.{fault_of};
+
+use crate::statements::probe;
+use durable_top::StoreFault;
+use sqlite::{Alter, Connection, Error, ErrorCode};
+
+fn fault_of(error: Error) -> StoreFault
+    ensures { result ≡ fault_of error }
+{
+    match error {
+        Error::SqliteFailure(
+            ErrorCode::SystemIoFailure
+            | ErrorCode::DatabaseCorrupt
+            | ErrorCode::DiskFull
+            | ErrorCode::Closed,
+        ) => StoreFault::Failed,
+        Error::SqliteFailure(ErrorCode::OutOfMemory) => StoreFault::Memory,
+        _ => StoreFault::Refused,
+    }
+}
+
+/// The fault that an error stands for. It is Failed, too, where no statement can be run any more: a failure of
+/// the disk shuts the connection, even in a call that was answered another error.
+pub(crate) fn settle<S: Alter>(conn: &mut Connection<S>, error: Error) -> StoreFault
+    ensures open { HasCleanDisk (state S.Store conn.new) → (result ≡ StoreFault.Failed → ⊥) → IsUnchanged (state S.Store conn.old) (state S.Store conn.new) }
+    ensures kept { HasCleanDisk (state S.Store conn.new) → KeepsCommit (state S.Store conn.old) (state S.Store conn.new) }
+    ensures survives { Survives (state S.Store conn.old) (state S.Store conn.new) (λ _. ⊥) }
+{
+    match probe(conn) {
+        Ok(()) => fault_of(error),
+        Err(_) => StoreFault::Failed,
+    }
+}

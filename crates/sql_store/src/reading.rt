@@ -1,0 +1,70 @@
+//! Rows of the database as rows of the store.
+ghost use Rattle.std.specs.Prelude.{◌≡◌, IfSome, IfOk, IfErr, map};
+ghost use Rattle.sqlite.specs.Order.{column};
+ghost use Rattle.sqlite.specs.declared.types.Value.TheVariants.{Text, Int};
+ghost use Rattle.serial_spec.specs.Rows.{IsRising};
+ghost use Rattle.durable_top.specs.Store.{plain};
+ghost use Rattle.sql_store.specs.Reading.{told, seen};
+
+use durable_top::{Row, StoreFault, are_rising};
+use sqlite::types::ValueRef;
+use std::alloc::Global;
+use txn_names::Key;
+
+fn key_at(row: &sqlite::Row, at: usize) -> Option<Key>
+    ensures { IfSome result (λ key. column row.now at ≡ Text key) }
+{
+    match row.get_ref(at) {
+        Ok(ValueRef::Text(text)) => Key::parse(text).ok(),
+        _ => None,
+    }
+}
+
+fn int_at(row: &sqlite::Row, at: usize) -> Option<i64>
+    ensures { IfSome result (λ value. column row.now at ≡ Int value) }
+{
+    match row.get_ref(at) {
+        Ok(ValueRef::Int(value)) => Some(value),
+        _ => None,
+    }
+}
+
+// The first column is a key and the second a whole number, or else there is no row.
+fn read_row(row: &sqlite::Row) -> Option<Row>
+    ensures { IfSome result (λ read. told read ≡ seen row.now) }
+{
+    let key = key_at(row, 0)?;
+    let value = int_at(row, 1)?;
+    Some(Row { key, value })
+}
+
+// A row that cannot be read is refused.
+fn read_rows(alloc: Global, rows: &[sqlite::Row]) -> Result<Vec<Row>, StoreFault>
+    ensures read { IfOk result (λ read. map told read.items ≡ map seen rows.now) }
+    ensures cause { IfErr result (λ fault. fault ≡ StoreFault.Failed → ⊥) }
+{
+    let mut all = Vec::new(alloc);
+    for row in rows {
+        let Some(read) = read_row(row) else {
+            return Err(StoreFault::Refused);
+        };
+        if all.push(read).is_err() {
+            return Err(StoreFault::Memory);
+        }
+    }
+    Ok(all)
+}
+
+/// The rows, in byte order of their keys. A row that is none of the store's, and a key that comes twice, are refused.
+pub(crate) fn sorted(alloc: Global, rows: &[sqlite::Row]) -> Result<Vec<Row>, StoreFault>
+    ensures read { IfOk result (λ read. map told read.items ≡ map seen rows.now) }
+    ensures rising { IfOk result (λ read. IsRising (plain read.items)) }
+    ensures cause { IfErr result (λ fault. fault ≡ StoreFault.Failed → ⊥) }
+{
+    let read = read_rows(alloc, rows)?;
+    if are_rising(&read) {
+        Ok(read)
+    } else {
+        Err(StoreFault::Refused)
+    }
+}

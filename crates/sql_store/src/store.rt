@@ -1,0 +1,117 @@
+//! A store of results over a connection.
+ghost use Rattle.std.specs.Prelude.{true, ◌≡◌, ◌≤◌, ◌+◌, ◌⊎◌, ◌↔◌, ℕ, IfOk, IfErr, OnOk, OnErr, IsTrue, IsErrOf, if◌then◌else◌, is_err};
+ghost use Rattle.sqlite_trees.specs.View.{doubt};
+ghost use Rattle.sqlite.specs.Held.{state};
+ghost use Rattle.sqlite.specs.State.{HasCleanDisk, Survives, KeepsCommit};
+ghost use Rattle.serial_spec.specs.Changes.{AreRising, overlay};
+ghost use Rattle.serial_spec.specs.Rows.{IsRising, value_in};
+ghost use Rattle.serial_spec.specs.Serial.{Map};
+ghost use Rattle.durable_top.specs.Store.{plain, told, faults_after, TellsFailure};
+ghost use Rattle.sql_store.specs.Stored.{table, doubt_of, may_leave, IsKept, SqlLoads, SqlCommits};
+
+use crate::load::load_rows;
+use crate::writes::store_changes;
+use durable_top::{Row, StoreFault, TopStore};
+use sqlite::{Alter, Connection};
+use std::alloc::Global;
+use std::marker::Model;
+use txn_names::Change;
+
+/// The table `results` of one database. Once the device has failed it answers nothing but Failed.
+#[derive(Drop)]
+pub struct SqlStore<S: Alter> {
+    connection: Connection<S>,
+    faults: u64,
+    has_failed: bool,
+    is_known: bool,
+}
+
+impl<S: Alter> Model for SqlStore<S> {
+    ghost use Rattle.sql_store.specs.Stored.{Stored, stored_code, IsKept};
+
+    ghost Value = { Stored S };
+
+    ghost coded = { stored_code S.code };
+
+    ghost view = { λ s. record { connection = s.connection; faults = s.faults; has_failed = s.has_failed; is_known = s.is_known } };
+
+    ghost invariant = { λ s. IsKept S.Store s.is_known s.connection };
+}
+
+// What the connection answers, where no transaction is under way.
+fn load_settled<S: Alter>(conn: &mut Connection<S>, alloc: Global) -> Result<Vec<Row>, StoreFault>
+    ensures rows { HasCleanDisk (state S.Store conn.new) → IsKept S.Store true conn.old → IfOk result (λ rows. value_in (plain rows.items) ≡ table S.Store conn.old) }
+    ensures rising { IfOk result (λ rows. IsRising (plain rows.items)) }
+    ensures kept { HasCleanDisk (state S.Store conn.new) → IsKept S.Store true conn.old → (IsErrOf result StoreFault.Failed → ⊥) → table S.Store conn.new ≡ table S.Store conn.old }
+    ensures still { IsKept S.Store true conn.old → IsKept S.Store true conn.new }
+    ensures clean { doubt (state S.Store conn.old).is_clean ≤ doubt (state S.Store conn.new).is_clean }
+    ensures crash { HasCleanDisk (state S.Store conn.new) → IsKept S.Store true conn.old → (left : Map) → may_leave S.Store conn.new left → may_leave S.Store conn.old left }
+{
+    if conn.is_autocommit() {
+        load_rows(conn, alloc)
+    } else {
+        Err(StoreFault::Refused)
+    }
+}
+
+// A store that has failed is not asked.
+fn commit_unless<S: Alter>(
+    has_failed: bool,
+    conn: &mut Connection<S>,
+    changes: &[Change],
+) -> Result<(), StoreFault>
+    ensures failed { IsTrue has_failed → IsErrOf result StoreFault.Failed × (conn.new ≡ conn.old) }
+    ensures ok { HasCleanDisk (state S.Store conn.new) → IsKept S.Store true conn.old → OnOk result (table S.Store conn.new ≡ overlay changes.now (table S.Store conn.old)) }
+    ensures refused { HasCleanDisk (state S.Store conn.new) → IfErr result (λ fault. (fault ≡ StoreFault.Failed → ⊥) → table S.Store conn.new ≡ table S.Store conn.old) }
+    ensures still { IsKept S.Store true conn.old → IsKept S.Store true conn.new }
+    ensures clean { doubt (state S.Store conn.old).is_clean ≤ doubt (state S.Store conn.new).is_clean }
+    ensures crash { HasCleanDisk (state S.Store conn.new) → IsKept S.Store true conn.old → (left : Map) → may_leave S.Store conn.new left → may_leave S.Store conn.old left ⊎ (left ≡ overlay changes.now (table S.Store conn.old)) }
+    ensures settled { HasCleanDisk (state S.Store conn.new) → IsKept S.Store true conn.old → OnOk result ((left : Map) → may_leave S.Store conn.new left → left ≡ overlay changes.now (table S.Store conn.old)) }
+{
+    if has_failed {
+        return Err(StoreFault::Failed);
+    }
+    store_changes(conn, changes)
+}
+
+impl<S: Alter + Drop> TopStore for SqlStore<S> {
+    ghost table = { λ s. table S.Store s.connection };
+
+    ghost doubt = { doubt_of S.Store };
+
+    ghost failures = { λ s. if s.has_failed then 1 else 0 };
+
+    ghost faults = { λ s. s.faults };
+
+    ghost may_leave = { λ s left. may_leave S.Store s.connection left };
+
+    ghost loads = { SqlLoads S.Store };
+
+    ghost commits = { SqlCommits S.Store };
+
+    fn load(&mut self, alloc: Global) -> Result<Vec<Row>, StoreFault> {
+        if self.has_failed {
+            return Err(StoreFault::Failed);
+        }
+        let answer = load_settled(&mut self.connection, alloc);
+        self.has_failed = matches!(answer, Err(StoreFault::Failed));
+        answer
+    }
+
+    fn commit(&mut self, changes: &[Change]) -> Result<(), StoreFault> {
+        let answer = commit_unless(self.has_failed, &mut self.connection, changes);
+        self.has_failed = matches!(answer, Err(StoreFault::Failed));
+        if answer.is_err() {
+            self.faults = self.faults.saturating_add(1);
+        }
+        answer
+    }
+
+    fn failures(&self) -> u64 {
+        u64::from(self.has_failed)
+    }
+
+    fn faults(&self) -> u64 {
+        self.faults
+    }
+}
