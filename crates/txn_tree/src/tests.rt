@@ -144,6 +144,41 @@ fn numbers_in_order_of_beginning(rt: HostRuntime) {
     assert!(rt; lacks(&tree, &name(&rt, "c"), TxnNo::new(4)));
 }
 
+fn leads_to(tree: &Tree, txn: u32, child: Option<u32>, next: Option<u32>) -> bool {
+    let txn = TxnNo::new(txn);
+    tree.first_child(txn) == child.map(TxnNo::new) && tree.next_sibling(txn) == next.map(TxnNo::new)
+}
+
+// Also once a child in the middle has ended, and past the last number.
+#[test]
+fn goes_over_children(rt: HostRuntime) {
+    let mut tree = Tree::new(rt.alloc());
+    assert!(rt; tree.first_top() == None);
+    let script = "
+        begin a -> 0
+        begin a/l -> 1
+        begin b -> 2
+        begin a/m -> 3
+        begin a/m/x -> 4
+        begin a/r -> 5
+        abort a/m -> 2
+    ";
+    play(&rt, &mut tree, script);
+    assert!(rt; tree.first_top() == Some(TxnNo::new(0)));
+    let links = [
+        (0, Some(1), Some(2)),
+        (1, None, Some(3)),
+        (2, None, None),
+        (3, Some(4), Some(5)),
+        (4, None, None),
+        (5, None, None),
+        (6, None, None),
+    ];
+    for (txn, child, next) in links {
+        assert!(rt; leads_to(&tree, txn, child, next), "{txn}");
+    }
+}
+
 // Own states stay below the aborted one.
 #[test]
 fn aborts_what_is_live(rt: HostRuntime) {
