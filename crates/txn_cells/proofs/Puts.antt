@@ -1,9 +1,8 @@
 -- What a look-up finds after one entry has been put.
-use Rattle.std.proofs.Common.{◌≡◌, ℕ, Bool, true, false, cond, not, nat_eq, ◌&&◌, ◌||◌, filter, List, [], Option, Some, None, unwrap_or, is_some, refl, sym, ap, subst, ◌∙◌, true≢false}
+use Rattle.std.proofs.Common.{◌≡◌, ℕ, Bool, true, false, cond, not, nat_eq, ◌&&◌, ◌||◌, List, [], Option, Some, None, unwrap_or, is_some, refl, sym, ap, subst, ◌∙◌, true≢false}
 use Rattle.std.specs.Prelude.{Result, Ok, Err, OnOk, OnErr}
 use Rattle.std.specs.Map.{lookup}
 use Rattle.std.proofs.lemmas.Bool.{eqb-true, false≢true}
-use Rattle.std.proofs.lemmas.Map.Entries.{lookup-filter-keys}
 use Rattle.txn_names.specs.Path.{label_eq}
 use Rattle.txn_names.proofs.Names.{on_test, on_label}
 use Rattle.txn_cells.specs.Cells.{merged}
@@ -117,32 +116,6 @@ cond-and false b x y = refl
 pub cond_same : {X : Type 0} (b : Bool) (x : X) → cond b x x ≡ x
 cond_same true x = refl
 cond_same false x = refl
-
--- ---- without some transactions
-
-module _ {V : Type 0} (table : Table V) (gone : ℕ → Bool) where
-  cells_in-filter : (u : ℕ) → cells_in (filter (λ (e : ℕ × Cells V). not (gone e.0)) table) u ≡ cond (gone u) [] (cells_in table u)
-  cells_in-filter u =
-      ap (λ o. unwrap_or o []) (lookup-filter-keys (nat_eq u) (λ t. not (gone t)) (not (gone u)) (λ t same. ap (λ v. not (gone v)) (sym (eqb-true u t same))) table)
-      ∙ by (gone u)
-    where
-      by : (b : Bool) → unwrap_or (cond (not b) (lookup (nat_eq u) table) None) [] ≡ cond b [] (cells_in table u)
-      by true = refl
-      by false = refl
-
-  pub content-filter : (u : ℕ) (q : List ℕ) → content (filter (λ (e : ℕ × Cells V). not (gone e.0)) table) u q ≡ cond (gone u) None (content table u q)
-  content-filter u q = ap (λ ks. content_at ks q) (cells_in-filter u) ∙ by (gone u)
-    where
-      by : (b : Bool) → content_at (cond b [] (cells_in table u)) q ≡ cond b None (content table u q)
-      by true = refl
-      by false = refl
-
-  pub has_place-filter : (u : ℕ) (q : List ℕ) → has_place (filter (λ (e : ℕ × Cells V). not (gone e.0)) table) u q ≡ (not (gone u) && has_place table u q)
-  has_place-filter u q = ap (λ ks. has_cell_at ks q) (cells_in-filter u) ∙ by (gone u)
-    where
-      by : (b : Bool) → has_cell_at (cond b [] (cells_in table u)) q ≡ (not b && has_place table u q)
-      by true = refl
-      by false = refl
 
 -- ---- after one transaction has been taken out
 
