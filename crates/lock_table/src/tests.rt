@@ -2,14 +2,17 @@
 use crate::{Locks, Mode};
 use serial_spec::{Kind, NoMemory};
 use std::process::Abort;
-use std::test::Fail;
 use txn_names::{Key, Name};
 use txn_tree::{Tree, TxnNo};
 
 const FREE: (Mode, Mode) = (Mode::None, Mode::None);
 
-fn key(text: &str) -> Result<Key, Fail> {
-    Ok(Key::parse(text.as_bytes())?)
+const READERS: u8 = 30;
+
+const KEYS: u8 = 40;
+
+fn key(rt: &impl Abort, index: u8) -> Key {
+    Key::parse(&[b'a' + index / 8, b'a' + index % 8]).expect(rt, "a key")
 }
 
 fn begin_once(tree: &mut Tree, name: &Name) -> Option<TxnNo> {
@@ -19,11 +22,11 @@ fn begin_once(tree: &mut Tree, name: &Name) -> Option<TxnNo> {
     }
 }
 
-fn begin(tree: &mut Tree, text: &str) -> Result<TxnNo, Fail> {
-    let name = Name::parse(text.as_bytes())?;
+fn begin(rt: &impl Abort, tree: &mut Tree, text: &[u8]) -> TxnNo {
+    let name = Name::parse(text).expect(rt, "a name");
     match begin_once(tree, &name) {
-        Some(number) => Ok(number),
-        None => Ok(begin_once(tree, &name).ok_or("not begun")?),
+        Some(number) => number,
+        None => begin_once(tree, &name).expect(rt, "begun"),
     }
 }
 
@@ -33,10 +36,9 @@ fn hold_once(locks: &mut Locks, txn: TxnNo, key: &Key, kind: Kind) -> Result<(),
     Ok(())
 }
 
-fn hold(locks: &mut Locks, txn: TxnNo, key: &Key, kind: Kind) -> Result<(), NoMemory> {
-    match hold_once(locks, txn, key, kind) {
-        Ok(()) => Ok(()),
-        Err(_) => hold_once(locks, txn, key, kind),
+fn hold(rt: &impl Abort, locks: &mut Locks, txn: TxnNo, key: &Key, kind: Kind) {
+    if hold_once(locks, txn, key, kind).is_err() {
+        hold_once(locks, txn, key, kind).expect(rt, "memory");
     }
 }
 
@@ -46,162 +48,103 @@ fn hand_up_once(locks: &mut Locks, child: TxnNo, parent: TxnNo) -> Result<(), No
     Ok(())
 }
 
-fn hand_up(locks: &mut Locks, child: TxnNo, parent: TxnNo) -> Result<(), NoMemory> {
-    match hand_up_once(locks, child, parent) {
-        Ok(()) => Ok(()),
-        Err(_) => hand_up_once(locks, child, parent),
+fn hand_up(rt: &impl Abort, locks: &mut Locks, child: TxnNo, parent: TxnNo) {
+    if hand_up_once(locks, child, parent).is_err() {
+        hand_up_once(locks, child, parent).expect(rt, "memory");
     }
 }
 
-/// Who keeps the transaction out, at most three of them.
+/// Who keeps the transaction from a write: how many, the first and the last.
 fn blockers(
+    rt: &impl Abort,
     locks: &Locks,
     tree: &Tree,
     txn: TxnNo,
     key: &Key,
-    kind: Kind,
-) -> Result<[Option<TxnNo>; 3], NoMemory> {
-    let found = match locks.blockers(tree, txn, key, kind) {
+) -> (usize, Option<TxnNo>, Option<TxnNo>) {
+    let found = match locks.blockers(tree, txn, key, Kind::Write) {
         Ok(found) => found,
-        Err(_) => locks.blockers(tree, txn, key, kind)?,
+        Err(_) => locks
+            .blockers(tree, txn, key, Kind::Write)
+            .expect(rt, "memory"),
     };
-    let mut first = [None; 3];
-    for place in 0..3 {
-        first[place] = found.get(place).copied();
-    }
-    Ok(first)
+    (found.len(), found.first().copied(), found.last().copied())
 }
 
 // Two readers, one of them below a parent, and a third who would write.
-fn share(rt: &impl Abort, tree: &mut Tree, locks: &mut Locks) -> Result<(), Fail> {
-    let (a, l, b, c) = (
-        begin(tree, "a")?,
-        begin(tree, "a/l")?,
-        begin(tree, "b")?,
-        begin(tree, "c")?,
-    );
-    let x = key("x")?;
-    hold(locks, b, &x, Kind::Read)?;
-    assert!(rt; blockers(locks, tree, c, &x, Kind::Write)? == [Some(b), None, None]);
-    hold(locks, l, &x, Kind::Read)?;
-    assert!(rt; blockers(locks, tree, c, &x, Kind::Write)? == [Some(l), Some(b), None]);
-    assert!(rt; blockers(locks, tree, l, &x, Kind::Write)? == [Some(b), None, None]);
+fn share(rt: &impl Abort, tree: &mut Tree, locks: &mut Locks) {
+    let (a, l) = (begin(rt, tree, b"a"), begin(rt, tree, b"a/l"));
+    let (b, c) = (begin(rt, tree, b"b"), begin(rt, tree, b"c"));
+    let x = key(rt, 0);
+    hold(rt, locks, b, &x, Kind::Read);
+    hold(rt, locks, l, &x, Kind::Read);
+    for (txn, wanted) in [
+        (c, (2, Some(l), Some(b))),
+        (l, (1, Some(b), Some(b))),
+        (b, (1, Some(l), Some(l))),
+    ] {
+        assert!(rt; blockers(rt, locks, tree, txn, &x) == wanted);
+    }
+    for (txn, wanted) in [(a, FREE), (l, (Mode::Read, Mode::None))] {
+        assert!(rt; locks.modes_of(txn, &x) == wanted);
+    }
     assert!(rt; locks.may(tree, c, &x, Kind::Read) && !locks.may(tree, c, &x, Kind::Write));
-    assert!(rt; locks.modes_of(l, &x) == (Mode::Read, Mode::None));
-    assert!(rt; locks.modes_of(a, &x) == FREE);
-    Ok(())
 }
 
 #[test]
-fn readers_share(rt: HostRuntime) -> Result<(), Fail> {
+fn readers_share(rt: HostRuntime) {
     let (mut tree, mut locks) = (Tree::new(rt.alloc()), Locks::new(rt.alloc()));
-    share(&rt, &mut tree, &mut locks)
+    share(&rt, &mut tree, &mut locks);
 }
 
-// A child's locks go up, and keep others out, but no inferior of the parent.
-fn inherit(rt: &impl Abort, tree: &mut Tree, locks: &mut Locks) -> Result<(), Fail> {
-    let (a, l, r, b) = (
-        begin(tree, "a")?,
-        begin(tree, "a/l")?,
-        begin(tree, "a/r")?,
-        begin(tree, "b")?,
-    );
-    let (x, y) = (key("x")?, key("y")?);
-    hold(locks, l, &x, Kind::Write)?;
-    hold(locks, l, &y, Kind::Read)?;
-    hold(locks, a, &y, Kind::Write)?;
-    assert!(rt; !locks.may(tree, r, &x, Kind::Read) && !locks.may(tree, a, &x, Kind::Read));
-    hand_up(locks, l, a)?;
-    assert!(rt; locks.modes_of(a, &x) == (Mode::None, Mode::Write));
-    assert!(rt; locks.modes_of(a, &y) == (Mode::Write, Mode::Read));
-    assert!(rt; locks.modes_of(l, &x) == FREE);
+// A child's locks go up, held and retained apart, and keep others out, but no inferior of the parent.
+fn inherit(rt: &impl Abort, tree: &mut Tree, locks: &mut Locks) {
+    let (a, l) = (begin(rt, tree, b"a"), begin(rt, tree, b"a/l"));
+    let (r, b) = (begin(rt, tree, b"a/r"), begin(rt, tree, b"b"));
+    let (x, y) = (key(rt, 0), key(rt, 1));
+    for (txn, key, kind) in [(l, x, Kind::Write), (l, y, Kind::Read), (a, y, Kind::Write)] {
+        hold(rt, locks, txn, &key, kind);
+    }
+    hand_up(rt, locks, l, a);
+    for (txn, key, wanted) in [
+        (a, x, (Mode::None, Mode::Write)),
+        (a, y, (Mode::Write, Mode::Read)),
+        (l, x, FREE),
+    ] {
+        assert!(rt; locks.modes_of(txn, &key) == wanted);
+    }
     assert!(rt; locks.may(tree, r, &x, Kind::Write) && !locks.may(tree, b, &x, Kind::Read));
-    locks.hand_up(a, None);
+    locks.drop_under(tree, a);
     assert!(rt; locks.may(tree, b, &x, Kind::Write));
-    Ok(())
 }
 
 #[test]
-fn a_parent_inherits(rt: HostRuntime) -> Result<(), Fail> {
+fn a_parent_inherits(rt: HostRuntime) {
     let (mut tree, mut locks) = (Tree::new(rt.alloc()), Locks::new(rt.alloc()));
-    inherit(&rt, &mut tree, &mut locks)
+    inherit(&rt, &mut tree, &mut locks);
 }
 
-// All below go, and nobody else.
-fn drop_some(rt: &impl Abort, tree: &mut Tree, locks: &mut Locks) -> Result<(), Fail> {
-    let (a, l, m, b) = (
-        begin(tree, "a")?,
-        begin(tree, "a/l")?,
-        begin(tree, "a/l/m")?,
-        begin(tree, "b")?,
-    );
-    let x = key("x")?;
-    for txn in [a, l, m, b] {
-        hold(locks, txn, &x, Kind::Read)?;
-    }
-    locks.drop_under(tree, l);
-    for txn in [l, m] {
-        assert!(rt; locks.modes_of(txn, &x) == FREE);
-    }
-    for txn in [a, b] {
-        assert!(rt; locks.modes_of(txn, &x) == (Mode::Read, Mode::None));
-    }
-    Ok(())
-}
-
-#[test]
-fn an_abort_drops_what_is_below(rt: HostRuntime) -> Result<(), Fail> {
-    let (mut tree, mut locks) = (Tree::new(rt.alloc()), Locks::new(rt.alloc()));
-    drop_some(&rt, &mut tree, &mut locks)
-}
-
-const READERS: u8 = 30;
-
-const KEYS: u8 = 40;
-
-fn numbered_key(rt: &impl Abort, index: u8) -> Key {
-    Key::parse(&[b'a' + index / 8, b'a' + index % 8]).expect(rt, "a key")
-}
-
-fn reader(rt: &impl Abort, tree: &mut Tree, index: u8) -> TxnNo {
-    let text = [b't', b'a' + index / 8, b'a' + index % 8];
-    let name = Name::parse(&text).expect(rt, "a name");
-    match begin_once(tree, &name) {
-        Some(number) => number,
-        None => begin_once(tree, &name).expect(rt, "begun"),
-    }
-}
-
-fn read_all(rt: &impl Abort, locks: &mut Locks, txn: TxnNo) {
+fn reader(rt: &impl Abort, tree: &mut Tree, locks: &mut Locks, index: u8) -> TxnNo {
+    let txn = begin(rt, tree, &[b't', b'a' + index / 8, b'a' + index % 8]);
     for index in 0..KEYS {
-        hold(locks, txn, &numbered_key(rt, index), Kind::Read).expect(rt, "memory");
+        hold(rt, locks, txn, &key(rt, index), Kind::Read);
     }
-}
-
-// Whether all the others, the first begun first, keep the first one from a write.
-fn others_block(rt: &impl Abort, locks: &Locks, tree: &Tree, key: &Key) -> bool {
-    let found = match locks.blockers(tree, TxnNo::new(0), key, Kind::Write) {
-        Ok(found) => found,
-        Err(_) => locks
-            .blockers(tree, TxnNo::new(0), key, Kind::Write)
-            .expect(rt, "memory"),
-    };
-    found.len() == 29
-        && found.get(0).copied() == Some(TxnNo::new(1))
-        && found.get(28).copied() == Some(TxnNo::new(29))
+    txn
 }
 
 #[test]
 fn many_share_many_keys(rt: HostRuntime) {
     let (mut tree, mut locks) = (Tree::new(rt.alloc()), Locks::new(rt.alloc()));
     for index in 0..READERS {
-        let txn = reader(&rt, &mut tree, index);
-        read_all(&rt, &mut locks, txn);
+        let txn = reader(&rt, &mut tree, &mut locks, index);
         assert!(rt; locks.keys(txn).len() == 40);
     }
+    let (first, others) = (
+        TxnNo::new(0),
+        (29, Some(TxnNo::new(1)), Some(TxnNo::new(29))),
+    );
     for index in 0..KEYS {
-        let key = numbered_key(&rt, index);
-        assert!(rt; others_block(&rt, &locks, &tree, &key));
-        assert!(rt; locks.may(&tree, TxnNo::new(0), &key, Kind::Read));
+        assert!(rt; blockers(&rt, &locks, &tree, first, &key(&rt, index)) == others);
+        assert!(rt; locks.may(&tree, first, &key(&rt, index), Kind::Read));
     }
 }
