@@ -3,7 +3,6 @@
 use crate::Estate;
 use serial_spec::{Event, Mode, NoMemory, Op, PlainTable, Reply};
 use std::process::Abort;
-use std::test::Fail;
 use txn_names::{Change, Key, Name};
 use txn_tree::{Tree, TxnNo};
 
@@ -14,11 +13,11 @@ fn begin_once(tree: &mut Tree, name: &Name) -> Option<TxnNo> {
     }
 }
 
-fn begin(tree: &mut Tree, text: &str) -> Result<(Name, TxnNo), Fail> {
-    let name = Name::parse(text.as_bytes())?;
+fn begin(rt: &impl Abort, tree: &mut Tree, text: &[u8]) -> (Name, TxnNo) {
+    let name = Name::parse(text).expect(rt, "a name");
     match begin_once(tree, &name) {
-        Some(number) => Ok((name, number)),
-        None => Ok((name, begin_once(tree, &name).ok_or("not begun")?)),
+        Some(number) => (name, number),
+        None => (name, begin_once(tree, &name).expect(rt, "begun")),
     }
 }
 
@@ -38,15 +37,16 @@ fn access_once(
 
 /// The reply, or nothing where a lock keeps the transaction out.
 fn access(
+    rt: &impl Abort,
     estate: &mut Estate,
     tree: &Tree,
     name: &Name,
     key: &Key,
     op: Op,
-) -> Result<Option<Reply>, NoMemory> {
+) -> Option<Reply> {
     match access_once(estate, tree, name, key, op) {
-        Ok(reply) => Ok(reply),
-        Err(_) => access_once(estate, tree, name, key, op),
+        Ok(reply) => reply,
+        Err(_) => access_once(estate, tree, name, key, op).expect(rt, "memory"),
     }
 }
 
@@ -65,81 +65,94 @@ fn commit_once(estate: &mut Estate, tree: &Tree, name: &Name) -> Result<(), NoMe
     Ok(())
 }
 
-fn commit(estate: &mut Estate, tree: &Tree, name: &Name) -> Result<(), NoMemory> {
-    match commit_once(estate, tree, name) {
-        Ok(()) => Ok(()),
-        Err(_) => commit_once(estate, tree, name),
+fn commit(rt: &impl Abort, estate: &mut Estate, tree: &Tree, name: &Name) {
+    if commit_once(estate, tree, name).is_err() {
+        commit_once(estate, tree, name).expect(rt, "memory");
     }
 }
 
-fn changes(estate: &Estate, tree: &Tree, txn: TxnNo) -> Result<Vec<Change>, NoMemory> {
+fn changes(rt: &impl Abort, estate: &Estate, tree: &Tree, txn: TxnNo) -> Vec<Change> {
     match estate.changes(tree, txn) {
-        Ok(changes) => Ok(changes),
-        Err(_) => estate.changes(tree, txn),
+        Ok(changes) => changes,
+        Err(_) => estate.changes(tree, txn).expect(rt, "memory"),
     }
 }
 
-// A base where x is this.
-fn over(rt: &impl Abort, base: &mut PlainTable, value: i64) -> Result<Key, Fail> {
-    let x = Key::parse(b"x")?;
-    if base.put(&x, Some(value)).is_err() {
-        assert!(rt; base.is_empty());
-        base.put(&x, Some(value))?;
+// The only change, if there is one alone.
+fn change(rt: &impl Abort, estate: &Estate, tree: &Tree, txn: TxnNo) -> Option<Change> {
+    let found = changes(rt, estate, tree, txn);
+    if found.len() == 1 {
+        found.first().copied()
+    } else {
+        None
     }
-    Ok(x)
 }
 
 // What a child wrote goes with it where it is aborted, and the base keeps what it has until the topmost one commits.
-fn nest(rt: &impl Abort, tree: &mut Tree, estate: &mut Estate, x: &Key) -> Result<(), Fail> {
-    let ((a, top), (l, child)) = (begin(tree, "a")?, begin(tree, "a/l")?);
-    let ((r, _), (b, _)) = (begin(tree, "a/r")?, begin(tree, "b")?);
-    assert!(rt; access(estate, tree, &a, x, Op::Set(1))? == Some(Reply::Ok));
-    assert!(rt; access(estate, tree, &l, x, Op::Get)? == Some(Reply::Value(1)));
-    assert!(rt; access(estate, tree, &l, x, Op::Set(2))? == Some(Reply::Ok));
-    assert!(rt; access(estate, tree, &r, x, Op::Get)?.is_none());
+fn nest(rt: &impl Abort, tree: &mut Tree, estate: &mut Estate) {
+    let ((a, top), (l, child)) = (begin(rt, tree, b"a"), begin(rt, tree, b"a/l"));
+    let ((r, _), (b, _)) = (begin(rt, tree, b"a/r"), begin(rt, tree, b"b"));
+    let x = numbered_key(rt, 0);
+    for (name, op, reply) in [
+        (a, Op::Set(1), Some(Reply::Ok)),
+        (l, Op::Get, Some(Reply::Value(1))),
+        (l, Op::Set(2), Some(Reply::Ok)),
+        (r, Op::Get, None),
+    ] {
+        assert!(rt; access(rt, estate, tree, &name, &x, op) == reply);
+    }
     estate.abort(tree, child);
-    assert!(rt; access(estate, tree, &r, x, Op::Get)? == Some(Reply::Value(1)));
-    assert!(rt; access(estate, tree, &r, x, Op::Del)? == Some(Reply::Ok));
-    commit(estate, tree, &r)?;
-    assert!(rt; access(estate, tree, &b, x, Op::Get)?.is_none());
-    assert!(rt; estate.versions().base().get(x) == Some(9));
-    let (found, key) = (changes(estate, tree, top)?, *x);
-    assert!(rt; found.len() == 1);
-    assert!(rt; found[0] == Change { key, value: None });
-    commit(estate, tree, &a)?;
-    assert!(rt; access(estate, tree, &b, x, Op::Get)? == Some(Reply::Absent));
-    Ok(())
+    for (name, op, reply) in [
+        (r, Op::Get, Some(Reply::Value(1))),
+        (r, Op::Del, Some(Reply::Ok)),
+        (b, Op::Get, None),
+    ] {
+        assert!(rt; access(rt, estate, tree, &name, &x, op) == reply);
+    }
+    commit(rt, estate, tree, &r);
+    assert!(rt;
+        change(rt, estate, tree, top)
+            == Some(Change {
+                key: x,
+                value: None
+            })
+    );
+    commit(rt, estate, tree, &a);
+    assert!(rt; access(rt, estate, tree, &b, &x, Op::Get) == Some(Reply::Absent));
 }
 
 #[test]
-fn values_and_locks_nest(rt: HostRuntime) -> Result<(), Fail> {
-    let mut base = PlainTable::new(rt.alloc());
-    let x = over(&rt, &mut base, 9)?;
+fn values_and_locks_nest(rt: HostRuntime) {
+    let base = PlainTable::new(rt.alloc());
     let (mut tree, mut estate) = (Tree::new(rt.alloc()), Estate::new(rt.alloc(), base));
-    nest(&rt, &mut tree, &mut estate, &x)?;
+    nest(&rt, &mut tree, &mut estate);
     assert!(rt; estate.into_base().is_empty());
-    Ok(())
 }
 
 // An add that overflows writes as any other, though it leaves nothing.
-fn overflow(rt: &impl Abort, tree: &mut Tree, estate: &mut Estate, x: &Key) -> Result<(), Fail> {
-    let ((a, top), (b, _)) = (begin(tree, "a")?, begin(tree, "b")?);
-    assert!(rt; access(estate, tree, &a, x, Op::Add(1))? == Some(Reply::Overflow));
-    assert!(rt; estate.locks().modes_of(top, x) == (Mode::Write, Mode::None));
-    assert!(rt; estate.versions().left(top, x).is_none());
-    assert!(rt; access(estate, tree, &b, x, Op::Get)?.is_none());
-    let (found, key, value) = (changes(estate, tree, top)?, *x, Some(9223372036854775807));
-    assert!(rt; found.len() == 1);
-    assert!(rt; found[0] == Change { key, value });
-    Ok(())
+fn overflow(rt: &impl Abort, tree: &mut Tree, estate: &mut Estate) {
+    let ((a, _), (b, top)) = (begin(rt, tree, b"a"), begin(rt, tree, b"b"));
+    let (x, most) = (numbered_key(rt, 0), 9223372036854775807);
+    assert!(rt; access(rt, estate, tree, &a, &x, Op::Set(most)) == Some(Reply::Ok));
+    commit(rt, estate, tree, &a);
+    assert!(rt; estate.versions().base().get(&x) == Some(most));
+    assert!(rt; access(rt, estate, tree, &b, &x, Op::Add(1)) == Some(Reply::Overflow));
+    assert!(rt; estate.locks().modes_of(top, &x) == (Mode::Write, Mode::None));
+    assert!(rt; estate.versions().left(top, &x).is_none());
+    assert!(rt;
+        change(rt, estate, tree, top)
+            == Some(Change {
+                key: x,
+                value: Some(most)
+            })
+    );
 }
 
 #[test]
-fn an_overflow_locks_to_write(rt: HostRuntime) -> Result<(), Fail> {
-    let mut base = PlainTable::new(rt.alloc());
-    let x = over(&rt, &mut base, 9223372036854775807)?;
+fn an_overflow_locks_to_write(rt: HostRuntime) {
+    let base = PlainTable::new(rt.alloc());
     let (mut tree, mut estate) = (Tree::new(rt.alloc()), Estate::new(rt.alloc(), base));
-    overflow(&rt, &mut tree, &mut estate, &x)
+    overflow(&rt, &mut tree, &mut estate);
 }
 
 const KEYS: u8 = 40;
@@ -148,20 +161,12 @@ fn numbered_key(rt: &impl Abort, index: u8) -> Key {
     Key::parse(&[b'a' + index / 8, b'a' + index % 8]).expect(rt, "a key")
 }
 
-fn number_of(rt: &impl Abort, tree: &mut Tree, name: &Name) -> TxnNo {
-    match begin_once(tree, name) {
-        Some(number) => number,
-        None => begin_once(tree, name).expect(rt, "it begins"),
-    }
-}
-
 // Every second key is written, from the last to the first, and the others are read.
 fn touch_keys(rt: &impl Abort, tree: &Tree, estate: &mut Estate, name: &Name) {
     for index in 0..KEYS {
         let key = numbered_key(rt, (KEYS - 1).wrapping_sub(index));
         let op = if index % 2 == 0 { Op::Set(7) } else { Op::Get };
-        let reply = access(estate, tree, name, &key, op).expect(rt, "memory");
-        assert!(rt; reply.is_some());
+        assert!(rt; access(rt, estate, tree, name, &key, op).is_some());
     }
 }
 
@@ -186,9 +191,7 @@ fn are_written(rt: &impl Abort, found: &[Change]) -> bool {
 fn changes_stand_in_byte_order(rt: HostRuntime) {
     let (mut tree, base) = (Tree::new(rt.alloc()), PlainTable::new(rt.alloc()));
     let mut estate = Estate::new(rt.alloc(), base);
-    let a = Name::parse(b"a").expect(&rt, "a name");
-    let top = number_of(&rt, &mut tree, &a);
+    let (a, top) = begin(&rt, &mut tree, b"a");
     touch_keys(&rt, &tree, &mut estate, &a);
-    let found = changes(&estate, &tree, top).expect(&rt, "memory");
-    assert!(rt; are_written(&rt, &found));
+    assert!(rt; are_written(&rt, changes(&rt, &estate, &tree, top).as_slice()));
 }
