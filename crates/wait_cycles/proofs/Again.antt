@@ -1,13 +1,12 @@
 -- The start, reached again from itself.
-use Rattle.std.proofs.Common.{◌≡◌, ℕ, zero, suc, ◌+◌, ◌<◌, ◌≤◌, nat_eq, Bool, true, false, List, [], ◌∷◌, length, Option, Some, None, is_some, refl, sym, ap, subst, ◌∙◌, true≢false, arith}
+use Rattle.std.proofs.Common.{◌≡◌, ℕ, zero, suc, ◌≤◌, nat_eq, Bool, true, false, List, [], ◌∷◌, length, Option, Some, None, is_some, refl, sym, ap, ◌∙◌, arith}
 use Rattle.std.specs.Prelude.{slice_get}
-use Rattle.std.specs.List.{list_any, position}
+use Rattle.std.specs.List.{position}
 use Rattle.std.proofs.lemmas.Bool.{false≢true, eqb-true}
-use Rattle.std.proofs.lemmas.Option.{slice_get_within}
 use Rattle.wait_cycles.specs.declared.reached.Reached.{Reached}
 use Rattle.wait_cycles.specs.Cycles.{Pairs, IsCycle, IsLastCycle, IsLastOn, is_member, waits_in}
 use Rattle.wait_cycles.specs.Trails.{IsAt, IsFound, IsLastReached, nodes}
-use Rattle.wait_cycles.proofs.Lists.{any-map, get-map, get-unmap, length_map, member_at, member_here, none_passes, passes_there, place_of}
+use Rattle.wait_cycles.proofs.Lists.{any-map, get-map, get-unmap, member_at, member_here, none_passes, passes_there, place_of}
 use Rattle.wait_cycles.proofs.Ways.{IsWay, height, way_first, way_back, way_done}
 
 -- where it was met

@@ -1,5 +1,5 @@
 -- Cycles of numbers and cycles of names are the same.
-use Rattle.std.proofs.Common.{◌≡◌, ◌≤◌, ℕ, nat_eq, Bool, true, false, not, ◌&&◌, List, [], ◌∷◌, ◌++◌, append_assoc, map, Option, Some, None, unwrap_or, inl, inr, refl, sym, ap, subst, ◌∙◌, true≢false}
+use Rattle.std.proofs.Common.{◌≡◌, ◌≤◌, ℕ, nat_eq, Bool, true, false, not, List, [], ◌∷◌, ◌++◌, append_assoc, map, Option, Some, unwrap_or, inl, inr, refl, sym, ap, subst, ◌∙◌, true≢false}
 use Rattle.std.specs.Prelude.{slice_get}
 use Rattle.std.specs.List.{list_any}
 use Rattle.std.proofs.lemmas.Bool.{false≢true, eqb-true, eq-eqb, or_cases, or_left, or_right, and_parts, and_from}
@@ -8,9 +8,9 @@ use Rattle.txn_names.proofs.Names.{path_eq_self, same_path}
 use Rattle.serial_spec.specs.History.{Name, History}
 use Rattle.serial_spec.specs.Waits.{OnCycle, number, waits_for}
 use Rattle.serial_spec.specs.Waits as by_name
-use Rattle.wait_cycles.specs.Cycles.{Pairs, IsCycle, IsLastOn, WaitInTurn, is_distinct, is_member, waits_in}
+use Rattle.wait_cycles.specs.Cycles.{Pairs, IsCycle, WaitInTurn, is_distinct, is_member, waits_in}
 use Rattle.wait_cycles.specs.Agreement.{Agree, AreWaits, CyclesAgree}
-use Rattle.wait_cycles.proofs.Lists.{distinct_push, member_here, member_push, pushed_member, member_append}
+use Rattle.wait_cycles.proofs.Lists.{distinct_push, member_here}
 
 not_true : (b : Bool) → not b ≡ true → b ≡ false
 not_true true e = absurd (false≢true e)

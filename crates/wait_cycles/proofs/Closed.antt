@@ -1,11 +1,11 @@
 -- All that are reached: whoever waits in turn from one of them leads to one of them.
-use Rattle.std.proofs.Common.{◌≡◌, ℕ, ◌+◌, ◌<◌, ◌≤◌, nat_eq, Bool, true, false, not, ◌&&◌, ◌||◌, List, [], ◌∷◌, ◌++◌, length, map, Option, Some, None, inl, inr, refl, sym, ap, subst, ◌∙◌, true≢false, arith}
+use Rattle.std.proofs.Common.{◌≡◌, ℕ, ◌+◌, ◌<◌, ◌≤◌, nat_eq, true, List, [], ◌∷◌, ◌++◌, length, Option, Some, inl, inr, sym, ap, subst, ◌∙◌, arith}
 use Rattle.std.specs.Prelude.{slice_get}
 use Rattle.std.proofs.lemmas.Bool.{false≢true, eqb-true, or_cases, cases_lt}
 use Rattle.std.proofs.lemmas.List.{length-append}
 use Rattle.std.proofs.lemmas.Option.{slice_get_within}
 use Rattle.wait_cycles.specs.declared.reached.Reached.{Reached}
-use Rattle.wait_cycles.specs.Cycles.{Pairs, IsCycle, WaitInTurn, waits_in, is_member}
+use Rattle.wait_cycles.specs.Cycles.{Pairs, IsCycle, WaitInTurn, is_member}
 use Rattle.wait_cycles.specs.Trails.{Covers, IsAt, IsFound, IsLonger, IsTrail, nodes}
 use Rattle.wait_cycles.proofs.Lists.{length_map, get_within, get-map, map_append, place_of}
 use Rattle.wait_cycles.proofs.Found.{member_longer}

@@ -1,13 +1,13 @@
 -- One more that was reached.
-use Rattle.std.proofs.Common.{◌≡◌, ℕ, zero, suc, ◌+◌, ◌<◌, ◌≤◌, nat_eq, Bool, true, false, not, ◌&&◌, ◌||◌, List, [], ◌∷◌, ◌++◌, append_assoc, length, map, Option, Some, None, is_some, unwrap_or, ◌⊎◌, inl, inr, refl, sym, ap, subst, ◌∙◌, true≢false, arith}
+use Rattle.std.proofs.Common.{◌≡◌, ℕ, zero, suc, ◌+◌, ◌<◌, ◌≤◌, nat_eq, Bool, true, false, not, ◌&&◌, List, [], ◌∷◌, ◌++◌, append_assoc, length, Option, Some, None, is_some, unwrap_or, ◌⊎◌, inl, inr, refl, sym, ap, subst, ◌∙◌, true≢false, arith}
 use Rattle.std.specs.Prelude.{slice_get}
 use Rattle.std.specs.List.{list_any}
 use Rattle.std.proofs.lemmas.Bool.{false≢true, eqb-true, eq-eqb, or_cases, or_left, or_right, and_parts, and_from, cases_lt}
 use Rattle.std.proofs.lemmas.List.{length-append}
 use Rattle.wait_cycles.specs.declared.reached.Reached.{Reached}
 use Rattle.wait_cycles.specs.Cycles.{Pairs, waits_in, is_member, is_distinct}
-use Rattle.wait_cycles.specs.Trails.{ComesFrom, Covers, IsAt, IsFound, IsLonger, nodes, open_pairs}
-use Rattle.wait_cycles.proofs.Lists.{few_pass, any-map, distinct_push, get_front, get_pushed, map_append, member_append, member_push, pushed_member, one_less}
+use Rattle.wait_cycles.specs.Trails.{ComesFrom, IsAt, IsFound, IsLonger, nodes, open_pairs}
+use Rattle.wait_cycles.proofs.Lists.{few_pass, any-map, distinct_push, get_front, get_pushed, map_append, member_append, pushed_member, one_less}
 
 -- ---- pairs
 

@@ -1,8 +1,8 @@
 -- The wait of a transaction, found among the slots that hold waits.
 use Rattle.std.proofs.Common.{◌≡◌, ◌≢◌, ℕ, zero, suc, nat_eq, Bool, true, false, cond, ◌+◌, ◌<◌, ◌≤◌, length, map, List, [], ◌∷◌, get_or, Option, Some, None, is_some, unwrap_or, inl, inr, refl, sym, ap, subst, ◌∙◌, true≢false}
-use Rattle.std.specs.Prelude.{find, filter_map, slice_get, OnSome, IfNone, IfSome}
+use Rattle.std.specs.Prelude.{filter_map, slice_get, OnSome, IfNone, IfSome}
 use Rattle.std.specs.Option.{option_map}
-use Rattle.std.proofs.lemmas.Bool.{false≢true, eqb-true, eq-eqb, cases_lt}
+use Rattle.std.proofs.lemmas.Bool.{eqb-true, eq-eqb, cases_lt}
 use Rattle.std.proofs.lemmas.Option.{same_Some, none-some}
 use Rattle.std.specs.List.{Contains}
 use Rattle.slab.proofs.SlabLemmas.{Contains-cons, Contains-entries, length-entries}

@@ -1,5 +1,5 @@
 -- Pairs by their first, and those that lead to nobody above a number.
-use Rattle.std.proofs.Common.{◌≡◌, ◌≢◌, ℕ, zero, suc, ◌+◌, ◌<◌, ◌≤◌, nat_eq, Bool, true, false, not, cond, ◌&&◌, ◌||◌, List, [], ◌∷◌, ◌++◌, length, get_or, Option, Some, None, is_some, unwrap_or, inl, inr, refl, sym, ap, subst, ◌∙◌, true≢false, arith}
+use Rattle.std.proofs.Common.{◌≡◌, ◌≢◌, ℕ, zero, suc, ◌+◌, ◌<◌, ◌≤◌, nat_eq, Bool, true, false, not, cond, ◌&&◌, List, [], ◌∷◌, ◌++◌, length, get_or, Option, Some, is_some, unwrap_or, inl, inr, refl, sym, ap, subst, ◌∙◌, true≢false, arith}
 use Rattle.std.specs.Prelude.{ltb, nat_le, slice_get}
 use Rattle.std.specs.List.{list_any}
 use Rattle.std.specs.List.Sorted.{IsNonDecreasingBy, IsPartitionPoint}
@@ -10,8 +10,8 @@ use Rattle.wait_cycles.specs.declared.reached.Reached.{Reached}
 use Rattle.wait_cycles.specs.Cycles.{Pairs, IsCycle, IsGreatest, WaitInTurn, is_member, waits_in}
 use Rattle.wait_cycles.specs.Sorted.{ArePartedAt, AreRising, AreSorted, IsAwaited, up_to}
 use Rattle.wait_cycles.specs.Trails.{Covers, IsFound, IsLastReached, nodes}
-use Rattle.wait_cycles.proofs.Lists.{any-map, get_front, item_at, map_append, member_append, member_here, place_of, pushed_member}
-use Rattle.wait_cycles.proofs.Found.{member_longer, pair_of, waits_by_pair}
+use Rattle.wait_cycles.proofs.Lists.{any-map, get_front, map_append, member_append, member_here, place_of, pushed_member}
+use Rattle.wait_cycles.proofs.Found.{pair_of, waits_by_pair}
 use Rattle.wait_cycles.proofs.Tops.{greatest_of, waited_for}
 
 -- ---- pairs that all are among others

@@ -1,12 +1,12 @@
 -- The way back from one that was reached to the start.
-use Rattle.std.proofs.Common.{◌≡◌, ℕ, zero, suc, ◌<◌, ◌+◌, Bool, true, false, not, nat_eq, ◌&&◌, unwrap_or, List, [], ◌∷◌, ◌++◌, reverse, length, Option, Some, None, inl, inr, refl, sym, ap, subst, ◌∙◌, true≢false, arith}
+use Rattle.std.proofs.Common.{◌≡◌, ℕ, ◌<◌, ◌+◌, Bool, true, false, not, nat_eq, ◌&&◌, unwrap_or, List, [], ◌∷◌, ◌++◌, reverse, length, Option, Some, None, inl, inr, refl, sym, ap, subst, ◌∙◌, arith}
 use Rattle.std.specs.Prelude.{slice_get, IsTrue}
 use Rattle.std.proofs.lemmas.List.{reverse-append}
 use Rattle.std.proofs.lemmas.Option.{slice_get_within}
 use Rattle.std.proofs.lemmas.Bool.{false≢true, or_cases, eqb-true}
 use Rattle.wait_cycles.specs.declared.reached.Reached.{Reached}
 use Rattle.wait_cycles.specs.Cycles.{Pairs, IsCycle, WaitInTurn, waits_in, is_distinct, is_member}
-use Rattle.wait_cycles.specs.Trails.{AreBackward, ComesFrom, IsAt, IsFound, nodes}
+use Rattle.wait_cycles.specs.Trails.{AreBackward, IsAt, IsFound, nodes}
 use Rattle.wait_cycles.proofs.Lists.{one_place, get-map}
 
 -- the place is one of the trail

@@ -1,7 +1,6 @@
-use Rattle.std.proofs.Common.{◌≡◌, ◌<◌, ◌≤◌, ℕ, Some, true, sym, subst, ◌∙◌, ap, arith, rules}
+use Rattle.std.proofs.Common.{◌≡◌, ◌<◌, ◌≤◌, Some, sym, arith, rules}
 use Rattle.std.specs.Prelude.{slice_get}
 use Rattle.std.proofs.lemmas.Option.{slice_get_within}
-use Rattle.wait_cycles.specs.Cycles.{is_member}
 use Rattle.wait_cycles.proofs.Lists.{item_at, member_at, place_of, greatest_next}
 use Rattle.wait_cycles.proofs.cycle.victim.Goals as goal
 use Rattle.wait_cycles.proofs.cycle.victim.Goals.{then-gt, else-gt}

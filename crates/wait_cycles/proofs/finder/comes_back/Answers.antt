@@ -1,4 +1,4 @@
-use Rattle.std.proofs.Common.{◌≡◌, ℕ, false, true, is_some, sym, ap, ◌∙◌, true≢false}
+use Rattle.std.proofs.Common.{is_some, sym, ap, ◌∙◌, true≢false}
 use Rattle.wait_cycles.specs.Sorted.{up_to}
 use Rattle.wait_cycles.proofs.Again.{is_met}
 use Rattle.wait_cycles.proofs.Closed.{reaches_itself}

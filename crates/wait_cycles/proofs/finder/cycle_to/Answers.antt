@@ -1,9 +1,8 @@
-use Rattle.std.proofs.Common.{◌≡◌, ◌<◌, ◌+◌, ◌∷◌, List, ℕ, length, reverse, Some, sym, ap, subst, ◌∙◌, arith}
-use Rattle.std.specs.Prelude.{slice_get}
+use Rattle.std.proofs.Common.{◌≡◌, ◌<◌, List, ℕ, length, reverse, sym, ap, subst, ◌∙◌, arith}
 use Rattle.std.proofs.lemmas.Option.{slice_get_within}
 use Rattle.wait_cycles.specs.Trails.{nodes}
 use Rattle.wait_cycles.proofs.Lists.{item_at, length_map}
-use Rattle.wait_cycles.proofs.Ways.{IsWay, height, IsWithin, way_first, way_back, way_done, less_high, within_before, turned}
+use Rattle.wait_cycles.proofs.Ways.{IsWay, way_first, way_back, way_done, less_high, within_before, turned}
 use Rattle.wait_cycles.proofs.finder.cycle_to.Goals as goal
 
 pub loop-before-init : goal.loop-before-init

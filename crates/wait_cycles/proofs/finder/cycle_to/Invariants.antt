@@ -1,5 +1,4 @@
-use Rattle.std.proofs.Common.{◌≡◌, ◌<◌, ℕ, suc, length, reverse, Option, Some, None}
-use Rattle.std.specs.Prelude.{slice_get}
+use Rattle.std.proofs.Common.{reverse}
 use Rattle.wait_cycles.specs.Cycles.{Pairs}
 use Rattle.wait_cycles.specs.Trails.{IsFound}
 use Rattle.wait_cycles.proofs.Ways.{IsWay, height, IsWithin}

@@ -1,4 +1,4 @@
-use Rattle.std.proofs.Common.{◌≡◌, ℕ, Some, sym, ap, ◌∙◌, true≢false}
+use Rattle.std.proofs.Common.{sym, ◌∙◌, true≢false}
 use Rattle.wait_cycles.proofs.Again.{is_last_cycle, met, not_again, not_met}
 use Rattle.wait_cycles.proofs.finder.find_cycle.Goals as goal
 

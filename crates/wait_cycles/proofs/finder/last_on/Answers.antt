@@ -1,6 +1,6 @@
-use Rattle.std.proofs.Common.{◌≡◌, ℕ, List, Option, Some, None, sym, ◌∙◌}
+use Rattle.std.proofs.Common.{ℕ, List, Option, Some, None, ◌∙◌}
 use Rattle.std.specs.Prelude.{IfNone, IfSome}
-use Rattle.wait_cycles.specs.Cycles.{IsCycle, waits_in}
+use Rattle.wait_cycles.specs.Cycles.{IsCycle}
 use Rattle.wait_cycles.specs.Trails.{IsLastReached}
 use Rattle.wait_cycles.proofs.Sorted.{cycle_onto, last_reached_onto}
 use Rattle.wait_cycles.proofs.finder.last_on.Goals as goal

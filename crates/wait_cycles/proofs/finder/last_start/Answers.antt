@@ -1,4 +1,4 @@
-use Rattle.std.proofs.Common.{◌≡◌, ◌<◌, ℕ, List, ◌++◌, ◌∷◌, [], Option, true, refl, sym, ap, subst, ◌∙◌, arith, rules}
+use Rattle.std.proofs.Common.{◌≡◌, ℕ, List, ◌++◌, ◌∷◌, [], Option, refl, ap, subst, ◌∙◌, arith}
 use Rattle.std.specs.Prelude.{option_to_list}
 use Rattle.wait_cycles.specs.Sorted.{AreRising}
 use Rattle.wait_cycles.proofs.Sorted.{AreLeft, at_most_last, fewer_left, greatest_awaited, nobody_left, rising_front}

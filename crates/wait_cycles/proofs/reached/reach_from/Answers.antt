@@ -1,14 +1,9 @@
-use Rattle.std.proofs.Common.{◌≡◌, ◌≢◌, ◌<◌, ◌≤◌, ◌&&◌, ℕ, ◌∷◌, ◌++◌, [], Some, true, refl, eq-eqb, nat_eq, not, sym, subst, ◌∙◌, arith}
-use Rattle.std.specs.Prelude.{nat_le, slice_get}
-use Rattle.std.specs.List.{list_any}
-use Rattle.std.proofs.lemmas.Bool.{and_parts, and_from, leb-true}
+use Rattle.std.proofs.Common.{◌∷◌, ◌++◌, [], refl, sym, ◌∙◌, arith}
 use Rattle.std.proofs.lemmas.List.{length-append}
 use Rattle.std.proofs.lemmas.Option.{slice_get_within}
-use Rattle.wait_cycles.specs.Cycles.{is_member}
 use Rattle.wait_cycles.specs.Sorted.{up_to}
-use Rattle.wait_cycles.specs.Trails.{nodes}
 use Rattle.wait_cycles.proofs.Found.{next, found_next, longer_next, longer_none, member_longer}
-use Rattle.wait_cycles.proofs.Sorted.{covered, covered_more, goes_on, in_up_to, pushed_node, reached_before}
+use Rattle.wait_cycles.proofs.Sorted.{covered, covered_more, goes_on, pushed_node, reached_before}
 use Rattle.wait_cycles.proofs.reached.reach_from.Goals as goal
 use Rattle.wait_cycles.proofs.reached.reach_from.Goals.{then-leads_on, else-leads_on}
 

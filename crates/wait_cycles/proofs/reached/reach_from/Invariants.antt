@@ -1,4 +1,4 @@
-use Rattle.std.proofs.Common.{◌≡◌, ◌<◌, ◌≤◌, ◌-◌, ℕ, length, Some, true}
+use Rattle.std.proofs.Common.{◌≡◌, ◌≤◌, ◌-◌, ℕ, length, Some}
 use Rattle.std.specs.Prelude.{slice_get, vec_capacity}
 use Rattle.wait_cycles.specs.Sorted.{up_to}
 use Rattle.wait_cycles.specs.Trails.{IsAt, IsFound, IsLonger, nodes}

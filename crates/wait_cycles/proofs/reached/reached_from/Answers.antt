@@ -1,9 +1,8 @@
-use Rattle.std.proofs.Common.{◌≡◌, ◌<◌, ◌≤◌, ◌+◌, ◌∙◌, ℕ, List, [], Some, length, not, refl, subst, sym, arith}
+use Rattle.std.proofs.Common.{◌≡◌, ◌∙◌, ℕ, List, Some, refl, subst, sym, arith}
 use Rattle.std.specs.Prelude.{nat_le, slice_get, vec_capacity}
 use Rattle.wait_cycles.specs.declared.reached.Reached.{Reached}
-use Rattle.wait_cycles.specs.Cycles.{is_member}
 use Rattle.wait_cycles.specs.Sorted.{up_to}
-use Rattle.wait_cycles.specs.Trails.{IsFound, nodes, open_pairs}
+use Rattle.wait_cycles.specs.Trails.{IsFound}
 use Rattle.wait_cycles.proofs.Found.{nobody, room_first}
 use Rattle.wait_cycles.proofs.Lists.{few_pass, item_at}
 use Rattle.wait_cycles.proofs.Closed.{covers_longer, is_at_place, gone_on, place_within, all_gone}

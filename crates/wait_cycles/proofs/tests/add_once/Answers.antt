@@ -1,4 +1,4 @@
-use Rattle.std.proofs.Common.{◌≡◌, None, cond, refl, ap, ◌∙◌}
+use Rattle.std.proofs.Common.{None, cond, refl, ap, ◌∙◌}
 use Rattle.std.proofs.lemmas.Bool.{eq-eqb}
 use Rattle.wait_cycles.specs.Waiting.{wait_of}
 use Rattle.wait_cycles.proofs.tests.add_once.Goals as goal

@@ -1,4 +1,4 @@
-use Rattle.std.proofs.Common.{◌≡◌, ℕ, ◌∷◌, List, true, false, Some, sym, ap, subst, ◌∙◌, nat_eq, rules}
+use Rattle.std.proofs.Common.{◌≡◌, ℕ, ◌∷◌, List, sym, subst, ◌∙◌, rules}
 use Rattle.std.proofs.lemmas.Bool.{eqb-true}
 use Rattle.wait_cycles.specs.declared.waits.Wait.{Wait}
 use Rattle.wait_cycles.proofs.Slots.{IsLeft, left_all, left_next, head_stands}

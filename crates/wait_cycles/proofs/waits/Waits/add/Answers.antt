@@ -1,4 +1,4 @@
-use Rattle.std.proofs.Common.{◌≡◌, ℕ, Option, List, sym, ap, subst, ◌∙◌}
+use Rattle.std.proofs.Common.{Option, List, sym, ap, subst}
 use Rattle.wait_cycles.specs.declared.waits.Wait.{Wait}
 use Rattle.wait_cycles.specs.Waiting.{AreApart}
 use Rattle.wait_cycles.proofs.Slots.{apart_added, waits_added}

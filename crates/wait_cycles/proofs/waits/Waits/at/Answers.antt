@@ -1,4 +1,4 @@
-use Rattle.std.proofs.Common.{sym, ◌∙◌}
+use Rattle.std.proofs.Common.{sym}
 use Rattle.std.specs.Option.{option_copied}
 use Rattle.wait_cycles.proofs.Slots.{met}
 use Rattle.wait_cycles.proofs.waits.Waits.at.Goals as goal
