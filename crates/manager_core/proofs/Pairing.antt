@@ -7,27 +7,34 @@ use Rattle.std.proofs.lemmas.List.Folds.{list_any-append}
 use Rattle.std.proofs.lemmas.Map.Keys.{IsDistinct-head, IsDistinct-tail}
 use Rattle.std.proofs.lemmas.List.{reverse-append, length-reverse}
 use Rattle.txn_names.specs.Path.{is_front, meet, path_eq}
-use Rattle.txn_names.proofs.Names.{on_path, on_test, path_eq_self}
+use Rattle.txn_names.proofs.Names.{on_path, on_test, path_eq_self, same_path}
 use Rattle.txn_tree.specs.States.{States, names}
 use Rattle.lock_table.specs.Blocking.{is_blocker_in}
 use Rattle.lock_table.specs.Locked.{Table}
 use Rattle.serial_spec.specs.declared.entry.Entry.{Entry}
-use Rattle.serial_spec.specs.declared.event.Event.TheVariants.{Access}
+use Rattle.serial_spec.specs.declared.event.Event.{Event}
+use Rattle.serial_spec.specs.declared.event.Event.TheVariants.{Abort, Access, After, Begin, Commit}
 use Rattle.serial_spec.specs.Operations.{kind}
-use Rattle.serial_spec.specs.History.{Name, History, begun, is_active}
+use Rattle.serial_spec.specs.History.{Name, History, begun, has_begun, is_active}
 use Rattle.serial_spec.specs.Locks.{conflicts, foot, is_blocker}
 use Rattle.serial_spec.specs.Rows.{Rows}
-use Rattle.serial_spec.specs.Waits.{blocks_event, branch_of, number, number_in, wait_of as wait_by, waits_by, waits_for}
-use Rattle.txn_history.proofs.Lists.{found_passes}
-use Rattle.wait_cycles.specs.Agreement.{AreWaits}
+use Rattle.serial_spec.specs.Legal.{AreAllowed}
+use Rattle.serial_spec.specs.Waits.{accesses, blocks_event, branch_of, number, number_in, open_waits, wait_of as wait_by, waits_by, waits_for}
+use Rattle.txn_history.proofs.Begun.{any_begun}
+use Rattle.txn_history.proofs.Lists.{any-find, found_passes}
+use Rattle.txn_history.proofs.Waiting.{waits_as, waits_kept}
+use Rattle.wait_cycles.specs.Agreement.{Agree, AreWaits}
+use Rattle.wait_cycles.proofs.Agreement.{cycles_agree}
 use Rattle.wait_cycles.specs.Cycles.{Pairs, waits_in}
 use Rattle.wait_cycles.specs.Waiting.{AreOnce, Waiting, wait_of}
 use Rattle.wait_cycles.specs.declared.waits.Wait.{Wait}
 use Rattle.wait_cycles.proofs.Lists.{get_front, get_pushed}
-use Rattle.manager_core.specs.Kept.{AreTablesOf, IsTreeOf}
+use Rattle.manager_core.specs.Kept.{AreTablesOf, IsTreeOf, wait_of_any}
 use Rattle.manager_core.specs.Pairs.{is_beside, is_held_up, is_in_branch, pairs_of, pairs_with, waits_for_in}
-use Rattle.manager_core.specs.Tables.{Tabled}
+use Rattle.manager_core.specs.Tables.{Tabled, wait_by as kept_by, wait_for}
+use Rattle.manager_core.proofs.Blocking.{any_named}
 use Rattle.manager_core.proofs.Branches.{in_branch}
+use Rattle.manager_core.proofs.Lasting.{is_open}
 use Rattle.manager_core.proofs.Locks.{any_numbered, blocker_as}
 use Rattle.manager_core.proofs.Named.{any_got}
 
@@ -189,7 +196,78 @@ pub record TellWaits (h : History) (tree : States) (waits : Waiting) : Type 0 wh
       → (t : Name) × (e : Entry) × (slice_get (names tree) n ≡ Some t) × (wait_by h t ≡ Some e) × (e.event ≡ Access t w.key w.op) × (w.txn ≡ n)
   pub all : (t : Name) (e : Entry) → wait_by h t ≡ Some e → (n : ℕ) × (w : Wait) × (slice_get (names tree) n ≡ Some t) × (wait_of waits n ≡ Some w)
 
-module _ (rows : Rows) (h : History) (tables : Tabled) (are : AreTablesOf rows h tables) (waits : Waiting) where
+-- a wait that is kept is that of an entry
+read_wait : (n : ℕ) (t : Name) (x : Entry) (w : Wait) → accesses t x.event ≡ true → wait_for n (Some x) ≡ Some w
+    → (x.event ≡ Access t w.key w.op) × (w.txn ≡ n)
+read_wait n t x w of_it is = by x.event refl of_it is
+  where
+    by : (e : Event) → x.event ≡ e → accesses t e ≡ true → kept_by n x.by e ≡ Some w → (x.event ≡ Access t w.key w.op) × (w.txn ≡ n)
+    by (Access u k o) event f g =
+        let same : u ≡ t = same_path u t f in
+        let made : record { txn = n; key = k; op = o; by = x.by } ≡ w = ap (λ p. unwrap_or p w) g in (
+          event ∙ ap (λ v. Access v k o) same ∙ ap (λ (v : Wait). Access t v.key v.op) made,
+          sym (ap (λ (v : Wait). v.txn) made),
+        )
+    by (Begin u) event f g = absurd (false≢true f)
+    by (Commit u) event f g = absurd (false≢true f)
+    by (Abort u) event f g = absurd (false≢true f)
+    by (After u m) event f g = absurd (false≢true f)
+
+-- an entry by which a transaction waits is kept
+kept_some : (n : ℕ) (t : Name) (x : Entry) → accesses t x.event ≡ true → is_some (wait_for n (Some x)) ≡ true
+kept_some n t x of_it = by x.event of_it
+  where
+    by : (e : Event) → accesses t e ≡ true → is_some (kept_by n x.by e) ≡ true
+    by (Access u k o) f = refl
+    by (Begin u) f = absurd (false≢true f)
+    by (Commit u) f = absurd (false≢true f)
+    by (Abort u) f = absurd (false≢true f)
+    by (After u m) f = absurd (false≢true f)
+
+-- some place passes
+place_where : (p : Name → Bool) (xs : List Name) → list_any p xs ≡ true → (n : ℕ) × (x : Name) × (slice_get xs n ≡ Some x) × (p x ≡ true)
+place_where p [] e = absurd (false≢true e)
+place_where p (x ∷ xs) e =
+    elim (or_cases (p x) (list_any p xs) e) [
+      | inl here ↦ (0, x, refl, here)
+      | inr later ↦ let r = place_where p xs later in (suc r.0, r.1, r.2, r.3)
+    ]
+
+some_of : {X : Type 0} (o : Option X) → is_some o ≡ true → (x : X) × (o ≡ Some x)
+some_of None e = absurd (false≢true e)
+some_of (Some x) e = (x, refl)
+
+-- so the table of waits tells those of the history
+pub tell_waits : (rows : Rows) (h : History) (tables : Tabled) → AreAllowed rows h → AreTablesOf rows h tables → TellWaits h tables.tree tables.waits
+tell_waits rows h tables allowed are = record { known = known; all = all }
+  where
+    known : (n : ℕ) (w : Wait) → wait_of tables.waits n ≡ Some w
+        → (t : Name) × (e : Entry) × (slice_get (names tables.tree) n ≡ Some t) × (wait_by h t ≡ Some e) × (e.event ≡ Access t w.key w.op) × (w.txn ≡ n)
+    known n w is = named (slice_get (names tables.tree) n) refl (sym (are.waiting n) ∙ is)
+      where
+        waited : (t : Name) → slice_get (names tables.tree) n ≡ Some t → (o : Option Entry) → wait_by h t ≡ o → wait_for n o ≡ Some w
+            → (u : Name) × (e : Entry) × (slice_get (names tables.tree) n ≡ Some u) × (wait_by h u ≡ Some e) × (e.event ≡ Access u w.key w.op) × (w.txn ≡ n)
+        waited t at None waits f = absurd (false≢true (ap is_some f))
+        waited t at (Some x) waits f =
+            let read = read_wait n t x w (is_open h t x waits).of_it f in
+            (t, x, at, waits, read.0, read.1)
+        named : (o : Option Name) → slice_get (names tables.tree) n ≡ o → wait_for n (wait_of_any h o) ≡ Some w
+            → (u : Name) × (e : Entry) × (slice_get (names tables.tree) n ≡ Some u) × (wait_by h u ≡ Some e) × (e.event ≡ Access u w.key w.op) × (w.txn ≡ n)
+        named None at f = absurd (false≢true (ap is_some f))
+        named (Some t) at f = waited t at (wait_by h t) refl f
+    all : (t : Name) (e : Entry) → wait_by h t ≡ Some e → (n : ℕ) × (w : Wait) × (slice_get (names tables.tree) n ≡ Some t) × (wait_of tables.waits n ≡ Some w)
+    all t e waits =
+        let found = is_open h t e waits in
+        let started : has_begun h t ≡ true = (waits_kept rows h allowed).begun t (any-find (waits_as t) (waits_as t) (open_waits h) e found.found found.of_it) in
+        let place = place_where (path_eq t) (names tables.tree) (any_named (path_eq t) h tables.tree are.in_tree ∙ any_begun (path_eq t) t h started (path_eq_self t)) in
+        let at : slice_get (names tables.tree) place.0 ≡ Some t = place.2 ∙ ap (λ v. Some v) (sym (same_path t place.1 place.3)) in
+        let is : wait_of tables.waits place.0 ≡ wait_for place.0 (Some e) = are.waiting place.0 ∙ ap (λ o. wait_for place.0 (wait_of_any h o)) at ∙ ap (wait_for place.0) waits in
+        let kept = some_of (wait_of tables.waits place.0) (ap is_some is ∙ kept_some place.0 t e found.of_it) in
+        (place.0, kept.0, at, kept.1)
+
+module _ (rows : Rows) (h : History) (tables : Tabled) (are : AreTablesOf rows h tables) where
+  abbrev waits : Waiting
+  waits = tables.waits
   abbrev tree : States
   tree = tables.tree
 
@@ -222,11 +300,13 @@ module _ (rows : Rows) (h : History) (tables : Tabled) (are : AreTablesOf rows h
               in_branch t b u (not-true (is_front b t) (and_parts (not (is_front b t)) (conflicts (foot h b w.key) (kind w.op)) more.1).0)
 
   -- the pairs are those of the definitions
-  pub are_waits : IsDistinct path_eq (names tables.tree) → AreOnce waits → TellWaits h tables.tree waits
-      → AreWaits h (names tables.tree) (pairs_of tables.tree tables.estate.locks waits.waits waits.waits)
+  pub are_waits : AreAllowed rows h → IsDistinct path_eq (names tables.tree) → AreOnce tables.waits
+      → AreWaits h (names tables.tree) (pairs_of tables.tree tables.estate.locks tables.waits.waits tables.waits.waits)
   unfolding is_it
-  are_waits distinct once_each tell = record { numbered = numbered; sound = sound; whole = whole }
+  are_waits allowed distinct once_each = record { numbered = numbered; sound = sound; whole = whole }
     where
+      tell : TellWaits h tables.tree tables.waits
+      tell = tell_waits rows h tables allowed are
       numbered : (a : ℕ) (t : Name) → slice_get (names tree) a ≡ Some t → number h t ≡ a
       numbered a t at =
           place_is (begun h) (once (reverse (begun h)) (subst (λ (ns : List Name). IsDistinct path_eq ns) are.in_tree.begun distinct)) a t
@@ -287,3 +367,10 @@ module _ (rows : Rows) (h : History) (tables : Tabled) (are : AreTablesOf rows h
           by None p is_o is_p f = absurd (false≢true f)
           by (Some x) None is_o is_p f = absurd (false≢true f)
           by (Some x) (Some y) is_o is_p f = made t u x y is_o is_p e
+
+-- so the numbers on cycles tell of those of the definitions
+pub agreed : (rows : Rows) (h : History) (tables : Tabled) → AreTablesOf rows h tables → AreAllowed rows h → IsDistinct path_eq (names tables.tree) → AreOnce tables.waits
+    → Agree h (names tables.tree) (pairs_of tables.tree tables.estate.locks tables.waits.waits tables.waits.waits)
+agreed rows h tables are allowed distinct once_each =
+    cycles_agree h (names tables.tree) (pairs_of tables.tree tables.estate.locks tables.waits.waits tables.waits.waits)
+    (are_waits rows h tables are allowed distinct once_each)

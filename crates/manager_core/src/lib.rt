@@ -6,6 +6,7 @@ mod aborting;
 mod accessing;
 mod beginning;
 mod breaker;
+mod breaking;
 mod changes;
 mod closing;
 mod committing;
