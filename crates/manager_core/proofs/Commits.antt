@@ -1,13 +1,14 @@
 -- Commits: what is handed to the store, the tables afterwards, and the store.
-use Rattle.std.proofs.Common.{◌≡◌, ℕ, ℤ, ◌+◌, ◌<◌, Bool, true, false, ◌&&◌, cond, List, [], ◌∷◌, length, Option, Some, None, refl, sym, ap, ◌∙◌, arith}
-use Rattle.std.proofs.lemmas.Bool.{false≢true}
+use Rattle.std.proofs.Common.{◌≡◌, ℕ, zero, suc, nat_lt, ℤ, ◌+◌, ◌<◌, Bool, true, false, ◌&&◌, cond, List, [], ◌∷◌, length, Option, Some, None, refl, sym, ap, ◌∙◌, arith}
+use Rattle.std.proofs.lemmas.Bool.{false≢true, lt-ltb}
 use Rattle.std.proofs.lemmas.List.Sums.{sum_by-cons}
 use Rattle.txn_names.proofs.Names.{label_eq_self}
 use Rattle.txn_names.specs.declared.change.Change.{Change}
-use Rattle.txn_tree.specs.States.{States}
-use Rattle.txn_tree.specs.Asked.{IsNumberOf, IsRootless}
+use Rattle.txn_tree.specs.States.{States, names}
+use Rattle.txn_tree.specs.Asked.{IsNumberOf, IsRootless, is_live_child_in, live_children_of}
+use Rattle.txn_tree.specs.Numbered.{is_active_at, is_active_named, live_children_at, live_children_named}
+use Rattle.txn_tree.proofs.Children.{any_counted}
 use Rattle.inherit.specs.Assets.{IsParent}
-use Rattle.txn_tree.specs.Causes as tree
 use Rattle.serial_spec.specs.declared.entry.By.{By}
 use Rattle.serial_spec.specs.declared.operation.Reply.TheVariants.{Ok}
 use Rattle.serial_spec.specs.declared.entry.Refusal.{Refusal}
@@ -27,7 +28,7 @@ use Rattle.serial_spec.specs.Locks.{foot, is_exclusive}
 use Rattle.serial_spec.specs.Values.{seen}
 use Rattle.serial_spec.specs.Rows.{Rows, value_in}
 use Rattle.serial_spec.specs.Changes.{change_at, overlay, IsChanges}
-use Rattle.serial_spec.specs.Allowed.{cause_at_commit, asks_store, waits_elsewhere, writes}
+use Rattle.serial_spec.specs.Allowed.{cause_at_commit, asks_store, has_live_child, waits_elsewhere, writes}
 use Rattle.serial_spec.specs.Legal.{AreAllowed}
 use Rattle.txn_history.proofs.Causes.{neither, not_when}
 use Rattle.txn_history.proofs.Theorems.{changes_made, writes_somewhere}
@@ -39,14 +40,15 @@ use Rattle.manager_core.specs.Kept.{AreWaitsOf, IsKept, IsTreeOf}
 use Rattle.manager_core.specs.Tables.{Tabled, CommitsIn, IsParentNumber, rows_in}
 use Rattle.manager_core.specs.Sound.{is_store_refusal, IsBacked, IsTrusted}
 use Rattle.manager_core.specs.Asked.{IsLater, Takes, Refuses}
-use Rattle.manager_core.proofs.Answers.{allowed_next, commit_allowed}
+use Rattle.manager_core.proofs.Answers.{active_at_commit, allowed_next, commit_allowed}
 use Rattle.manager_core.proofs.Facts.{backed_next}
 use Rattle.manager_core.proofs.Kept.{backed_over, beside_same}
 use Rattle.manager_core.proofs.Lasting.{none_waiting, unless_free, wait_committed, wait_lasts}
 use Rattle.manager_core.proofs.WaitTables.{waits_stay}
 use Rattle.manager_core.proofs.Steps.{table_same}
 use Rattle.manager_core.proofs.Tabled.{tables_committed, tables_nothing}
-use Rattle.manager_core.proofs.Trees.{same_at_abort, same_children}
+use Rattle.manager_core.proofs.Locks.{name_at}
+use Rattle.manager_core.proofs.Trees.{active_in, same_children}
 
 -- ---- what is handed to the store
 
@@ -126,14 +128,20 @@ unasked_below h (l ∷ m ∷ ls) below = refl
 
 -- ---- the tree
 
--- the tree does not refuse what no cause refuses
-pub tree_commits : (rows : Rows) (h : History) (states : States) (by : By) (t : Name) → AreAllowed rows h → IsTreeOf h states → 0 < length t → None ≡ cause_at_commit h by t
-    → None ≡ tree.cause_at_commit states t
-tree_commits rows h states by t allowed is some none =
-    let p = neither _ _ (sym none) in
-    let q = neither _ _ p.1 in
-    let at_end : tree.cause_at_abort states t ≡ None = same_at_abort rows h states allowed is t some ∙ p.0 in
-    sym (rw (at_end, same_children rows h states allowed is t) q.0)
+none_counted : (n : ℕ) → nat_lt 0 n ≡ false → n ≡ 0
+none_counted zero e = refl
+none_counted (suc n) e = absurd (false≢true (sym e ∙ lt-ltb 0 (suc n) (omega arith)))
+
+-- whose commit no cause refuses acts, and has no live child
+pub commits_at : (rows : Rows) (h : History) (states : States) (by : By) (t : Name) (n : ℕ) → AreAllowed rows h → IsTreeOf h states → IsNumberOf states t n → None ≡ cause_at_commit h by t
+    → (is_active_at states n ≡ true) × (live_children_at states n ≡ 0)
+commits_at rows h states by t n allowed is number none =
+    let childless : has_live_child h t ≡ false = not_when _ _ (neither _ _ (neither _ _ (sym none)).1).0 in
+    let named = name_at states t n number in (
+      ap (is_active_named states) named ∙ active_in rows h states allowed is t ∙ active_at_commit h by t none,
+      ap (live_children_named states) named
+          ∙ none_counted (live_children_of states t) (sym (any_counted (is_live_child_in states t) (names states)) ∙ same_children rows h states allowed is t ∙ childless),
+    )
 
 -- ---- the tables
 

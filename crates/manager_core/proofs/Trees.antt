@@ -1,17 +1,17 @@
 -- The tree and the marks give what the definitions read off the history.
-use Rattle.std.proofs.Common.{◌≡◌, ℕ, ◌<◌, Bool, true, false, not, cond, ◌&&◌, List, [], ◌∷◌, length, Some, option_map, refl, sym, ap, ◌∙◌, arith}
+use Rattle.std.proofs.Common.{◌≡◌, ℕ, ◌<◌, Bool, true, false, not, cond, ◌&&◌, List, [], ◌∷◌, length, Some, is_some, option_map, refl, sym, ap, ◌∙◌, arith}
 use Rattle.std.proofs.lemmas.Bool.{false≢true}
 use Rattle.std.proofs.lemmas.List.{length-reverse}
 use Rattle.std.proofs.lemmas.Map.Entries.{length-keys_of}
 use Rattle.std.specs.List.{list_any}
 use Rattle.txn_names.specs.Path.{path_eq, parent, top_of}
 use Rattle.txn_tree.specs.States.{States, names, status_in, is_absent as is_absent_state, is_live as is_live_state, is_committed as is_committed_state, is_aborted as is_aborted_state}
-use Rattle.txn_tree.specs.Asked.{is_absent_in, is_live_in, has_committed_in, has_aborted_in, top_aborted_in, is_live_child_in}
+use Rattle.txn_tree.specs.Asked.{is_absent_in, is_active_in, is_live_in, has_committed_in, has_aborted_in, top_aborted_in, is_live_child_in}
 use Rattle.txn_tree.specs.Causes as tree
 use Rattle.txn_tree.specs.declared.status.Status.{Status as State}
 use Rattle.txn_tree.specs.declared.status.Status.TheVariants as state
 use Rattle.orphans.specs.Marked.{Marked, is_marked}
-use Rattle.serial_spec.specs.History.{Name, History, Status, Absent, Live, Committed, Aborted, status, is_absent, is_committed, is_live, is_live_status, top_aborted, begun, has_begun, has_aborted, has_committed}
+use Rattle.serial_spec.specs.History.{Name, History, Status, Absent, Live, Committed, Aborted, status, is_absent, is_committed, is_live, is_live_status, top_aborted, begun, has_begun, has_aborted, has_committed, is_active}
 use Rattle.serial_spec.specs.Rows.{Rows}
 use Rattle.serial_spec.specs.Legal.{AreAllowed}
 use Rattle.serial_spec.specs.Allowed.{has_live_child, cause_at_begin, cause_at_end}
@@ -93,6 +93,9 @@ module _ (rows : Rows) (h : History) (states : States) (allowed : AreAllowed row
 
   pub live_in : (t : Name) → is_live_in states t ≡ is_live h t
   live_in t = live_as (status_in states t) ∙ ap is_live_status (is.status t)
+
+  pub active_in : (t : Name) → is_active_in states t ≡ is_active h t
+  active_in t i = live_in t i && not (is_some (top_by_states t i))
 
   -- as many have begun as the tree holds
   counted : length states ≡ length (begun h)

@@ -1,7 +1,9 @@
 //! A commit, in the tables: all growths first, then what takes no memory.
-ghost use Rattle.std.specs.Prelude.{◌≡◌, None, IfOk, OnOk};
+ghost use Rattle.std.specs.Prelude.{◌≡◌, IfOk, OnOk, Some, slice_get, true};
+ghost use Rattle.txn_names.specs.Path.{Path};
 ghost use Rattle.txn_tree.specs.Asked.{IsNumberOf};
-ghost use Rattle.txn_tree.specs.Causes.{cause_at_commit};
+ghost use Rattle.txn_tree.specs.Numbered.{is_active_at, live_children_at};
+ghost use Rattle.txn_tree.specs.States.{names};
 ghost use Rattle.inherit.specs.Assets.{IsParent, MayGoUp};
 ghost use Rattle.inherit.specs.Changes.{AreChangesOf};
 ghost use Rattle.manager_core.specs.Tables.{CommitsIn, HasOtherRoom};
@@ -35,12 +37,13 @@ impl Tables {
     }
 
     /// Commits a transaction that nothing refuses, and hands up what it has, for which there is room. It takes no memory.
-    pub(crate) fn commit(&mut self, name: &Name, child: TxnNo, parent: Option<TxnNo>)
-        requires live { None ≡ cause_at_commit self.old.tree name.now }
+    pub(crate) fn commit(&mut self, child: TxnNo, parent: Option<TxnNo>)
+        requires active { is_active_at self.old.tree child ≡ true }
+        requires children { live_children_at self.old.tree child ≡ 0 }
         requires room { MayGoUp self.old.estate child parent }
-        ensures { CommitsIn self.old self.new name.now child parent }
+        ensures { (t : Path) → slice_get (names self.old.tree) child ≡ Some t → CommitsIn self.old self.new t child parent }
     {
-        self.tree.commit(name).unwrap();
+        self.tree.commit_at(child);
         match parent {
             Some(parent) => self.estate.commit_child(child, parent),
             None => self.estate.commit_top(child),

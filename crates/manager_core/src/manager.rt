@@ -225,7 +225,7 @@ impl<S: TopStore> Manager<S> {
         let txn = self.tables.number_of(name);
         let parent = self.tables.parent_number(name);
         self.tables.reserve_commit(name, txn, Some(parent))?;
-        self.tables.commit(name, txn, Some(parent));
+        self.tables.commit(txn, Some(parent));
         let outcome = Outcome::Done(Reply::Ok);
         self.log.add(by, Event::Commit(*name), &outcome);
         Ok(outcome)
@@ -246,7 +246,7 @@ impl<S: TopStore> Manager<S> {
         self.tables.reserve_commit(name, txn, None)?;
         let changes = self.tables.changes(txn)?;
         if are_taken(&mut self.store, changes) {
-            self.tables.commit(name, txn, None);
+            self.tables.commit(txn, None);
             let outcome = Outcome::Done(Reply::Ok);
             self.log.add(by, Event::Commit(*name), &outcome);
             Ok(outcome)

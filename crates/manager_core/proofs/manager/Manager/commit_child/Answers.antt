@@ -1,13 +1,13 @@
-use Rattle.std.proofs.Common.{None, Some, ◌<◌, ◌∙◌, length, refl, sym, subst, arith}
+use Rattle.std.proofs.Common.{None, Some, ◌∙◌, refl, sym, subst, arith}
 use Rattle.txn_names.specs.Path.{parent}
 use Rattle.txn_names.proofs.Names.{is_front-parent}
 use Rattle.txn_tree.specs.States.{States}
 use Rattle.txn_tree.specs.Asked.{IsNumberOf}
 use Rattle.txn_history.proofs.Theorems.{ancestors_act}
 use Rattle.manager_core.proofs.Answers.{active_at_commit, commit_allowed}
-use Rattle.manager_core.proofs.Commits.{tree_commits, goes_below, kept_child, not_first, unasked_below}
+use Rattle.manager_core.proofs.Commits.{commits_at, goes_below, kept_child, not_first, unasked_below}
 use Rattle.manager_core.proofs.Kept.{kept_roomy}
-use Rattle.manager_core.proofs.Locks.{present}
+use Rattle.manager_core.proofs.Locks.{name_at, present}
 use Rattle.manager_core.proofs.Facts.{sound}
 use Rattle.manager_core.proofs.manager.Manager.commit_child.Goals as goal
 
@@ -31,13 +31,23 @@ invariant_of-self-in_err-reserve_commit g c =
     rw (c.reserve.ensures.rows, c.reserve.ensures.entries)
     (kept_roomy g.S.TopStore m.log.rows m.log.entries m.tables _ m.opened m.store c.self.invariant c.reserve_commit.ensures.same)
 
-pub commit-requires-clause-live : goal.commit-requires-clause-live
-commit-requires-clause-live g c =
+pub commit-requires-clause-active : goal.commit-requires-clause-active
+commit-requires-clause-active g c =
     let m = c.self.inside in
+    let t = c.args.name.now in
     let none = rw (← c.self.view_is) at c.requires.live in
-    let some : 0 < length c.args.name.now = omega (arith, c.requires.below) in
     let roomy = kept_roomy g.S.TopStore m.log.rows m.log.entries m.tables c.reserve_commit.new.self m.opened m.store c.self.invariant c.reserve_commit.ensures.same in
-    tree_commits m.log.rows m.log.entries c.reserve_commit.new.self.tree c.args.by c.args.name.now roomy.allowed roomy.are.in_tree some none
+    let number = subst (λ (s : States). IsNumberOf s t c.number_of-txn.result) (sym c.reserve_commit.ensures.same.tree) c.number_of-txn.ensures.number in
+    (commits_at m.log.rows m.log.entries c.reserve_commit.new.self.tree c.args.by t _ roomy.allowed roomy.are.in_tree number none).0
+
+pub commit-requires-clause-children : goal.commit-requires-clause-children
+commit-requires-clause-children g c =
+    let m = c.self.inside in
+    let t = c.args.name.now in
+    let none = rw (← c.self.view_is) at c.requires.live in
+    let roomy = kept_roomy g.S.TopStore m.log.rows m.log.entries m.tables c.reserve_commit.new.self m.opened m.store c.self.invariant c.reserve_commit.ensures.same in
+    let number = subst (λ (s : States). IsNumberOf s t c.number_of-txn.result) (sym c.reserve_commit.ensures.same.tree) c.number_of-txn.ensures.number in
+    (commits_at m.log.rows m.log.entries c.reserve_commit.new.self.tree c.args.by t _ roomy.allowed roomy.are.in_tree number none).1
 
 pub invariant_of-self-2 : goal.invariant_of-self-2
 invariant_of-self-2 g c =
@@ -51,7 +61,7 @@ invariant_of-self-2 g c =
     let above = subst (λ (s : States). IsNumberOf s (parent t) c.parent_number-parent.result) (sym same.tree) c.parent_number-parent.ensures in
     rw (c.add.ensures.rows, c.add.ensures.entries, c.reserve.ensures.rows, c.reserve.ensures.entries)
     (kept_child g.S.TopStore m.log.rows m.log.entries c.reserve_commit.new.self _ m.opened m.store roomy c.args.by t free none
-    c.number_of-txn.result (Some c.parent_number-parent.result) c.requires.below number above (c.requires.below, above) c.commit.ensures)
+    c.number_of-txn.result (Some c.parent_number-parent.result) c.requires.below number above (c.requires.below, above) (c.commit.ensures t (name_at _ t _ number)))
 
 pub returns-clause-sound : goal.returns-clause-sound
 returns-clause-sound g c = sound g.S.TopStore _ _ (invariant_of-self-2 g c) refl
@@ -62,8 +72,9 @@ returns-clause-ok g c =
     let t = c.args.name.now in
     let none = rw (← c.self.view_is) at c.requires.live in
     let same = c.reserve_commit.ensures.same in
+    let number = subst (λ (s : States). IsNumberOf s t c.number_of-txn.result) (sym same.tree) c.number_of-txn.ensures.number in
     let above = subst (λ (s : States). IsNumberOf s (parent t) c.parent_number-parent.result) (sym same.tree) c.parent_number-parent.ensures in
-    let table = goes_below c.reserve_commit.new.self _ t c.number_of-txn.result (Some c.parent_number-parent.result) (c.requires.below, above) c.requires.below c.commit.ensures ∙ same.estate.rows in
+    let table = goes_below c.reserve_commit.new.self _ t c.number_of-txn.result (Some c.parent_number-parent.result) (c.requires.below, above) c.requires.below (c.commit.ensures t (name_at _ t _ number)) ∙ same.estate.rows in
     rw (← c.self.view_is, c.add.ensures.rows, c.add.ensures.entries, c.reserve.ensures.rows, c.reserve.ensures.entries, table) record {
       allowed = commit_allowed m.log.rows m.log.entries c.args.by t None none;
       added = refl;

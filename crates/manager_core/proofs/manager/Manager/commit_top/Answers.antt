@@ -1,9 +1,11 @@
-use Rattle.std.proofs.Common.{◌<◌, length, refl, arith}
+use Rattle.std.proofs.Common.{refl, sym, subst}
+use Rattle.txn_tree.specs.States.{States}
+use Rattle.txn_tree.specs.Asked.{IsNumberOf}
 use Rattle.manager_core.proofs.Answers.{active_at_commit}
-use Rattle.manager_core.proofs.Commits.{tree_commits}
+use Rattle.manager_core.proofs.Commits.{commits_at}
 use Rattle.manager_core.proofs.TopCommits.{kept_taken, committed_taken, kept_refused, committed_refused}
 use Rattle.manager_core.proofs.Kept.{kept_roomy}
-use Rattle.manager_core.proofs.Locks.{present}
+use Rattle.manager_core.proofs.Locks.{name_at, present}
 use Rattle.manager_core.proofs.Facts.{sound}
 use Rattle.manager_core.proofs.manager.Manager.commit_top.Goals as goal
 
@@ -25,23 +27,34 @@ invariant_of-self-in_err-changes g c =
     rw (c.reserve.ensures.rows, c.reserve.ensures.entries)
     (kept_roomy g.S.TopStore m.log.rows m.log.entries m.tables _ m.opened m.store c.self.invariant c.reserve_commit.ensures.same)
 
-pub commit-requires-clause-live : goal.commit-requires-clause-live
-commit-requires-clause-live g c =
+pub commit-requires-clause-active : goal.commit-requires-clause-active
+commit-requires-clause-active g c =
     let m = c.self.inside in
+    let t = c.args.name.now in
     let none = rw (← c.self.view_is) at c.requires.live in
-    let some : 0 < length c.args.name.now = omega (arith, c.requires.top) in
     let roomy = kept_roomy g.S.TopStore m.log.rows m.log.entries m.tables c.reserve_commit.new.self m.opened m.store c.self.invariant c.reserve_commit.ensures.same in
-    tree_commits m.log.rows m.log.entries c.reserve_commit.new.self.tree c.args.by c.args.name.now roomy.allowed roomy.are.in_tree some none
+    let number = subst (λ (s : States). IsNumberOf s t c.number_of-txn.result) (sym c.reserve_commit.ensures.same.tree) c.number_of-txn.ensures.number in
+    (commits_at m.log.rows m.log.entries c.reserve_commit.new.self.tree c.args.by t _ roomy.allowed roomy.are.in_tree number none).0
+
+pub commit-requires-clause-children : goal.commit-requires-clause-children
+commit-requires-clause-children g c =
+    let m = c.self.inside in
+    let t = c.args.name.now in
+    let none = rw (← c.self.view_is) at c.requires.live in
+    let roomy = kept_roomy g.S.TopStore m.log.rows m.log.entries m.tables c.reserve_commit.new.self m.opened m.store c.self.invariant c.reserve_commit.ensures.same in
+    let number = subst (λ (s : States). IsNumberOf s t c.number_of-txn.result) (sym c.reserve_commit.ensures.same.tree) c.number_of-txn.ensures.number in
+    (commits_at m.log.rows m.log.entries c.reserve_commit.new.self.tree c.args.by t _ roomy.allowed roomy.are.in_tree number none).1
 
 pub invariant_of-self-then-are_taken : goal.invariant_of-self-then-are_taken
 invariant_of-self-then-are_taken g c =
     let m = c.self.inside in
+    let number = subst (λ (s : States). IsNumberOf s c.args.name.now c.number_of-txn.result) (sym c.reserve_commit.ensures.same.tree) c.number_of-txn.ensures.number in
     let free = rw (← c.self.view_is) at c.requires.free in
     let none = rw (← c.self.view_is) at c.requires.live in
     rw (c.add.ensures.rows, c.add.ensures.entries, c.reserve.ensures.rows, c.reserve.ensures.entries)
     (kept_taken g.S.TopStore m.log.rows m.log.entries m.tables c.reserve_commit.new.self m.opened m.store c.self.invariant c.reserve_commit.ensures.same c.args.by c.args.name.now free none c.requires.top
     c.number_of-txn.result c.number_of-txn.ensures.number c.number_of-txn.ensures.rootless c.in_ok-changes.changes.items c.in_ok-changes.ensures
-    _ _ c.commit.ensures c.are_taken.ensures.later (c.are_taken.ensures.took c.if-are_taken.true))
+    _ _ (c.commit.ensures c.args.name.now (name_at _ c.args.name.now _ number)) c.are_taken.ensures.later (c.are_taken.ensures.took c.if-are_taken.true))
 
 pub invariant_of-self-else-are_taken : goal.invariant_of-self-else-are_taken
 invariant_of-self-else-are_taken g c =
@@ -58,12 +71,13 @@ invariant_of-self-else-are_taken g c =
 pub returns-then-are_taken-clause-ok : goal.returns-then-are_taken-clause-ok
 returns-then-are_taken-clause-ok g c =
     let m = c.self.inside in
+    let number = subst (λ (s : States). IsNumberOf s c.args.name.now c.number_of-txn.result) (sym c.reserve_commit.ensures.same.tree) c.number_of-txn.ensures.number in
     let free = rw (← c.self.view_is) at c.requires.free in
     let none = rw (← c.self.view_is) at c.requires.live in
     rw (← c.self.view_is, c.add.ensures.rows, c.add.ensures.entries, c.reserve.ensures.rows, c.reserve.ensures.entries)
     (committed_taken g.S.TopStore m.log.rows m.log.entries m.tables c.reserve_commit.new.self m.opened m.store c.self.invariant c.reserve_commit.ensures.same c.args.by c.args.name.now free none c.requires.top
     c.number_of-txn.result c.number_of-txn.ensures.number c.number_of-txn.ensures.rootless c.in_ok-changes.changes.items c.in_ok-changes.ensures
-    _ _ c.commit.ensures c.are_taken.ensures.later c.are_taken.ensures.unasked (λ some. rw c.if-are_taken.true at (c.are_taken.ensures.asked some)))
+    _ _ (c.commit.ensures c.args.name.now (name_at _ c.args.name.now _ number)) c.are_taken.ensures.later c.are_taken.ensures.unasked (λ some. rw c.if-are_taken.true at (c.are_taken.ensures.asked some)))
 
 pub returns-then-are_taken-clause-sound : goal.returns-then-are_taken-clause-sound
 returns-then-are_taken-clause-sound g c = sound g.S.TopStore _ _ (invariant_of-self-then-are_taken g c) refl
