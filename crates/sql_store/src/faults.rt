@@ -8,7 +8,8 @@ use crate::statements::probe;
 use durable_top::StoreFault;
 use sqlite::{Alter, Connection, Error, ErrorCode};
 
-fn fault_of(error: Error) -> StoreFault
+/// The fault that an error stands for.
+pub(crate) fn fault_of(error: Error) -> StoreFault
     ensures { result ≡ fault_of error }
 {
     match error {

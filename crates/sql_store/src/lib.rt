@@ -3,6 +3,7 @@
 
 mod faults;
 mod load;
+mod open;
 mod reading;
 mod statements;
 mod store;

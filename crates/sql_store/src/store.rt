@@ -1,5 +1,5 @@
 //! A store of results over a connection.
-ghost use Rattle.std.specs.Prelude.{true, ◌≡◌, ◌≤◌, ◌+◌, ◌⊎◌, ◌↔◌, ℕ, IfOk, IfErr, OnOk, OnErr, IsTrue, IsErrOf, if◌then◌else◌, is_err};
+ghost use Rattle.std.specs.Prelude.{true, false, [], ◌≡◌, ◌≤◌, ◌+◌, ◌⊎◌, ◌↔◌, ℕ, IfOk, IfErr, OnOk, OnErr, IsTrue, IsErrOf, if◌then◌else◌, is_err};
 ghost use Rattle.sqlite_trees.specs.View.{doubt};
 ghost use Rattle.sqlite.specs.Held.{state};
 ghost use Rattle.sqlite.specs.State.{HasCleanDisk, Survives, KeepsCommit};
@@ -7,14 +7,20 @@ ghost use Rattle.serial_spec.specs.Changes.{AreRising, overlay};
 ghost use Rattle.serial_spec.specs.Rows.{IsRising, value_in};
 ghost use Rattle.serial_spec.specs.Serial.{Map};
 ghost use Rattle.durable_top.specs.Store.{plain, told, faults_after, TellsFailure};
+ghost use Rattle.sqlite.specs.Steps.{over_memory};
+ghost use Rattle.sql_store.specs.Results.{no_schema};
+ghost use Rattle.sql_store.specs.Table.{map_of};
 ghost use Rattle.sql_store.specs.Stored.{table, doubt_of, may_leave, IsKept, SqlLoads, SqlCommits};
 
+use crate::faults::fault_of;
 use crate::load::load_rows;
+use crate::open::prepare;
 use crate::writes::store_changes;
 use durable_top::{Row, StoreFault, TopStore};
-use sqlite::{Alter, Connection};
+use sqlite::{Alter, Connection, File, FileStore, MemStore};
 use std::alloc::Global;
 use std::marker::Model;
+use std::rt::HostRuntime;
 use txn_names::Change;
 
 /// The table `results` of one database. Once the device has failed it answers nothing but Failed.
@@ -27,6 +33,9 @@ pub struct SqlStore<S: Alter> {
 }
 
 impl<S: Alter> Model for SqlStore<S> {
+    ghost use Rattle.sqlite.specs.Steps.{over_memory};
+    ghost use Rattle.sql_store.specs.Results.{no_schema};
+    ghost use Rattle.sql_store.specs.Table.{map_of};
     ghost use Rattle.sql_store.specs.Stored.{Stored, stored_code, IsKept};
 
     ghost Value = { Stored S };
@@ -36,6 +45,84 @@ impl<S: Alter> Model for SqlStore<S> {
     ghost view = { λ s. record { connection = s.connection; faults = s.faults; has_failed = s.has_failed; is_known = s.is_known } };
 
     ghost invariant = { λ s. IsKept S.Store s.is_known s.connection };
+}
+
+impl<S: Alter + Drop> SqlStore<S> {
+    /// A store over this connection. The table is made where there is none. The connection comes back beside the
+    /// fault: Refused in the middle of a transaction, and where the table `results` has other columns.
+    ///
+    /// The clauses on the table hold for a database that was empty.
+    pub fn adopt(mut connection: Connection<S>) -> Result<SqlStore<S>, (StoreFault, Connection<S>)>
+        ensures known { (state S.Store connection).now.schema ≡ no_schema → IfOk result (λ store. IsTrue store.is_known) }
+        ensures empty { (state S.Store connection).now.schema ≡ no_schema → IfOk result (λ store. HasCleanDisk (state S.Store store.connection) → table S.Store store.connection ≡ map_of []) }
+        ensures faults { IfOk result (λ store. store.faults ≡ 0) }
+        ensures sound { IfOk result (λ store. store.has_failed ≡ false) }
+    {
+        match prepare(&mut connection) {
+            Ok(is_known) => Ok(SqlStore {
+                connection,
+                faults: 0,
+                has_failed: false,
+                is_known,
+            }),
+            Err(fault) => Err((fault, connection)),
+        }
+    }
+
+    /// The connection.
+    pub fn into_connection(self) -> Connection<S>
+        ensures { result ≡ self.connection }
+    {
+        let SqlStore {
+            connection,
+            faults: _,
+            has_failed: _,
+            is_known: _,
+        } = self;
+        connection
+    }
+}
+
+impl SqlStore<MemStore> {
+    /// A store over an empty database in memory.
+    pub fn in_memory(alloc: Global) -> Result<SqlStore<MemStore>, StoreFault>
+        ensures known { IfOk result (λ store. IsTrue store.is_known) }
+        ensures empty { IfOk result (λ store. table over_memory store.connection ≡ map_of []) }
+        ensures faults { IfOk result (λ store. store.faults ≡ 0) }
+        ensures sound { IfOk result (λ store. store.has_failed ≡ false) }
+    {
+        match Connection::open_in_memory(alloc) {
+            Ok(connection) => adopted(connection),
+            Err(_) => Err(StoreFault::Memory),
+        }
+    }
+}
+
+impl SqlStore<FileStore<File>> {
+    /// A store over the file, which is made where there is none. Failed is answered where the device failed,
+    /// Memory where memory ran out, and Refused where the file is no database, cannot be opened or is in use, or
+    /// its table `results` has other columns. No clause says what the file holds.
+    pub fn open(rt: &HostRuntime, path: &str) -> Result<SqlStore<FileStore<File>>, StoreFault>
+        ensures faults { IfOk result (λ store. store.faults ≡ 0) }
+        ensures sound { IfOk result (λ store. store.has_failed ≡ false) }
+    {
+        match Connection::open(rt, path) {
+            Ok(connection) => adopted(connection),
+            Err(error) => Err(fault_of(error)),
+        }
+    }
+}
+
+fn adopted<S: Alter + Drop>(connection: Connection<S>) -> Result<SqlStore<S>, StoreFault>
+    ensures known { (state S.Store connection).now.schema ≡ no_schema → IfOk result (λ store. IsTrue store.is_known) }
+    ensures empty { (state S.Store connection).now.schema ≡ no_schema → IfOk result (λ store. HasCleanDisk (state S.Store store.connection) → table S.Store store.connection ≡ map_of []) }
+    ensures faults { IfOk result (λ store. store.faults ≡ 0) }
+    ensures sound { IfOk result (λ store. store.has_failed ≡ false) }
+{
+    match SqlStore::adopt(connection) {
+        Ok(store) => Ok(store),
+        Err((fault, _)) => Err(fault),
+    }
 }
 
 // What the connection answers, where no transaction is under way.

@@ -1,0 +1,7 @@
+use Rattle.std.proofs.lemmas.Result.{IfOk-weaker}
+use Rattle.sqlite.proofs.Callers.{memory_is_clean}
+use Rattle.sql_store.proofs.store.SqlStore+MemStore.in_memory.Goals as goal
+
+pub returns-in-Ok-clause-empty : goal.returns-in-Ok-clause-empty
+returns-in-Ok-clause-empty c =
+    IfOk-weaker c.adopted.result _ _ (λ store h. h (memory_is_clean store.connection)) (c.adopted.ensures.empty c.in-Ok.ensures.empty.2)
