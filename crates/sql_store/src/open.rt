@@ -8,7 +8,7 @@ ghost use Rattle.sql_store.specs.Stored.{IsKept, table};
 ghost use Rattle.sql_store.specs.Table.{map_of};
 
 use crate::faults::settle;
-use crate::statements::{create, probe};
+use crate::statements::{compile, create};
 use durable_top::StoreFault;
 use sqlite::{Alter, Connection, Error, ErrorCode};
 use sqlite_schema::schema::Schema;
@@ -29,7 +29,7 @@ fn make_table<S: Alter>(conn: &mut Connection<S>) -> Result<bool, Error>
 {
     let is_new = is_empty(conn.schema());
     create(conn)?;
-    probe(conn)?;
+    compile(conn)?;
     if conn.is_autocommit() {
         Ok(is_new)
     } else {

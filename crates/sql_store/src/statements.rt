@@ -83,6 +83,16 @@ pub(crate) fn probe<S: Alter>(conn: &mut Connection<S>) -> Result<(), Error>
     ensures kept { HasCleanDisk (state S.Store conn.new) → KeepsCommit (state S.Store conn.old) (state S.Store conn.new) }
     ensures survives { Survives (state S.Store conn.old) (state S.Store conn.new) (λ _. ⊥) }
 {
+    let _select = conn.prepare("SELECT 1")?;
+    Ok(())
+}
+
+/// Whether the table has the columns that `select` reads. The answer says why not.
+pub(crate) fn compile<S: Alter>(conn: &mut Connection<S>) -> Result<(), Error>
+    ensures open { HasCleanDisk (state S.Store conn.new) → OnOk result (IsUnchanged (state S.Store conn.old) (state S.Store conn.new)) }
+    ensures kept { HasCleanDisk (state S.Store conn.new) → KeepsCommit (state S.Store conn.old) (state S.Store conn.new) }
+    ensures survives { Survives (state S.Store conn.old) (state S.Store conn.new) (λ _. ⊥) }
+{
     let _select = conn.prepare("SELECT k, v FROM results ORDER BY k")?;
     Ok(())
 }

@@ -3,7 +3,6 @@ use Rattle.std.proofs.lemmas.Result.{IfOk-weaker}
 use Rattle.sqlite.specs.Held.{state}
 use Rattle.sqlite.specs.State.{KeepsCommit}
 use Rattle.sql_store.proofs.Steps.{at_both}
-use Rattle.sql_store.specs.Load.{load_text}
 use Rattle.sql_store.proofs.Loads.{same_commit, not_run_keeps}
 use Rattle.sql_store.proofs.statements.probe.Goals as goal
 
@@ -16,5 +15,5 @@ returns-clause-kept g c clean = same_commit (state g.S.Store c.args.conn.now) (s
 pub returns-in_err-_select-clause-kept : goal.returns-in_err-_select-clause-kept
 returns-in_err-_select-clause-kept g c clean =
     at_both c.prepare.result (λ _. KeepsCommit (state g.S.Store c.args.conn.now) (state g.S.Store c.prepare.new.self)) _ (KeepsCommit (state g.S.Store c.args.conn.now) (state g.S.Store c.prepare.new.self)) (λ _ h. h)
-    (λ e h. not_run_keeps (state g.S.Store c.args.conn.now) (state g.S.Store c.prepare.new.self) load_text [] e (h []))
+    (λ e h. not_run_keeps (state g.S.Store c.args.conn.now) (state g.S.Store c.prepare.new.self) _ [] e (h []))
     (IfOk-weaker c.prepare.result _ _ (λ s h. same_commit (state g.S.Store c.args.conn.now) (state g.S.Store c.prepare.new.self) h.1) (c.prepare.ensures.ok clean)) (c.prepare.ensures.err clean)
