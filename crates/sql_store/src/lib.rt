@@ -10,3 +10,6 @@ mod store;
 mod writes;
 
 pub use store::SqlStore;
+
+#[cfg(test)]
+mod tests;
