@@ -251,10 +251,12 @@ tell_waits rows h tables allowed are = record { known = known; all = all }
         waited t at (Some x) waits f =
             let read = read_wait n t x w (is_open h t x waits).of_it f in
             (t, x, at, waits, read.0, read.1)
+
         named : (o : Option Name) → slice_get (names tables.tree) n ≡ o → wait_for n (wait_of_any h o) ≡ Some w
             → (u : Name) × (e : Entry) × (slice_get (names tables.tree) n ≡ Some u) × (wait_by h u ≡ Some e) × (e.event ≡ Access u w.key w.op) × (w.txn ≡ n)
         named None at f = absurd (false≢true (ap is_some f))
         named (Some t) at f = waited t at (wait_by h t) refl f
+
     all : (t : Name) (e : Entry) → wait_by h t ≡ Some e → (n : ℕ) × (w : Wait) × (slice_get (names tables.tree) n ≡ Some t) × (wait_of tables.waits n ≡ Some w)
     all t e waits =
         let found = is_open h t e waits in
@@ -268,6 +270,7 @@ tell_waits rows h tables allowed are = record { known = known; all = all }
 module _ (rows : Rows) (h : History) (tables : Tabled) (are : AreTablesOf rows h tables) where
   abbrev waits : Waiting
   waits = tables.waits
+
   abbrev tree : States
   tree = tables.tree
 
@@ -307,6 +310,7 @@ module _ (rows : Rows) (h : History) (tables : Tabled) (are : AreTablesOf rows h
     where
       tell : TellWaits h tables.tree tables.waits
       tell = tell_waits rows h tables allowed are
+
       numbered : (a : ℕ) (t : Name) → slice_get (names tree) a ≡ Some t → number h t ≡ a
       numbered a t at =
           place_is (begun h) (once (reverse (begun h)) (subst (λ (ns : List Name). IsDistinct path_eq ns) are.in_tree.begun distinct)) a t
