@@ -1,10 +1,10 @@
--- What a replay over a store without rows says of the program.
+-- What a replay says of the program.
 use Rattle.std.proofs.Common.{◌≡◌, ℕ, List, Option, None, inl, inr}
 use Rattle.std.specs.Io.KnownBytes.{Keeps}
 use Rattle.txn_bytes.proofs.Appending.{kept}
 use Rattle.durable_top.specs.declared.store.TopStore.{Ghosts}
 use Rattle.tx_server.specs.Replays.{IsReplayed, spelled_report}
-use Rattle.tx_server.specs.Programs.{IsMissed, IsPrinted, Misses, Prints}
+use Rattle.tx_server.specs.Programs.{IsMissed, IsPrinted, Misses, MissesFrom, Prints, PrintsFrom}
 
 -- a writer that keeps what it got after the whole report
 pub printed_kept : {S : Type 0} (g : Ghosts S) (old mid new : Option (List ℕ)) (text : List ℕ) (store left : S) → IsReplayed g old mid text store left → Keeps mid new → IsPrinted g old new text store
@@ -19,3 +19,10 @@ prints g old new text store status empty h done = record { text = text; store = 
 pub misses : {S : Type 0} (g : Ghosts S) (old new : Option (List ℕ)) (text : List ℕ) (store : S) → ((k : List ℕ) → g.table store k ≡ None) → IsMissed g old new text store → Misses g old new
 misses g old new text store empty (inl k) = inl k
 misses g old new text store empty (inr u) = inr (record { text = text; store = store; empty = empty; unpassed = u })
+
+pub prints_from : {S : Type 0} (g : Ghosts S) (old new : Option (List ℕ)) (text : List ℕ) (store : S) (status : ℕ) → (status ≡ 0 → IsPrinted g old new text store) → status ≡ 0 → PrintsFrom g old new
+prints_from g old new text store status h done = record { text = text; store = store; printed = h done }
+
+pub misses_from : {S : Type 0} (g : Ghosts S) (old new : Option (List ℕ)) (text : List ℕ) (store : S) → IsMissed g old new text store → MissesFrom g old new
+misses_from g old new text store (inl k) = inl k
+misses_from g old new text store (inr u) = inr (record { text = text; store = store; unpassed = u })

@@ -34,3 +34,19 @@ pub record Unpassed {S : Type 0} (g : Ghosts S) (old new : Option (List ℕ)) : 
 -- it got nothing, or the writer failed
 abbrev pub Misses : {S : Type 0} → Ghosts S → Option (List ℕ) → Option (List ℕ) → Type 0
 Misses g old new = Keeps old new ⊎ Unpassed g old new
+
+-- the output got the whole report of some text's run over some store, whose rows are the report's opening rows
+pub record PrintsFrom {S : Type 0} (g : Ghosts S) (old new : Option (List ℕ)) : Type 0 where
+  pub text : List ℕ
+  pub store : S
+  pub printed : IsPrinted g old new text store
+
+-- the writer failed at such a report
+pub record UnpassedFrom {S : Type 0} (g : Ghosts S) (old new : Option (List ℕ)) : Type 0 where
+  pub text : List ℕ
+  pub store : S
+  pub unpassed : IsUnpassed g old new text store
+
+-- it got nothing, or the writer failed
+abbrev pub MissesFrom : {S : Type 0} → Ghosts S → Option (List ℕ) → Option (List ℕ) → Type 0
+MissesFrom g old new = Keeps old new ⊎ UnpassedFrom g old new

@@ -5,15 +5,19 @@ use std::alloc::Global;
 /// What the words ask for.
 #[derive(Clone, Copy, Debug, PartialEq, Eq)]
 pub enum Task<'a> {
-    /// To run this session text over an empty table in memory, and to print the report.
-    Replay { file: &'a str },
+    /// To run this session text and to print the report: over the database at a path, or else over an empty table in memory.
+    Replay {
+        file: &'a str,
+        database: Option<&'a str>,
+    },
 }
 
 fn replay_command<'a>(alloc: Global) -> Result<Command<'a>, Error> {
     let file = Arg::new(alloc, "file")
         .required(true)
         .action(ArgAction::Set);
-    Ok(Command::new(alloc, "replay").arg(file)?)
+    let database = Arg::new(alloc, "db").long("db").action(ArgAction::Set);
+    Ok(Command::new(alloc, "replay").arg(file)?.arg(database)?)
 }
 
 fn command<'a>(alloc: Global) -> Result<Command<'a>, Error> {
@@ -24,6 +28,7 @@ fn read_task<'a>(name: &str, of: &ArgMatches<'a>) -> Option<Task<'a>> {
     match name {
         "replay" => Some(Task::Replay {
             file: of.get_str("file")?,
+            database: of.get_str("db"),
         }),
         _ => None,
     }

@@ -1,17 +1,19 @@
 //! The program, apart from where its words come from and where its bytes go.
-ghost use Rattle.std.specs.Prelude.{◌≡◌, ◌≢◌, ◌≤◌};
+ghost use Rattle.std.specs.Prelude.{◌≡◌, ◌≢◌, ◌≤◌, ◌⊎◌};
 ghost use Rattle.std.specs.Io.KnownBytes.{Keeps};
-ghost use Rattle.tx_server.specs.Programs.{IsMissed, IsPrinted, Misses, Prints};
+ghost use Rattle.tx_server.specs.Programs.{IsMissed, IsPrinted, Misses, MissesFrom, Prints, PrintsFrom};
 
 use crate::command::{Task, task_of};
 use crate::fault::{Fault, fault_of};
 use crate::replay::replay_text;
 use durable_top::{MemStore, TopStore};
+use sql_store::SqlStore;
+use sqlite::{File, FileStore};
 use std::alloc::{AllocError, Global};
 use std::fmt::Display;
 use std::fs;
 use std::io::Write;
-use std::rt::Files;
+use std::rt::{Files, HostRuntime};
 
 /// The exit status where all was done.
 const DONE: u8 = 0;
@@ -24,23 +26,28 @@ pub const MISUSED: u8 = 2;
 
 /// Does what the words after the program's name ask for, and answers the exit status. A report goes to `out`, and
 /// only where the whole run was done; a fault goes to `err`, in one line.
-pub fn tx_main<R: Files + AllocGlobal, W: Write, E: Write>(
-    rt: &R,
+pub fn tx_main<W: Write, E: Write>(
+    rt: &HostRuntime,
     alloc: Global,
     words: &[String],
     out: &mut W,
     err: &mut E,
 ) -> u8
-    ensures done { result ≡ DONE → Prints ⟦<MemStore as TopStore>⟧ (W.contents out.old) (W.contents out.new) }
-    ensures undone { result ≢ DONE → Misses ⟦<MemStore as TopStore>⟧ (W.contents out.old) (W.contents out.new) }
+    ensures done { result ≡ DONE → Prints ⟦<MemStore as TopStore>⟧ (W.contents out.old) (W.contents out.new)
+        ⊎ PrintsFrom ⟦<SqlStore<FileStore<File>> as TopStore>⟧ (W.contents out.old) (W.contents out.new) }
+    ensures undone { result ≢ DONE → Misses ⟦<MemStore as TopStore>⟧ (W.contents out.old) (W.contents out.new)
+        ⊎ MissesFrom ⟦<SqlStore<FileStore<File>> as TopStore>⟧ (W.contents out.old) (W.contents out.new) }
     ensures status { result ≤ MISUSED }
 {
     let Ok(all) = command_line(alloc, words) else {
         return tell(err, Fault::NoMemory);
     };
     match task_of(alloc, all.as_slice()) {
-        Ok(Some(Task::Replay { file })) => replay_file(rt, alloc, file, out, err),
-        Ok(None) => misuse(err, &"usage: tx_server replay FILE"),
+        Ok(Some(Task::Replay { file, database })) => match database {
+            Some(path) => replay_into(rt, alloc, file, path, out, err),
+            None => replay_file(rt, alloc, file, out, err),
+        },
+        Ok(None) => misuse(err, &"usage: tx_server replay FILE [--db PATH]"),
         Err(text) => misuse(err, &text),
     }
 }
@@ -88,6 +95,28 @@ fn replay_file<R: Files + AllocGlobal, W: Write, E: Write>(
     };
     let Ok(store) = MemStore::new(alloc, &[]) else {
         return tell(err, Fault::NoMemory);
+    };
+    replay_over(alloc, text.as_slice(), store, out, err)
+}
+
+// The same over the database at this path, which is made where there is none.
+fn replay_into<W: Write, E: Write>(
+    rt: &HostRuntime,
+    alloc: Global,
+    file: &str,
+    path: &str,
+    out: &mut W,
+    err: &mut E,
+) -> u8
+    ensures done { result ≡ DONE → PrintsFrom ⟦<SqlStore<FileStore<File>> as TopStore>⟧ (W.contents out.old) (W.contents out.new) }
+    ensures undone { result ≢ DONE → MissesFrom ⟦<SqlStore<FileStore<File>> as TopStore>⟧ (W.contents out.old) (W.contents out.new) }
+    ensures status { result ≤ FAILED }
+{
+    let Ok(text) = fs::read(rt, file) else {
+        return tell(err, Fault::CannotRead(file));
+    };
+    let Ok(store) = SqlStore::open(rt, path) else {
+        return tell(err, Fault::CannotOpen);
     };
     replay_over(alloc, text.as_slice(), store, out, err)
 }

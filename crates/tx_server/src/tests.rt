@@ -10,7 +10,7 @@ use std::alloc::Global;
 use std::fs;
 use std::io::{self, ErrorKind, Write};
 use std::process::Abort;
-use std::rt::Files;
+use std::rt::HostRuntime;
 
 /// One transaction that reads its own write: a text and its report.
 const FIRST: &[u8] = b"session s\nbegin a\nset a x 5\nget a x\ncommit a\n";
@@ -154,9 +154,14 @@ fn writer_that_fails_at_each_place(rt: HostRuntime) {
 }
 
 /// What the program does with these words.
-fn run<R: Files + AllocGlobal + Abort>(rt: &R, words: &str) -> Told {
+fn run(rt: &HostRuntime, words: &str) -> Told {
+    run_on(rt, words, "")
+}
+
+// The same with the words of a path behind them.
+fn run_on(rt: &HostRuntime, words: &str, path: &str) -> Told {
     let mut all = Vec::new(rt.alloc());
-    for word in words.split_whitespace() {
+    for word in words.split_whitespace().chain(path.split_whitespace()) {
         let word = String::from_str(rt.alloc(), word).expect(rt, "memory");
         all.push(word).expect(rt, "memory");
     }
@@ -181,6 +186,34 @@ fn program_on_files(rt: HostRuntime) {
     assert!(rt; run(&rt, "replay nosuch.tx").is_fault("tx: cannot read nosuch.tx\n"));
 }
 
+/// A run of no session over the row that the first text leaves.
+const LATER_REPORT: &[u8] = b"open\nx=5\ntable\nx=5\nend\n";
+
+// What one run leaves in a database is there for the next.
+#[test]
+fn program_on_a_database(rt: HostRuntime) {
+    let _ = fs::remove_dir_all(&rt, "db_test");
+    fs::create_dir_all(&rt, "db_test").expect(&rt, "folder");
+    for (file, text) in [
+        ("db_test/first.tx", FIRST),
+        ("db_test/empty.tx", b"".as_slice()),
+        ("db_test/no.db", b"no database, but some text".as_slice()),
+    ] {
+        fs::write(&rt, file, text).expect(&rt, file);
+    }
+    let (first, later) = (
+        "replay db_test/first.tx --db",
+        "replay db_test/empty.tx --db",
+    );
+    assert!(rt; run_on(&rt, first, "db_test/a.db").is_report(FIRST_REPORT));
+    assert!(rt; run_on(&rt, later, "db_test/a.db").is_report(LATER_REPORT));
+    assert!(rt; run_on(&rt, first, "db_test/no.db").is_fault("tx: cannot open database\n"));
+    assert!(rt;
+        run_on(&rt, "replay no.tx --db", "db_test/a.db").is_fault("tx: cannot read no.tx\n")
+    );
+    fs::remove_dir_all(&rt, "db_test").expect(&rt, "folder");
+}
+
 #[test]
 fn words_that_are_no_command_line(rt: HostRuntime) {
     for words in [
@@ -190,6 +223,7 @@ fn words_that_are_no_command_line(rt: HostRuntime) {
         "replay",
         "replay a b",
         "replay a --workers 2",
+        "replay a --db",
     ] {
         assert!(rt; run(&rt, words).is_misuse(), "{words}");
     }
