@@ -154,20 +154,20 @@ fn writer_that_fails_at_each_place(rt: HostRuntime) {
 }
 
 /// What the program does with these words.
-fn run(rt: &HostRuntime, words: &str) -> Told {
-    run_on(rt, words, "")
+fn run(rt: &impl Abort, host: &HostRuntime, words: &str) -> Told {
+    run_on(rt, host, words, "")
 }
 
 // The same with the words of a path behind them.
-fn run_on(rt: &HostRuntime, words: &str, path: &str) -> Told {
-    let mut all = Vec::new(rt.alloc());
+fn run_on(rt: &impl Abort, host: &HostRuntime, words: &str, path: &str) -> Told {
+    let mut all = Vec::new(host.alloc());
     for word in words.split_whitespace().chain(path.split_whitespace()) {
-        let word = String::from_str(rt.alloc(), word).expect(rt, "memory");
+        let word = String::from_str(host.alloc(), word).expect(rt, "memory");
         all.push(word).expect(rt, "memory");
     }
-    let mut out = Vec::new(rt.alloc());
-    let mut err = Vec::new(rt.alloc());
-    let status = tx_main(rt, rt.alloc(), all.as_slice(), &mut out, &mut err);
+    let mut out = Vec::new(host.alloc());
+    let mut err = Vec::new(host.alloc());
+    let status = tx_main(host, host.alloc(), all.as_slice(), &mut out, &mut err);
     Told { status, out, err }
 }
 
@@ -180,10 +180,10 @@ fn program_on_files(rt: HostRuntime) {
     ] {
         fs::write(&rt, file, text).expect(&rt, file);
     }
-    assert!(rt; run(&rt, "replay first.tx").is_report(FIRST_REPORT));
-    assert!(rt; run(&rt, "replay empty.tx").is_report(EMPTY_REPORT));
-    assert!(rt; run(&rt, "replay fault.tx").is_fault("tx: line 2: end\n"));
-    assert!(rt; run(&rt, "replay nosuch.tx").is_fault("tx: cannot read nosuch.tx\n"));
+    assert!(rt; run(&rt, &rt, "replay first.tx").is_report(FIRST_REPORT));
+    assert!(rt; run(&rt, &rt, "replay empty.tx").is_report(EMPTY_REPORT));
+    assert!(rt; run(&rt, &rt, "replay fault.tx").is_fault("tx: line 2: end\n"));
+    assert!(rt; run(&rt, &rt, "replay nosuch.tx").is_fault("tx: cannot read nosuch.tx\n"));
 }
 
 /// A run of no session over the row that the first text leaves.
@@ -205,11 +205,11 @@ fn program_on_a_database(rt: HostRuntime) {
         "replay db_test/first.tx --db",
         "replay db_test/empty.tx --db",
     );
-    assert!(rt; run_on(&rt, first, "db_test/a.db").is_report(FIRST_REPORT));
-    assert!(rt; run_on(&rt, later, "db_test/a.db").is_report(LATER_REPORT));
-    assert!(rt; run_on(&rt, first, "db_test/no.db").is_fault("tx: cannot open database\n"));
+    assert!(rt; run_on(&rt, &rt, first, "db_test/a.db").is_report(FIRST_REPORT));
+    assert!(rt; run_on(&rt, &rt, later, "db_test/a.db").is_report(LATER_REPORT));
+    assert!(rt; run_on(&rt, &rt, first, "db_test/no.db").is_fault("tx: cannot open database\n"));
     assert!(rt;
-        run_on(&rt, "replay no.tx --db", "db_test/a.db").is_fault("tx: cannot read no.tx\n")
+        run_on(&rt, &rt, "replay no.tx --db", "db_test/a.db").is_fault("tx: cannot read no.tx\n")
     );
     fs::remove_dir_all(&rt, "db_test").expect(&rt, "folder");
 }
@@ -225,6 +225,6 @@ fn words_that_are_no_command_line(rt: HostRuntime) {
         "replay a --workers 2",
         "replay a --db",
     ] {
-        assert!(rt; run(&rt, words).is_misuse(), "{words}");
+        assert!(rt; run(&rt, &rt, words).is_misuse(), "{words}");
     }
 }
