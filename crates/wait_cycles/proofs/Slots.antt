@@ -215,6 +215,11 @@ pub gone_len : (r : Option Wait) (old new : Slab Wait) → OnSome r (slab_len ne
 gone_len None old new len absent = let same : slab_len new ≡ slab_len old = ap (λ (s : Slab Wait). slab_len s) absent in omega (Rattle.std.proofs.Common.arith, same)
 gone_len (Some w) old new len absent = let less : slab_len new + 1 ≡ slab_len old = len in omega (Rattle.std.proofs.Common.arith, less)
 
+-- one that goes leaves fewer
+pub gone_less : (r : Option Wait) (old new : Slab Wait) → is_some r ≡ true → OnSome r (slab_len new + 1 ≡ slab_len old) → slab_len new < slab_len old
+gone_less None old new some len = absurd (true≢false (sym some))
+gone_less (Some w) old new some len = let less : slab_len new + 1 ≡ slab_len old = len in omega (Rattle.std.proofs.Common.arith, less)
+
 pub get_past : (slots : List (Option Wait)) (i : ℕ) → length slots ≤ i → get_or slots i None ≡ None
 get_past [] i past = refl
 get_past (o ∷ slots) zero past = absurd (omega (Rattle.std.proofs.Common.arith, past))
@@ -225,12 +230,17 @@ module _ (tree : States) (t : ℕ) where
   abbrev pub swept : Option Wait → Option Wait
   swept o = cond (is_wait_under tree t o) None o
 
+  pub stands_under : (o : Option Wait) → is_wait_under tree t o ≡ true → is_some o ≡ true
+  stands_under None on = absurd (true≢false (sym on))
+  stands_under (Some w) on = refl
+
   -- those under keys below this one have been swept
   pub record IsSwept (old now : Slab Wait) (key : ℕ) : Type 0 where
     pub below : (i : ℕ) → i < key → get now i ≡ swept (get old i)
     pub above : (i : ℕ) → key ≤ i → get now i ≡ get old i
     pub capacity : now.capacity ≡ old.capacity
     pub len : slab_len now ≤ slab_len old
+    pub fewer : (i : ℕ) → i < key → is_wait_under tree t (get old i) ≡ true → slab_len now < slab_len old
 
   pub swept_none : (old : Slab Wait) → IsSwept old old 0
   swept_none old = record {
@@ -238,13 +248,14 @@ module _ (tree : States) (t : ℕ) where
     above = λ i _. refl;
     capacity = refl;
     len = omega Rattle.std.proofs.Common.arith;
+    fewer = λ i less _. absurd (omega (Rattle.std.proofs.Common.arith, less));
   }
 
   module _ (old now : Slab Wait) (key : ℕ) (is : IsSwept old now key) where
     here : get now key ≡ get old key
     here = is.above key (omega Rattle.std.proofs.Common.arith)
 
-    pub swept_gone : (next : Slab Wait) → is_wait_under tree t (get now key) ≡ true → Updates now next key None → next.capacity ≡ now.capacity → slab_len next ≤ slab_len now → IsSwept old next (key + 1)
+    pub swept_gone : (next : Slab Wait) → is_wait_under tree t (get now key) ≡ true → Updates now next key None → next.capacity ≡ now.capacity → slab_len next < slab_len now → IsSwept old next (key + 1)
     swept_gone next under updates capacity len = record {
       below = λ i less.
           elim (cases_lt i key) [
@@ -256,6 +267,7 @@ module _ (tree : States) (t : ℕ) where
       above = λ i less. updates.others i (λ same. let e : i ≡ key = same in omega (Rattle.std.proofs.Common.arith, less, e)) ∙ is.above i (omega (Rattle.std.proofs.Common.arith, less));
       capacity = capacity ∙ is.capacity;
       len = let l = is.len in omega (Rattle.std.proofs.Common.arith, len, l);
+      fewer = λ i _ _. let l = is.len in omega (Rattle.std.proofs.Common.arith, len, l);
     }
 
     pub swept_kept : is_wait_under tree t (get now key) ≡ false → IsSwept old now (key + 1)
@@ -270,6 +282,13 @@ module _ (tree : States) (t : ℕ) where
       above = λ i less. is.above i (omega (Rattle.std.proofs.Common.arith, less));
       capacity = is.capacity;
       len = is.len;
+      fewer = λ i less on.
+          elim (cases_lt i key) [
+            | inl before ↦ is.fewer i before on
+            | inr past ↦
+                let same : i ≡ key = omega (Rattle.std.proofs.Common.arith, past, less) in
+                absurd (true≢false (sym on ∙ ap (λ (k : ℕ). is_wait_under tree t (get old k)) same ∙ ap (is_wait_under tree t) (sym here) ∙ under))
+          ];
     }
 
     pub swept_all : length old.slots ≤ key → (i : ℕ) → get now i ≡ swept (get old i)
@@ -279,6 +298,15 @@ module _ (tree : States) (t : ℕ) where
           | inr past ↦
               let none : get old i ≡ None = get_past old.slots i (omega (Rattle.std.proofs.Common.arith, past, end)) in
               is.above i (omega (Rattle.std.proofs.Common.arith, past)) ∙ none ∙ ap swept (sym none)
+        ]
+
+    pub fewer_all : length old.slots ≤ key → (i : ℕ) → is_wait_under tree t (get old i) ≡ true → slab_len now < slab_len old
+    fewer_all end i on =
+        elim (cases_lt i key) [
+          | inl before ↦ is.fewer i before on
+          | inr past ↦
+              let none : get old i ≡ None = get_past old.slots i (omega (Rattle.std.proofs.Common.arith, past, end)) in
+              absurd (true≢false (sym on ∙ ap (is_wait_under tree t) none))
         ]
 
   module _ (old new : Slab Wait) (apart : AreApart old.slots) (all : (i : ℕ) → get new i ≡ swept (get old i)) where
@@ -320,3 +348,17 @@ module _ (tree : States) (t : ℕ) where
             let s = stands_at old.slots u w f in
             let there : get new s.0 ≡ Some w = all s.0 ∙ ap swept s.1 ∙ ap (λ b. cond b None (Some w)) (ap (is_under tree t) s.2 ∙ off) in
             found_at new.slots apart_swept s.0 w there u s.2 ∙ sym f
+
+    -- so the list is no longer, and where one of those goes it is shorter
+    pub shorter : ((i : ℕ) → is_wait_under tree t (get old i) ≡ true → slab_len new < slab_len old) → (u : ℕ) → is_under tree t u ≡ true → is_some (wait_in (values old) u) ≡ true
+        → length (values new) < length (values old)
+    shorter fewer u on some = by (wait_in (values old) u) refl some
+      where
+        by : (o : Option Wait) → wait_in (values old) u ≡ o → is_some o ≡ true → length (values new) < length (values old)
+        by None f e = absurd (true≢false (sym e))
+        by (Some w) f e =
+            let s = stands_at old.slots u w f in
+            let less = fewer s.0 (ap (is_wait_under tree t) s.1 ∙ ap (is_under tree t) s.2 ∙ on) in
+            let a = long old in
+            let b = long new in
+            omega (Rattle.std.proofs.Common.arith, less, a, b)

@@ -1,5 +1,5 @@
 //! The accesses that wait.
-ghost use Rattle.std.specs.Prelude.{◌≡◌, ◌+◌, ◌<◌, ◌≤◌, [], ℕ, nat_eq, length, slice_get, if◌then◌else◌, IsOk, IfSome, IfNone, OnOk, OnErr, None, Some};
+ghost use Rattle.std.specs.Prelude.{◌≡◌, ◌+◌, ◌<◌, ◌≤◌, [], ℕ, nat_eq, length, slice_get, if◌then◌else◌, IsOk, IsSome, IsTrue, IfSome, IfNone, OnOk, OnErr, None, Some};
 ghost use Rattle.std.specs.Option.{option_copied};
 ghost use Rattle.slab.specs.Slab.{get, slab_len, values};
 ghost use Rattle.wait_cycles.specs.Waiting.{AreOnce, IsHeldAt, is_under, is_wait_under, wait_in, wait_of};
@@ -76,6 +76,7 @@ fn sweep(records: &mut Slab<Wait>, tree: &Tree, txn: TxnNo)
     ensures swept { (key : ℕ) → get records.new key ≡ (if is_wait_under tree.now txn (get records.old key) then None else get records.old key) }
     ensures capacity { records.new.capacity ≡ records.old.capacity }
     ensures len { slab_len records.new ≤ slab_len records.old }
+    ensures fewer { (key : ℕ) → IsTrue (is_wait_under tree.now txn (get records.old key)) → slab_len records.new < slab_len records.old }
 {
     for key in 0..records.capacity() {
         if is_kept_under(records, key, tree, txn) {
@@ -143,6 +144,7 @@ impl Waits {
     pub fn add(&mut self, txn: TxnNo, key: &Key, op: Op, by: By) -> Result<(), NoMemory>
         requires { wait_of self.old txn ≡ None }
         ensures ok { OnOk result ((u : ℕ) → wait_of self.new u ≡ (if nat_eq txn u then Some (record { txn = txn; key = key.now; op = op; by = by }) else wait_of self.old u)) }
+        ensures len { OnOk result (length self.new.waits ≡ length self.old.waits + 1) }
         ensures err { OnErr result (self.new.waits ≡ self.old.waits) }
         ensures succeeds { 0 < self.old.room → IsOk result }
         ensures room { self.old.room ≤ self.new.room + 1 }
@@ -164,6 +166,7 @@ impl Waits {
         requires none { wait_of self.old txn ≡ None }
         requires room { 0 < self.old.room }
         ensures wait { (u : ℕ) → wait_of self.new u ≡ (if nat_eq txn u then Some (record { txn = txn; key = key.now; op = op; by = by }) else wait_of self.old u) }
+        ensures len { length self.new.waits ≡ length self.old.waits + 1 }
         ensures room { self.old.room ≡ self.new.room + 1 }
     {
         let _ = self.records.insert_reserved(Wait {
@@ -174,9 +177,11 @@ impl Waits {
         });
     }
 
-    /// The transaction waits no more.
+    /// The transaction waits no more. So fewer wait, if it did.
     pub fn cancel(&mut self, txn: TxnNo)
         ensures waits { (u : ℕ) → wait_of self.new u ≡ (if nat_eq txn u then None else wait_of self.old u) }
+        ensures len { length self.new.waits ≤ length self.old.waits }
+        ensures fewer { IsSome (wait_of self.old txn) → length self.new.waits < length self.old.waits }
         ensures room { self.old.room ≤ self.new.room }
     {
         if let Some(key) = key_of(&self.records, txn) {
@@ -184,9 +189,11 @@ impl Waits {
         }
     }
 
-    /// The transaction and all its descendants wait no more.
+    /// The transaction and all its descendants wait no more. So fewer wait, if any of them did.
     pub fn drop_under(&mut self, tree: &Tree, txn: TxnNo)
         ensures waits { (u : ℕ) → wait_of self.new u ≡ (if is_under tree.now txn u then None else wait_of self.old u) }
+        ensures len { length self.new.waits ≤ length self.old.waits }
+        ensures fewer { (u : ℕ) → IsTrue (is_under tree.now txn u) → IsSome (wait_of self.old u) → length self.new.waits < length self.old.waits }
         ensures room { self.old.room ≤ self.new.room }
     {
         sweep(&mut self.records, tree, txn);

@@ -1,7 +1,7 @@
-use Rattle.std.proofs.Common.{Option, List, sym, ap, subst}
+use Rattle.std.proofs.Common.{Option, List, sym, ap, subst, arith}
 use Rattle.wait_cycles.specs.declared.waits.Wait.{Wait}
 use Rattle.wait_cycles.specs.Waiting.{AreApart}
-use Rattle.wait_cycles.proofs.Slots.{apart_added, waits_added}
+use Rattle.wait_cycles.proofs.Slots.{apart_added, long, waits_added}
 use Rattle.wait_cycles.proofs.waits.Waits.add.Goals as goal
 use Rattle.wait_cycles.proofs.waits.Waits.add.Goals.{in-Ok, in-Err}
 
@@ -21,5 +21,14 @@ returns-clause-ok c =
     elim c.match-insert.branch [
       | in-Ok w ↦ rw (w.result-is, sym c.self.view_is)
           (waits_added old new w.in-Ok.field-0 c.self.invariant (record { txn = c.args.txn; key = c.args.key.now; op = c.args.op; by = c.args.by }) w.in-Ok.ensures.was_vacant (rw (sym c.self.view_is) at c.requires) w.in-Ok.ensures.updates)
+      | in-Err w ↦ rw w.result-is tt
+    ]
+
+pub returns-clause-len : goal.returns-clause-len
+returns-clause-len c =
+    let a = long c.self.inside.records in
+    let b = long c.insert.new.self in
+    elim c.match-insert.branch [
+      | in-Ok w ↦ let more = w.in-Ok.ensures.len in rw (w.result-is, sym c.self.view_is) (omega (arith, a, b, more))
       | in-Err w ↦ rw w.result-is tt
     ]
