@@ -11,20 +11,23 @@ use Rattle.txn_history.proofs.Theorems.{table_correctness}
 use Rattle.txn_history.proofs.Theorems as theorems
 use Rattle.durable_top.specs.declared.store.TopStore.{Ghosts}
 use Rattle.manager_core.specs.State.{State, entry}
-use Rattle.manager_core.specs.Kept.{IsKept}
+use Rattle.manager_core.specs.Kept.{IsSettled}
 use Rattle.manager_core.specs.Tables.{Tabled, rows_in}
 use Rattle.manager_core.specs.Sound.{is_store_refusal, IsBacked, IsSound}
 
 -- all that callers are told
-pub sound : {S : Type 0} (g : Ghosts S) (m : State S) (tables : Tabled) → IsKept g m.rows m.history tables m.opened m.store → m.table ≡ rows_in tables → IsSound g m
-sound g m tables kept table = record {
-  rising = kept.rising;
-  allowed = kept.allowed;
-  right = theorems.serial_correctness m.rows m.history kept.allowed;
-  root = (table_correctness m.rows m.history kept.allowed).0;
-  stored = λ k. ap (λ (rs : Rows). value_in rs k) table ∙ kept.are.current k;
-  backed = subst (λ (rs : Rows). IsBacked g m.history rs m.opened m.store) (sym table) kept.backed;
-}
+pub sound : {S : Type 0} (g : Ghosts S) (m : State S) (tables : Tabled) → IsSettled g m.rows m.history tables m.opened m.store → m.table ≡ rows_in tables → IsSound g m
+sound g m tables settled table =
+    let kept = settled.kept in
+    record {
+      rising = kept.rising;
+      legal = settled.legal;
+      quiet = settled.quiet;
+      right = theorems.serial_correctness m.rows m.history kept.allowed;
+      root = (table_correctness m.rows m.history kept.allowed).0;
+      stored = λ k. ap (λ (rs : Rows). value_in rs k) table ∙ kept.are.current k;
+      backed = subst (λ (rs : Rows). IsBacked g m.history rs m.opened m.store) (sym table) kept.backed;
+    }
 
 -- an entry that is no refusal of the store
 pub backed_next : {S : Type 0} (g : Ghosts S) (h : History) (table : Rows) (opened : ℕ) (store : S) (by : By) (event : Event) (answer : Answer)

@@ -27,3 +27,5 @@ pub mod Lines
 pub mod Branches
 pub mod HeldUp
 pub mod Pairing
+pub mod Victims
+pub mod Settled

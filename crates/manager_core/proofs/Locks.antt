@@ -96,6 +96,14 @@ present h tree is t acts =
     by state.Committed e = refl
     by state.Aborted e = refl
 
+-- who is at or below a transaction, by its number and by its name
+pub below_named : (old tree : States) (t : Name) (n : ℕ) → names tree ≡ names old → IsNumberOf tree t n
+    → (u : ℕ) → is_front_of (slice_get (names tree) n) (slice_get (names tree) u) ≡ is_below (slice_get (names old) u) t
+below_named old tree t n same number u =
+    ap (λ o. is_front_of o (slice_get (names tree) u)) (name_at tree t n number)
+    ∙ under_as t (slice_get (names tree) u)
+    ∙ ap (λ xs. is_below (slice_get xs u) t) same
+
 -- what was dropped by number is dropped by name
 pub aborts_by_name : (old : Tabled) (tree : States) (marks : Marked) (estate : Assets) (waits : Waiting) (t : Name) (n : ℕ) → names tree ≡ names old.tree
     → ((u : Name) → status_in tree u ≡ cond (path_eq t u) state.Aborted (status_in old.tree u))
@@ -113,7 +121,4 @@ aborts_by_name old tree marks estate waits t n same sets marked number dropped g
 }
   where
     below : (u : ℕ) → is_front_of (slice_get (names tree) n) (slice_get (names tree) u) ≡ is_below (slice_get (names old.tree) u) t
-    below u =
-        ap (λ o. is_front_of o (slice_get (names tree) u)) (name_at tree t n number)
-        ∙ under_as t (slice_get (names tree) u)
-        ∙ ap (λ xs. is_below (slice_get xs u) t) same
+    below = below_named old.tree tree t n same number

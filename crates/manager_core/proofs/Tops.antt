@@ -12,12 +12,14 @@ use Rattle.txn_tree.specs.declared.status.Status.{Status as State}
 use Rattle.txn_tree.specs.declared.status.Status.TheVariants as state
 use Rattle.serial_spec.specs.History.{Name, History, Aborts, or_else, is_live, begun, has_begun}
 use Rattle.serial_spec.specs.Rows.{Rows}
-use Rattle.serial_spec.specs.Legal.{AreAllowed, is_top_level, first_live}
+use Rattle.serial_spec.specs.Legal.{AreAllowed, Legal, is_top_level, first_live}
 use Rattle.serial_spec.specs.Interleaving.{closing}
+use Rattle.serial_spec.specs.Waits.{Quiet}
+use Rattle.txn_history.proofs.Theorems.{legal_allowed, legal_next, quiet_stays}
 use Rattle.txn_history.proofs.Begun.{any_begun}
 use Rattle.durable_top.specs.declared.store.TopStore.{Ghosts}
 use Rattle.manager_core.specs.Sound.{IsBacked}
-use Rattle.manager_core.specs.Kept.{AreTablesOf, IsKept, IsTreeOf}
+use Rattle.manager_core.specs.Kept.{AreTablesOf, IsSettled, IsTreeOf}
 use Rattle.manager_core.specs.Tables.{Tabled, AbortsIn, is_live_top_in, rows_in}
 use Rattle.manager_core.specs.Closing.{closings, Closes}
 use Rattle.manager_core.proofs.Facts.{backed_next}
@@ -91,6 +93,8 @@ pub record ClosingAt (rows : Rows) (old new : History) (before tables : Tabled) 
   pub closed : List Name
   pub added : new ≡ closings closed ++ old
   pub allowed : AreAllowed rows new
+  pub legal : Legal rows new
+  pub quiet : Quiet new
   pub are : AreTablesOf rows new tables
   pub same_rows : rows_in tables ≡ rows_in before
   pub same_names : names tables.tree ≡ names before.tree
@@ -100,6 +104,25 @@ pub record ClosingAt (rows : Rows) (old new : History) (before tables : Tabled) 
   -- there is room for those that are left
   pub enough : count_by (is_live_top_in before.tree) (drop i (names before.tree)) ≤ room
   pub enough_marks : count_by (is_live_top_in before.tree) (drop i (names before.tree)) ≤ tables.marks.room
+
+-- at the first place
+pub closing_from : (rows : Rows) (h : History) (tables : Tabled) (room : ℕ) → Legal rows h → Quiet h → AreTablesOf rows h tables
+    → count_by (is_live_top_in tables.tree) (names tables.tree) ≤ room → count_by (is_live_top_in tables.tree) (names tables.tree) ≤ tables.marks.room
+    → ClosingAt rows h h tables tables room 0
+closing_from rows h tables room legal quiet are enough enough_marks = record {
+  closed = [];
+  added = refl;
+  allowed = legal_allowed rows h legal;
+  legal = legal;
+  quiet = quiet;
+  are = are;
+  same_rows = refl;
+  same_names = refl;
+  gone = refl;
+  lasting = λ u e. e;
+  enough = enough;
+  enough_marks = enough_marks;
+}
 
 -- an abort leaves nobody live who was not
 still_live : (b : Bool) (s : State) → is_live_state (cond b state.Aborted s) ≡ true → is_live_state s ≡ true
@@ -170,6 +193,8 @@ module _ (rows : Rows) (old new : History) (before tables : Tabled) (room i : �
             closed = t ∷ far.closed;
             added = ap (λ h. closing t ∷ h) far.added;
             allowed = next_allowed;
+            legal = legal_next rows (closing t) new next_allowed far.legal far.quiet;
+            quiet = quiet_stays rows (closing t) new next_allowed refl far.quiet;
             are = tables_aborted rows (closing t) new next_allowed tables after far.are waiting t refl aborts;
             same_rows = aborts.rows ∙ far.same_rows;
             same_names = aborts.same_names ∙ far.same_names;
@@ -187,6 +212,8 @@ module _ (rows : Rows) (old new : History) (before tables : Tabled) (room i : �
         closed = far.closed;
         added = far.added;
         allowed = far.allowed;
+        legal = far.legal;
+        quiet = far.quiet;
         are = far.are;
         same_rows = far.same_rows;
         same_names = far.same_names;
@@ -210,7 +237,8 @@ all_closed rows old new before tables room i far end =
     record {
       names = far.closed;
       added = far.added;
-      allowed = far.allowed;
+      legal = far.legal;
+      quiet = far.quiet;
       are = far.are;
       none_left = first_named new tables.tree far.are.in_tree ∙ no_first (is_top new) (names tables.tree) none;
       ended = λ l. false_from_ne_true _
@@ -226,11 +254,15 @@ backed_by g old table opened store [] backed = backed
 backed_by g old table opened store (t ∷ ts) backed = backed_next g _ table opened store _ _ _ (backed_by g old table opened store ts backed) refl
 
 -- the close keeps what the type keeps
-pub kept_closed : {S : Type 0} (g : Ghosts S) (rows : Rows) (old new : History) (before after : Tabled) (opened : ℕ) (store : S)
-    → IsKept g rows old before opened store → Closes rows old new after → rows_in after ≡ rows_in before → IsKept g rows new after opened store
-kept_closed g rows old new before after opened store kept closes same = record {
-  rising = kept.rising;
-  allowed = closes.allowed;
-  are = closes.are;
-  backed = backed_over g same (subst (λ h. IsBacked g h (rows_in before) opened store) (sym closes.added) (backed_by g old (rows_in before) opened store closes.names kept.backed));
+pub settled_closed : {S : Type 0} (g : Ghosts S) (rows : Rows) (old new : History) (before after : Tabled) (opened : ℕ) (store : S)
+    → IsSettled g rows old before opened store → Closes rows old new after → rows_in after ≡ rows_in before → IsSettled g rows new after opened store
+settled_closed g rows old new before after opened store settled closes same = record {
+  kept = record {
+    rising = settled.kept.rising;
+    allowed = legal_allowed rows new closes.legal;
+    are = closes.are;
+    backed = backed_over g same (subst (λ h. IsBacked g h (rows_in before) opened store) (sym closes.added) (backed_by g old (rows_in before) opened store closes.names settled.kept.backed));
+  };
+  legal = closes.legal;
+  quiet = closes.quiet;
 }

@@ -12,6 +12,7 @@ use Rattle.serial_spec.specs.Allowed.{Allowed, answer, asks_store}
 use Rattle.serial_spec.specs.declared.entry.Entry.{Entry}
 use Rattle.manager_core.specs.declared.outcome.Outcome.TheVariants.{Waits}
 use Rattle.serial_spec.specs.Legal.{first_live}
+use Rattle.serial_spec.specs.Interleaving.{AfterVictims}
 use Rattle.durable_top.specs.declared.store.TopStore.{Ghosts}
 use Rattle.manager_core.specs.declared.outcome.Outcome.{Outcome}
 use Rattle.manager_core.specs.Outcomes.{answer_of, is_done, is_of_store}
@@ -20,9 +21,17 @@ use Rattle.manager_core.specs.Closing.{closings}
 use Rattle.manager_core.specs.Asked.{IsLater, IsAsked}
 
 -- the call's entry was allowed, and nothing changed but that the history has it
-pub record Answered {S : Type 0} (old new : State S) (by : By) (event : Event) (outcome : Outcome) : Type 0 where
+pub record Added {S : Type 0} (old new : State S) (by : By) (event : Event) (outcome : Outcome) : Type 0 where
   pub allowed : Allowed old.rows old.history by event (answer_of outcome)
   pub added : new ≡ record old { history = entry by event (answer_of outcome) ∷ old.history }
+
+-- The call's entry was allowed, and after it those were aborted that break the cycles of waits, each the last begun on any
+-- where it stands, until no cycle was left. Nothing changed but the history
+pub record Answered {S : Type 0} (old new : State S) (by : By) (event : Event) (outcome : Outcome) : Type 0 where
+  pub allowed : Allowed old.rows old.history by event (answer_of outcome)
+  pub victims : List Name
+  pub broken : AfterVictims (entry by event (answer_of outcome) ∷ old.history) victims new.history
+  pub beside : new ≡ record old { history = new.history }
 
 -- the definition has no answer for the line yet
 pub record WaitsOn {S : Type 0} (old new : State S) (wait : Entry) (outcome : Outcome) : Type 0 where

@@ -2,7 +2,8 @@
 use Rattle.std.specs.Prelude.{◌≡◌, ℕ, IsFalse, List, [], ◌∷◌, ◌++◌, map, None}
 use Rattle.serial_spec.specs.History.{Name, History, is_live, begun}
 use Rattle.serial_spec.specs.Rows.{Rows}
-use Rattle.serial_spec.specs.Legal.{AreAllowed, first_live}
+use Rattle.serial_spec.specs.Legal.{Legal, first_live}
+use Rattle.serial_spec.specs.Waits.{Quiet}
 use Rattle.serial_spec.specs.Interleaving.{closing}
 use Rattle.manager_core.specs.Tables.{Tabled}
 use Rattle.manager_core.specs.Kept.{AreTablesOf}
@@ -15,7 +16,8 @@ closings names = map closing names
 pub record Closes (rows : Rows) (old new : History) (tables : Tabled) : Type 0 where
   pub names : List Name
   pub added : new ≡ closings names ++ old
-  pub allowed : AreAllowed rows new
+  pub legal : Legal rows new
+  pub quiet : Quiet new
   pub are : AreTablesOf rows new tables
   pub none_left : first_live new (begun new) ≡ None
   pub ended : (l : List ℕ) → IsFalse (is_live new (l ∷ []))

@@ -1,4 +1,4 @@
--- What the manager's type keeps: the tables are what the history says, and the store has the table.
+-- What the manager's type keeps: the tables are what the history says, the store has the table, and no cycle of waits stands.
 use Rattle.std.specs.Prelude.{◌≡◌, ℕ, ℤ, if◌then◌else◌, List, reverse, slice_get, Option, Some, None}
 use Rattle.txn_tree.specs.States.{States, names, status_in}
 use Rattle.txn_tree.specs.declared.status.Status.{Status as State}
@@ -12,11 +12,11 @@ use Rattle.serial_spec.specs.Locks.{held, retained}
 use Rattle.serial_spec.specs.Items.{items}
 use Rattle.serial_spec.specs.Values.{last_left}
 use Rattle.serial_spec.specs.Serial.{stored}
-use Rattle.serial_spec.specs.Waits.{wait_of}
+use Rattle.serial_spec.specs.Waits.{Quiet, wait_of}
 use Rattle.serial_spec.specs.declared.entry.Entry.{Entry}
 use Rattle.wait_cycles.specs.Waiting.{Waiting, wait_of as kept_wait}
 use Rattle.serial_spec.specs.Rows.{Rows, value_in, IsRising}
-use Rattle.serial_spec.specs.Legal.{AreAllowed}
+use Rattle.serial_spec.specs.Legal.{AreAllowed, Legal}
 use Rattle.durable_top.specs.declared.store.TopStore.{Ghosts}
 use Rattle.manager_core.specs.Tables.{Tabled, rows_in, wait_for}
 use Rattle.manager_core.specs.Sound.{IsBacked}
@@ -71,8 +71,15 @@ pub record AreTablesOf (rows : Rows) (h : History) (tables : Tabled) : Type 0 wh
   -- the table is what the committed top-level transactions left
   pub current : (k : List ℕ) → value_in (rows_in tables) k ≡ stored (value_in rows) h k
 
+-- after each entry, whether or not it made a cycle of waits
 pub record IsKept {S : Type 0} (g : Ghosts S) (rows : Rows) (h : History) (tables : Tabled) (opened : ℕ) (store : S) : Type 0 where
   pub rising : IsRising rows
   pub allowed : AreAllowed rows h
   pub are : AreTablesOf rows h tables
   pub backed : IsBacked g h (rows_in tables) opened store
+
+-- and after each call
+pub record IsSettled {S : Type 0} (g : Ghosts S) (rows : Rows) (h : History) (tables : Tabled) (opened : ℕ) (store : S) : Type 0 where
+  pub kept : IsKept g rows h tables opened store
+  pub legal : Legal rows h
+  pub quiet : Quiet h

@@ -6,7 +6,8 @@ use Rattle.serial_spec.specs.declared.entry.Refusal.TheVariants.{Store}
 use Rattle.serial_spec.specs.History.{Name, History, has_begun, is_orphan}
 use Rattle.serial_spec.specs.Serial.{Right, stored}
 use Rattle.serial_spec.specs.Rows.{Rows, value_in, IsRising}
-use Rattle.serial_spec.specs.Legal.{AreAllowed}
+use Rattle.serial_spec.specs.Legal.{Legal}
+use Rattle.serial_spec.specs.Waits.{Quiet}
 use Rattle.durable_top.specs.declared.store.TopStore.{Ghosts}
 use Rattle.durable_top.specs.Store.{counted}
 use Rattle.manager_core.specs.State.{State}
@@ -33,8 +34,10 @@ pub record IsBacked {S : Type 0} (g : Ghosts S) (h : History) (table : Rows) (op
 pub record IsSound {S : Type 0} (g : Ghosts S) (m : State S) : Type 0 where
   -- the opening rows stand in byte order
   pub rising : IsRising m.rows
-  -- Each entry is the one that is allowed where it stands. Where no cycle of waits ever stood the history is legal by that
-  pub allowed : AreAllowed m.rows m.history
+  -- each entry is one that is allowed where it stands, and no line of a session was attempted while a cycle of waits stood
+  pub legal : Legal m.rows m.history
+  -- no cycle of waits stands
+  pub quiet : Quiet m.history
   -- each transaction without an aborted ancestor was replied what a serial run replies
   pub right : (t : Name) → IsTrue (has_begun m.history t) → IsFalse (is_orphan m.history t) → Right (value_in m.rows) m.history t
   -- and so was the root: the committed top-level transactions, one after another

@@ -1,5 +1,5 @@
 //! An access, in the tables.
-ghost use Rattle.std.specs.Prelude.{◌≡◌, IfOk, IsTrue, OnErr, is_some};
+ghost use Rattle.std.specs.Prelude.{◌≡◌, ◌≤◌, ◌+◌, length, IfOk, IsTrue, OnErr, OnOk, is_some};
 ghost use Rattle.serial_spec.specs.declared.event.Event.TheVariants.{Access};
 ghost use Rattle.serial_spec.specs.Legal.{AreAllowed};
 ghost use Rattle.serial_spec.specs.Waits.{wait_of};
@@ -31,6 +31,8 @@ impl Tables {
         ensures comes { IfOk result (λ outcome. ComesTo log.now.rows log.now.entries request.now.by request.now.name request.now.key request.now.op outcome) }
         ensures reaches { IfOk result (λ outcome. ReachesIn self.old self.new request.now.name request.now.key request.now.op outcome) }
         ensures waits { IfOk result (λ outcome. WaitsFrom self.old self.new request.now.by request.now.name request.now.key request.now.op outcome) }
+        ensures grown { OnOk result (length self.new.waits.waits ≤ length self.old.waits.waits + 1) }
+        ensures marks { self.new.marks ≡ self.old.marks }
         ensures err { OnErr result (HasOtherRoom self.old self.new) }
     {
         self.waits.reserve(1)?;
@@ -49,6 +51,8 @@ impl Tables {
         ensures comes { IfOk result (λ outcome. ComesTo log.now.rows log.now.entries request.now.by request.now.name request.now.key request.now.op outcome) }
         ensures reaches { IfOk result (λ outcome. ReachesIn self.old self.new request.now.name request.now.key request.now.op outcome) }
         ensures waits { IfOk result (λ outcome. WaitsUntil self.old self.new request.now.name outcome) }
+        ensures grown { OnOk result (length self.new.waits.waits ≤ length self.old.waits.waits) }
+        ensures marks { self.new.marks ≡ self.old.marks }
         ensures err { OnErr result (HasOtherRoom self.old self.new) }
     {
         let outcome = self.access(log, request)?;
@@ -66,6 +70,7 @@ impl Tables {
         ensures comes { IfOk result (λ outcome. ComesTo log.now.rows log.now.entries request.now.by request.now.name request.now.key request.now.op outcome) }
         ensures reaches { IfOk result (λ outcome. ReachesIn self.old self.new request.now.name request.now.key request.now.op outcome) }
         ensures waits { self.new.waits ≡ self.old.waits }
+        ensures marks { self.new.marks ≡ self.old.marks }
         ensures err { OnErr result (HasOtherRoom self.old self.new) }
     {
         let Request { by, name, key, op } = request;

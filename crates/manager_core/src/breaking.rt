@@ -1,16 +1,22 @@
 //! Cycles of waits are broken: the last begun on any is aborted, until none is left.
-ghost use Rattle.std.specs.Prelude.{◌≡◌, ◌≤◌, ◌*◌, length, IfNone, IfSome};
+ghost use Rattle.std.specs.Prelude.{◌≡◌, ◌≤◌, ◌<◌, ◌+◌, ◌*◌, ◌∷◌, length, IfNone, IfSome, OnOk};
+ghost use Rattle.serial_spec.specs.Interleaving.{victim};
 ghost use Rattle.serial_spec.specs.Legal.{AreAllowed};
 ghost use Rattle.serial_spec.specs.Waits.{IsVictim, Quiet};
 ghost use Rattle.manager_core.specs.Kept.{AreTablesOf};
+ghost use Rattle.manager_core.specs.Tables.{HasOtherRoom, rows_in};
+ghost use Rattle.manager_core.specs.Victims.{Breaks};
 
 use crate::breaker::Breaker;
 use crate::log::Log;
+use crate::outcome::Outcome;
 use crate::tables::Tables;
+use serial_spec::{By, Event, NoMemory};
+use std::alloc::AllocError;
 use txn_names::Name;
 
-/// The transaction that is aborted next, if a cycle of waits stands. There is room to look for it.
-pub(crate) fn next_victim(_log: &Log, tables: &Tables, breaker: &mut Breaker) -> Option<Name>
+// The transaction that is aborted next, if a cycle of waits stands. There is room to look for it.
+fn next_victim(_log: &Log, tables: &Tables, breaker: &mut Breaker) -> Option<Name>
     requires allowed { AreAllowed _log.now.rows _log.now.entries }
     requires are { AreTablesOf _log.now.rows _log.now.entries tables.now }
     requires room { length tables.now.waits.waits * length tables.now.waits.waits ≤ breaker.old }
@@ -23,4 +29,66 @@ pub(crate) fn next_victim(_log: &Log, tables: &Tables, breaker: &mut Breaker) ->
     let _ = tables.waits.len();
     let txn = breaker.victim(&tables.tree, tables.estate.locks(), &tables.waits)?;
     tables.tree.name_of(txn).copied()
+}
+
+// Aborts it. It waits, so that fewer wait afterwards.
+fn abort_victim(log: &mut Log, tables: &mut Tables, name: &Name)
+    requires allowed { AreAllowed log.old.rows log.old.entries }
+    requires are { AreTablesOf log.old.rows log.old.entries tables.old }
+    requires is_victim { IsVictim log.old.entries name.now }
+    requires room { 0 < log.old.room }
+    requires marks_room { 0 < tables.old.marks.room }
+    ensures rows { log.new.rows ≡ log.old.rows }
+    ensures entries { log.new.entries ≡ victim name.now ∷ log.old.entries }
+    ensures are { AreTablesOf log.old.rows (victim name.now ∷ log.old.entries) tables.new }
+    ensures table { rows_in tables.new ≡ rows_in tables.old }
+    ensures fewer { length tables.new.waits.waits < length tables.old.waits.waits }
+    ensures room { log.old.room ≤ log.new.room + 1 }
+    ensures marks_room { tables.old.marks.room ≤ tables.new.marks.room + 1 }
+{
+    // Asked for what it tells: that a name has a label.
+    let _ = name.depth();
+    let outcome = Outcome::of(tables.abort(name));
+    log.add(By::Victim, Event::Abort(*name), &outcome);
+}
+
+/// Aborts the last begun of those that lie on a cycle of waits, until no cycle is left. It takes no memory: there is room to
+/// abort all that wait, and to look for them.
+pub(crate) fn break_cycles(log: &mut Log, tables: &mut Tables, breaker: &mut Breaker)
+    requires allowed { AreAllowed log.old.rows log.old.entries }
+    requires are { AreTablesOf log.old.rows log.old.entries tables.old }
+    requires room { length tables.old.waits.waits ≤ log.old.room }
+    requires marks_room { length tables.old.waits.waits ≤ tables.old.marks.room }
+    requires work_room { length tables.old.waits.waits * length tables.old.waits.waits ≤ breaker.old }
+    ensures rows { log.new.rows ≡ log.old.rows }
+    ensures breaks { Breaks log.old.rows log.old.entries log.new.entries tables.new }
+    ensures table { rows_in tables.new ≡ rows_in tables.old }
+{
+    while let Some(name) = next_victim(log, tables, breaker) {
+        abort_victim(log, tables, &name);
+    }
+}
+
+/// Makes room for an entry after which one more may wait, and for breaking the cycles that come of it.
+pub(crate) fn reserve_step(
+    log: &mut Log,
+    tables: &mut Tables,
+    breaker: &mut Breaker,
+) -> Result<(), NoMemory>
+    ensures rows { log.new.rows ≡ log.old.rows }
+    ensures entries { log.new.entries ≡ log.old.entries }
+    ensures same { HasOtherRoom tables.old tables.new }
+    ensures room { OnOk result (length tables.old.waits.waits + 2 ≤ log.new.room) }
+    ensures marks_room { OnOk result (length tables.old.waits.waits + 1 ≤ tables.new.marks.room) }
+    ensures work_room { OnOk result ((length tables.old.waits.waits + 1) * (length tables.old.waits.waits + 1) ≤ breaker.new) }
+    ensures waits { tables.new.waits ≡ tables.old.waits }
+{
+    // One entry of the call, and one for each of those that wait and of one more.
+    let Some(entries) = tables.waits.len().checked_add(2) else {
+        return Err(AllocError);
+    };
+    let waiting = entries - 1;
+    log.reserve(entries)?;
+    tables.reserve_aborts(waiting)?;
+    breaker.reserve(waiting)
 }

@@ -3,7 +3,8 @@ ghost use Rattle.std.specs.Prelude.{◌≡◌, ◌≤◌, ◌<◌, ◌+◌, ◌�
 ghost use Rattle.txn_tree.specs.States.{names};
 ghost use Rattle.serial_spec.specs.History.{Name};
 ghost use Rattle.serial_spec.specs.Interleaving.{closing};
-ghost use Rattle.serial_spec.specs.Legal.{AreAllowed};
+ghost use Rattle.serial_spec.specs.Legal.{Legal};
+ghost use Rattle.serial_spec.specs.Waits.{Quiet};
 ghost use Rattle.manager_core.specs.Closing.{Closes};
 ghost use Rattle.manager_core.specs.Kept.{AreTablesOf};
 ghost use Rattle.manager_core.specs.Tables.{AbortsIn, is_live_top_in, rows_in};
@@ -62,7 +63,8 @@ impl Tables {
 
     /// Aborts the live top-level transactions, in the order in which they began. There is room for all of them.
     pub(crate) fn close_tops(&mut self, log: &mut Log)
-        requires allowed { AreAllowed log.old.rows log.old.entries }
+        requires legal { Legal log.old.rows log.old.entries }
+        requires quiet { Quiet log.old.entries }
         requires are { AreTablesOf log.old.rows log.old.entries self.old }
         requires room { count_by (is_live_top_in self.old.tree) (names self.old.tree) ≤ log.old.room }
         requires marks_room { count_by (is_live_top_in self.old.tree) (names self.old.tree) ≤ self.old.marks.room }

@@ -4,6 +4,7 @@ ghost use Rattle.serial_spec.specs.declared.event.Event.TheVariants.{Abort, Acce
 ghost use Rattle.serial_spec.specs.declared.entry.Answer.TheVariants.{Refused, Stuck};
 ghost use Rattle.serial_spec.specs.Allowed.{Allowed, cause_at_commit};
 ghost use Rattle.serial_spec.specs.Rows.{IsRising, value_in};
+ghost use Rattle.serial_spec.specs.History.{is_orphan};
 ghost use Rattle.serial_spec.specs.Waits.{is_waits, wait_of};
 ghost use Rattle.durable_top.specs.Store.{plain};
 ghost use Rattle.manager_core.specs.Lines.{IsFree, IsWaitOf, waits_no_more, accessor};
@@ -11,6 +12,8 @@ ghost use Rattle.manager_core.specs.Outcomes.{answer_of};
 ghost use Rattle.manager_core.specs.State.{entry};
 
 use crate::accessing::Request;
+use crate::breaker::Breaker;
+use crate::breaking::{break_cycles, reserve_step};
 use crate::changes::are_taken;
 use crate::log::Log;
 use crate::outcome::{OpenFault, Outcome};
@@ -28,13 +31,14 @@ use txn_names::{Key, Name};
 pub struct Manager<S: TopStore> {
     log: Log,
     tables: Tables,
+    breaker: Breaker,
     store: S,
     // How many faults the store had counted when it was opened.
     opened: u64,
 }
 
 impl<S: TopStore> Model for Manager<S> {
-    ghost use Rattle.manager_core.specs.Kept.{IsKept};
+    ghost use Rattle.manager_core.specs.Kept.{IsSettled};
     ghost use Rattle.manager_core.specs.State.{State};
     ghost use Rattle.manager_core.specs.Tables.{rows_in};
 
@@ -48,7 +52,7 @@ impl<S: TopStore> Model for Manager<S> {
       store = m.store;
     } };
 
-    ghost invariant = { λ m. IsKept S.TopStore m.log.rows m.log.entries m.tables m.opened m.store };
+    ghost invariant = { λ m. IsSettled S.TopStore m.log.rows m.log.entries m.tables m.opened m.store };
 }
 
 /// What is left where a manager is taken apart.
@@ -64,7 +68,7 @@ pub struct Parts<S: TopStore> {
 }
 
 impl<S: TopStore> Manager<S> {
-    ghost use Rattle.manager_core.specs.Calls.{Answered, Closed, Committed, Retried};
+    ghost use Rattle.manager_core.specs.Calls.{Added, Answered, Closed, Committed, Retried};
     ghost use Rattle.manager_core.specs.Opening.{HasCause, IsOpened};
     ghost use Rattle.manager_core.specs.Sound.{IsSound, is_store_refusal};
 
@@ -108,6 +112,7 @@ impl<S: TopStore> Manager<S> {
         Ok(Manager {
             log,
             tables: Tables::new(alloc, table),
+            breaker: Breaker::new(alloc),
             store,
             opened,
         })
@@ -118,7 +123,7 @@ impl<S: TopStore> Manager<S> {
     /// ancestor, itself included (Orphan), or has committed (NoParent); 4,096 have begun (Full).
     pub fn begin(&mut self, by: By, name: &Name) -> Result<Outcome, NoMemory>
         requires free { IsFree self.old.history by (Begin name.now) }
-        ensures ok { IfOk result (λ outcome. Answered self.old self.new by (Begin name.now) outcome) }
+        ensures ok { IfOk result (λ outcome. Added self.old self.new by (Begin name.now) outcome) }
         ensures at_once { IfOk result (λ outcome. IsFalse (is_waits (answer_of outcome))) }
         ensures err { OnErr result (self.new ≡ self.old) }
         ensures sound { OnOk result (IsSound S.TopStore self.new) }
@@ -131,15 +136,17 @@ impl<S: TopStore> Manager<S> {
 
     /// Reads or writes a key. It is refused by the first of these that holds: the transaction never began
     /// (Unknown), has an aborted ancestor, itself included (Orphan), or has committed (Done); it waits by another
-    /// line (Waiting); the key is new where 4,096 are known (Full). Else it waits where a lock keeps it out.
+    /// line (Waiting); the key is new where 4,096 are known (Full). Else it waits where a lock keeps it out. If a
+    /// cycle of waits comes of it, the last begun of those that lie on any is aborted as a victim, until none is
+    /// left; the accessing transaction may be one, and then it waits no more.
     pub fn access(&mut self, by: By, name: &Name, key: &Key, op: Op) -> Result<Outcome, NoMemory>
         requires free { IsFree self.old.history by (Access name.now key.now op) }
         ensures ok { IfOk result (λ outcome. Answered self.old self.new by (Access name.now key.now op) outcome) }
-        ensures waits { IfOk result (λ outcome. outcome ≡ Outcome.Waits → IsWaitOf self.new.history by (Access name.now key.now op)) }
+        ensures waits { IfOk result (λ outcome. outcome ≡ Outcome.Waits → IsFalse (is_orphan self.new.history name.now) → IsWaitOf self.new.history by (Access name.now key.now op)) }
         ensures err { OnErr result (self.new ≡ self.old) }
         ensures sound { OnOk result (IsSound S.TopStore self.new) }
     {
-        self.log.reserve(1)?;
+        reserve_step(&mut self.log, &mut self.tables, &mut self.breaker)?;
         let request = Request {
             by,
             name: *name,
@@ -148,18 +155,19 @@ impl<S: TopStore> Manager<S> {
         };
         let outcome = self.tables.ask(&self.log, &request)?;
         self.log.add(by, Event::Access(*name, *key, op), &outcome);
+        break_cycles(&mut self.log, &mut self.tables, &mut self.breaker);
         Ok(outcome)
     }
 
-    /// Asks again for the access by which the transaction waits. It is answered now, by its own line, or it waits on, and
-    /// then nothing changes.
+    /// Asks again for the access by which the transaction waits. It is answered now, by its own line, and victims are aborted
+    /// as by `access`; or it waits on, and then nothing changes.
     pub fn retry(&mut self, name: &Name) -> Result<Outcome, NoMemory>
         requires waits { IsTrue (is_some (wait_of self.old.history name.now)) }
         ensures ok { IfOk result (λ outcome. Retried self.old self.new name.now outcome) }
         ensures err { OnErr result (self.new ≡ self.old) }
         ensures sound { OnOk result (IsSound S.TopStore self.new) }
     {
-        self.log.reserve(1)?;
+        reserve_step(&mut self.log, &mut self.tables, &mut self.breaker)?;
         let (by, key, op) = self.tables.waiting_access(name).unwrap();
         let request = Request {
             by,
@@ -170,7 +178,10 @@ impl<S: TopStore> Manager<S> {
         let outcome = self.tables.ask_again(&self.log, &request)?;
         match outcome {
             Outcome::Waits => {}
-            _ => self.log.add(by, Event::Access(*name, key, op), &outcome),
+            _ => {
+                self.log.add(by, Event::Access(*name, key, op), &outcome);
+                break_cycles(&mut self.log, &mut self.tables, &mut self.breaker);
+            }
         }
         Ok(outcome)
     }
@@ -262,7 +273,7 @@ impl<S: TopStore> Manager<S> {
     /// committed (Done).
     pub fn abort(&mut self, by: By, name: &Name) -> Result<Outcome, NoMemory>
         requires free { IsFree self.old.history by (Abort name.now) }
-        ensures ok { IfOk result (λ outcome. Answered self.old self.new by (Abort name.now) outcome) }
+        ensures ok { IfOk result (λ outcome. Added self.old self.new by (Abort name.now) outcome) }
         ensures at_once { IfOk result (λ outcome. IsFalse (is_waits (answer_of outcome))) }
         ensures err { OnErr result (self.new ≡ self.old) }
         ensures sound { OnOk result (IsSound S.TopStore self.new) }

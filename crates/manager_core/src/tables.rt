@@ -93,6 +93,7 @@ impl Tables {
     pub(crate) fn reserve_aborts(&mut self, additional: usize) -> Result<(), NoMemory>
         ensures room { OnOk result (additional ≤ self.new.marks.room) }
         ensures same { HasOtherRoom self.old self.new }
+        ensures waits { self.new.waits ≡ self.old.waits }
     {
         self.marks.reserve(additional)
     }

@@ -1,5 +1,5 @@
 //! Waits, in the tables.
-ghost use Rattle.std.specs.Prelude.{◌≡◌, ◌<◌, ℕ, IsFalse, None, Some};
+ghost use Rattle.std.specs.Prelude.{◌≡◌, ◌<◌, ◌≤◌, ◌+◌, length, ℕ, IsFalse, None, Some};
 ghost use Rattle.txn_tree.specs.Asked.{IsNumberOf, is_absent_in};
 ghost use Rattle.serial_spec.specs.declared.entry.Answer.TheVariants as answer;
 ghost use Rattle.serial_spec.specs.declared.event.Event.TheVariants.{Access};
@@ -59,6 +59,7 @@ impl Tables {
         requires room { 0 < self.old.waits.room }
         ensures beside { self.new ≡ record self.old { waits = self.new.waits } }
         ensures waits { SetsWait self.old self.new request.now.name (Some (entry request.now.by (Access request.now.name request.now.key request.now.op) answer.Waits)) }
+        ensures grown { length self.new.waits.waits ≡ length self.old.waits.waits + 1 }
     {
         let txn = self.number_of(&request.name);
         self.waits
@@ -70,6 +71,7 @@ impl Tables {
         requires { IsFalse (is_absent_in self.old.tree name.now) }
         ensures beside { self.new ≡ record self.old { waits = self.new.waits } }
         ensures waits { SetsWait self.old self.new name.now None }
+        ensures grown { length self.new.waits.waits ≤ length self.old.waits.waits }
     {
         let txn = self.number_of(name);
         self.waits.cancel(txn);

@@ -13,5 +13,5 @@ pub use Rattle.txn_history.proofs.Parents.{chain_by_parent, seen_by_parent, seen
 pub use Rattle.txn_history.proofs.Table.{table_after, changes_made}
 pub use Rattle.txn_history.proofs.CommitOrder.{commit_order}
 pub use Rattle.txn_history.proofs.Lone.{lone_quiet}
-pub use Rattle.txn_history.proofs.Quietness.{quiet_legal, legal_allowed}
+pub use Rattle.txn_history.proofs.Quietness.{quiet_legal, legal_next, legal_allowed}
 pub use Rattle.txn_history.proofs.Parked.{wait_holds}

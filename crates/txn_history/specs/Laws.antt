@@ -174,6 +174,10 @@ WasQuiet (e ∷ h) = WasQuiet h × Quiet h
 abbrev pub QuietLegal : Type 0
 QuietLegal = (rows : Rows) (h : History) → AreAllowed rows h → WasQuiet h → Legal rows h
 
+-- a legal history in which no cycle stands stays legal by any entry that is allowed
+abbrev pub LegalNext : Type 0
+LegalNext = (rows : Rows) (e : Entry) (h : History) → AreAllowed rows (e ∷ h) → Legal rows h → Quiet h → Legal rows (e ∷ h)
+
 -- and each entry of a legal one is allowed
 abbrev pub LegalAllowed : Type 0
 LegalAllowed = (rows : Rows) (h : History) → Legal rows h → AreAllowed rows h

@@ -1,6 +1,7 @@
 use Rattle.std.proofs.Common.{rules, refl}
 use Rattle.manager_core.proofs.Kept.{kept_stuck}
 use Rattle.manager_core.proofs.Facts.{sound}
+use Rattle.manager_core.proofs.Settled.{settled_next, stuck_no_wait}
 use Rattle.manager_core.proofs.manager.Manager.cancel.Goals as goal
 
 pub invariant_of-self-2 : goal.invariant_of-self-2
@@ -8,7 +9,8 @@ invariant_of-self-2 g c =
     let m = c.self.inside in
     let waits = rw (← c.self.view_is) at c.requires.waits in
     rw (c.add_stuck.ensures.rows, c.add_stuck.ensures.entries, c.reserve.ensures.rows, c.reserve.ensures.entries)
-    (kept_stuck g.S.TopStore m.log.rows m.log.entries m.tables _ m.opened m.store c.self.invariant c.args.by c.args.event.now waits _ _ _ c.in-Access.is (search rules) (search rules))
+    (settled_next g.S.TopStore m.log.rows m.log.entries m.tables m.opened m.store c.self.invariant _ _ _ (stuck_no_wait c.args.event.now)
+    (kept_stuck g.S.TopStore m.log.rows m.log.entries m.tables _ m.opened m.store c.self.invariant.kept c.args.by c.args.event.now waits _ _ _ c.in-Access.is (search rules) (search rules)))
 
 pub returns-clause-sound : goal.returns-clause-sound
 returns-clause-sound g c = sound g.S.TopStore _ _ (invariant_of-self-2 g c) refl

@@ -4,7 +4,7 @@ use Rattle.txn_tree.specs.Asked.{IsNumberOf}
 use Rattle.manager_core.proofs.Answers.{active_at_commit}
 use Rattle.manager_core.proofs.Commits.{commits_at}
 use Rattle.manager_core.proofs.TopCommits.{kept_taken, committed_taken, kept_refused, committed_refused}
-use Rattle.manager_core.proofs.Kept.{kept_roomy}
+use Rattle.manager_core.proofs.Settled.{settled_next, settled_roomy}
 use Rattle.manager_core.proofs.Locks.{name_at, present}
 use Rattle.manager_core.proofs.Facts.{sound}
 use Rattle.manager_core.proofs.manager.Manager.commit_top.Goals as goal
@@ -13,37 +13,37 @@ pub number_of-txn-requires : goal.number_of-txn-requires
 number_of-txn-requires g c =
     let m = c.self.inside in
     let none = rw (← c.self.view_is) at c.requires.live in
-    present m.log.entries m.tables.tree c.self.invariant.are.in_tree c.args.name.now (active_at_commit m.log.entries c.args.by c.args.name.now none)
+    present m.log.entries m.tables.tree c.self.invariant.kept.are.in_tree c.args.name.now (active_at_commit m.log.entries c.args.by c.args.name.now none)
 
 pub invariant_of-self-in_err-reserve_commit : goal.invariant_of-self-in_err-reserve_commit
 invariant_of-self-in_err-reserve_commit g c =
     let m = c.self.inside in
     rw (c.reserve.ensures.rows, c.reserve.ensures.entries)
-    (kept_roomy g.S.TopStore m.log.rows m.log.entries m.tables _ m.opened m.store c.self.invariant c.reserve_commit.ensures.same)
+    (settled_roomy g.S.TopStore m.log.rows m.log.entries m.tables m.opened m.store c.self.invariant _ c.reserve_commit.ensures.same)
 
 pub invariant_of-self-in_err-changes : goal.invariant_of-self-in_err-changes
 invariant_of-self-in_err-changes g c =
     let m = c.self.inside in
     rw (c.reserve.ensures.rows, c.reserve.ensures.entries)
-    (kept_roomy g.S.TopStore m.log.rows m.log.entries m.tables _ m.opened m.store c.self.invariant c.reserve_commit.ensures.same)
+    (settled_roomy g.S.TopStore m.log.rows m.log.entries m.tables m.opened m.store c.self.invariant _ c.reserve_commit.ensures.same)
 
 pub commit-requires-clause-active : goal.commit-requires-clause-active
 commit-requires-clause-active g c =
     let m = c.self.inside in
     let t = c.args.name.now in
     let none = rw (← c.self.view_is) at c.requires.live in
-    let roomy = kept_roomy g.S.TopStore m.log.rows m.log.entries m.tables c.reserve_commit.new.self m.opened m.store c.self.invariant c.reserve_commit.ensures.same in
+    let roomy = settled_roomy g.S.TopStore m.log.rows m.log.entries m.tables m.opened m.store c.self.invariant c.reserve_commit.new.self c.reserve_commit.ensures.same in
     let number = subst (λ (s : States). IsNumberOf s t c.number_of-txn.result) (sym c.reserve_commit.ensures.same.tree) c.number_of-txn.ensures.number in
-    (commits_at m.log.rows m.log.entries c.reserve_commit.new.self.tree c.args.by t _ roomy.allowed roomy.are.in_tree number none).0
+    (commits_at m.log.rows m.log.entries c.reserve_commit.new.self.tree c.args.by t _ roomy.kept.allowed roomy.kept.are.in_tree number none).0
 
 pub commit-requires-clause-children : goal.commit-requires-clause-children
 commit-requires-clause-children g c =
     let m = c.self.inside in
     let t = c.args.name.now in
     let none = rw (← c.self.view_is) at c.requires.live in
-    let roomy = kept_roomy g.S.TopStore m.log.rows m.log.entries m.tables c.reserve_commit.new.self m.opened m.store c.self.invariant c.reserve_commit.ensures.same in
+    let roomy = settled_roomy g.S.TopStore m.log.rows m.log.entries m.tables m.opened m.store c.self.invariant c.reserve_commit.new.self c.reserve_commit.ensures.same in
     let number = subst (λ (s : States). IsNumberOf s t c.number_of-txn.result) (sym c.reserve_commit.ensures.same.tree) c.number_of-txn.ensures.number in
-    (commits_at m.log.rows m.log.entries c.reserve_commit.new.self.tree c.args.by t _ roomy.allowed roomy.are.in_tree number none).1
+    (commits_at m.log.rows m.log.entries c.reserve_commit.new.self.tree c.args.by t _ roomy.kept.allowed roomy.kept.are.in_tree number none).1
 
 pub invariant_of-self-then-are_taken : goal.invariant_of-self-then-are_taken
 invariant_of-self-then-are_taken g c =
@@ -52,9 +52,10 @@ invariant_of-self-then-are_taken g c =
     let free = rw (← c.self.view_is) at c.requires.free in
     let none = rw (← c.self.view_is) at c.requires.live in
     rw (c.add.ensures.rows, c.add.ensures.entries, c.reserve.ensures.rows, c.reserve.ensures.entries)
-    (kept_taken g.S.TopStore m.log.rows m.log.entries m.tables c.reserve_commit.new.self m.opened m.store c.self.invariant c.reserve_commit.ensures.same c.args.by c.args.name.now free none c.requires.top
+    (settled_next g.S.TopStore m.log.rows m.log.entries m.tables m.opened m.store c.self.invariant _ _ _ refl
+    (kept_taken g.S.TopStore m.log.rows m.log.entries m.tables c.reserve_commit.new.self m.opened m.store c.self.invariant.kept c.reserve_commit.ensures.same c.args.by c.args.name.now free none c.requires.top
     c.number_of-txn.result c.number_of-txn.ensures.number c.number_of-txn.ensures.rootless c.in_ok-changes.changes.items c.in_ok-changes.ensures
-    _ _ (c.commit.ensures c.args.name.now (name_at _ c.args.name.now _ number)) c.are_taken.ensures.later (c.are_taken.ensures.took c.if-are_taken.true))
+    _ _ (c.commit.ensures c.args.name.now (name_at _ c.args.name.now _ number)) c.are_taken.ensures.later (c.are_taken.ensures.took c.if-are_taken.true)))
 
 pub invariant_of-self-else-are_taken : goal.invariant_of-self-else-are_taken
 invariant_of-self-else-are_taken g c =
@@ -64,9 +65,10 @@ invariant_of-self-else-are_taken g c =
     let refused = c.are_taken.ensures.refused c.if-are_taken.false in
     let once = rw c.if-are_taken.false at (c.are_taken.ensures.asked refused.1) in
     rw (c.add-else-are_taken.ensures.rows, c.add-else-are_taken.ensures.entries, c.reserve.ensures.rows, c.reserve.ensures.entries)
-    (kept_refused g.S.TopStore m.log.rows m.log.entries m.tables c.reserve_commit.new.self m.opened m.store c.self.invariant c.reserve_commit.ensures.same c.args.by c.args.name.now free none c.requires.top
+    (settled_next g.S.TopStore m.log.rows m.log.entries m.tables m.opened m.store c.self.invariant _ _ _ refl
+    (kept_refused g.S.TopStore m.log.rows m.log.entries m.tables c.reserve_commit.new.self m.opened m.store c.self.invariant.kept c.reserve_commit.ensures.same c.args.by c.args.name.now free none c.requires.top
     c.number_of-txn.result c.number_of-txn.ensures.number c.number_of-txn.ensures.rootless c.in_ok-changes.changes.items c.in_ok-changes.ensures
-    _ c.are_taken.ensures.later refused.1 once refused.0)
+    _ c.are_taken.ensures.later refused.1 once refused.0))
 
 pub returns-then-are_taken-clause-ok : goal.returns-then-are_taken-clause-ok
 returns-then-are_taken-clause-ok g c =
@@ -75,7 +77,7 @@ returns-then-are_taken-clause-ok g c =
     let free = rw (← c.self.view_is) at c.requires.free in
     let none = rw (← c.self.view_is) at c.requires.live in
     rw (← c.self.view_is, c.add.ensures.rows, c.add.ensures.entries, c.reserve.ensures.rows, c.reserve.ensures.entries)
-    (committed_taken g.S.TopStore m.log.rows m.log.entries m.tables c.reserve_commit.new.self m.opened m.store c.self.invariant c.reserve_commit.ensures.same c.args.by c.args.name.now free none c.requires.top
+    (committed_taken g.S.TopStore m.log.rows m.log.entries m.tables c.reserve_commit.new.self m.opened m.store c.self.invariant.kept c.reserve_commit.ensures.same c.args.by c.args.name.now free none c.requires.top
     c.number_of-txn.result c.number_of-txn.ensures.number c.number_of-txn.ensures.rootless c.in_ok-changes.changes.items c.in_ok-changes.ensures
     _ _ (c.commit.ensures c.args.name.now (name_at _ c.args.name.now _ number)) c.are_taken.ensures.later c.are_taken.ensures.unasked (λ some. rw c.if-are_taken.true at (c.are_taken.ensures.asked some)))
 
@@ -90,7 +92,7 @@ returns-else-are_taken-clause-ok g c =
     let refused = c.are_taken.ensures.refused c.if-are_taken.false in
     let once = rw c.if-are_taken.false at (c.are_taken.ensures.asked refused.1) in
     rw (← c.self.view_is, c.add-else-are_taken.ensures.rows, c.add-else-are_taken.ensures.entries, c.reserve.ensures.rows, c.reserve.ensures.entries, c.reserve_commit.ensures.same.estate.rows)
-    (committed_refused g.S.TopStore m.log.rows m.log.entries m.tables c.reserve_commit.new.self m.opened m.store c.self.invariant c.reserve_commit.ensures.same c.args.by c.args.name.now free none c.requires.top
+    (committed_refused g.S.TopStore m.log.rows m.log.entries m.tables c.reserve_commit.new.self m.opened m.store c.self.invariant.kept c.reserve_commit.ensures.same c.args.by c.args.name.now free none c.requires.top
     c.number_of-txn.result c.number_of-txn.ensures.number c.number_of-txn.ensures.rootless c.in_ok-changes.changes.items c.in_ok-changes.ensures
     _ c.are_taken.ensures.later refused.1 once)
 

@@ -1,25 +1,76 @@
-use Rattle.std.proofs.Common.{refl, sym, ap, ◌∙◌}
+use Rattle.std.proofs.Common.{◌≡◌, ◌≤◌, ◌+◌, ◌∷◌, length, refl, sym, ap, ◌∙◌, arith}
 use Rattle.std.specs.Prelude.{is_some}
+use Rattle.wait_cycles.specs.Waiting.{Waiting}
+use Rattle.serial_spec.specs.declared.event.Event.TheVariants.{Access}
+use Rattle.manager_core.specs.Outcomes.{answer_of}
+use Rattle.manager_core.specs.State.{entry}
 use Rattle.manager_core.proofs.Answers.{retry_comes}
 use Rattle.manager_core.proofs.Retrying.{waiting_is, retried, waits_on}
 use Rattle.manager_core.proofs.WaitTables.{waits_as_access}
-use Rattle.manager_core.proofs.Kept.{kept_answered, kept_roomy, same_rows}
+use Rattle.manager_core.proofs.Kept.{kept_answered, same_rows}
+use Rattle.manager_core.proofs.Victims.{fewer_pairs}
+use Rattle.manager_core.proofs.Settled.{allowed_of, settled_broken, settled_roomy}
 use Rattle.manager_core.proofs.Facts.{sound}
 use Rattle.manager_core.proofs.Tabled.{roomy_beside}
 use Rattle.manager_core.proofs.manager.Manager.retry.Goals as goal
 use Rattle.manager_core.proofs.manager.Manager.retry.Goals.{in-Waits, in_default}
 
+pub invariant_of-self : goal.invariant_of-self
+invariant_of-self g c =
+    let m = c.self.inside in
+    rw (c.reserve_step.ensures.rows, c.reserve_step.ensures.entries)
+    (settled_roomy g.S.TopStore m.log.rows m.log.entries m.tables m.opened m.store c.self.invariant _ c.reserve_step.ensures.same)
+
 pub unwrap-by-requires : goal.unwrap-by-requires
 unwrap-by-requires g c =
     let m = c.self.inside in
     let some = rw (← c.self.view_is) at c.requires.waits in
-    ap is_some (c.waiting_access.ensures m.log.rows m.log.entries c.self.invariant.are) ∙ waits_as_access m.log.entries c.args.name.now ∙ some
+    let roomy = settled_roomy g.S.TopStore m.log.rows m.log.entries m.tables m.opened m.store c.self.invariant c.reserve_step.new.tables c.reserve_step.ensures.same in
+    ap is_some (c.waiting_access.ensures m.log.rows m.log.entries roomy.kept.are) ∙ waits_as_access m.log.entries c.args.name.now ∙ some
+
+pub ask_again-requires-clause-are : goal.ask_again-requires-clause-are
+ask_again-requires-clause-are g c =
+    let m = c.self.inside in
+    rw (c.reserve_step.ensures.rows, c.reserve_step.ensures.entries)
+    (settled_roomy g.S.TopStore m.log.rows m.log.entries m.tables m.opened m.store c.self.invariant _ c.reserve_step.ensures.same).kept.are
 
 pub invariant_of-self-in_err-outcome : goal.invariant_of-self-in_err-outcome
 invariant_of-self-in_err-outcome g c =
     let m = c.self.inside in
-    rw (c.reserve.ensures.rows, c.reserve.ensures.entries)
-    (kept_roomy g.S.TopStore m.log.rows m.log.entries m.tables _ m.opened m.store c.self.invariant c.in_err-outcome.ensures.err)
+    let roomy = settled_roomy g.S.TopStore m.log.rows m.log.entries m.tables m.opened m.store c.self.invariant _ c.reserve_step.ensures.same in
+    rw (c.reserve_step.ensures.rows, c.reserve_step.ensures.entries)
+    (settled_roomy g.S.TopStore m.log.rows m.log.entries c.reserve_step.new.tables m.opened m.store roomy _ c.in_err-outcome.ensures.err)
+
+pub invariant_of-self-in-Waits : goal.invariant_of-self-in-Waits
+invariant_of-self-in-Waits g c =
+    let m = c.self.inside in
+    let roomy = settled_roomy g.S.TopStore m.log.rows m.log.entries m.tables m.opened m.store c.self.invariant _ c.reserve_step.ensures.same in
+    rw (c.reserve_step.ensures.rows, c.reserve_step.ensures.entries)
+    (settled_roomy g.S.TopStore m.log.rows m.log.entries c.reserve_step.new.tables m.opened m.store roomy _
+    (roomy_beside c.reserve_step.new.tables _ (rw c.in-Waits.is at c.in_ok-outcome.ensures.reaches) (rw c.in-Waits.is at c.in_ok-outcome.ensures.waits)))
+
+pub break_cycles-requires : goal.break_cycles-requires
+break_cycles-requires g c =
+    let m = c.self.inside in
+    let t = c.args.name.now in
+    let by = c.unwrap-by.result.0 in
+    let k = c.unwrap-by.result.1 in
+    let op = c.unwrap-by.result.2 in
+    let outcome = c.in_ok-outcome.outcome in
+    let roomy = settled_roomy g.S.TopStore m.log.rows m.log.entries m.tables m.opened m.store c.self.invariant c.reserve_step.new.tables c.reserve_step.ensures.same in
+    let found = c.waiting_access.ensures m.log.rows m.log.entries roomy.kept.are in
+    let is = waiting_is m.log.rows m.log.entries roomy.kept.allowed t by k op (sym found ∙ c.unwrap-by.ensures) in
+    let comes = rw (c.reserve_step.ensures.rows, c.reserve_step.ensures.entries) at c.in_ok-outcome.ensures.comes in
+    let kept = kept_answered g.S.TopStore m.log.rows m.log.entries c.reserve_step.new.tables c.ask_again.new.self m.opened m.store roomy.kept by t is.wait is.waits is.of_line is.line k op outcome
+    (retry_comes m.log.rows m.log.entries by t k op outcome comes c.in_default.not-Waits) c.in_default.not-Waits comes c.in_ok-outcome.ensures.reaches c.in_ok-outcome.ensures.waits in
+    let many : length c.ask_again.new.self.waits.waits ≤ length m.tables.waits.waits = omega (arith, c.in_ok-outcome.ensures.grown, ap (λ (w : Waiting). length w.waits) c.reserve_step.ensures.waits) in
+    record {
+      allowed = allowed_of _ _ _ _ kept.allowed (c.add.ensures.rows ∙ c.reserve_step.ensures.rows) (c.add.ensures.entries ∙ ap (λ h. entry by (Access t k op) (answer_of outcome) ∷ h) c.reserve_step.ensures.entries);
+      are = rw (c.add.ensures.rows, c.add.ensures.entries, c.reserve_step.ensures.rows, c.reserve_step.ensures.entries) kept.are;
+      room = omega (arith, many, c.in_ok-reserve_step.ensures.room, c.add.ensures.room);
+      marks_room = omega (arith, many, c.in_ok-reserve_step.ensures.marks_room, ap (λ v. v.room) c.ask_again.ensures.marks);
+      work_room = fewer_pairs _ (length m.tables.waits.waits + 1) _ (omega (arith, many)) c.in_ok-reserve_step.ensures.work_room;
+    }
 
 pub invariant_of-self-in_default : goal.invariant_of-self-in_default
 invariant_of-self-in_default g c =
@@ -28,12 +79,16 @@ invariant_of-self-in_default g c =
     let by = c.unwrap-by.result.0 in
     let k = c.unwrap-by.result.1 in
     let op = c.unwrap-by.result.2 in
-    let found = c.waiting_access.ensures m.log.rows m.log.entries c.self.invariant.are in
-    let is = waiting_is m.log.rows m.log.entries c.self.invariant.allowed t by k op (sym found ∙ c.unwrap-by.ensures) in
-    let comes = rw (c.reserve.ensures.rows, c.reserve.ensures.entries) at c.in_ok-outcome.ensures.comes in
-    rw (c.add.ensures.rows, c.add.ensures.entries, c.reserve.ensures.rows, c.reserve.ensures.entries)
-    (kept_answered g.S.TopStore m.log.rows m.log.entries m.tables _ m.opened m.store c.self.invariant by t is.wait is.waits is.of_line is.line k op c.in_ok-outcome.outcome
-    (retry_comes m.log.rows m.log.entries by t k op c.in_ok-outcome.outcome comes c.in_default.not-Waits) c.in_default.not-Waits comes c.in_ok-outcome.ensures.reaches c.in_ok-outcome.ensures.waits)
+    let outcome = c.in_ok-outcome.outcome in
+    let roomy = settled_roomy g.S.TopStore m.log.rows m.log.entries m.tables m.opened m.store c.self.invariant c.reserve_step.new.tables c.reserve_step.ensures.same in
+    let found = c.waiting_access.ensures m.log.rows m.log.entries roomy.kept.are in
+    let is = waiting_is m.log.rows m.log.entries roomy.kept.allowed t by k op (sym found ∙ c.unwrap-by.ensures) in
+    let comes = rw (c.reserve_step.ensures.rows, c.reserve_step.ensures.entries) at c.in_ok-outcome.ensures.comes in
+    let kept = kept_answered g.S.TopStore m.log.rows m.log.entries c.reserve_step.new.tables c.ask_again.new.self m.opened m.store roomy.kept by t is.wait is.waits is.of_line is.line k op outcome
+    (retry_comes m.log.rows m.log.entries by t k op outcome comes c.in_default.not-Waits) c.in_default.not-Waits comes c.in_ok-outcome.ensures.reaches c.in_ok-outcome.ensures.waits in
+    let breaks = rw (c.add.ensures.rows, c.add.ensures.entries, c.reserve_step.ensures.rows, c.reserve_step.ensures.entries) at c.break_cycles.ensures.breaks in
+    rw (c.break_cycles.ensures.rows, c.add.ensures.rows, c.reserve_step.ensures.rows)
+    (settled_broken g.S.TopStore m.log.rows m.log.entries c.reserve_step.new.tables m.opened m.store roomy (entry by (Access t k op) (answer_of outcome)) c.ask_again.new.self _ _ kept breaks c.break_cycles.ensures.table)
 
 pub returns-clause-ok : goal.returns-clause-ok
 returns-clause-ok g c =
@@ -43,16 +98,21 @@ returns-clause-ok g c =
     let k = c.unwrap-by.result.1 in
     let op = c.unwrap-by.result.2 in
     let outcome = c.in_ok-outcome.outcome in
-    let found = c.waiting_access.ensures m.log.rows m.log.entries c.self.invariant.are in
-    let is = waiting_is m.log.rows m.log.entries c.self.invariant.allowed t by k op (sym found ∙ c.unwrap-by.ensures) in
-    let comes = rw (c.reserve.ensures.rows, c.reserve.ensures.entries) at c.in_ok-outcome.ensures.comes in
-    let table = same_rows m.tables _ t k op outcome c.in_ok-outcome.ensures.reaches in
+    let roomy = settled_roomy g.S.TopStore m.log.rows m.log.entries m.tables m.opened m.store c.self.invariant c.reserve_step.new.tables c.reserve_step.ensures.same in
+    let found = c.waiting_access.ensures m.log.rows m.log.entries roomy.kept.are in
+    let is = waiting_is m.log.rows m.log.entries roomy.kept.allowed t by k op (sym found ∙ c.unwrap-by.ensures) in
+    let comes = rw (c.reserve_step.ensures.rows, c.reserve_step.ensures.entries) at c.in_ok-outcome.ensures.comes in
+    let table = same_rows c.reserve_step.new.tables _ t k op outcome c.in_ok-outcome.ensures.reaches ∙ c.reserve_step.ensures.same.estate.rows in
     elim c.match-outcome.branch [
-      | in-Waits w ↦ rw (w.self-is, ← c.self.view_is, c.reserve.ensures.rows, c.reserve.ensures.entries, table) (waits_on _ t by k op is outcome comes w.in-Waits.is)
-      | in_default w ↦ rw (w.self-is, ← c.self.view_is, w.add.ensures.rows, w.add.ensures.entries, c.reserve.ensures.rows, c.reserve.ensures.entries, table)
+      | in-Waits w ↦ rw (w.self-is, ← c.self.view_is, c.reserve_step.ensures.rows, c.reserve_step.ensures.entries, table) (waits_on _ t by k op is outcome comes w.in-Waits.is)
+      | in_default w ↦
+          let breaks = rw (w.add.ensures.rows, w.add.ensures.entries, c.reserve_step.ensures.rows, c.reserve_step.ensures.entries) at w.break_cycles.ensures.breaks in
+          rw (w.self-is, ← c.self.view_is, w.break_cycles.ensures.rows, w.add.ensures.rows, c.reserve_step.ensures.rows, w.break_cycles.ensures.table, table)
           (retried _ _ t by k op is outcome (record {
             allowed = retry_comes m.log.rows m.log.entries by t k op outcome comes w.in_default.not-Waits;
-            added = refl;
+            victims = breaks.victims;
+            broken = breaks.after;
+            beside = refl;
           }))
     ]
 
@@ -64,15 +124,19 @@ returns-clause-sound g c =
     let k = c.unwrap-by.result.1 in
     let op = c.unwrap-by.result.2 in
     let outcome = c.in_ok-outcome.outcome in
-    let found = c.waiting_access.ensures m.log.rows m.log.entries c.self.invariant.are in
-    let is = waiting_is m.log.rows m.log.entries c.self.invariant.allowed t by k op (sym found ∙ c.unwrap-by.ensures) in
-    let comes = rw (c.reserve.ensures.rows, c.reserve.ensures.entries) at c.in_ok-outcome.ensures.comes in
+    let roomy = settled_roomy g.S.TopStore m.log.rows m.log.entries m.tables m.opened m.store c.self.invariant c.reserve_step.new.tables c.reserve_step.ensures.same in
+    let found = c.waiting_access.ensures m.log.rows m.log.entries roomy.kept.are in
+    let is = waiting_is m.log.rows m.log.entries roomy.kept.allowed t by k op (sym found ∙ c.unwrap-by.ensures) in
+    let comes = rw (c.reserve_step.ensures.rows, c.reserve_step.ensures.entries) at c.in_ok-outcome.ensures.comes in
     elim c.match-outcome.branch [
       | in-Waits w ↦
-          let next = kept_roomy g.S.TopStore m.log.rows m.log.entries m.tables _ m.opened m.store c.self.invariant (roomy_beside m.tables _ (rw w.in-Waits.is at c.in_ok-outcome.ensures.reaches) (rw w.in-Waits.is at c.in_ok-outcome.ensures.waits)) in
-          rw (w.self-is, c.reserve.ensures.rows, c.reserve.ensures.entries) (sound g.S.TopStore _ _ next refl)
+          let next = settled_roomy g.S.TopStore m.log.rows m.log.entries c.reserve_step.new.tables m.opened m.store roomy c.ask_again.new.self
+          (roomy_beside c.reserve_step.new.tables _ (rw w.in-Waits.is at c.in_ok-outcome.ensures.reaches) (rw w.in-Waits.is at c.in_ok-outcome.ensures.waits)) in
+          rw (w.self-is, c.reserve_step.ensures.rows, c.reserve_step.ensures.entries) (sound g.S.TopStore _ _ next refl)
       | in_default w ↦
-          let next = kept_answered g.S.TopStore m.log.rows m.log.entries m.tables _ m.opened m.store c.self.invariant by t is.wait is.waits is.of_line is.line k op outcome
+          let kept = kept_answered g.S.TopStore m.log.rows m.log.entries c.reserve_step.new.tables c.ask_again.new.self m.opened m.store roomy.kept by t is.wait is.waits is.of_line is.line k op outcome
           (retry_comes m.log.rows m.log.entries by t k op outcome comes w.in_default.not-Waits) w.in_default.not-Waits comes c.in_ok-outcome.ensures.reaches c.in_ok-outcome.ensures.waits in
-          rw (w.self-is, w.add.ensures.rows, w.add.ensures.entries, c.reserve.ensures.rows, c.reserve.ensures.entries) (sound g.S.TopStore _ _ next refl)
+          let breaks = rw (w.add.ensures.rows, w.add.ensures.entries, c.reserve_step.ensures.rows, c.reserve_step.ensures.entries) at w.break_cycles.ensures.breaks in
+          let next = settled_broken g.S.TopStore m.log.rows m.log.entries c.reserve_step.new.tables m.opened m.store roomy (entry by (Access t k op) (answer_of outcome)) c.ask_again.new.self _ _ kept breaks w.break_cycles.ensures.table in
+          rw (w.self-is, w.break_cycles.ensures.rows, w.add.ensures.rows, c.reserve_step.ensures.rows) (sound g.S.TopStore _ _ next refl)
     ]

@@ -6,4 +6,4 @@ pub returns : goal.returns
 returns g c =
     let m = c.self.inside in
     rw (← c.self.view_is)
-    (c.is_some.ensures ∙ ap is_some (c.waiting_access.ensures m.log.rows m.log.entries c.self.invariant.are) ∙ waits_as_access m.log.entries c.args.name.now)
+    (c.is_some.ensures ∙ ap is_some (c.waiting_access.ensures m.log.rows m.log.entries c.self.invariant.kept.are) ∙ waits_as_access m.log.entries c.args.name.now)

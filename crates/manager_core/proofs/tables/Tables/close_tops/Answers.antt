@@ -1,8 +1,8 @@
-use Rattle.std.proofs.Common.{◌<◌, length, ◌∙◌, ap, arith}
+use Rattle.std.proofs.Common.{◌<◌, length, refl, ◌∙◌, ap, arith}
 use Rattle.std.proofs.lemmas.Map.Entries.{length-keys_of}
 use Rattle.txn_tree.specs.States.{names}
 use Rattle.manager_core.proofs.Named.{got}
-use Rattle.manager_core.proofs.Tops.{room_for, marks_room_for, closed_one, passed_one, all_closed}
+use Rattle.manager_core.proofs.Tops.{closing_from, room_for, marks_room_for, closed_one, passed_one, all_closed}
 use Rattle.manager_core.proofs.tables.Tables.close_tops.Goals as goal
 use Rattle.manager_core.proofs.tables.Tables.close_tops.Goals.{in-Some, in_default}
 
@@ -13,6 +13,12 @@ close_top-requires-clause-room c =
 pub close_top-requires-clause-marks_room : goal.close_top-requires-clause-marks_room
 close_top-requires-clause-marks_room c =
     marks_room_for _ _ _ _ _ _ _ c.loop-place.invariant.far c.in-Some.name c.in-Some.ensures.some.0 c.in-Some.ensures.some.1
+
+pub loop-place-init : goal.loop-place-init
+loop-place-init c = record {
+  rows = refl;
+  far = closing_from _ _ _ _ c.requires.legal c.requires.quiet c.requires.are c.requires.room c.requires.marks_room;
+}
 
 pub loop-place-preserved : goal.loop-place-preserved
 loop-place-preserved c = elim c.match-live_top_at.branch [

@@ -1,0 +1,17 @@
+use Rattle.std.proofs.Common.{◌≡◌, ◌≤◌, ◌*◌, length}
+use Rattle.manager_core.specs.Tables.{rows_in}
+use Rattle.manager_core.proofs.Victims.{BreakingAt}
+use Rattle.manager_core.proofs.breaking.break_cycles.Given as goal
+
+abbrev pub invariant-loop-name : goal.invariant-loop-name
+invariant-loop-name l = record {
+  rows : l.log.rows ≡ l.initial.log.rows;
+  far : BreakingAt l.log.rows l.initial.log.entries l.log.entries l.tables;
+  table : rows_in l.tables ≡ rows_in l.initial.tables;
+  room : length l.tables.waits.waits ≤ l.log.room;
+  marks_room : length l.tables.waits.waits ≤ l.tables.marks.room;
+  work_room : length l.tables.waits.waits * length l.tables.waits.waits ≤ l.breaker;
+}
+
+abbrev pub decreases-loop-name : goal.decreases-loop-name
+decreases-loop-name l = length l.tables.waits.waits
