@@ -118,6 +118,12 @@ may_be_stuck h by (Access t k o) = is_some (wait_of h t) && not (waits_elsewhere
 may_be_stuck h by (After t when) = not (has_come h t when)
 may_be_stuck h by e = false
 
+-- The line is held up: nobody but the stuck rule can answer it. So is an `after` line whose condition does not hold, and an
+-- access that waits by this line and is blocked still
+pub record IsHeldUp (rows : Rows) (h : History) (by : By) (e : Event) : Type 0 where
+  pub none : answer rows h by e ≡ None
+  pub may_give_up : IsTrue (may_be_stuck h by e)
+
 abbrev pub is_write : Kind → Bool
 is_write Write = true
 is_write x = false

@@ -13,4 +13,5 @@ pub mod Legal
 pub mod Changes
 pub mod Printing
 pub mod Interleaving
+pub mod Follows
 pub mod Report
