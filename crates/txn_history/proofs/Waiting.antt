@@ -3,7 +3,7 @@ use Rattle.std.proofs.Common.{◌≡◌, Bool, true, false, not, cond, ◌&&◌,
 use Rattle.std.proofs.Common.{None as Nothing}
 use Rattle.std.proofs.lemmas.Bool.{false≢true, and_from, or_left, or_right, not-false}
 use Rattle.std.specs.List.{list_any}
-use Rattle.txn_names.proofs.Names.{on_test, same_path}
+use Rattle.txn_names.proofs.Names.{on_test, same_path, path_eq_self}
 use Rattle.serial_spec.specs.declared.entry.By.{By}
 use Rattle.serial_spec.specs.declared.entry.By.TheVariants.{Line, Victim, Close}
 use Rattle.serial_spec.specs.declared.operation.Reply.{Reply}
@@ -127,6 +127,14 @@ new_wait rows h by (Access u k o) q t f =
 new_wait rows h by (Commit u) q t f = absurd (no_wait (cause_at_commit h by u) Ok q)
 new_wait rows h by (Abort u) q t f = absurd (no_wait (cause_at_end h u) Ok q)
 new_wait rows h by (After u w) q t f = absurd (no_wait_after (has_come h u w) q)
+
+-- and its line has not waited
+pub first_wait : (rows : Rows) (h : History) (by : By) (e : Event) → Allowed rows h by e Waits → has_waited h by ≡ false
+first_wait rows h by (Begin u) q = absurd (no_wait (cause_at_begin h u) Ok q)
+first_wait rows h by (Access u k o) q = (new_wait rows h by (Access u k o) q u (path_eq_self u)).first
+first_wait rows h by (Commit u) q = absurd (no_wait (cause_at_commit h by u) Ok q)
+first_wait rows h by (Abort u) q = absurd (no_wait (cause_at_end h u) Ok q)
+first_wait rows h by (After u w) q = absurd (no_wait_after (has_come h u w) q)
 
 -- neither a victim's entry nor one of the close waits
 may_wait : (rows : Rows) (h : History) (by : By) (e : Event) → MayCome rows h by e Waits → NewWait h by e
