@@ -3,7 +3,7 @@ pub mod Found
 pub mod Ways
 pub mod Closed
 pub mod Tops
-pub mod Slots
+pub mod Records
 pub mod Agreement
 pub mod Again
 pub mod Sorted

@@ -1,12 +1,12 @@
 //! The accesses that wait.
-ghost use Rattle.std.specs.Prelude.{◌≡◌, ◌+◌, ◌<◌, ◌≤◌, [], ℕ, nat_eq, length, slice_get, if◌then◌else◌, IsOk, IsSome, IsTrue, IfSome, IfNone, OnOk, OnErr, None, Some};
+ghost use Rattle.std.specs.Prelude.{◌≡◌, ◌+◌, ◌<◌, ◌≤◌, [], ℕ, nat_eq, not, filter, length, slice_get, if◌then◌else◌, IsOk, IsSome, IsTrue, IfSome, OnOk, OnErr, None, Some};
 ghost use Rattle.std.specs.Option.{option_copied};
-ghost use Rattle.slab.specs.Slab.{get, slab_len, values};
-ghost use Rattle.wait_cycles.specs.Waiting.{AreOnce, IsHeldAt, is_under, is_wait_under, wait_in, wait_of};
+ghost use Rattle.indexmap.specs.IndexMap.{IsUnique, spare, values};
+ghost use Rattle.wait_cycles.specs.Waiting.{AreOnce, is_under, wait_of};
 
+use indexmap::IndexMap;
 use serial_spec::{By, NoMemory, Op};
-use slab::Slab;
-use std::alloc::{AllocError, Global};
+use std::alloc::Global;
 use std::marker::Model;
 use txn_names::Key;
 use txn_tree::{Tree, TxnNo};
@@ -23,66 +23,39 @@ pub struct Wait {
 /// The accesses that wait, at most one of a transaction. Only `reserve` and `add` take memory.
 #[derive(Drop)]
 pub struct Waits {
-    records: Slab<Wait>,
+    records: IndexMap<TxnNo, Wait>,
+    room: usize,
 }
 
 impl Model for Waits {
-    ghost use Rattle.std.specs.Prelude.{◌-◌};
-    ghost use Rattle.slab.specs.Slab.{slab_len, values};
-    ghost use Rattle.wait_cycles.specs.Waiting.{AreApart, Waiting};
+    ghost use Rattle.std.specs.Prelude.{◌≤◌};
+    ghost use Rattle.indexmap.specs.IndexMap.{spare, values};
+    ghost use Rattle.wait_cycles.specs.Waiting.{AreKept, Waiting};
 
     ghost Value = { Waiting };
 
-    ghost view = { λ w. record { waits = values w.records; room = w.records.capacity - slab_len w.records } };
+    ghost view = { λ w. record { waits = values w.records; room = w.room } };
 
-    ghost invariant = { λ w. AreApart w.records.slots };
+    ghost invariant = { λ w. AreKept w.records.entries × (w.room ≤ spare w.records) };
 }
 
-// Where the transaction's wait is kept, if it waits.
-fn key_of(records: &Slab<Wait>, txn: TxnNo) -> Option<usize>
-    ensures some { IfSome result (IsHeldAt records.now txn) }
-    ensures none { IfNone result (wait_in (values records.now) txn ≡ None) }
-{
-    for (key, wait) in records.iter() {
-        if wait.txn == txn {
-            return Some(key);
-        }
-    }
-    None
-}
-
-// The wait at this place among all, by rising key.
-fn wait_at(records: &Slab<Wait>, place: usize) -> Option<&Wait>
+// The wait at this place among all.
+fn wait_at(records: &IndexMap<TxnNo, Wait>, place: usize) -> Option<&Wait>
     ensures { option_copied result ≡ slice_get (values records.now) place }
 {
-    match records.iter().nth(place) {
+    match records.get_index(place) {
         Some((_, wait)) => Some(wait),
         None => None,
     }
 }
 
-// Whether a wait of the transaction or of one below it is kept under the key.
-fn is_kept_under(records: &Slab<Wait>, key: usize, tree: &Tree, txn: TxnNo) -> bool
-    ensures { result ≡ is_wait_under tree.now txn (get records.now key) }
-{
-    match records.get(key) {
-        Some(wait) => tree.is_under(txn, wait.txn),
-        None => false,
-    }
-}
-
 // Takes the waits of the transaction and of all below it out.
-fn sweep(records: &mut Slab<Wait>, tree: &Tree, txn: TxnNo)
-    ensures swept { (key : ℕ) → get records.new key ≡ (if is_wait_under tree.now txn (get records.old key) then None else get records.old key) }
-    ensures capacity { records.new.capacity ≡ records.old.capacity }
-    ensures len { slab_len records.new ≤ slab_len records.old }
-    ensures fewer { (key : ℕ) → IsTrue (is_wait_under tree.now txn (get records.old key)) → slab_len records.new < slab_len records.old }
+fn sweep(records: &mut IndexMap<TxnNo, Wait>, tree: &Tree, txn: TxnNo)
+    ensures left { records.new.entries ≡ filter (λ e. not (is_under tree.now txn e.0)) records.old.entries }
+    ensures unique { IsUnique nat_eq records.new }
+    ensures room { spare records.old ≤ spare records.new }
 {
-    for key in 0..records.capacity() {
-        if is_kept_under(records, key, tree, txn) {
-            let _ = records.try_remove(key);
-        }
-    }
+    records.retain(|number, _| !tree.is_under(txn, *number));
 }
 
 impl Waits {
@@ -92,7 +65,8 @@ impl Waits {
         ensures room { result.room ≡ 0 }
     {
         Waits {
-            records: Slab::new(alloc),
+            records: IndexMap::new(alloc),
+            room: 0,
         }
     }
 
@@ -104,9 +78,11 @@ impl Waits {
         ensures kept { self.old.room ≤ self.new.room }
         ensures succeeds { additional ≤ self.old.room → IsOk result }
     {
-        // Asked for what it tells: no more are kept than fit.
-        let _ = self.records.capacity();
-        self.records.reserve(additional)
+        if self.room < additional {
+            self.records.reserve(additional)?;
+            self.room = additional;
+        }
+        Ok(())
     }
 
     /// How many wait. Each wait stands at one place, from 0 to below this number.
@@ -121,7 +97,7 @@ impl Waits {
     pub fn is_empty(&self) -> bool
         ensures { result ≡ nat_eq (length self.now.waits) 0 }
     {
-        self.records.is_empty()
+        self.len() == 0
     }
 
     /// The wait at this place, if so many wait. The places change where a wait is added or goes.
@@ -136,7 +112,7 @@ impl Waits {
     pub fn of(&self, txn: TxnNo) -> Option<&Wait>
         ensures { option_copied result ≡ wait_of self.now txn }
     {
-        self.records.get(key_of(&self.records, txn)?)
+        self.records.get(&txn)
     }
 
     /// One more waits, which did not. If memory runs out, the only error, all is as before. Where there is room for one it
@@ -149,16 +125,9 @@ impl Waits {
         ensures succeeds { 0 < self.old.room → IsOk result }
         ensures room { self.old.room ≤ self.new.room + 1 }
     {
-        let wait = Wait {
-            txn,
-            key: *key,
-            op,
-            by,
-        };
-        match self.records.insert(wait) {
-            Ok(_) => Ok(()),
-            Err(_) => Err(AllocError),
-        }
+        self.reserve(1)?;
+        self.add_reserved(txn, key, op, by);
+        Ok(())
     }
 
     /// One more waits, which did not, where there is room for it. It takes no memory.
@@ -169,12 +138,14 @@ impl Waits {
         ensures len { length self.new.waits ≡ length self.old.waits + 1 }
         ensures room { self.old.room ≡ self.new.room + 1 }
     {
-        let _ = self.records.insert_reserved(Wait {
+        let wait = Wait {
             txn,
             key: *key,
             op,
             by,
-        });
+        };
+        self.records.insert(txn, wait).unwrap();
+        self.room -= 1;
     }
 
     /// The transaction waits no more. So fewer wait, if it did.
@@ -184,9 +155,7 @@ impl Waits {
         ensures fewer { IsSome (wait_of self.old txn) → length self.new.waits < length self.old.waits }
         ensures room { self.old.room ≤ self.new.room }
     {
-        if let Some(key) = key_of(&self.records, txn) {
-            let _ = self.records.try_remove(key);
-        }
+        self.records.swap_remove(&txn);
     }
 
     /// The transaction and all its descendants wait no more. So fewer wait, if any of them did.
