@@ -1,29 +1,12 @@
 -- The start, reached again from itself.
-use Rattle.std.proofs.Common.{◌≡◌, ℕ, zero, suc, ◌≤◌, nat_eq, Bool, true, false, List, [], ◌∷◌, length, Option, Some, None, is_some, refl, sym, ap, ◌∙◌, arith}
+use Rattle.std.proofs.Common.{◌≡◌, ℕ, zero, suc, ◌≤◌, true, List, [], ◌∷◌, length, Option, Some, None, arith}
 use Rattle.std.specs.Prelude.{slice_get}
-use Rattle.std.specs.List.{position}
-use Rattle.std.proofs.lemmas.Bool.{false≢true, eqb-true}
-use Rattle.wait_cycles.specs.declared.reached.Reached.{Reached}
+use Rattle.std.proofs.lemmas.Bool.{false≢true}
+use Rattle.wait_cycles.specs.declared.trail.Reached.{Reached}
 use Rattle.wait_cycles.specs.Cycles.{Pairs, IsCycle, IsLastCycle, IsLastOn, is_member, waits_in}
 use Rattle.wait_cycles.specs.Trails.{IsAt, IsFound, IsLastReached, nodes}
-use Rattle.wait_cycles.proofs.Lists.{any-map, get-map, get-unmap, member_at, member_here, none_passes, passes_there, place_of}
+use Rattle.wait_cycles.proofs.Lists.{get-unmap, member_here, place_of}
 use Rattle.wait_cycles.proofs.Ways.{IsWay, height, way_first, way_back, way_done}
-
--- where it was met
-pub met : (trail : List Reached) (start n : ℕ) → position (λ r. nat_eq start r.txn) trail ≡ Some n → slice_get (nodes trail) n ≡ Some start
-met trail start n found =
-    let there = passes_there (λ (r : Reached). nat_eq start r.txn) trail n found in
-    get-map (λ (r : Reached). r.txn) trail n there.0 there.1 ∙ ap (λ (x : ℕ). Some x) (sym (eqb-true start there.0.txn there.2))
-
-pub not_met : (trail : List Reached) (start : ℕ) → position (λ r. nat_eq start r.txn) trail ≡ None → is_member start (nodes trail) ≡ false
-not_met trail start nowhere = sym (any-map (λ (r : Reached). r.txn) start trail) ∙ none_passes (λ (r : Reached). nat_eq start r.txn) trail nowhere
-
-pub is_met : (trail : List Reached) (start : ℕ) (b : Bool) → is_some (position (λ r. nat_eq start r.txn) trail) ≡ b → is_member start (nodes trail) ≡ b
-is_met trail start b e = by (position (λ r. nat_eq start r.txn) trail) refl e
-  where
-    by : (o : Option ℕ) → position (λ r. nat_eq start r.txn) trail ≡ o → is_some o ≡ b → is_member start (nodes trail) ≡ b
-    by None is f = not_met trail start is ∙ f
-    by (Some n) is f = member_at start (nodes trail) n (met trail start n is) ∙ f
 
 -- each pair that waits is one
 pub no_pairs : (pairs : Pairs) (a b : ℕ) → length pairs ≡ 0 → waits_in pairs a b ≡ true → ⊥

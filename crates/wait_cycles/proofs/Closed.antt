@@ -4,7 +4,7 @@ use Rattle.std.specs.Prelude.{slice_get}
 use Rattle.std.proofs.lemmas.Bool.{false≢true, eqb-true, or_cases, cases_lt}
 use Rattle.std.proofs.lemmas.List.{length-append}
 use Rattle.std.proofs.lemmas.Option.{slice_get_within}
-use Rattle.wait_cycles.specs.declared.reached.Reached.{Reached}
+use Rattle.wait_cycles.specs.declared.trail.Reached.{Reached}
 use Rattle.wait_cycles.specs.Cycles.{Pairs, IsCycle, WaitInTurn, is_member}
 use Rattle.wait_cycles.specs.Trails.{Covers, IsAt, IsFound, IsLonger, IsTrail, nodes}
 use Rattle.wait_cycles.proofs.Lists.{length_map, get_within, get-map, map_append, place_of}

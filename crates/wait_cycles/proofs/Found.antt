@@ -4,7 +4,7 @@ use Rattle.std.specs.Prelude.{slice_get}
 use Rattle.std.specs.List.{list_any}
 use Rattle.std.proofs.lemmas.Bool.{false≢true, eqb-true, eq-eqb, or_cases, or_left, or_right, and_parts, and_from, cases_lt}
 use Rattle.std.proofs.lemmas.List.{length-append}
-use Rattle.wait_cycles.specs.declared.reached.Reached.{Reached}
+use Rattle.wait_cycles.specs.declared.trail.Reached.{Reached}
 use Rattle.wait_cycles.specs.Cycles.{Pairs, waits_in, is_member, is_distinct}
 use Rattle.wait_cycles.specs.Trails.{ComesFrom, IsAt, IsFound, IsLonger, nodes, open_pairs}
 use Rattle.wait_cycles.proofs.Lists.{few_pass, any-map, distinct_push, get_front, get_pushed, map_append, member_append, pushed_member, one_less}
@@ -103,6 +103,10 @@ longer_none pairs trail = record { more = ([], sym (append_nil trail)); fewer = 
 not_true : (b : Bool) → not b ≡ true → b ≡ false
 not_true true e = absurd (false≢true e)
 not_true false e = refl
+
+-- one that leads on has not been reached
+pub not_yet : (a b : Bool) → (a && not b) ≡ true → b ≡ false
+not_yet a b e = not_true b (and_parts a (not b) e).1
 
 module _ (pairs : Pairs) (old trail : List Reached) (a : ℕ) (from : Option ℕ) (n : ℕ) (p : ℕ × ℕ) (at : slice_get pairs n ≡ Some p) where
   same_pair : (q : ℕ × ℕ) → slice_get pairs n ≡ Some q → p ≡ q

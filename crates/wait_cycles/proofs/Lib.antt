@@ -7,3 +7,4 @@ pub mod Records
 pub mod Agreement
 pub mod Again
 pub mod Sorted
+pub mod Kept

@@ -6,7 +6,7 @@ use Rattle.std.specs.List.Sorted.{IsNonDecreasingBy, IsPartitionPoint}
 use Rattle.std.proofs.lemmas.Bool.{false≢true, eqb-true, or_cases, or_left, or_right, and_parts, and_from, eq-eqb, cases_lt, leb-true, le-leb, ltb-true, ltb-false}
 use Rattle.std.proofs.lemmas.List.{length-append}
 use Rattle.std.proofs.lemmas.Option.{slice_get_within, slice_get-get_or, get_or_from_slice_get}
-use Rattle.wait_cycles.specs.declared.reached.Reached.{Reached}
+use Rattle.wait_cycles.specs.declared.trail.Reached.{Reached}
 use Rattle.wait_cycles.specs.Cycles.{Pairs, IsCycle, IsGreatest, WaitInTurn, is_member, waits_in}
 use Rattle.wait_cycles.specs.Sorted.{ArePartedAt, AreRising, AreSorted, IsAwaited, up_to}
 use Rattle.wait_cycles.specs.Trails.{Covers, IsFound, IsLastReached, nodes}

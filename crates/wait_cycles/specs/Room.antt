@@ -4,4 +4,4 @@ use Rattle.wait_cycles.specs.declared.finder.Space.{Space}
 
 -- how many pairs
 abbrev pub room_of : Space → ℕ
-room_of s = min (vec_capacity s.sorted) (min (vec_capacity s.starts) (vec_capacity s.trail))
+room_of s = min (vec_capacity s.sorted) (min (vec_capacity s.starts) s.trail.capacity)

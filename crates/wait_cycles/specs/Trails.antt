@@ -1,7 +1,16 @@
 -- Those that are reached from a start, as they were found.
 use Rattle.std.specs.Prelude.{◌≡◌, ◌<◌, ◌≤◌, ◌+◌, ℕ, not, IsTrue, List, ◌++◌, length, map, filter, slice_get, Option, Some, None}
-use Rattle.wait_cycles.specs.declared.reached.Reached.{Reached}
+use Rattle.wait_cycles.specs.declared.trail.Reached.{Reached}
 use Rattle.wait_cycles.specs.Cycles.{Pairs, IsCycle, waits_in, is_member, is_distinct}
+
+-- those that were reached, in the order in which they were found, and how many have room
+pub record Reaching : Type 0 where
+  pub reached : List Reached
+  pub capacity : ℕ
+
+-- as they are kept: under each number the place of the one before it
+abbrev pub reached_in : List (ℕ × Option ℕ) → List Reached
+reached_in entries = map (λ e. record { txn = e.0; from = e.1 }) entries
 
 abbrev pub nodes : List Reached → List ℕ
 nodes trail = map (λ r. r.txn) trail

@@ -7,7 +7,8 @@ ghost use Rattle.wait_cycles.specs.Room.{room_of};
 
 use crate::cycle::Cycle;
 use crate::order::{list_starts, sort_pairs};
-use crate::reached::{Reached, place_of, reached_from};
+use crate::reached::reached_from;
+use crate::trail::Trail;
 use serial_spec::NoMemory;
 use std::alloc::Global;
 use std::marker::Model;
@@ -18,7 +19,7 @@ use txn_tree::TxnNo;
 pub(crate) struct Space {
     pub(crate) sorted: Vec<(TxnNo, TxnNo)>,
     pub(crate) starts: Vec<TxnNo>,
-    pub(crate) trail: Vec<Reached>,
+    pub(crate) trail: Trail,
 }
 
 // None yet, and no memory for any.
@@ -28,7 +29,7 @@ fn no_space(alloc: Global) -> Space
     Space {
         sorted: Vec::new(alloc),
         starts: Vec::new(alloc),
-        trail: Vec::new(alloc),
+        trail: Trail::new(alloc),
     }
 }
 
@@ -40,24 +41,23 @@ fn reserve_space(space: &mut Space, pairs: usize) -> Result<(), NoMemory>
 {
     space.sorted.clear();
     space.starts.clear();
-    space.trail.clear();
     space.sorted.reserve(pairs)?;
     space.starts.reserve(pairs)?;
     space.trail.reserve(pairs)
 }
 
 // The way back from a place to the start, turned round, behind the start.
-fn cycle_to(alloc: Global, trail: &[Reached], start: TxnNo, place: usize) -> Result<Cycle, NoMemory>
-    requires backward { AreBackward trail.now }
-    requires place { slice_get (nodes trail.now) place ≡ Some start }
-    ensures cycle { IfOk result (λ c. (pairs : Pairs) → IsFound pairs start trail.now → IsCycle pairs c) }
+fn cycle_to(alloc: Global, trail: &Trail, start: TxnNo, place: usize) -> Result<Cycle, NoMemory>
+    requires backward { AreBackward trail.now.reached }
+    requires place { slice_get (nodes trail.now.reached) place ≡ Some start }
+    ensures cycle { IfOk result (λ c. (pairs : Pairs) → IsFound pairs start trail.now.reached → IsCycle pairs c) }
     ensures start { IfOk result (λ c. IsTrue (is_member start c)) }
 {
     let mut members = Vec::new(alloc);
-    let last = trail[place];
+    let last = trail.at(place);
     let mut before = last.from;
     while let Some(place) = before {
-        let reached = trail[place];
+        let reached = trail.at(place);
         members.push(reached.txn)?;
         before = reached.from;
     }
@@ -67,16 +67,16 @@ fn cycle_to(alloc: Global, trail: &[Reached], start: TxnNo, place: usize) -> Res
 }
 
 // Whether the start lies on a cycle of which it is the greatest member.
-fn comes_back(trail: &mut Vec<Reached>, sorted: &[(TxnNo, TxnNo)], start: TxnNo) -> bool
+fn comes_back(trail: &mut Trail, sorted: &[(TxnNo, TxnNo)], start: TxnNo) -> bool
     requires sorted { AreSorted sorted.now }
-    requires room { length sorted.now ≤ vec_capacity trail.old }
-    ensures found { IsFound sorted.now start trail.new.items }
-    ensures again { result ≡ is_member start (nodes trail.new.items) }
+    requires room { length sorted.now ≤ trail.old.capacity }
+    ensures found { IsFound sorted.now start trail.new.reached }
+    ensures again { result ≡ is_member start (nodes trail.new.reached) }
     ensures none { IsFalse result → IsNoGreatest sorted.now start }
-    ensures capacity { vec_capacity trail.new ≡ vec_capacity trail.old }
+    ensures capacity { trail.old.capacity ≤ trail.new.capacity }
 {
     reached_from(trail, sorted, start);
-    place_of(trail, start).is_some()
+    trail.has(start)
 }
 
 // Whether this start was the last that was tried.
@@ -90,19 +90,14 @@ fn was_tried(tried: Option<TxnNo>, start: TxnNo) -> bool
 }
 
 // The same, where the start may be the last that was tried, which is not tried again.
-fn is_last(
-    trail: &mut Vec<Reached>,
-    sorted: &[(TxnNo, TxnNo)],
-    tried: Option<TxnNo>,
-    start: TxnNo,
-) -> bool
+fn is_last(trail: &mut Trail, sorted: &[(TxnNo, TxnNo)], tried: Option<TxnNo>, start: TxnNo) -> bool
     requires sorted { AreSorted sorted.now }
     requires tried { IfSome tried (λ t. IsNoGreatest sorted.now t) }
-    requires room { length sorted.now ≤ vec_capacity trail.old }
-    ensures found { IsTrue result → IsFound sorted.now start trail.new.items }
-    ensures again { IsTrue result → IsTrue (is_member start (nodes trail.new.items)) }
+    requires room { length sorted.now ≤ trail.old.capacity }
+    ensures found { IsTrue result → IsFound sorted.now start trail.new.reached }
+    ensures again { IsTrue result → IsTrue (is_member start (nodes trail.new.reached)) }
     ensures none { IsFalse result → IsNoGreatest sorted.now start }
-    ensures capacity { vec_capacity trail.new ≡ vec_capacity trail.old }
+    ensures capacity { trail.old.capacity ≤ trail.new.capacity }
 {
     if was_tried(tried, start) {
         return false;
@@ -113,17 +108,17 @@ fn is_last(
 // The last of the starts that lies on a cycle of which it is the greatest member.
 fn last_start(
     starts: &mut Vec<TxnNo>,
-    trail: &mut Vec<Reached>,
+    trail: &mut Trail,
     sorted: &[(TxnNo, TxnNo)],
 ) -> Option<TxnNo>
     requires sorted { AreSorted sorted.now }
     requires rising { AreRising starts.old.items }
     requires all { (b : ℕ) → IsAwaited sorted.now b → IsTrue (is_member b starts.old.items) }
-    requires room { length sorted.now ≤ vec_capacity trail.old }
-    ensures some { IfSome result (λ start. IsLastReached sorted.now start trail.new.items) }
+    requires room { length sorted.now ≤ trail.old.capacity }
+    ensures some { IfSome result (λ start. IsLastReached sorted.now start trail.new.reached) }
     ensures none { IfNone result ((xs : List ℕ) → IsCycle sorted.now xs → ⊥) }
     ensures starts_capacity { vec_capacity starts.new ≡ vec_capacity starts.old }
-    ensures trail_capacity { vec_capacity trail.new ≡ vec_capacity trail.old }
+    ensures trail_capacity { trail.old.capacity ≤ trail.new.capacity }
 {
     let mut tried = None;
     while let Some(start) = starts.pop() {
@@ -140,7 +135,7 @@ fn last_start(
 // by way of nobody above it.
 fn last_on(space: &mut Space, pairs: &[(TxnNo, TxnNo)]) -> Option<TxnNo>
     requires { length pairs.now ≤ room_of space.old }
-    ensures some { IfSome result (λ start. IsLastReached pairs.now start space.new.trail.items) }
+    ensures some { IfSome result (λ start. IsLastReached pairs.now start space.new.trail.reached) }
     ensures none { IfNone result ((xs : List ℕ) → IsCycle pairs.now xs → ⊥) }
     ensures room { room_of space.old ≤ room_of space.new }
 {
@@ -161,7 +156,7 @@ pub fn find_cycle(alloc: Global, pairs: &[(TxnNo, TxnNo)]) -> Result<Option<Cycl
     let Some(start) = last_on(&mut space, pairs) else {
         return Ok(None);
     };
-    match place_of(&space.trail, start) {
+    match space.trail.place_of(start) {
         Some(place) => Ok(Some(cycle_to(alloc, &space.trail, start, place)?)),
         None => Ok(None),
     }

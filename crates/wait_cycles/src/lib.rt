@@ -7,6 +7,7 @@ mod finder;
 pub mod laws;
 mod order;
 mod reached;
+mod trail;
 mod waits;
 
 pub use cycle::{Cycle, victim};

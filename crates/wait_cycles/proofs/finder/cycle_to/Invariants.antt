@@ -6,8 +6,8 @@ use Rattle.wait_cycles.proofs.finder.cycle_to.Given as goal
 
 abbrev pub invariant-loop-before : goal.invariant-loop-before
 invariant-loop-before l =
-    IsWithin l.trail l.before
-    × ((pairs : Pairs) → IsFound pairs l.start l.trail → IsWay pairs l.start l.trail l.fn.place l.before (reverse l.members.items))
+    IsWithin l.trail.reached l.before
+    × ((pairs : Pairs) → IsFound pairs l.start l.trail.reached → IsWay pairs l.start l.trail.reached l.fn.place l.before (reverse l.members.items))
 
 abbrev pub decreases-loop-before : goal.decreases-loop-before
 decreases-loop-before l = height l.before

@@ -8,10 +8,10 @@ use Rattle.wait_cycles.proofs.finder.last_on.Goals as goal
 pub returns-clause-some : goal.returns-clause-some
 returns-clause-some c = by c.last_start.result (rw c.deref-2.ensures.value at c.last_start.ensures.some)
   where
-    by : (o : Option ℕ) → IfSome o (λ start. IsLastReached c.sort_pairs.new.sorted.items start c.last_start.new.trail.items)
-        → IfSome o (λ start. IsLastReached c.args.pairs.now start c.last_start.new.trail.items)
+    by : (o : Option ℕ) → IfSome o (λ start. IsLastReached c.sort_pairs.new.sorted.items start c.last_start.new.trail.reached)
+        → IfSome o (λ start. IsLastReached c.args.pairs.now start c.last_start.new.trail.reached)
     by None is = is
-    by (Some start) is = last_reached_onto c.sort_pairs.new.sorted.items c.args.pairs.now c.sort_pairs.ensures.same start c.last_start.new.trail.items is
+    by (Some start) is = last_reached_onto c.sort_pairs.new.sorted.items c.args.pairs.now c.sort_pairs.ensures.same start c.last_start.new.trail.reached is
 
 pub returns-clause-none : goal.returns-clause-none
 returns-clause-none c = by c.last_start.result (rw c.deref-2.ensures.value at c.last_start.ensures.none)

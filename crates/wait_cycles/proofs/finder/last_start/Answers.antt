@@ -5,7 +5,7 @@ use Rattle.wait_cycles.proofs.Sorted.{AreLeft, at_most_last, fewer_left, greates
 use Rattle.wait_cycles.proofs.finder.last_start.Goals as goal
 
 pub loop-start-init : goal.loop-start-init
-loop-start-init c = (c.requires.rising, λ xs cycle a greatest. c.requires.all a (greatest_awaited c.args.sorted.now xs cycle a greatest), tt, refl, refl)
+loop-start-init c = (c.requires.rising, λ xs cycle a greatest. c.requires.all a (greatest_awaited c.args.sorted.now xs cycle a greatest), tt, refl, omega arith)
 
 pub loop-start-preserved : goal.loop-start-preserved
 loop-start-preserved c =
@@ -19,7 +19,7 @@ loop-start-preserved c =
       fewer_left sorted front start (subst (λ (xs : List ℕ). AreLeft sorted xs) was i.1) none,
       none,
       c.pop.ensures.capacity ∙ i.3,
-      c.is_last.ensures.capacity ∙ i.4,
+      omega (arith, c.is_last.ensures.capacity, i.4),
     )
 
 pub returns-then-is_last-clause-some : goal.returns-then-is_last-clause-some

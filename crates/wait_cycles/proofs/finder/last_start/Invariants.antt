@@ -1,4 +1,4 @@
-use Rattle.std.proofs.Common.{◌≡◌, length}
+use Rattle.std.proofs.Common.{◌≡◌, ◌≤◌, length}
 use Rattle.std.specs.Prelude.{IfSome, vec_capacity}
 use Rattle.wait_cycles.specs.Sorted.{AreRising, IsNoGreatest}
 use Rattle.wait_cycles.proofs.Sorted.{AreLeft}
@@ -10,7 +10,7 @@ invariant-loop-start l =
     × AreLeft l.fn.sorted l.starts.items
     × IfSome l.tried (λ t. IsNoGreatest l.fn.sorted t)
     × (vec_capacity l.starts ≡ vec_capacity l.fn.starts)
-    × (vec_capacity l.trail ≡ vec_capacity l.fn.trail)
+    × (l.fn.trail.capacity ≤ l.trail.capacity)
 
 abbrev pub decreases-loop-start : goal.decreases-loop-start
 decreases-loop-start l = length l.starts.items
