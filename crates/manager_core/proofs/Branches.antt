@@ -1,8 +1,8 @@
 -- The branch by which one name parts from another, found by how many labels names share.
-use Rattle.std.proofs.Common.{◌≡◌, ◌⊎◌, ℕ, zero, suc, ◌+◌, ◌<◌, ◌≤◌, nat_lt, Bool, true, false, ◌&&◌, List, [], ◌∷◌, length, take, inl, inr, refl, sym, ap, subst, ◌∙◌, arith}
+use Rattle.std.proofs.Common.{◌≡◌, ℕ, zero, suc, ◌+◌, ◌<◌, ◌≤◌, nat_lt, true, false, ◌&&◌, [], ◌∷◌, length, take, inl, inr, refl, sym, ap, subst, ◌∙◌, arith}
 use Rattle.std.proofs.lemmas.Bool.{cases_lt, false≢true, ltb-true, lt-ltb}
 use Rattle.std.proofs.lemmas.List.{length-take-le}
-use Rattle.txn_names.specs.Path.{Path, is_front, label_eq, meet}
+use Rattle.txn_names.specs.Path.{Path, is_front, meet}
 use Rattle.txn_names.proofs.Names.{is_front-take, is_front-trans, label_eq_self, length-front, meet-greatest, meet-le, take-front, take-meet}
 use Rattle.serial_spec.specs.Waits.{branch_of}
 use Rattle.lock_table.proofs.Lists.{same_tests}

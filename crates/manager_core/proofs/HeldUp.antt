@@ -1,5 +1,5 @@
 -- Who waits for whom, found among those who lock a key.
-use Rattle.std.proofs.Common.{◌≡◌, ℕ, ◌+◌, ◌<◌, ◌≤◌, nat_eq, Bool, true, false, not, ◌&&◌, cond, filter, map, List, [], ◌∷◌, ◌++◌, length, take, Option, Some, None, is_some, refl, sym, ap, subst, ◌∙◌, IsFalse, arith}
+use Rattle.std.proofs.Common.{◌≡◌, ℕ, ◌+◌, ◌<◌, nat_eq, Bool, true, false, not, ◌&&◌, cond, filter, map, List, [], ◌∷◌, ◌++◌, length, take, Option, Some, None, is_some, refl, sym, ap, subst, ◌∙◌, IsFalse, arith}
 use Rattle.std.specs.Prelude.{slice_get}
 use Rattle.std.proofs.lemmas.List.{append-nil, append_assoc, map-append}
 use Rattle.std.proofs.lemmas.List.Elements.{filter-append}
@@ -12,7 +12,6 @@ use Rattle.lock_table.specs.Locked.{Table, modes_in, whole, free}
 use Rattle.lock_table.specs.Blocking.{has_number, is_blocker_in, is_under, numbers}
 use Rattle.lock_table.proofs.Lists.{any_in_range, any_of_those, same_tests, witness}
 use Rattle.serial_spec.proofs.Taking.{take_next}
-use Rattle.serial_spec.specs.declared.operation.Kind.{Kind}
 use Rattle.serial_spec.specs.Operations.{kind}
 use Rattle.serial_spec.specs.Locks.{conflicts}
 use Rattle.wait_cycles.specs.declared.waits.Wait.{Wait}

@@ -1,5 +1,5 @@
 -- The pairs that are collected from the tables are those of the definitions.
-use Rattle.std.proofs.Common.{◌≡◌, ◌⊎◌, ℕ, zero, suc, ◌+◌, ◌<◌, nat_eq, nat_lt, Bool, true, false, not, ◌&&◌, ◌||◌, filter, find, map, reverse, List, [], ◌∷◌, ◌++◌, length, Option, Some, None, inl, inr, refl, sym, ap, subst, ◌∙◌, IsTrue, cond, is_some, unwrap_or, if◌then◌else◌, arith}
+use Rattle.std.proofs.Common.{◌≡◌, ℕ, zero, suc, nat_eq, nat_lt, Bool, true, false, not, ◌&&◌, ◌||◌, filter, find, map, reverse, List, [], ◌∷◌, ◌++◌, length, Option, Some, None, inl, inr, refl, sym, ap, subst, ◌∙◌, IsTrue, cond, is_some, unwrap_or, if◌then◌else◌}
 use Rattle.std.specs.Prelude.{slice_get}
 use Rattle.std.specs.List.{AllByRecursion, IsDistinct, list_any}
 use Rattle.std.proofs.lemmas.Bool.{and_parts, eq-eqb, eqb-true, false≢true, not-true, or_left, or_right, or_cases}
@@ -9,7 +9,6 @@ use Rattle.std.proofs.lemmas.List.{reverse-append, length-reverse}
 use Rattle.txn_names.specs.Path.{is_front, meet, path_eq}
 use Rattle.txn_names.proofs.Names.{on_path, on_test, path_eq_self, same_path}
 use Rattle.txn_tree.specs.States.{States, names}
-use Rattle.lock_table.specs.Blocking.{is_blocker_in}
 use Rattle.lock_table.specs.Locked.{Table}
 use Rattle.serial_spec.specs.declared.entry.Entry.{Entry}
 use Rattle.serial_spec.specs.declared.event.Event.{Event}
@@ -29,7 +28,7 @@ use Rattle.wait_cycles.specs.Cycles.{Pairs, waits_in}
 use Rattle.wait_cycles.specs.Waiting.{AreOnce, Waiting, wait_of}
 use Rattle.wait_cycles.specs.declared.waits.Wait.{Wait}
 use Rattle.wait_cycles.proofs.Lists.{get_front, get_pushed}
-use Rattle.manager_core.specs.Kept.{AreTablesOf, IsTreeOf, wait_of_any}
+use Rattle.manager_core.specs.Kept.{AreTablesOf, wait_of_any}
 use Rattle.manager_core.specs.Pairs.{is_beside, is_held_up, is_in_branch, pairs_of, pairs_with, waits_for_in}
 use Rattle.manager_core.specs.Tables.{Tabled, wait_by as kept_by, wait_for}
 use Rattle.manager_core.proofs.Blocking.{any_named}

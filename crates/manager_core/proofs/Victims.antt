@@ -1,8 +1,7 @@
 -- Victims are aborted until no cycle of waits is left.
 use Rattle.std.proofs.Common.{◌≡◌, ◌≤◌, ◌<◌, ◌*◌, ℕ, Bool, true, false, not, cond, ◌&&◌, List, [], ◌∷◌, length, filter, find, Option, Some, None, is_some, refl, sym, ap, subst, ◌∙◌, arith}
 use Rattle.std.specs.Prelude.{slice_get, option_map}
-use Rattle.std.proofs.lemmas.Bool.{false≢true, and_from, and_parts}
-use Rattle.txn_names.specs.Path.{path_eq, is_front}
+use Rattle.std.proofs.lemmas.Bool.{false≢true, not-true, true_from_ne_false, and_from, and_parts}
 use Rattle.txn_names.proofs.Names.{is_front_self}
 use Rattle.txn_tree.specs.States.{States, names}
 use Rattle.txn_tree.specs.Causes as tree
@@ -10,14 +9,18 @@ use Rattle.serial_spec.specs.declared.entry.By.{By}
 use Rattle.serial_spec.specs.declared.entry.By.TheVariants.{Line, Victim, Close}
 use Rattle.serial_spec.specs.declared.entry.Refusal.TheVariants.{Unknown, Orphan, Done as HasCommitted}
 use Rattle.serial_spec.specs.declared.entry.Entry.{Entry}
-use Rattle.serial_spec.specs.History.{Name, History, Status, Absent, Live, Committed, Aborted, Aborts, or_else, is_active, is_committed, is_live_status, is_orphan, has_begun, has_committed, has_aborted, status, top_aborted}
-use Rattle.serial_spec.specs.Waits.{IsVictim, OnCycle, Quiet, WaitInTurn, accesses, open_waits, same_line, waits_by, waits_for, wait_of}
+use Rattle.serial_spec.specs.declared.event.Event.TheVariants.{Access}
+use Rattle.serial_spec.specs.declared.operation.Op.{Op}
+use Rattle.serial_spec.specs.History.{Name, History, Status, Absent, Live, Committed, Aborted, Aborts, or_else, is_active, is_committed, is_live, is_live_status, is_orphan, has_begun, has_committed, has_aborted, top_aborted}
+use Rattle.serial_spec.specs.Waits.{IsVictim, Quiet, WaitInTurn, accesses, open_waits, same_line, waits_by, wait_of}
 use Rattle.serial_spec.specs.Rows.{Rows}
 use Rattle.serial_spec.specs.Allowed.{cause_at_end, when}
 use Rattle.serial_spec.specs.Legal.{AreAllowed, Legal}
 use Rattle.serial_spec.specs.Interleaving.{AfterVictims, victim}
 use Rattle.durable_top.specs.declared.store.TopStore.{Ghosts}
+use Rattle.manager_core.specs.Calls.{WaitsOrIsUndone}
 use Rattle.manager_core.specs.Kept.{AreTablesOf, IsTreeOf}
+use Rattle.manager_core.specs.Lines.{IsWaitOf}
 use Rattle.manager_core.specs.Sound.{IsBacked}
 use Rattle.manager_core.specs.Tables.{Tabled, AbortsIn, is_below, wait_at}
 use Rattle.manager_core.specs.Victims.{Breaks}
@@ -213,10 +216,19 @@ module _ (h h2 : History) (vs : List Name) (after : AfterVictims h vs h2) where
       (and_from _ _ (same_begun h h2 vs after (l ∷ ls) ∙ (and_parts (has_begun h (l ∷ ls) && not (has_committed h (l ∷ ls))) _ (active_acts h (l ∷ ls) acts)).0) (ap not alone))
 
   -- one that waits does so still, unless it has been aborted with a victim
-  pub waits_still : (t : Name) (w : Entry) → wait_of h t ≡ Some w → is_orphan h2 t ≡ false → wait_of h2 t ≡ Some w
+  waits_still : (t : Name) (w : Entry) → wait_of h t ≡ Some w → is_orphan h2 t ≡ false → wait_of h2 t ≡ Some w
   waits_still t w waits alone =
       let acts = some_if (is_active h t) _ (ap is_some waits) in
       ap (λ b. cond b (find (λ v. accesses t v.event) (open_waits h2)) None) (acts_still t acts alone)
       ∙ ap (find (λ v. accesses t v.event)) (same_open h h2 vs after)
       ∙ sym (ap (λ b. cond b (find (λ v. accesses t v.event) (open_waits h)) None) acts)
       ∙ waits
+
+  pub waits_or_is_undone : (by : By) (t : Name) (k : List ℕ) (op : Op) → IsWaitOf h by (Access t k op) → WaitsOrIsUndone h2 by t k op
+  waits_or_is_undone by t k op (w, waits, of_line, event) = record {
+    waits = λ some. (w, waits_still t w waits (not_orphan some), of_line, event);
+    undone = λ none. true_from_ne_false (is_orphan h2 t) (λ alone. false≢true (sym none ∙ ap is_some (waits_still t w waits alone)));
+  }
+    where
+      not_orphan : is_some (wait_of h2 t) ≡ true → is_orphan h2 t ≡ false
+      not_orphan some = not-true (is_orphan h2 t) (and_parts (is_live h2 t) (not (is_orphan h2 t)) (some_if (is_active h2 t) _ some)).1

@@ -1,10 +1,11 @@
 -- What each call does to the manager.
-use Rattle.std.specs.Prelude.{◌≡◌, ◌⊎◌, ℕ, ◌&&◌, IsTrue, IsFalse, List, [], ◌∷◌, ◌++◌, Some, None}
+use Rattle.std.specs.Prelude.{is_some, ◌≡◌, ◌⊎◌, ℕ, ◌&&◌, IsTrue, IsFalse, List, [], ◌∷◌, ◌++◌, Some, None}
 use Rattle.txn_names.specs.declared.change.Change.{Change}
 use Rattle.serial_spec.specs.declared.entry.By.{By}
 use Rattle.serial_spec.specs.declared.event.Event.{Event}
-use Rattle.serial_spec.specs.declared.event.Event.TheVariants.{Commit}
-use Rattle.serial_spec.specs.History.{Name, is_live, begun}
+use Rattle.serial_spec.specs.declared.operation.Op.{Op}
+use Rattle.serial_spec.specs.declared.event.Event.TheVariants.{Access, Commit}
+use Rattle.serial_spec.specs.History.{Name, History, is_live, is_orphan, begun}
 use Rattle.serial_spec.specs.Waits.{wait_of}
 use Rattle.serial_spec.specs.Rows.{value_in}
 use Rattle.serial_spec.specs.Changes.{IsChanges}
@@ -17,6 +18,7 @@ use Rattle.durable_top.specs.declared.store.TopStore.{Ghosts}
 use Rattle.manager_core.specs.declared.outcome.Outcome.{Outcome}
 use Rattle.manager_core.specs.Outcomes.{answer_of, is_done, is_of_store}
 use Rattle.manager_core.specs.State.{State, entry}
+use Rattle.manager_core.specs.Lines.{IsWaitOf}
 use Rattle.manager_core.specs.Closing.{closings}
 use Rattle.manager_core.specs.Asked.{IsLater, IsAsked}
 
@@ -32,6 +34,11 @@ pub record Answered {S : Type 0} (old new : State S) (by : By) (event : Event) (
   pub victims : List Name
   pub broken : AfterVictims (entry by event (answer_of outcome) ∷ old.history) victims new.history
   pub beside : new ≡ record old { history = new.history }
+
+-- whoever had to wait by this line does so, or has been aborted with a victim
+pub record WaitsOrIsUndone (h : History) (by : By) (t : Name) (k : List ℕ) (op : Op) : Type 0 where
+  pub waits : IsTrue (is_some (wait_of h t)) → IsWaitOf h by (Access t k op)
+  pub undone : IsFalse (is_some (wait_of h t)) → IsTrue (is_orphan h t)
 
 -- the definition has no answer for the line yet
 pub record WaitsOn {S : Type 0} (old new : State S) (wait : Entry) (outcome : Outcome) : Type 0 where

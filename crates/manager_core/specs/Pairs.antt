@@ -1,5 +1,5 @@
 -- Which of those that wait wait for which, by the numbers of transactions.
-use Rattle.std.specs.Prelude.{ℕ, Bool, false, nat_lt, ◌&&◌, List, [], ◌∷◌, ◌++◌, map, filter, slice_get, Option, Some, None}
+use Rattle.std.specs.Prelude.{ℕ, Bool, false, nat_lt, ◌&&◌, List, [], ◌∷◌, ◌++◌, map, filter, slice_get, Option, Some}
 use Rattle.std.specs.List.{list_any}
 use Rattle.txn_names.specs.Path.{Path, meet}
 use Rattle.txn_tree.specs.States.{States, names}

@@ -4,7 +4,6 @@ ghost use Rattle.serial_spec.specs.declared.event.Event.TheVariants.{Abort, Acce
 ghost use Rattle.serial_spec.specs.declared.entry.Answer.TheVariants.{Refused, Stuck};
 ghost use Rattle.serial_spec.specs.Allowed.{Allowed, cause_at_commit};
 ghost use Rattle.serial_spec.specs.Rows.{IsRising, value_in};
-ghost use Rattle.serial_spec.specs.History.{is_orphan};
 ghost use Rattle.serial_spec.specs.Waits.{is_waits, wait_of};
 ghost use Rattle.durable_top.specs.Store.{plain};
 ghost use Rattle.manager_core.specs.Lines.{IsFree, IsWaitOf, waits_no_more, accessor};
@@ -68,7 +67,7 @@ pub struct Parts<S: TopStore> {
 }
 
 impl<S: TopStore> Manager<S> {
-    ghost use Rattle.manager_core.specs.Calls.{Added, Answered, Closed, Committed, Retried};
+    ghost use Rattle.manager_core.specs.Calls.{Added, Answered, Closed, Committed, Retried, WaitsOrIsUndone};
     ghost use Rattle.manager_core.specs.Opening.{HasCause, IsOpened};
     ghost use Rattle.manager_core.specs.Sound.{IsSound, is_store_refusal};
 
@@ -142,7 +141,7 @@ impl<S: TopStore> Manager<S> {
     pub fn access(&mut self, by: By, name: &Name, key: &Key, op: Op) -> Result<Outcome, NoMemory>
         requires free { IsFree self.old.history by (Access name.now key.now op) }
         ensures ok { IfOk result (λ outcome. Answered self.old self.new by (Access name.now key.now op) outcome) }
-        ensures waits { IfOk result (λ outcome. outcome ≡ Outcome.Waits → IsFalse (is_orphan self.new.history name.now) → IsWaitOf self.new.history by (Access name.now key.now op)) }
+        ensures waits { IfOk result (λ outcome. outcome ≡ Outcome.Waits → WaitsOrIsUndone self.new.history by name.now key.now op) }
         ensures err { OnErr result (self.new ≡ self.old) }
         ensures sound { OnOk result (IsSound S.TopStore self.new) }
     {

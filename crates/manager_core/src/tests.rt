@@ -2,4 +2,5 @@
 mod answers;
 mod locks;
 mod stores;
+mod victims;
 mod watched;

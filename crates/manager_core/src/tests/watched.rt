@@ -2,8 +2,10 @@
 //! succeed when it is made again: a trial run refuses each growth in turn.
 //!
 //! What fails ends the process. So no function drops a manager on its way out, which would make a long proof.
-ghost use Rattle.std.specs.Prelude.{◌≡◌, IfOk, OnErr, Some};
+ghost use Rattle.std.specs.Prelude.{◌≡◌, OnErr};
 ghost use Rattle.serial_spec.specs.declared.entry.By.TheVariants.{Line};
+ghost use Rattle.serial_spec.specs.declared.event.Event.TheVariants.{Access};
+ghost use Rattle.manager_core.specs.Calls.{WaitsOrIsUndone};
 ghost use Rattle.manager_core.specs.Lines.{IsFree, IsWaitOf};
 
 use crate::{Manager, OpenFault, Outcome, Parts};
@@ -209,8 +211,7 @@ pub fn call<S: TopStore>(
     event: &Event,
 ) -> Result<Outcome, NoMemory>
     requires { IsFree manager.old.history by event.now }
-    ensures waits { IfOk result (λ outcome. outcome ≡ Outcome.Waits → IsWaitOf manager.new.history by event.now) }
-    ensures err { OnErr result (manager.new ≡ manager.old) }
+    ensures { OnErr result (manager.new ≡ manager.old) }
 {
     match event {
         Event::Begin(name) => manager.begin(by, name),
@@ -252,10 +253,22 @@ fn check_line<S: TopStore>(
     }
 }
 
-// Makes a call, by a line that has to be free.
-fn ask<S: TopStore>(rt: &impl Abort, watched: &mut Watched<S>, by: By, event: &Event) -> Outcome
-    ensures { result ≡ Outcome.Waits → IsWaitOf watched.new.manager.history by event.now }
-{
+// The entries of those that are aborted in this order, by the manager itself.
+fn owe_aborts(rt: &impl Abort, due: &mut Vec<Entry>, by: By, names: &str) {
+    for word in names.split_whitespace() {
+        let event = Event::Abort(name(rt, word));
+        owe(rt, due, by, &event, Answer::Done(Reply::Ok));
+    }
+}
+
+// Makes a call, by a line that has to be free. These have to be its victims.
+fn ask<S: TopStore>(
+    rt: &impl Abort,
+    watched: &mut Watched<S>,
+    by: By,
+    event: &Event,
+    victims: &str,
+) -> Outcome {
     assert!(rt; watched.manager.free(by, event));
     let before = look(watched);
     let outcome = match call(&mut watched.manager, by, event) {
@@ -266,8 +279,11 @@ fn ask<S: TopStore>(rt: &impl Abort, watched: &mut Watched<S>, by: By, event: &E
         }
     };
     owe(rt, &mut watched.due, by, event, outcome.answer());
+    owe_aborts(rt, &mut watched.due, By::Victim, victims);
     assert!(rt; is_due(watched));
-    check_line(rt, &watched.manager, by, event, outcome);
+    if victims.is_empty() {
+        check_line(rt, &watched.manager, by, event, outcome);
+    }
     outcome
 }
 
@@ -277,6 +293,7 @@ fn ask_again<S: TopStore>(
     watched: &mut Watched<S>,
     by: By,
     event: &Event,
+    victims: &str,
 ) -> Answer {
     let name = name_of(event);
     assert!(rt; watched.manager.waiting(name));
@@ -293,10 +310,36 @@ fn ask_again<S: TopStore>(
         assert!(rt; is_as_before(watched, before));
     } else {
         owe(rt, &mut watched.due, by, event, outcome.answer());
+        owe_aborts(rt, &mut watched.due, By::Victim, victims);
         assert!(rt; is_due(watched));
         assert!(rt; !watched.manager.waiting(name));
     }
     outcome.answer()
+}
+
+// Makes the call of an access.
+fn access<S: TopStore>(
+    rt: &impl Abort,
+    watched: &mut Watched<S>,
+    by: By,
+    name: &Name,
+    key: &Key,
+    op: Op,
+) -> Outcome
+    requires { IsFree watched.old.manager.history by (Access name.now key.now op) }
+    ensures { result ≡ Outcome.Waits → WaitsOrIsUndone watched.new.manager.history by name.now key.now op }
+{
+    let before = look(watched);
+    match watched.manager.access(by, name, key, op) {
+        Ok(outcome) => outcome,
+        Err(_) => {
+            assert!(rt; is_as_before(watched, before));
+            watched
+                .manager
+                .access(by, name, key, op)
+                .expect(rt, "memory")
+        }
+    }
 }
 
 // Gives up an access that waits.
@@ -313,21 +356,38 @@ fn give_up<S: TopStore>(rt: &impl Abort, watched: &mut Watched<S>, by: By, event
     assert!(rt; !watched.manager.waiting(name_of(event)));
 }
 
+// An access that has to wait is given up.
+fn wait_and_give_up<S: TopStore>(rt: &impl Abort, watched: &mut Watched<S>, by: By, event: &Event) {
+    let Event::Access(name, key, op) = event else {
+        rt.panic("only an access waits")
+    };
+    assert!(rt; watched.manager.free(by, event));
+    let outcome = access(rt, watched, by, name, key, *op);
+    assert!(rt; outcome == Outcome::Waits);
+    assert!(rt; watched.manager.waiting(name));
+    owe(rt, &mut watched.due, by, event, Answer::Waits);
+    assert!(rt; is_due(watched));
+    give_up(rt, watched, by, event);
+}
+
 const NOT_STORED: Answer = Answer::Refused(Refusal::Store);
 
 // Makes the call of a line, and gives its answer. A line that waits already asks again. Where an access is to be stuck
 // it is given up when it waits.
-fn answer_to<S: TopStore>(rt: &impl Abort, watched: &mut Watched<S>, line: &Entry) -> Answer {
+fn answer_to<S: TopStore>(
+    rt: &impl Abort,
+    watched: &mut Watched<S>,
+    line: &Entry,
+    victims: &str,
+) -> Answer {
     let Entry { by, event, answer } = line;
-    if !watched.manager.free(*by, event) {
-        return ask_again(rt, watched, *by, event);
-    }
-    match ask(rt, watched, *by, event) {
-        Outcome::Waits if *answer == Answer::Stuck => {
-            give_up(rt, watched, *by, event);
-            Answer::Stuck
-        }
-        outcome => outcome.answer(),
+    if *answer == Answer::Stuck {
+        wait_and_give_up(rt, watched, *by, event);
+        Answer::Stuck
+    } else if watched.manager.free(*by, event) {
+        ask(rt, watched, *by, event, victims).answer()
+    } else {
+        ask_again(rt, watched, *by, event, victims)
     }
 }
 
@@ -339,23 +399,16 @@ fn again(by: By) -> By {
     }
 }
 
-// A line has to be answered so.
+// A line has to be answered so, and behind a star stand the victims that come of it.
 fn tell<S: TopStore>(rt: &impl Abort, watched: &mut Watched<S>, text: &str) {
-    let line = entry(rt, text);
-    let mut answer = answer_to(rt, watched, &line);
+    let (told, victims) = text.split_once(" * ").unwrap_or((text, ""));
+    let line = entry(rt, told);
+    let mut answer = answer_to(rt, watched, &line, victims);
     // A store in memory has refused for want of memory.
     if answer == NOT_STORED && line.answer == Answer::Done(Reply::Ok) {
-        answer = ask(rt, watched, again(line.by), &line.event).answer();
+        answer = ask(rt, watched, again(line.by), &line.event, victims).answer();
     }
     assert!(rt; answer == line.answer, "{text}");
-}
-
-// The entries of a close that aborts these.
-fn owe_aborts(rt: &impl Abort, due: &mut Vec<Entry>, names: &str) {
-    for word in names.split_whitespace() {
-        let event = Event::Abort(name(rt, word));
-        owe(rt, due, By::Close, &event, Answer::Done(Reply::Ok));
-    }
 }
 
 // Closes the manager: these have to be aborted, in this order, and no others.
@@ -365,7 +418,7 @@ fn close<S: TopStore>(rt: &impl Abort, watched: &mut Watched<S>, ended: &str) {
         assert!(rt; is_as_before(watched, before));
         watched.manager.close().expect(rt, "memory");
     }
-    owe_aborts(rt, &mut watched.due, ended);
+    owe_aborts(rt, &mut watched.due, By::Close, ended);
     assert!(rt; is_due(watched));
 }
 

@@ -1,4 +1,4 @@
-use Rattle.std.proofs.Common.{◌<◌, ◌≤◌, length, ◌∙◌, arith}
+use Rattle.std.proofs.Common.{◌≤◌, length, ◌∙◌, arith}
 use Rattle.manager_core.proofs.Victims.{breaking_one, broken, fewer_pairs, victim_counts}
 use Rattle.manager_core.proofs.breaking.break_cycles.Goals as goal
 

@@ -1,4 +1,4 @@
-use Rattle.std.proofs.Common.{◌≡◌, sym, ◌∙◌}
+use Rattle.std.proofs.Common.{sym, ◌∙◌}
 use Rattle.manager_core.proofs.Pairing.{agreed}
 use Rattle.manager_core.proofs.breaking.next_victim.Goals as goal
 

@@ -1,4 +1,4 @@
-use Rattle.std.proofs.Common.{◌≡◌, ◌≤◌, ◌+◌, ◌++◌, length, take}
+use Rattle.std.proofs.Common.{◌≡◌, ◌≤◌, ◌+◌, ◌++◌, take}
 use Rattle.std.specs.Prelude.{vec_len, vec_capacity}
 use Rattle.manager_core.specs.Pairs.{pairs_with}
 use Rattle.manager_core.proofs.pairs.add_pairs_of.Given as goal

@@ -1,4 +1,4 @@
-use Rattle.std.proofs.Common.{◌≡◌, ℕ, ◌+◌, ◌*◌, List, ◌++◌, length, take, sym, ap, ◌∙◌, add-one, arith}
+use Rattle.std.proofs.Common.{◌≡◌, ℕ, ◌+◌, ◌*◌, List, ◌++◌, length, sym, ap, ◌∙◌, add-one, arith}
 use Rattle.std.proofs.Math.Nat.{suc-mul}
 use Rattle.serial_spec.proofs.Taking.{take_past}
 use Rattle.wait_cycles.specs.declared.waits.Wait.{Wait}

@@ -1,4 +1,4 @@
-use Rattle.std.proofs.Common.{◌≡◌, ◌≤◌, ◌+◌, ◌*◌, length, take}
+use Rattle.std.proofs.Common.{◌≡◌, ◌≤◌, ◌*◌, length, take}
 use Rattle.std.specs.Prelude.{vec_len, vec_capacity}
 use Rattle.manager_core.specs.Pairs.{pairs_of}
 use Rattle.manager_core.proofs.pairs.collect_pairs.Given as goal

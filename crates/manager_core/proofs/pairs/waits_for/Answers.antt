@@ -1,4 +1,4 @@
-use Rattle.std.proofs.Common.{◌≡◌, sym, ◌∙◌}
+use Rattle.std.proofs.Common.{sym, ◌∙◌}
 use Rattle.manager_core.proofs.HeldUp.{found_among}
 use Rattle.manager_core.proofs.pairs.waits_for.Goals as goal
 
