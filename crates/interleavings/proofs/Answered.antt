@@ -1,5 +1,5 @@
 -- Lines of the one session, answered one after another.
-use Rattle.std.proofs.Common.{◌≡◌, ℕ, ◌+◌, ◌-◌, ◌<◌, ◌≤◌, zero, suc, inl, ⊎_elim, Bool, true, false, not, cond, ◌&&◌, ◌||◌, eqb, List, [], ◌∷◌, ◌++◌, length, filter, find, Option, Some, None, is_some, refl, sym, ap, subst, ◌∙◌, arith, Result, Ok, Err, OnOk}
+use Rattle.std.proofs.Common.{◌≡◌, ℕ, ◌+◌, ◌-◌, ◌<◌, ◌≤◌, zero, suc, inl, inr, ⊎_elim, Bool, true, false, not, cond, ◌&&◌, ◌||◌, eqb, List, [], ◌∷◌, ◌++◌, length, filter, find, Option, Some, None, is_some, refl, sym, ap, subst, ◌∙◌, arith, Result, Ok, Err, OnOk}
 use Rattle.std.specs.Prelude.{slice_get}
 use Rattle.std.specs.List.{AllByRecursion}
 use Rattle.std.proofs.lemmas.Bool.{true≢false, false≢true, eqb-true, eq-eqb}
@@ -17,23 +17,24 @@ use Rattle.serial_spec.specs.History.{History, Name, is_active}
 use Rattle.serial_spec.specs.Rows.{Rows}
 use Rattle.serial_spec.specs.Waits.{is_waits, same_line, open_waits, wait_of, accesses, Quiet}
 use Rattle.serial_spec.specs.Allowed.{answer, has_waited}
-use Rattle.serial_spec.specs.Interleaving.{Session, lines_of, next_event, next_line, answered, AllAnswered, FitsMoment, IsStuckAt, IsInterleaving}
+use Rattle.serial_spec.specs.Interleaving.{AfterVictims, Session, lines_of, next_event, next_line, answered, AllAnswered, FitsMoment, IsStuckAt, IsInterleaving}
 use Rattle.session_text.specs.Grammar.{IsText}
 use Rattle.session_text.specs.Stage.{IsServedLine, IsServedText}
 use Rattle.session_text.specs.Texts.{line_at}
-use Rattle.txn_history.specs.Laws.{WasQuiet}
 use Rattle.txn_history.proofs.Theorems.{lone_quiet, wait_holds}
 use Rattle.durable_top.specs.declared.store.TopStore.{Ghosts}
 use Rattle.manager_core.specs.declared.outcome.Outcome.{Outcome}
 use Rattle.manager_core.specs.declared.outcome.Outcome.TheVariants.{Done, Waits, Refused}
 use Rattle.manager_core.specs.Outcomes.{answer_of}
 use Rattle.manager_core.specs.State.{State, entry}
-use Rattle.manager_core.specs.Lines.{entries_of, IsFree}
+use Rattle.manager_core.specs.Lines.{entries_of, IsFree, IsWaitOf}
 use Rattle.manager_core.specs.Asked.{IsLater}
 use Rattle.manager_core.specs.Closing.{closings}
-use Rattle.manager_core.specs.Calls.{Closed}
+use Rattle.manager_core.specs.Calls.{Answered, Closed}
 use Rattle.interleavings.specs.Serving.{GoesOn, Answers, GivesUp, Serves}
-use Rattle.interleavings.specs.Lines.{NoCycles, AreAnswered, AreDone}
+use mathlib.Core.HLevel.{⊥_prop}
+use mathlib.Core.Logic.{∥∥₁_elim}
+use Rattle.interleavings.specs.Lines.{AreAnswered, AreDone}
 
 -- ---- no cycle stands where nobody waits, or one alone
 
@@ -85,6 +86,95 @@ not_waited (e ∷ h) by none =
     on_test (same_line e.by by) (λ b. cond b (e ∷ entries_of h by) (entries_of h by) ≡ [] → (b && is_waits e.answer) || has_waited h by ≡ false)
     (λ _ f. cc) (λ _ f. not_waited h by f) none
 
+-- ---- an access while nobody waits makes no victim
+
+-- where no cycle stands nobody is a victim
+no_victims : (h h2 : History) (vs : List Name) → Quiet h → AfterVictims h vs h2 → h2 ≡ h
+no_victims h h2 [] quiet after = after.1
+no_victims h h2 (t ∷ ts) quiet after = absurd (∥∥₁_elim after.0.0 ⊥_prop (quiet t))
+
+quiet_alone : (h : History) (by : By) (e : Event) (a : Answer) → open_waits h ≡ [] → Quiet (entry by e a ∷ h)
+quiet_alone h by e a nobody =
+    on_test (is_waits a) (λ _. Quiet (entry by e a ∷ h))
+    (λ waits. quiet_where_one (entry by e a ∷ h) (entry by e a) (rw (waits, nobody) refl))
+    (λ other. quiet_where_nobody (entry by e a ∷ h) (rw (other, nobody) refl))
+
+pub alone : {S : Type 0} (old new : State S) (by : By) (e : Event) (outcome : Outcome) → open_waits old.history ≡ [] → Answered old new by e outcome
+    → new.history ≡ entry by e (answer_of outcome) ∷ old.history
+alone old new by e outcome nobody told =
+    no_victims (entry by e (answer_of outcome) ∷ old.history) new.history told.victims (quiet_alone old.history by e (answer_of outcome) nobody) told.broken
+
+-- so one that has to wait does
+pub waits_alone : {S : Type 0} (old new : State S) (l : ℕ) (t : Name) (k : List ℕ) (o : Op) (outcome : Outcome) → open_waits old.history ≡ [] → Answered old new (Line 0 l) (Access t k o) outcome
+    → outcome ≡ Waits → IsWaitOf new.history (Line 0 l) (Access t k o)
+waits_alone old new l t k o outcome nobody told waits =
+    let allowed : answer old.rows old.history (Line 0 l) (Access t k o) ≡ Some IsWaiting = rw waits at told.allowed in
+    let is = alone old new (Line 0 l) (Access t k o) outcome nobody told ∙ ap (λ x. entry (Line 0 l) (Access t k o) (answer_of x) ∷ old.history) waits in
+    subst (λ h. IsWaitOf h (Line 0 l) (Access t k o)) (sym is)
+    (entry (Line 0 l) (Access t k o) IsWaiting, (wait_holds old.rows _ old.history 0 l t k o refl allowed).0, line_self l, refl)
+
+-- an outcome other than a wait
+at_once : (outcome : Outcome) → (outcome ≡ Waits → ⊥) → is_waits (answer_of outcome) ≡ false
+at_once (Done r) other = refl
+at_once Waits other = absurd (other refl)
+at_once (Refused r) other = refl
+
+later_still : {S : Type 0} (g : Ghosts S) (a b c : S) → IsLater g a b → IsLater g b c → IsLater g a c
+later_still g a b c h k = record { doubt = omega (arith, h.doubt, k.doubt); failures = omega (arith, h.failures, k.failures) }
+
+on_still : {S : Type 0} (g : Ghosts S) (old mid new : State S) → GoesOn g old mid → GoesOn g mid new → GoesOn g old new
+on_still g old mid new a b = record {
+  rows = b.rows ∙ a.rows;
+  opened = b.opened ∙ a.opened;
+  later = later_still g old.store mid.store new.store a.later b.later;
+}
+
+module _ {S : Type 0} (g : Ghosts S) where
+  goes_on : (old new : State S) → new ≡ record old { history = new.history } → GoesOn g old new
+  goes_on old new beside = record {
+    rows = ap (λ (m : State S). m.rows) beside;
+    opened = ap (λ (m : State S). m.opened) beside;
+    later = record {
+      doubt = omega (arith, ap (λ (m : State S). g.doubt m.store) beside);
+      failures = omega (arith, ap (λ (m : State S). g.failures m.store) beside);
+    };
+  }
+
+  module _ (old mid : State S) (l : ℕ) (t : Name) (k : List ℕ) (o : Op) (outcome : Outcome) (nobody : open_waits old.history ≡ [])
+      (told : Answered old mid (Line 0 l) (Access t k o) outcome) where
+    pub answered_alone_at : (outcome ≡ Waits → ⊥) → Serves g old mid l (Access t k o)
+    answered_alone_at other = inl record {
+      outcome = outcome;
+      at_once = at_once outcome other;
+      history = alone old mid (Line 0 l) (Access t k o) outcome nobody told;
+      on = goes_on old mid told.beside;
+    }
+
+    pub given_up_alone_at : (new : State S) → outcome ≡ Waits → new ≡ record mid { history = entry (Line 0 l) (Access t k o) Stuck ∷ mid.history } → Serves g old new l (Access t k o)
+    given_up_alone_at new waits cancelled = inr record {
+      name = t;
+      key = k;
+      op = o;
+      access = refl;
+      waits = rw waits at told.allowed;
+      history = ap (λ (m : State S). m.history) cancelled ∙ ap (λ h. entry (Line 0 l) (Access t k o) Stuck ∷ h) (alone old mid (Line 0 l) (Access t k o) outcome nobody told
+          ∙ ap (λ x. entry (Line 0 l) (Access t k o) (answer_of x) ∷ old.history) waits);
+      on = on_still g old mid new (goes_on old mid told.beside) (goes_on mid new (same_but new cancelled));
+    }
+      where
+        same_but : (new : State S) → new ≡ record mid { history = entry (Line 0 l) (Access t k o) Stuck ∷ mid.history } → new ≡ record mid { history = new.history }
+        same_but new is = is ∙ ap (λ h. record mid { history = h }) (sym (ap (λ (m : State S). m.history) is))
+
+pub answered_alone : {S : Type 0} (g : Ghosts S) (old mid : State S) (l : ℕ) (t : Name) (k : List ℕ) (o : Op) (outcome : Outcome) → open_waits old.history ≡ []
+    → Answered old mid (Line 0 l) (Access t k o) outcome → (outcome ≡ Waits → ⊥) → Serves g old mid l (Access t k o)
+answered_alone g old mid l t k o outcome nobody told other = answered_alone_at g old mid l t k o outcome nobody told other
+
+pub given_up_alone : {S T E : Type 0} (g : Ghosts S) (old mid new : State S) (l : ℕ) (t : Name) (k : List ℕ) (o : Op) (outcome : Outcome) (r : Result T E) → open_waits old.history ≡ []
+    → Answered old mid (Line 0 l) (Access t k o) outcome → outcome ≡ Waits → OnOk r (new ≡ record mid { history = entry (Line 0 l) (Access t k o) Stuck ∷ mid.history })
+    → OnOk r (Serves g old new l (Access t k o))
+given_up_alone g old mid new l t k o outcome (Ok x) nobody told waits cancelled = given_up_alone_at g old mid l t k o outcome nobody told new waits cancelled
+given_up_alone g old mid new l t k o outcome (Err x) nobody told waits cancelled = tt
+
 -- ---- what the lines of a text are like
 
 at_place : (P : Event → Type 0) (es : List Event) (i : ℕ) (e : Event) → AllByRecursion P es → Some e ≡ slice_get es i → P e
@@ -119,22 +209,11 @@ pub record IsServedSoFar (rows : Rows) (ss : List Session) (h : History) (n : �
   pub interleaving : IsInterleaving rows ss h
   pub count : answered h 0 ≡ n
   pub nobody : open_waits h ≡ []
-  pub was_quiet : WasQuiet h
   pub unused : (l : ℕ) → n < l → entries_of h (Line 0 l) ≡ []
 
 pub record AreServed {S : Type 0} (g : Ghosts S) (ss : List Session) (old new : State S) (n : ℕ) : Type 0 where
   pub so_far : IsServedSoFar new.rows ss new.history n
   pub on : GoesOn g old new
-
-later_still : {S : Type 0} (g : Ghosts S) (a b c : S) → IsLater g a b → IsLater g b c → IsLater g a c
-later_still g a b c h k = record { doubt = omega (arith, h.doubt, k.doubt); failures = omega (arith, h.failures, k.failures) }
-
-on_still : {S : Type 0} (g : Ghosts S) (old mid new : State S) → GoesOn g old mid → GoesOn g mid new → GoesOn g old new
-on_still g old mid new a b = record {
-  rows = b.rows ∙ a.rows;
-  opened = b.opened ∙ a.opened;
-  later = later_still g old.store mid.store new.store a.later b.later;
-}
 
 module _ (rows : Rows) (ss : List Session) (h : History) (n : ℕ) (e : Event) (far : IsServedSoFar rows ss h n) (next : Some e ≡ slice_get (lines_of (slice_get ss 0)) n) where
   -- the line is the next one
@@ -150,7 +229,6 @@ module _ (rows : Rows) (ss : List Session) (h : History) (n : ℕ) (e : Event) (
     interleaving = (far.interleaving, (number, event_due, fits));
     count = rw (at_once, far.count) refl;
     nobody = rw (at_once, far.nobody) refl;
-    was_quiet = (far.was_quiet, quiet_where_nobody h far.nobody);
     unused = λ l less. rw (other_line (suc n) l less) (far.unused l (omega (arith, less)));
   }
 
@@ -185,7 +263,6 @@ module _ (rows : Rows) (ss : List Session) (h : History) (n : ℕ) (e : Event) (
       );
       count = ap suc far.count;
       nobody = ap (filter (λ w. not (same_line w.by (Line 0 (suc n))))) one_waits ∙ rw (line_self (suc n)) refl;
-      was_quiet = ((far.was_quiet, quiet_where_nobody h far.nobody), quiet_where_one (waiting ∷ h) waiting one_waits);
       unused = λ l less. rw (other_line (suc n) l less) (far.unused l (omega (arith, less)));
     }
 
@@ -223,13 +300,6 @@ free_next g ss old new n e far = record { line = tt; unused = inl (far.so_far.un
 closed : (rows : Rows) (ss : List Session) (h : History) (names : List Name) → IsInterleaving rows ss h → AllAnswered ss h → IsInterleaving rows ss (closings names ++ h) × AllAnswered ss (closings names ++ h)
 closed rows ss h [] i a = (i, a)
 closed rows ss h (t ∷ names) i a = let rest = closed rows ss h names i a in ((rest.0, rest.1), rest.1)
-
--- closing entries end nobody's wait, and where nobody waits they make no cycle
-closed_quiet : (h : History) (names : List Name) → open_waits h ≡ [] → WasQuiet h → (open_waits (closings names ++ h) ≡ []) × WasQuiet (closings names ++ h)
-closed_quiet h [] nobody quiet = (nobody, quiet)
-closed_quiet h (t ∷ names) nobody quiet =
-    let rest = closed_quiet h names nobody quiet in
-    (ap (filter (λ w. not (same_line w.by Close))) rest.0, (rest.1, quiet_where_nobody (closings names ++ h) rest.0))
 
 -- ---- at a line of the loop
 
@@ -270,7 +340,6 @@ pub all_served : {S : Type 0} (g : Ghosts S) (ss : List Session) (old new : Stat
 all_served g ss old new l h text far none = record {
   interleaving = far.so_far.interleaving;
   answered = all_answered ss new.history (l - 1) text far.so_far.count (none ∙ line_there ss l h);
-  no_cycles = (far.so_far.was_quiet, quiet_where_nobody new.history far.so_far.nobody);
   nobody = far.so_far.nobody;
   rows = far.on.rows;
   opened = far.on.opened;
@@ -284,11 +353,9 @@ done {S} g ss old mid new a k =
     let history : new.history ≡ closings names ++ mid.history = ap (λ (m : State S). m.history) k.added in
     let rows : new.rows ≡ mid.rows = ap (λ (m : State S). m.rows) k.added in
     let both = closed mid.rows ss mid.history names a.interleaving a.answered in
-    let quiet = closed_quiet mid.history names a.nobody a.no_cycles.0 in
     record {
       interleaving = subst (IsInterleaving new.rows ss) (sym history) (subst (λ r. IsInterleaving r ss (closings names ++ mid.history)) (sym rows) both.0);
       finished = record { answered = subst (AllAnswered ss) (sym history) both.1; closed = k.none_left };
-      no_cycles = subst NoCycles (sym history) (quiet.1, quiet_where_nobody (closings names ++ mid.history) quiet.0);
       ended = k.ended;
       rows = rows ∙ a.rows;
       opened = ap (λ (m : State S). m.opened) k.added ∙ a.opened;

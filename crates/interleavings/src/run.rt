@@ -2,13 +2,14 @@
 ghost use Rattle.std.specs.Prelude.{◌≡◌, ℕ, List, [], ◌∷◌, map, IfErr, IfOk, IsFalse, OnOk, None};
 ghost use Rattle.serial_spec.specs.History.{begun, is_live};
 ghost use Rattle.serial_spec.specs.Legal.{first_live};
+ghost use Rattle.serial_spec.specs.Waits.{open_waits};
 ghost use Rattle.serial_spec.specs.declared.entry.By.TheVariants.{Line};
 ghost use Rattle.manager_core.specs.Lines.{IsFree};
 ghost use Rattle.manager_core.specs.Sound.{IsSound};
 ghost use Rattle.serial_spec.specs.declared.event.Event.TheVariants.{Access};
 ghost use Rattle.session_text.specs.Stage.{IsServedLine};
 ghost use Rattle.interleavings.specs.Serving.{Serves};
-ghost use Rattle.interleavings.specs.Lines.{AreAnswered, AreDone, NoCycles};
+ghost use Rattle.interleavings.specs.Lines.{AreAnswered, AreDone};
 ghost use Rattle.interleavings.specs.Runs.{HasRunCause, IsRun};
 
 use crate::report::Report;
@@ -49,6 +50,7 @@ fn serve_access<S: TopStore>(
     op: Op,
 ) -> Result<(), NoMemory>
     requires free { IsFree manager.old.history (Line 0 line) (Access name.now key.now op) }
+    requires nobody { open_waits manager.old.history ≡ [] }
     ensures { OnOk result (Serves S.TopStore manager.old manager.new line (Access name.now key.now op)) }
 {
     let by = By::Line { session: 0, line };
@@ -61,6 +63,7 @@ fn serve_access<S: TopStore>(
 // Answers a line of the one session.
 fn serve<S: TopStore>(manager: &mut Manager<S>, line: u32, event: &Event) -> Result<(), NoMemory>
     requires free { IsFree manager.old.history (Line 0 line) event.now }
+    requires nobody { open_waits manager.old.history ≡ [] }
     requires served { IsServedLine event.now }
     ensures { OnOk result (Serves S.TopStore manager.old manager.new line event.now) }
 {
@@ -109,7 +112,6 @@ fn run_opened<S: TopStore>(manager: &mut Manager<S>, sessions: &Sessions) -> Res
 // The report of a manager whose top-level transactions have ended, and its store.
 fn report_of<S: TopStore>(manager: Manager<S>, labels: Vec<Label>) -> (Report, S)
     requires sound { IsSound S.TopStore manager }
-    requires no_cycles { NoCycles manager.history }
     requires closed { first_live manager.history (begun manager.history) ≡ None }
     requires ended { (l : List ℕ) → IsFalse (is_live manager.history (l ∷ [])) }
     ensures report { result.0 ≡ record { opening = manager.rows; labels = labels.items; history = manager.history; table = manager.table } }
