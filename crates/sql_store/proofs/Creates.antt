@@ -1,11 +1,11 @@
 -- What the first statement makes.
-use Rattle.std.proofs.Common.{◌≡◌, ◌⊎◌, inl, inr, ℕ, List, [], Bool, false, Some, None, Ok, Err, Result, OnOk, sym, ap, subst, ◌∙◌}
+use Rattle.std.proofs.Common.{◌≡◌, ◌⊎◌, inl, inr, ℕ, [], false, None, Ok, Err, Result, OnOk, sym, ap, subst, ◌∙◌}
 use Rattle.sqlite.specs.Command.TheVariants.{CreateTable, Nothing}
 use Rattle.sqlite.specs.Change.{created, next_tree}
 use Rattle.sqlite.specs.Does.{Tally, lacks_sequence}
 use Rattle.sqlite.specs.declared.error.Error.{Error}
 use Rattle.sqlite.specs.Effect.{Database}
-use Rattle.sqlite.specs.State.{State, Writes, Executes}
+use Rattle.sqlite.specs.State.{State, Writes, Executes, IsUnchanged}
 use Rattle.sqlite.proofs.Callers.{runs_as}
 use Rattle.sql_store.specs.Results.{results, results_schema, no_schema}
 use Rattle.sql_store.proofs.Texts.{create_text, create_table, create_is, create_plain, create_again, create_again_plain}
@@ -32,5 +32,5 @@ creates old new (Ok count) has h =
     let now : new.now ≡ first.0 = ap (λ (p : Tally × Database). p.1) (same_value all.2) ∙ same_value (rw plain at first.2) in
     (ap (λ (d : Database). d.schema) now ∙ schema, ap (λ (d : Database). d.trees 0) now ∙ subst (λ s. first.0.trees (next_tree s) ≡ []) has made.empty)
 
-pub keeps : (old new : State) (count : ℕ) → old.now.schema ≡ results_schema → Executes create_text [] old new (Ok count) → new.now ≡ old.now
-keeps old new count has h = (runs_as create_text [] old new results_schema has Nothing create_again create_again_plain count h).0.0.now_is
+pub keeps : (old new : State) (count : ℕ) → old.now.schema ≡ results_schema → Executes create_text [] old new (Ok count) → IsUnchanged old new
+keeps old new count has h = (runs_as create_text [] old new results_schema has Nothing create_again create_again_plain count h).0

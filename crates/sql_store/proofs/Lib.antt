@@ -8,3 +8,4 @@ pub mod Steps
 pub mod Composed
 pub mod Loaded
 pub mod Doubts
+pub mod Apart

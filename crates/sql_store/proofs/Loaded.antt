@@ -1,13 +1,11 @@
 -- The rows that the query answers are the table.
-use Rattle.std.proofs.Common.{◌≡◌, ◌++◌, ℕ, ℤ, Bool, true, false, cond, List, [], ◌∷◌, map, flat_map, Option, Some, None, inl, inr, Less, Equal, refl, sym, ap, subst, ◌∙◌, true≢false}
-use Rattle.std.proofs.lemmas.Bool.{cases_Bool, false≢true}
+use Rattle.std.proofs.Common.{◌≡◌, ℕ, ℤ, Bool, true, false, cond, List, [], ◌∷◌, map, flat_map, Option, Some, None, inl, inr, Less, refl, sym, ap, subst, ◌∙◌}
 use Rattle.std.proofs.lemmas.Cmp.{tied_itself, nat_list_cmp_total}
 use Rattle.std.proofs.lemmas.List.Sorted.{IsPermutation-sym, IsPermutation-map}
 use Rattle.std.specs.Cmp.Lexicographic.{slice_cmp}
 use Rattle.std.specs.List.Sorted.{IsPermutation}
 use Rattle.std.specs.Ordering.{nat_cmp}
 use Rattle.sqlite.specs.declared.types.Value.{Value}
-use Rattle.sqlite.specs.declared.types.Value.TheVariants.{Null, Int, Real, Text, Blob}
 use Rattle.sqlite.specs.Order.{column, Row as Shown}
 use Rattle.sqlite.specs.Query.{IsAnswer, output, Output}
 use Rattle.sqlite.specs.Program.{overlay}
@@ -18,13 +16,13 @@ use Rattle.sqlite_rules.proofs.ListLemmas.{all_has}
 use Rattle.txn_names.specs.Path.{label_eq}
 use Rattle.txn_names.proofs.Names.{same_label}
 use Rattle.serial_spec.specs.Serial.{Map}
-use Rattle.serial_spec.specs.Rows.{Rows, value_in, IsRising}
+use Rattle.serial_spec.specs.Rows.{value_in, IsRising}
 use Rattle.durable_top.specs.declared.store.Row.{Row}
 use Rattle.durable_top.specs.Store.{plain}
-use Rattle.sql_store.specs.Load.{load_query}
+use Rattle.sql_store.specs.Load.{load_query, ids_query}
 use Rattle.sql_store.specs.Reading.{told, seen}
 use Rattle.sql_store.specs.Table.{is_key, int_in, map_of}
-use Rattle.sql_store.proofs.Tables.{has_permuted, has_mapped, mapped_has}
+use Rattle.sql_store.proofs.Tables.{has_permuted, has_mapped, mapped_has, shown_ids}
 
 -- what the query shows of a row of the table
 abbrev pub shown_row : Shown → Shown
@@ -41,6 +39,16 @@ pub answered : (db : Trees) (rows : List Shown) → IsAnswer load_query (overlay
 answered db rows a =
     let kept : map (λ (o : Output). o.1) a.kept ≡ map shown_row (db 0) =
     ap (map (λ (o : Output). o.1)) (a.distinct ∙ ap (map (output load_query)) a.grouped) ∙ shows_all (db 0) in
+    subst (λ xs. IsPermutation xs rows) kept (subst (IsPermutation (map (λ (o : Output). o.1) a.kept)) (sym a.shown) (IsPermutation-map (λ (o : Output). o.1) a.kept a.ordered a.same))
+
+ids_of_all : (tree : List Shown) → map (λ (o : Output). o.1) (map (output ids_query) (envs tree)) ≡ shown_ids tree
+ids_of_all [] = refl
+ids_of_all (r ∷ tree) = ap (λ rows. (column r 0 ∷ []) ∷ rows) (ids_of_all tree)
+
+pub answered_ids : (db : Trees) (rows : List Shown) → IsAnswer ids_query (overlay db []) [] rows → IsPermutation (shown_ids (db 0)) rows
+answered_ids db rows a =
+    let kept : map (λ (o : Output). o.1) a.kept ≡ shown_ids (db 0) =
+    ap (map (λ (o : Output). o.1)) (a.distinct ∙ ap (map (output ids_query)) a.grouped) ∙ ids_of_all (db 0) in
     subst (λ xs. IsPermutation xs rows) kept (subst (IsPermutation (map (λ (o : Output). o.1) a.kept)) (sym a.shown) (IsPermutation-map (λ (o : Output). o.1) a.kept a.ordered a.same))
 
 -- ---- keys and values as pairs

@@ -1,5 +1,5 @@
 -- What the query answers, and what it leaves.
-use Rattle.std.proofs.Common.{◌≡◌, ℕ, List, [], ◌∷◌, codes, Option, Some, None, Ok, Err, Result, OnOk, IfErr, inl, inr, refl, sym, ap, subst, ◌∙◌}
+use Rattle.std.proofs.Common.{◌≡◌, ℕ, List, [], ◌∷◌, codes, Option, Some, None, inl, inr, sym, ap, subst, ◌∙◌}
 use Rattle.sqlite.specs.Order.{Row}
 use Rattle.sqlite.specs.declared.types.Value.TheVariants.{Null}
 use Rattle.sqlite.specs.declared.error.Error.{Error}
@@ -7,7 +7,7 @@ use Rattle.sqlite.specs.Command.TheVariants.{Select}
 use Rattle.sqlite.specs.Query.{IsAnswer}
 use Rattle.sqlite.specs.Program.{overlay}
 use Rattle.sqlite.specs.Tree.{Trees}
-use Rattle.sqlite.specs.State.{State, Shown, ShowsRows, IsUnchanged, KeepsCommit, IsNotRun, FailsToQuery, FailsToShow, RunsCommand, Fails, Survives, CommitsShowing, HasCleanDisk}
+use Rattle.sqlite.specs.State.{State, Shown, ShowsRows, IsUnchanged, KeepsCommit, IsNotRun, FailsToQuery, FailsToShow, Fails, Survives, CommitsShowing, HasCleanDisk}
 use Rattle.sqlite.specs.Effect.{Database}
 use Rattle.sql_store.specs.Table.{IsKnown}
 use Rattle.sqlite.specs.Clock.{timed}
@@ -15,19 +15,29 @@ use Rattle.sqlite.specs.Listing.{understood}
 use Rattle.sqlite.proofs.Callers.{IsPlain, reads_as, never_commits}
 use Rattle.sqlite.proofs.StateLemmas.{survives_weaker}
 use Rattle.sql_store.specs.Results.{results_schema}
-use Rattle.sql_store.specs.Load.{load_text, load_query}
-use Rattle.sql_store.proofs.Texts.{load_is, load_plain}
+use Rattle.sql_store.specs.Load.{load_text, load_query, ids_text, ids_query}
+use Rattle.sql_store.proofs.Texts.{load_is, load_plain, ids_is, ids_plain}
 
 pub loads : (old new : State) (rows : List Row) → old.now.schema ≡ results_schema → Shown load_text [] old new rows → IsAnswer load_query (overlay old.now.trees []) [] rows
 loads old new rows has h = (reads_as load_text [] old new results_schema has (Select (record { lets = []; body = load_query }) (codes "k" ∷ codes "v" ∷ [])) load_is load_plain.0 load_plain.1 rows h).answer Null
 
-pub stays : (old new : State) (rows : List Row) → old.now.schema ≡ results_schema → Shown load_text [] old new rows → IsUnchanged old new
+pub shows_ids : (old new : State) (rows : List Row) → old.now.schema ≡ results_schema → Shown ids_text [] old new rows → IsAnswer ids_query (overlay old.now.trees []) [] rows
+shows_ids old new rows has h = (reads_as ids_text [] old new results_schema has (Select (record { lets = []; body = ids_query }) (codes "rowid" ∷ [])) ids_is ids_plain.0 ids_plain.1 rows h).answer Null
+
+-- a query without RETURNING changes nothing
+only_shows : (text : List ℕ) → IsPlain (understood results_schema text) → (old new : State) (rows : List Row) → old.now.schema ≡ results_schema → Shown text [] old new rows → IsUnchanged old new
 unfolding Shown
-stays old new rows has h =
-    let known = sym h.1.is ∙ ap (λ s. understood s load_text) has in
-    let bare = subst IsPlain (sym known) load_plain.0 in
-    let it = subst (ShowsRows old new load_text h.0 (timed [] h.0.formats h.1.now) rows) bare.0 h.2 in
+only_shows text plain old new rows has h =
+    let known = sym h.1.is ∙ ap (λ s. understood s text) has in
+    let bare = subst IsPlain (sym known) plain in
+    let it = subst (ShowsRows old new text h.0 (timed [] h.0.formats h.1.now) rows) bare.0 h.2 in
     it.3
+
+pub stays : (old new : State) (rows : List Row) → old.now.schema ≡ results_schema → Shown load_text [] old new rows → IsUnchanged old new
+stays = only_shows load_text load_plain.0
+
+pub ids_stay : (old new : State) (rows : List Row) → old.now.schema ≡ results_schema → Shown ids_text [] old new rows → IsUnchanged old new
+ids_stay = only_shows ids_text ids_plain.0
 
 pub same_commit : (old new : State) → IsUnchanged old new → KeepsCommit old new
 same_commit old new same = record { was_open = λ _. same.0.was_open; committed = λ _. same.0.committed_is }

@@ -1,6 +1,5 @@
 -- One statement in a transaction, and several.
-use Rattle.std.proofs.Common.{◌≡◌, ℕ, List, [], ◌∷◌, None, Some, Ok, Err, Result, OnOk, OnErr, IfOk, IfErr, refl, inl, inr}
-use Rattle.std.specs.Prelude.{IsTrue}
+use Rattle.std.proofs.Common.{ℕ, List, Ok, Err, Result, OnOk, OnErr, IfOk, IfErr, inl, inr}
 use Rattle.sqlite.specs.Order.{Row}
 use Rattle.sqlite.specs.declared.error.Error.{Error}
 use Rattle.sqlite.specs.State.{State, ExecutesInside, KeepsCommit}

@@ -1,8 +1,8 @@
 -- What the texts mean.
-use Rattle.std.proofs.Common.{◌≡◌, ℕ, List, [], ◌∷◌, codes, None, Ok, refl, false, pos, negsuc}
+use Rattle.std.proofs.Common.{◌≡◌, ℕ, List, [], ◌∷◌, ◌++◌, codes, None, Ok, refl, ap, arith, false, pos, negsuc}
+use Rattle.std.proofs.lemmas.Fmt.{decimal_digit}
 use Rattle.sqlite.specs.Term.{Term}
 use Rattle.sqlite.specs.Query.{Query}
-use Rattle.sqlite_value.specs.declared.keys.Key.{Key}
 use Rattle.sqlite.specs.declared.types.Value.TheVariants.{Null, Int}
 use Rattle.sqlite.specs.Term.{lit, col, op2}
 use Rattle.sqlite.specs.Query.{inner, end}
@@ -15,8 +15,8 @@ use Rattle.sqlite.specs.Compile.{table_defined_by}
 use Rattle.sqlite_tied.specs.Compute.{everything}
 use Rattle.sqlite.specs.Listing.{understood, reads_listing}
 use Rattle.sqlite.proofs.Callers.{IsPlain, command_of, statement_of}
-use Rattle.sql_store.specs.Results.{results, results_schema, no_schema}
-use Rattle.sql_store.specs.Load.{load_text, load_query}
+use Rattle.sql_store.specs.Results.{results, results_schema, listed_schema, key_index, no_schema}
+use Rattle.sql_store.specs.Load.{load_text, load_query, ids_text, ids_query}
 
 abbrev pub create_text : List ℕ
 create_text = codes "CREATE TABLE IF NOT EXISTS results (k TEXT NOT NULL PRIMARY KEY, v INTEGER NOT NULL) STRICT"
@@ -72,6 +72,10 @@ pub load_is : command_of (understood results_schema load_text) ≡ Select (recor
 unfolding understood everything
 load_is = refl
 
+pub ids_is : command_of (understood results_schema ids_text) ≡ Select (record { lets = []; body = ids_query }) (codes "rowid" ∷ [])
+unfolding understood everything
+ids_is = refl
+
 pub create_plain : IsPlain (understood no_schema create_text) × (statement_of create_text (understood no_schema create_text) ≡ create_text)
 unfolding understood everything
 create_plain = ((refl, refl), refl)
@@ -91,3 +95,12 @@ insert_plain = (refl, refl)
 pub load_plain : IsPlain (understood results_schema load_text) × (reads_listing results_schema load_text ≡ false)
 unfolding understood everything
 load_plain = ((refl, refl), refl)
+
+pub ids_plain : IsPlain (understood results_schema ids_text) × (reads_listing results_schema ids_text ≡ false)
+unfolding understood everything
+ids_plain = ((refl, refl), refl)
+
+pub schema_listed : results_schema ≡ listed_schema
+schema_listed =
+    ap (λ (digits : List ℕ). record { tables = results ∷ []; indexes = record key_index { name = codes "sqlite_autoindex_" ++ (codes "results" ++ (codes "_" ++ digits)) } ∷ []; views = [] })
+    (decimal_digit 1 (omega arith))

@@ -1,9 +1,13 @@
 -- A store over a connection, as contracts see it.
-use Rattle.std.specs.Prelude.{◌≡◌, ℕ, ◌+◌, Bool, true, false, if◌then◌else◌, List, Result, Ok, Err, IsTrue, is_err, refl}
+use Rattle.std.specs.Prelude.{◌≡◌, ℕ, ◌+◌, Bool, true, if◌then◌else◌, List, [], None, Result, Err, IsTrue, is_err, refl}
 use Rattle.std.specs.Coded.{Coded, code_by, coded×, coded_ℕ, coded_bool}
 use Rattle.sqlite.specs.Store.{Ghosts}
 use Rattle.sqlite.specs.Tree.{Trees}
 use Rattle.sqlite.specs.Held.{Held, held_code, state}
+use Rattle.sqlite.specs.Order.{Row as Shown}
+use Rattle.sqlite.specs.Query.{IsAnswer}
+use Rattle.sqlite.specs.Program.{overlay}
+use Rattle.sqlite.specs.Effect.{Database}
 use Rattle.sqlite.specs.State.{HasCleanDisk}
 use Rattle.sqlite_trees.specs.View.{doubt}
 use Rattle.txn_names.specs.declared.change.Change.{Change}
@@ -12,6 +16,8 @@ use Rattle.durable_top.specs.declared.store.Row.{Row}
 use Rattle.durable_top.specs.declared.store.StoreFault.{StoreFault}
 use Rattle.durable_top.specs.declared.store.StoreFault.TheVariants.{Failed}
 use Rattle.durable_top.specs.Store.{faults_after}
+use Rattle.sql_store.specs.Ids.{rises}
+use Rattle.sql_store.specs.Load.{ids_query}
 use Rattle.sql_store.specs.Table.{map_of, table_of, IsReady}
 
 pub record Stored (S : Type 0) : Type 0 where
@@ -27,6 +33,10 @@ stored_code {S} store =
     (λ s. (s.connection, (s.faults, (s.has_failed, s.is_known))))
     (λ p. record { connection = p.0; faults = p.1.0; has_failed = p.1.1.0; is_known = p.1.1.1 })
     (λ _. refl)
+
+-- whether a table of results is known: the rowids that a query shows of it rise
+abbrev pub IsDecided : Database → Bool → Type 0
+IsDecided db known = (rows : List Shown) × IsAnswer ids_query (overlay db.trees []) [] rows × (known ≡ rises None rows)
 
 module _ {S : Type 0} (g : Ghosts S) where
   -- what the last commit left

@@ -5,6 +5,7 @@ mod faults;
 mod load;
 mod open;
 mod reading;
+mod schema;
 mod statements;
 mod store;
 mod writes;

@@ -1,55 +1,96 @@
 //! How a database is made ready.
-ghost use Rattle.std.specs.Prelude.{◌≡◌, ◌≤◌, IfOk, IfErr, IsTrue, OnOk, []};
+ghost use Rattle.std.specs.Prelude.{◌≡◌, ◌≤◌, IfOk, IfErr, IsTrue, OnOk, [], List, None, false};
 ghost use Rattle.sqlite_trees.specs.View.{doubt};
 ghost use Rattle.sqlite.specs.Held.{state};
-ghost use Rattle.sqlite.specs.State.{HasCleanDisk};
-ghost use Rattle.sql_store.specs.Results.{no_schema};
-ghost use Rattle.sql_store.specs.Stored.{IsKept, table};
-ghost use Rattle.sql_store.specs.Table.{map_of};
+ghost use Rattle.sqlite.specs.State.{HasCleanDisk, IsUnchanged};
+ghost use Rattle.sqlite.specs.Order.{Row};
+ghost use Rattle.sqlite.specs.Query.{IsAnswer};
+ghost use Rattle.sqlite.specs.Program.{overlay};
+ghost use Rattle.sql_store.specs.Ids.{rises};
+ghost use Rattle.sql_store.specs.Load.{ids_query};
+ghost use Rattle.sql_store.specs.Results.{no_schema, results_schema};
+ghost use Rattle.sql_store.specs.Stored.{IsKept, IsDecided, table};
+ghost use Rattle.sql_store.specs.Table.{map_of, IsReady};
 
 use crate::faults::settle;
-use crate::statements::{compile, create};
+use crate::reading::are_apart;
+use crate::schema::{is_empty, is_results};
+use crate::statements::{compile, create, select_ids};
 use durable_top::StoreFault;
 use sqlite::{Alter, Connection, Error, ErrorCode};
-use sqlite_schema::schema::Schema;
 
-fn is_empty(schema: &Schema) -> bool
-    ensures none { IsTrue result → schema.now ≡ no_schema }
-    ensures all { schema.now ≡ no_schema → IsTrue result }
+// Whether no rowid comes twice in the table of results.
+fn has_apart<S: Alter>(conn: &mut Connection<S>) -> Result<bool, Error>
+    ensures decided { HasCleanDisk (state S.Store conn.new) → (state S.Store conn.old).now.schema ≡ results_schema → IfOk result (IsDecided (state S.Store conn.old).now) }
+    ensures ready { HasCleanDisk (state S.Store conn.new) → (state S.Store conn.old).now.schema ≡ results_schema → IfOk result (λ apart. IsTrue apart → IsReady (state S.Store conn.old).now) }
+    ensures open { HasCleanDisk (state S.Store conn.new) → (state S.Store conn.old).now.schema ≡ results_schema → OnOk result (IsUnchanged (state S.Store conn.old) (state S.Store conn.new)) }
+    ensures clean { doubt (state S.Store conn.old).is_clean ≤ doubt (state S.Store conn.new).is_clean }
 {
-    schema.tables.is_empty() && schema.indexes.is_empty() && schema.views.is_empty()
+    let ids = select_ids(conn)?;
+    Ok(are_apart(ids.as_slice()))
 }
 
-// Makes the table where there is none, and answers whether it stands alone and is new.
+// Whether there is the table of results alone, and no rowid comes twice in it.
+fn is_known<S: Alter>(conn: &mut Connection<S>) -> Result<bool, Error>
+    ensures decided { HasCleanDisk (state S.Store conn.new) → (state S.Store conn.old).now.schema ≡ results_schema → IfOk result (IsDecided (state S.Store conn.old).now) }
+    ensures ready { HasCleanDisk (state S.Store conn.new) → IfOk result (λ known. IsTrue known → IsReady (state S.Store conn.old).now × IsUnchanged (state S.Store conn.old) (state S.Store conn.new)) }
+    ensures open { HasCleanDisk (state S.Store conn.new) → (state S.Store conn.old).now.schema ≡ results_schema → OnOk result (IsUnchanged (state S.Store conn.old) (state S.Store conn.new)) }
+    ensures clean { doubt (state S.Store conn.old).is_clean ≤ doubt (state S.Store conn.new).is_clean }
+{
+    if is_results(conn.schema()) {
+        has_apart(conn)
+    } else {
+        Ok(false)
+    }
+}
+
+// A new table is known.
+fn is_known_unless<S: Alter>(is_new: bool, conn: &mut Connection<S>) -> Result<bool, Error>
+    ensures fresh { IsTrue is_new → IfOk result (λ known. IsTrue known) × (conn.new ≡ conn.old) }
+    ensures decided { HasCleanDisk (state S.Store conn.new) → (is_new ≡ false) → (state S.Store conn.old).now.schema ≡ results_schema → IfOk result (IsDecided (state S.Store conn.old).now) × OnOk result (IsUnchanged (state S.Store conn.old) (state S.Store conn.new)) }
+    ensures ready { HasCleanDisk (state S.Store conn.new) → (is_new ≡ false) → IfOk result (λ known. IsTrue known → IsReady (state S.Store conn.old).now × IsUnchanged (state S.Store conn.old) (state S.Store conn.new)) }
+    ensures clean { doubt (state S.Store conn.old).is_clean ≤ doubt (state S.Store conn.new).is_clean }
+{
+    if is_new { Ok(true) } else { is_known(conn) }
+}
+
+// Makes the table where there is none, and answers whether it is known.
 fn make_table<S: Alter>(conn: &mut Connection<S>) -> Result<bool, Error>
-    ensures kept { IfOk result (λ is_new. IsKept S.Store is_new conn.new) }
-    ensures fresh { (state S.Store conn.old).now.schema ≡ no_schema → IfOk result (λ is_new. IsTrue is_new) }
+    ensures kept { IfOk result (λ known. IsKept S.Store known conn.new) }
+    ensures fresh { (state S.Store conn.old).now.schema ≡ no_schema → IfOk result (λ known. IsTrue known) }
     ensures empty { HasCleanDisk (state S.Store conn.new) → (state S.Store conn.old).now.schema ≡ no_schema → OnOk result (table S.Store conn.new ≡ map_of []) }
+    ensures decided { HasCleanDisk (state S.Store conn.new) → (state S.Store conn.old).now.schema ≡ results_schema → IfOk result (IsDecided (state S.Store conn.old).now) }
+    ensures same { HasCleanDisk (state S.Store conn.new) → (state S.Store conn.old).now.schema ≡ results_schema → OnOk result (table S.Store conn.new ≡ table S.Store conn.old) }
     ensures clean { doubt (state S.Store conn.old).is_clean ≤ doubt (state S.Store conn.new).is_clean }
 {
     let is_new = is_empty(conn.schema());
     create(conn)?;
     compile(conn)?;
+    let known = is_known_unless(is_new, conn)?;
     if conn.is_autocommit() {
-        Ok(is_new)
+        Ok(known)
     } else {
         Err(Error::SqliteFailure(ErrorCode::TransactionState))
     }
 }
 
 /// Makes the table where there is none. A database in the middle of a transaction is refused, and so is a table
-/// of this name that has other columns. The answer is whether the table is new and stands alone.
+/// of this name that has other columns. The answer is whether the table is known: it is alone in the database, and new,
+/// or as the store makes it with no rowid twice.
 pub(crate) fn prepare<S: Alter>(conn: &mut Connection<S>) -> Result<bool, StoreFault>
-    ensures kept { IfOk result (λ is_new. IsKept S.Store is_new conn.new) }
-    ensures fresh { (state S.Store conn.old).now.schema ≡ no_schema → IfOk result (λ is_new. IsTrue is_new) }
+    ensures kept { IfOk result (λ known. IsKept S.Store known conn.new) }
+    ensures fresh { (state S.Store conn.old).now.schema ≡ no_schema → IfOk result (λ known. IsTrue known) }
     ensures empty { HasCleanDisk (state S.Store conn.new) → (state S.Store conn.old).now.schema ≡ no_schema → OnOk result (table S.Store conn.new ≡ map_of []) }
+    ensures decided { HasCleanDisk (state S.Store conn.new) → (state S.Store conn.old).now.schema ≡ results_schema → IfOk result (IsDecided (state S.Store conn.old).now) }
+    ensures same { HasCleanDisk (state S.Store conn.new) → (state S.Store conn.old).now.schema ≡ results_schema → OnOk result (table S.Store conn.new ≡ table S.Store conn.old) }
+    ensures busy { IsTrue (state S.Store conn.old).in_transaction → (result ≡ Err StoreFault.Refused) × (conn.new ≡ conn.old) }
     ensures clean { doubt (state S.Store conn.old).is_clean ≤ doubt (state S.Store conn.new).is_clean }
 {
     if !conn.is_autocommit() {
         return Err(StoreFault::Refused);
     }
     match make_table(conn) {
-        Ok(is_new) => Ok(is_new),
+        Ok(known) => Ok(known),
         Err(error) => Err(settle(conn, error)),
     }
 }

@@ -1,10 +1,12 @@
 //! Rows of the database as rows of the store.
-ghost use Rattle.std.specs.Prelude.{◌≡◌, IfSome, IfOk, IfErr, map};
+ghost use Rattle.std.specs.Prelude.{◌≡◌, IfSome, IfOk, IfErr, None, map};
 ghost use Rattle.sqlite.specs.Order.{column};
 ghost use Rattle.sqlite.specs.declared.types.Value.TheVariants.{Text, Int};
 ghost use Rattle.serial_spec.specs.Rows.{IsRising};
 ghost use Rattle.durable_top.specs.Store.{plain};
+ghost use Rattle.sql_store.specs.Ids.{is_past, next_id, rises};
 ghost use Rattle.sql_store.specs.Reading.{told, seen};
+ghost use Rattle.sql_store.specs.Table.{int_in};
 
 use durable_top::{Row, StoreFault, are_rising};
 use sqlite::types::ValueRef;
@@ -21,7 +23,8 @@ fn key_at(row: &sqlite::Row, at: usize) -> Option<Key>
 }
 
 fn int_at(row: &sqlite::Row, at: usize) -> Option<i64>
-    ensures { IfSome result (λ value. column row.now at ≡ Int value) }
+    ensures is { IfSome result (λ value. column row.now at ≡ Int value) }
+    ensures read { result ≡ int_in (column row.now at) }
 {
     match row.get_ref(at) {
         Ok(ValueRef::Int(value)) => Some(value),
@@ -36,6 +39,37 @@ fn read_row(row: &sqlite::Row) -> Option<Row>
     let key = key_at(row, 0)?;
     let value = int_at(row, 1)?;
     Some(Row { key, value })
+}
+
+fn is_past(low: Option<i64>, id: i64) -> bool
+    ensures { result ≡ is_past low id }
+{
+    match low {
+        Some(low) => low < id,
+        None => true,
+    }
+}
+
+// The rowid, where it is a whole number above the one before.
+fn next_id(low: Option<i64>, row: &sqlite::Row) -> Option<i64>
+    ensures { result ≡ next_id low (int_in (column row.now 0)) }
+{
+    let id = int_at(row, 0)?;
+    if is_past(low, id) { Some(id) } else { None }
+}
+
+/// Whether the rowids, one in a row, are whole numbers that rise.
+pub(crate) fn are_apart(rows: &[sqlite::Row]) -> bool
+    ensures { result ≡ rises None rows.now }
+{
+    let mut low = None;
+    for row in rows {
+        low = next_id(low, row);
+        if low.is_none() {
+            return false;
+        }
+    }
+    true
 }
 
 // A row that cannot be read is refused.

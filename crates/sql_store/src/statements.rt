@@ -8,7 +8,7 @@ ghost use Rattle.sqlite.specs.State.{HasCleanDisk, Survives, KeepsCommit, IsUnch
 ghost use Rattle.sqlite.specs.Query.{IsAnswer};
 ghost use Rattle.sqlite.specs.Program.{overlay};
 ghost use Rattle.sql_store.specs.Results.{results_schema, no_schema};
-ghost use Rattle.sql_store.specs.Load.{load_query};
+ghost use Rattle.sql_store.specs.Load.{load_query, ids_query};
 ghost use Rattle.sql_store.specs.Table.{Makes, IsReady, IsFree};
 
 use durable_top::Row;
@@ -56,7 +56,7 @@ pub(crate) fn add<S: Alter>(tx: &mut Transaction<'_, S>, row: &Row) -> Result<()
 pub(crate) fn create<S: Alter>(conn: &mut Connection<S>) -> Result<(), Error>
     ensures schema { HasCleanDisk (state S.Store conn.new) → OnOk result ((state S.Store conn.old).now.schema ≡ no_schema → (state S.Store conn.new).now.schema ≡ results_schema) }
     ensures empty { HasCleanDisk (state S.Store conn.new) → OnOk result ((state S.Store conn.old).now.schema ≡ no_schema → (state S.Store conn.new).now.trees 0 ≡ []) }
-    ensures same { HasCleanDisk (state S.Store conn.new) → OnOk result ((state S.Store conn.old).now.schema ≡ results_schema → (state S.Store conn.new).now ≡ (state S.Store conn.old).now) }
+    ensures same { HasCleanDisk (state S.Store conn.new) → OnOk result ((state S.Store conn.old).now.schema ≡ results_schema → IsUnchanged (state S.Store conn.old) (state S.Store conn.new)) }
     ensures clean { doubt (state S.Store conn.old).is_clean ≤ doubt (state S.Store conn.new).is_clean }
 {
     conn.execute(
@@ -75,6 +75,15 @@ pub(crate) fn select<S: Alter>(conn: &mut Connection<S>) -> Result<Vec<sqlite::R
     ensures survives { (state S.Store conn.old).now.schema ≡ results_schema → Survives (state S.Store conn.old) (state S.Store conn.new) (λ _. ⊥) }
 {
     conn.query_all("SELECT k, v FROM results ORDER BY k", &[])
+}
+
+/// All rowids, in their order.
+pub(crate) fn select_ids<S: Alter>(conn: &mut Connection<S>) -> Result<Vec<sqlite::Row>, Error>
+    ensures rows { HasCleanDisk (state S.Store conn.new) → (state S.Store conn.old).now.schema ≡ results_schema → IfOk result (λ rows. IsAnswer ids_query (overlay (state S.Store conn.old).now.trees []) [] rows.items) }
+    ensures open { HasCleanDisk (state S.Store conn.new) → (state S.Store conn.old).now.schema ≡ results_schema → OnOk result (IsUnchanged (state S.Store conn.old) (state S.Store conn.new)) }
+    ensures clean { doubt (state S.Store conn.old).is_clean ≤ doubt (state S.Store conn.new).is_clean }
+{
+    conn.query_all("SELECT rowid FROM results ORDER BY rowid", &[])
 }
 
 /// Whether statements can still be run. The answer says why not.

@@ -8,9 +8,9 @@ ghost use Rattle.serial_spec.specs.Rows.{IsRising, value_in};
 ghost use Rattle.serial_spec.specs.Serial.{Map};
 ghost use Rattle.durable_top.specs.Store.{plain, told, faults_after, TellsFailure};
 ghost use Rattle.sqlite.specs.Steps.{over_memory};
-ghost use Rattle.sql_store.specs.Results.{no_schema};
+ghost use Rattle.sql_store.specs.Results.{no_schema, results_schema};
 ghost use Rattle.sql_store.specs.Table.{map_of};
-ghost use Rattle.sql_store.specs.Stored.{table, doubt_of, may_leave, IsKept, SqlLoads, SqlCommits};
+ghost use Rattle.sql_store.specs.Stored.{table, doubt_of, may_leave, IsKept, IsDecided, SqlLoads, SqlCommits};
 
 use crate::faults::fault_of;
 use crate::load::load_rows;
@@ -49,11 +49,15 @@ impl<S: Alter> Model for SqlStore<S> {
 
 impl<S: Alter + Drop> SqlStore<S> {
     /// A store over this connection. The table is made where there is none. The connection comes back beside the
-    /// fault: Refused in the middle of a transaction, and where the table `results` has other columns.
+    /// fault: Refused in the middle of a transaction, with nothing done, and where the table `results` has other columns.
     ///
-    /// The clauses on the table hold for a database that was empty.
+    /// The table is known where the database was empty, and where it has the table of results as the store makes it,
+    /// alone, and the rowids that a query shows of it rise. What other databases hold is not known.
     pub fn adopt(mut connection: Connection<S>) -> Result<SqlStore<S>, (StoreFault, Connection<S>)>
         ensures known { (state S.Store connection).now.schema ≡ no_schema → IfOk result (λ store. IsTrue store.is_known) }
+        ensures decided { (state S.Store connection).now.schema ≡ results_schema → IfOk result (λ store. HasCleanDisk (state S.Store store.connection) → IsDecided (state S.Store connection).now store.is_known) }
+        ensures same { (state S.Store connection).now.schema ≡ results_schema → IfOk result (λ store. HasCleanDisk (state S.Store store.connection) → table S.Store store.connection ≡ table S.Store connection) }
+        ensures busy { IsTrue (state S.Store connection).in_transaction → result ≡ Err (StoreFault.Refused, connection) }
         ensures empty { (state S.Store connection).now.schema ≡ no_schema → IfOk result (λ store. HasCleanDisk (state S.Store store.connection) → table S.Store store.connection ≡ map_of []) }
         ensures faults { IfOk result (λ store. store.faults ≡ 0) }
         ensures sound { IfOk result (λ store. store.has_failed ≡ false) }

@@ -1,4 +1,3 @@
-use Rattle.std.proofs.Common.{◌≡◌}
 use Rattle.sqlite.specs.Held.{state}
 use Rattle.sql_store.proofs.Steps.{if_ok_both}
 use Rattle.sql_store.proofs.Loaded.{answered, same_map}

@@ -1,12 +1,10 @@
-use Rattle.std.proofs.Common.{◌≡◌, ◌∙◌, refl, sym, subst, ap, arith, rules}
-use Rattle.std.specs.Prelude.{IsTrue}
-use Rattle.sqlite.specs.Tree.{Trees}
+use Rattle.std.proofs.Common.{◌≡◌, subst, arith, rules}
 use Rattle.sqlite.specs.State.{HasCleanDisk, Survives}
 use Rattle.sqlite.specs.Held.{state}
 use Rattle.sqlite.proofs.StateLemmas.{survives_then}
 use Rattle.sqlite.proofs.Callers.{survives_begin}
-use Rattle.sql_store.specs.Table.{IsReady, map_of}
-use Rattle.sql_store.specs.Writes.{IsStored, MakesAll, Stores}
+use Rattle.sql_store.specs.Table.{IsReady}
+use Rattle.sql_store.specs.Writes.{IsStored}
 use Rattle.sql_store.proofs.Composed.{stored_by}
 use Rattle.sql_store.proofs.writes.commit_some.Goals as goal
 

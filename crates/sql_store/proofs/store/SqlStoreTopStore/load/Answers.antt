@@ -1,4 +1,4 @@
-use Rattle.std.proofs.Common.{◌≡◌, subst}
+use Rattle.std.proofs.Common.{subst}
 use Rattle.sql_store.specs.Stored.{Stored, may_leave}
 use Rattle.sql_store.proofs.Doubts.{no_doubt}
 use Rattle.sql_store.proofs.store.SqlStoreTopStore.load.Goals as goal

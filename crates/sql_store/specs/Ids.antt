@@ -1,0 +1,19 @@
+-- Rowids as a query shows them, one in a row.
+use Rattle.std.specs.Prelude.{ℤ, Bool, true, ◌&&◌, if◌then◌else◌, List, [], ◌∷◌, Option, Some, None, is_some}
+use Rattle.std.specs.Ordering.{is_lt, int_cmp}
+use Rattle.sqlite.specs.Order.{Row, column}
+use Rattle.sql_store.specs.Table.{int_in}
+
+abbrev pub is_past : Option ℤ → ℤ → Bool
+is_past None id = true
+is_past (Some low) id = is_lt (int_cmp low id)
+
+-- the rowid, where it is a whole number above the one before
+abbrev pub next_id : Option ℤ → Option ℤ → Option ℤ
+next_id low None = None
+next_id low (Some id) = if is_past low id then Some id else None
+
+-- the rowids are whole numbers, and rise
+abbrev pub rises : Option ℤ → List Row → Bool
+rises low [] = true
+rises low (r ∷ rows) = is_some (next_id low (int_in (column r 0))) && rises (next_id low (int_in (column r 0))) rows
