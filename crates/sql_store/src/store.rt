@@ -8,6 +8,7 @@ ghost use Rattle.serial_spec.specs.Rows.{IsRising, value_in};
 ghost use Rattle.serial_spec.specs.Serial.{Map};
 ghost use Rattle.durable_top.specs.Store.{plain, told, faults_after, TellsFailure};
 ghost use Rattle.sqlite.specs.Steps.{over_memory};
+ghost use Rattle.sql_store.specs.Faults.{fault_of};
 ghost use Rattle.sql_store.specs.Results.{no_schema, results_schema};
 ghost use Rattle.sql_store.specs.Table.{map_of};
 ghost use Rattle.sql_store.specs.Stored.{table, doubt_of, may_leave, IsKept, IsDecided, SqlLoads, SqlCommits};
@@ -17,7 +18,7 @@ use crate::load::load_rows;
 use crate::open::prepare;
 use crate::writes::store_changes;
 use durable_top::{Row, StoreFault, TopStore};
-use sqlite::{Alter, Connection, File, FileStore, MemStore};
+use sqlite::{Alter, Connection, Error, File, FileStore, MemStore};
 use std::alloc::Global;
 use std::marker::Model;
 use std::rt::HostRuntime;
@@ -110,10 +111,7 @@ impl SqlStore<FileStore<File>> {
         ensures faults { IfOk result (λ store. store.faults ≡ 0) }
         ensures sound { IfOk result (λ store. store.has_failed ≡ false) }
     {
-        match Connection::open(rt, path) {
-            Ok(connection) => adopted(connection),
-            Err(error) => Err(fault_of(error)),
-        }
+        adopted_from(Connection::open(rt, path))
     }
 }
 
@@ -126,6 +124,20 @@ fn adopted<S: Alter + Drop>(connection: Connection<S>) -> Result<SqlStore<S>, St
     match SqlStore::adopt(connection) {
         Ok(store) => Ok(store),
         Err((fault, _)) => Err(fault),
+    }
+}
+
+// A function over one kind of store alone costs the prover more, so that the cases stand here.
+fn adopted_from<S: Alter + Drop>(
+    opened: Result<Connection<S>, Error>,
+) -> Result<SqlStore<S>, StoreFault>
+    ensures cause { IfErr opened (λ error. result ≡ Err (fault_of error)) }
+    ensures faults { IfOk result (λ store. store.faults ≡ 0) }
+    ensures sound { IfOk result (λ store. store.has_failed ≡ false) }
+{
+    match opened {
+        Ok(connection) => adopted(connection),
+        Err(error) => Err(fault_of(error)),
     }
 }
 
