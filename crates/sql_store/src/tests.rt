@@ -1,9 +1,10 @@
-//! Stores over databases in memory and in a file.
+//! Stores over databases in memory and over files that stop. Real files are for the tests of the program.
+mod stops;
+
 use crate::SqlStore;
 use durable_top::{Row, StoreFault, TopStore};
-use sqlite::{Alter, Connection, File, FileStore, MemStore};
+use sqlite::{Connection, MemStore};
 use std::alloc::Global;
-use std::fs;
 use std::process::Abort;
 use std::rt::HostRuntime;
 use txn_names::{Change, Key};
@@ -29,47 +30,47 @@ fn word<T>(answer: &Result<T, StoreFault>) -> &'static str {
     }
 }
 
-// Commits of one change each.
-fn commits<S: Alter + Drop>(rt: &impl Abort, store: &mut SqlStore<S>, script: &str) {
+// Commits one change after another, up to the first that is not made: whether all were.
+fn commits<S: TopStore>(rt: &impl Abort, store: &mut S, script: &str) -> bool {
     for word in script.split_whitespace() {
-        let answer = store.commit(&[change(rt, word)]);
-        assert!(rt; answer.is_ok(), "{word}");
+        if store.commit(&[change(rt, word)]).is_err() {
+            return false;
+        }
     }
+    true
 }
 
-// Whether the store gives these rows, as in `x=1 y=2`.
-fn gives<S: Alter + Drop>(
-    rt: &impl Abort,
-    alloc: Global,
-    store: &mut SqlStore<S>,
-    text: &str,
-) -> bool {
-    let rows = store.load(alloc).expect(rt, text);
+// Whether the rows are these, as in `x=1 y=2`.
+fn are(rt: &impl Abort, rows: &[Row], text: &str) -> bool {
     let mut words = text.split_whitespace();
-    for Row { key, value } in rows.iter() {
+    for Row { key, value } in rows {
         let due = words.next().map(|word| change(rt, word));
-        if due
-            != Some(Change {
-                key: *key,
-                value: Some(*value),
-            })
-        {
+        let given = Change {
+            key: *key,
+            value: Some(*value),
+        };
+        if due != Some(given) {
             return false;
         }
     }
     words.next().is_none()
 }
 
-#[test]
-fn rows_stay_for_the_next_store(rt: HostRuntime) {
-    let alloc = rt.alloc();
-    let mut first = SqlStore::in_memory(alloc).expect(&rt, "memory");
-    assert!(rt; gives(&rt, alloc, &mut first, ""));
-    let script = "b=2 c=-9223372036854775808 a=9223372036854775807 b=3 c d e.f_g-0=0";
-    commits(&rt, &mut first, script);
-    let mut next = adopted(&rt, first.into_connection());
-    assert!(rt; gives(&rt, alloc, &mut next, "a=9223372036854775807 b=3 e.f_g-0=0"));
-    assert!(rt; next.faults() == 0);
+// Whether the store gives these rows.
+fn gives<S: TopStore>(rt: &impl Abort, alloc: Global, store: &mut S, text: &str) -> bool {
+    let rows = store.load(alloc).expect(rt, text);
+    are(rt, rows.as_slice(), text)
+}
+
+// Whether the store gives these rows and takes these commits.
+fn serves<S: TopStore>(
+    rt: &impl Abort,
+    alloc: Global,
+    store: &mut S,
+    rows: &str,
+    script: &str,
+) -> bool {
+    gives(rt, alloc, store, rows) && commits(rt, store, script)
 }
 
 fn adopted(rt: &impl Abort, connection: Connection<MemStore>) -> SqlStore<MemStore> {
@@ -77,6 +78,16 @@ fn adopted(rt: &impl Abort, connection: Connection<MemStore>) -> SqlStore<MemSto
         Ok(store) => store,
         Err(_) => panic!(rt; "a connection is refused"),
     }
+}
+
+#[test]
+fn rows_stay_for_the_next_store(rt: HostRuntime) {
+    let alloc = rt.alloc();
+    let mut first = SqlStore::in_memory(alloc).expect(&rt, "memory");
+    let script = "b=2 c=-9223372036854775808 a=9223372036854775807 b=3 c d e.f_g-0=0";
+    assert!(rt; serves(&rt, alloc, &mut first, "", script));
+    let mut next = adopted(&rt, first.into_connection());
+    assert!(rt; gives(&rt, alloc, &mut next, "a=9223372036854775807 b=3 e.f_g-0=0"));
 }
 
 // A database in memory on which these statements were run.
@@ -88,66 +99,50 @@ fn database(rt: &impl Abort, alloc: Global, sql: &str) -> Connection<MemStore> {
     connection
 }
 
-fn answer_of(connection: Connection<MemStore>) -> &'static str {
+// What a store over it answers: to its opening, or else to the first load.
+fn answer_of(connection: Connection<MemStore>, alloc: Global) -> (&'static str, &'static str) {
     match SqlStore::adopt(connection) {
-        Ok(_) => "ok",
-        Err((fault, _)) => word::<()>(&Err(fault)),
+        Ok(mut store) => ("ok", word(&store.load(alloc))),
+        Err((fault, _)) => (word::<()>(&Err(fault)), ""),
     }
 }
 
 #[test]
-fn databases_that_are_refused(rt: HostRuntime) {
-    let cases = [
+fn databases_and_rows_that_are_refused(rt: HostRuntime) {
+    let alloc = rt.alloc();
+    let (fine, bad, rows) = (("ok", "ok"), ("refused", ""), ("ok", "refused"));
+    for (sql, answer) in [
         (
             "CREATE TABLE results (k TEXT NOT NULL PRIMARY KEY, v INTEGER NOT NULL) STRICT",
-            "ok",
+            fine,
         ),
-        ("CREATE TABLE other (a INTEGER) STRICT", "ok"),
+        ("CREATE TABLE other (a INTEGER) STRICT", fine),
         (
             "CREATE TABLE results (k TEXT NOT NULL PRIMARY KEY) STRICT",
-            "refused",
+            bad,
         ),
-        ("CREATE TABLE results (a INTEGER, b TEXT) STRICT", "refused"),
-        ("BEGIN", "refused"),
-    ];
-    for (sql, answer) in cases {
+        ("CREATE TABLE results (a INTEGER, b TEXT) STRICT", bad),
+        ("BEGIN", bad),
+        (
+            "CREATE TABLE results (k TEXT NOT NULL PRIMARY KEY, v INTEGER NOT NULL) STRICT;INSERT INTO results VALUES ('A', 1)",
+            rows,
+        ),
+        (
+            "CREATE TABLE results (k TEXT, v TEXT) STRICT;INSERT INTO results VALUES ('a', '1')",
+            rows,
+        ),
+        (
+            "CREATE TABLE results (k TEXT, v INTEGER) STRICT;INSERT INTO results VALUES ('a', 1);INSERT INTO results VALUES ('a', 1)",
+            rows,
+        ),
+        (
+            "CREATE TABLE results (k BLOB, v INTEGER) STRICT;INSERT INTO results VALUES (x'61', 1)",
+            rows,
+        ),
+    ] {
         assert!(rt;
-            answer_of(database(&rt, rt.alloc(), sql)) == answer,
+            answer_of(database(&rt, alloc, sql), alloc) == answer,
             "{sql}"
         );
     }
-}
-
-#[test]
-fn rows_that_are_refused(rt: HostRuntime) {
-    let alloc = rt.alloc();
-    let cases = [
-        "CREATE TABLE results (k TEXT NOT NULL PRIMARY KEY, v INTEGER NOT NULL) STRICT;INSERT INTO results VALUES ('A', 1)",
-        "CREATE TABLE results (k TEXT, v TEXT) STRICT;INSERT INTO results VALUES ('a', '1')",
-        "CREATE TABLE results (k TEXT, v INTEGER) STRICT;INSERT INTO results VALUES ('a', 1);INSERT INTO results VALUES ('a', 1)",
-        "CREATE TABLE results (k BLOB, v INTEGER) STRICT;INSERT INTO results VALUES (x'61', 1)",
-    ];
-    for sql in cases {
-        let mut store = adopted(&rt, database(&rt, alloc, sql));
-        assert!(rt; word(&store.load(alloc)) == "refused", "{sql}");
-    }
-}
-
-fn opened(rt: &HostRuntime, path: &str) -> Option<SqlStore<FileStore<File>>> {
-    SqlStore::open(rt, path).ok()
-}
-
-#[test]
-fn a_file_keeps_its_rows(rt: HostRuntime) {
-    let alloc = rt.alloc();
-    fs::create_dir_all(&rt, "sql_store_test").expect(&rt, "folder");
-    let path = "sql_store_test/results.db";
-    let _ = fs::remove_file(&rt, path);
-    let mut first = opened(&rt, path).expect(&rt, path);
-    commits(&rt, &mut first, "x=1 y=2 y x=5");
-    assert!(rt; first.into_connection().close().is_ok());
-    let mut next = opened(&rt, path).expect(&rt, path);
-    assert!(rt; gives(&rt, alloc, &mut next, "x=5"));
-    assert!(rt; next.into_connection().close().is_ok());
-    fs::remove_dir_all(&rt, "sql_store_test").expect(&rt, "folder");
 }
