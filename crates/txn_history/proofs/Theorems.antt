@@ -5,7 +5,7 @@ pub use Rattle.txn_history.proofs.Left.{left_is_written}
 pub use Rattle.txn_history.proofs.Tops.{top_by_parent}
 pub use Rattle.txn_history.proofs.Live.{ancestors_act, locks_separate, live_correctness, table_correctness, value_seen, value_stored}
 pub use Rattle.txn_history.proofs.Homes.{home_by_parent, block_of_parent, serial_correctness, place_in_run, finished_correctness}
-pub use Rattle.txn_history.proofs.Pairs.{pairs_stay, quiet_stays}
+pub use Rattle.txn_history.proofs.Pairs.{access_adds_at_key, pairs_stay, quiet_stays, wait_adds_own}
 pub use Rattle.txn_history.proofs.Ends.{ended_begun, begun_down, items_stay, nothing_before, before_each}
 pub use Rattle.txn_history.proofs.Statuses.{status_after, active_after, wait_after}
 pub use Rattle.txn_history.proofs.Tables.{foot_is_greater, locks_after, left_after, writes_somewhere}

@@ -4,23 +4,25 @@ use Rattle.std.specs.Prelude.{◌≡◌, ◌⊎◌, Bool, true, false, IsTrue, I
 use Rattle.std.specs.Prelude.{None as Nothing}
 use Rattle.txn_names.specs.Path.{is_front, parent}
 use Rattle.serial_spec.specs.declared.operation.Op.{Op}
+use Rattle.serial_spec.specs.declared.operation.Reply.{Reply}
+use Rattle.serial_spec.specs.Operations.{kind}
 use Rattle.serial_spec.specs.declared.entry.By.TheVariants.{Line}
 use Rattle.serial_spec.specs.declared.event.Event.{Event}
 use Rattle.serial_spec.specs.declared.event.Event.TheVariants.{Access as AccessOf}
 use Rattle.serial_spec.specs.declared.entry.Answer.{Answer}
 use Rattle.serial_spec.specs.declared.entry.Answer.TheVariants.{Done, Waits}
 use Rattle.serial_spec.specs.declared.entry.Entry.{Entry}
-use Rattle.serial_spec.specs.History.{Name, History, Effect, Commits, effect, status, is_live, is_committed, has_begun, is_orphan, is_active}
+use Rattle.serial_spec.specs.History.{Name, History, Effect, Accesses, Commits, effect, status, is_live, is_committed, has_begun, is_orphan, is_active}
 use Rattle.serial_spec.specs.Items.{Items, None, Access, Block, after, items, chain, HasBlock}
 use Rattle.serial_spec.specs.Serial.{Map, map_after, Replies, Runs, Right, home, stored}
-use Rattle.serial_spec.specs.Locks.{foot, is_exclusive}
+use Rattle.serial_spec.specs.Locks.{foot, is_blocker, is_exclusive}
 use Rattle.serial_spec.specs.Changes.{overlay, IsChanges}
 use Rattle.txn_names.specs.declared.change.Change.{Change}
 use Rattle.serial_spec.specs.Values.{seen}
 use Rattle.serial_spec.specs.Rows.{Rows, value_in}
 use Rattle.serial_spec.specs.Allowed.{answer}
 use Rattle.serial_spec.specs.Legal.{AreAllowed, Legal}
-use Rattle.serial_spec.specs.Waits.{wait_of, waits_for, Quiet}
+use Rattle.serial_spec.specs.Waits.{accesses, is_waits, wait_of, waits_for, Quiet}
 use Rattle.txn_history.specs.Apart.{Apart}
 
 -- every transaction that has begun and has no aborted ancestor, itself included, was replied what a serial run replies
@@ -159,6 +161,23 @@ PairsStay =
 abbrev pub QuietStays : Type 0
 QuietStays =
     (rows : Rows) (e : Entry) (h : History) → AreAllowed rows (e ∷ h) → IsFalse (may_add_pair e.event e.answer)
+    → Quiet h → Quiet (e ∷ h)
+
+-- an entry by which t begins to wait makes no cycle where t waits for nobody afterwards: each new pair is of t, and so is one
+-- pair of each new cycle whose first is t
+abbrev pub WaitAddsOwn : Type 0
+WaitAddsOwn =
+    (rows : Rows) (e : Entry) (h : History) → AreAllowed rows (e ∷ h)
+    → (t : Name) → IsTrue (accesses t e.event) → IsTrue (is_waits e.answer) → ((u : Name) → IsFalse (waits_for (e ∷ h) t u))
+    → Quiet h → Quiet (e ∷ h)
+
+-- an answered access of t at k makes no cycle where t then keeps out nobody who waits at k: each new pair is of one whom t's
+-- new lock keeps out there
+abbrev pub AccessAddsAtKey : Type 0
+AccessAddsAtKey =
+    (rows : Rows) (e : Entry) (h : History) → AreAllowed rows (e ∷ h)
+    → (t : Name) (k : List ℕ) (o : Op) (r : Reply) → effect e ≡ Accesses t k o r
+    → ((u : Name) (p : Op) (w : Entry) → wait_of (e ∷ h) u ≡ Some w → w.event ≡ AccessOf u k p → IsFalse (is_blocker (e ∷ h) u k (kind p) t))
     → Quiet h → Quiet (e ∷ h)
 
 -- one that waits while nobody else does closes no cycle
