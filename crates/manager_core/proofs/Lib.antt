@@ -27,5 +27,6 @@ pub mod Lines
 pub mod Branches
 pub mod HeldUp
 pub mod Pairing
+pub mod Suspects
 pub mod Victims
 pub mod Settled

@@ -1,7 +1,7 @@
 -- Which of those that wait wait for which, by the numbers of transactions.
-use Rattle.std.specs.Prelude.{ℕ, Bool, false, nat_lt, ◌&&◌, List, [], ◌∷◌, ◌++◌, map, filter, slice_get, Option, Some}
+use Rattle.std.specs.Prelude.{ℕ, Bool, false, nat_eq, nat_lt, not, ◌&&◌, List, [], ◌∷◌, ◌++◌, map, filter, slice_get, Option, Some}
 use Rattle.std.specs.List.{list_any}
-use Rattle.txn_names.specs.Path.{Path, meet}
+use Rattle.txn_names.specs.Path.{Path, label_eq, meet}
 use Rattle.txn_tree.specs.States.{States, names}
 use Rattle.lock_table.specs.Locked.{Table}
 use Rattle.lock_table.specs.Blocking.{is_blocker_in, numbers}
@@ -33,3 +33,16 @@ pairs_with tree locks others w = map (λ v. (w.txn, v.txn)) (filter (λ v. waits
 abbrev pub pairs_of : States → Table → List Wait → List Wait → Pairs
 pairs_of tree locks [] others = []
 pairs_of tree locks (w ∷ ws) others = pairs_with tree locks others w ++ pairs_of tree locks ws others
+
+-- whether it is another, and this access waits for it
+abbrev pub waits_for_other : States → Table → Wait → Wait → Bool
+waits_for_other tree locks w v = not (nat_eq v.txn w.txn) && waits_for_in tree locks w v.txn
+
+-- whether it waits at this key, and t keeps it from being answered
+abbrev pub is_kept_out_at : States → Table → ℕ → List ℕ → Wait → Bool
+is_kept_out_at tree locks t k w = label_eq w.key k && is_blocker_in tree locks w.txn k (kind w.op) t
+
+-- whether there is a wait, and it passes
+abbrev pub passes : (Wait → Bool) → Option Wait → Bool
+passes p (Some w) = p w
+passes p o = false

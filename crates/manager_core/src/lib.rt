@@ -15,6 +15,7 @@ mod log;
 mod manager;
 mod outcome;
 mod pairs;
+mod settling;
 mod tables;
 mod waiting;
 

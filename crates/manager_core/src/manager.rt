@@ -12,10 +12,11 @@ ghost use Rattle.manager_core.specs.State.{entry};
 
 use crate::accessing::Request;
 use crate::breaker::Breaker;
-use crate::breaking::{break_cycles, reserve_step};
+use crate::breaking::reserve_step;
 use crate::changes::are_taken;
 use crate::log::Log;
 use crate::outcome::{OpenFault, Outcome};
+use crate::settling::settle;
 use crate::tables::Tables;
 use durable_top::{Row, TopStore, table_of};
 use serial_spec::{By, Entry, Event, MOST_ROWS, NoMemory, Op, PlainTable, Refusal, Reply};
@@ -153,8 +154,13 @@ impl<S: TopStore> Manager<S> {
             op,
         };
         let outcome = self.tables.ask(&self.log, &request)?;
-        self.log.add(by, Event::Access(*name, *key, op), &outcome);
-        break_cycles(&mut self.log, &mut self.tables, &mut self.breaker);
+        settle(
+            &mut self.log,
+            &mut self.tables,
+            &mut self.breaker,
+            &request,
+            &outcome,
+        );
         Ok(outcome)
     }
 
@@ -178,8 +184,13 @@ impl<S: TopStore> Manager<S> {
         match outcome {
             Outcome::Waits => {}
             _ => {
-                self.log.add(by, Event::Access(*name, key, op), &outcome);
-                break_cycles(&mut self.log, &mut self.tables, &mut self.breaker);
+                settle(
+                    &mut self.log,
+                    &mut self.tables,
+                    &mut self.breaker,
+                    &request,
+                    &outcome,
+                );
             }
         }
         Ok(outcome)

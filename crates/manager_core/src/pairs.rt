@@ -46,9 +46,9 @@ fn is_held_up_by_any(
         .any(|holder| is_held_up(tree, locks, wait, other, *holder))
 }
 
-// Whether the access waits for the other: that, or one that it is in the branch of, has to end or to go on before one that
-// keeps the access from being answered can.
-fn waits_for(tree: &Tree, locks: &Locks, wait: &Wait, other: TxnNo) -> bool
+/// Whether the access waits for the other: that, or one that it is in the branch of, has to end or to go on before one that
+/// keeps the access from being answered can.
+pub(crate) fn waits_for(tree: &Tree, locks: &Locks, wait: &Wait, other: TxnNo) -> bool
     ensures { result ≡ waits_for_in tree.now locks.now wait.now other }
 {
     is_held_up_by_any(tree, locks, wait, other, locks.holders(&wait.key))

@@ -49,8 +49,8 @@ invariant_of-self-in-Waits g c =
     (settled_roomy g.S.TopStore m.log.rows m.log.entries c.reserve_step.new.tables m.opened m.store roomy _
     (roomy_beside c.reserve_step.new.tables _ (rw c.in-Waits.is at c.in_ok-outcome.ensures.reaches) (rw c.in-Waits.is at c.in_ok-outcome.ensures.waits)))
 
-pub break_cycles-requires : goal.break_cycles-requires
-break_cycles-requires g c =
+pub settle-requires : goal.settle-requires
+settle-requires g c =
     let m = c.self.inside in
     let t = c.args.name.now in
     let by = c.unwrap-by.result.0 in
@@ -65,9 +65,10 @@ break_cycles-requires g c =
     (retry_comes m.log.rows m.log.entries by t k op outcome comes c.in_default.not-Waits) c.in_default.not-Waits comes c.in_ok-outcome.ensures.reaches c.in_ok-outcome.ensures.waits in
     let many : length c.ask_again.new.self.waits.waits ≤ length m.tables.waits.waits = omega (arith, c.in_ok-outcome.ensures.grown, ap (λ (w : Waiting). length w.waits) c.reserve_step.ensures.waits) in
     record {
-      allowed = allowed_of _ _ _ _ kept.allowed (c.add.ensures.rows ∙ c.reserve_step.ensures.rows) (c.add.ensures.entries ∙ ap (λ h. entry by (Access t k op) (answer_of outcome) ∷ h) c.reserve_step.ensures.entries);
-      are = rw (c.add.ensures.rows, c.add.ensures.entries, c.reserve_step.ensures.rows, c.reserve_step.ensures.entries) kept.are;
-      room = omega (arith, many, c.in_ok-reserve_step.ensures.room, c.add.ensures.room);
+      allowed = allowed_of _ _ _ _ kept.allowed c.reserve_step.ensures.rows (ap (λ h. entry by (Access t k op) (answer_of outcome) ∷ h) c.reserve_step.ensures.entries);
+      are = rw (c.reserve_step.ensures.rows, c.reserve_step.ensures.entries) kept.are;
+      quiet = rw (c.reserve_step.ensures.entries) c.self.invariant.quiet;
+      room = omega (arith, many, c.in_ok-reserve_step.ensures.room);
       marks_room = omega (arith, many, c.in_ok-reserve_step.ensures.marks_room, ap (λ v. v.room) c.ask_again.ensures.marks);
       work_room = fewer_pairs _ (length m.tables.waits.waits + 1) _ (omega (arith, many)) c.in_ok-reserve_step.ensures.work_room;
     }
@@ -86,9 +87,9 @@ invariant_of-self-in_default g c =
     let comes = rw (c.reserve_step.ensures.rows, c.reserve_step.ensures.entries) at c.in_ok-outcome.ensures.comes in
     let kept = kept_answered g.S.TopStore m.log.rows m.log.entries c.reserve_step.new.tables c.ask_again.new.self m.opened m.store roomy.kept by t is.wait is.waits is.of_line is.line k op outcome
     (retry_comes m.log.rows m.log.entries by t k op outcome comes c.in_default.not-Waits) c.in_default.not-Waits comes c.in_ok-outcome.ensures.reaches c.in_ok-outcome.ensures.waits in
-    let breaks = rw (c.add.ensures.rows, c.add.ensures.entries, c.reserve_step.ensures.rows, c.reserve_step.ensures.entries) at c.break_cycles.ensures.breaks in
-    rw (c.break_cycles.ensures.rows, c.add.ensures.rows, c.reserve_step.ensures.rows)
-    (settled_broken g.S.TopStore m.log.rows m.log.entries c.reserve_step.new.tables m.opened m.store roomy (entry by (Access t k op) (answer_of outcome)) c.ask_again.new.self _ _ kept breaks c.break_cycles.ensures.table)
+    let breaks = rw (c.reserve_step.ensures.rows, c.reserve_step.ensures.entries) at c.settle.ensures.breaks in
+    rw (c.settle.ensures.rows, c.reserve_step.ensures.rows)
+    (settled_broken g.S.TopStore m.log.rows m.log.entries c.reserve_step.new.tables m.opened m.store roomy (entry by (Access t k op) (answer_of outcome)) c.ask_again.new.self _ _ kept breaks c.settle.ensures.table)
 
 pub returns-clause-ok : goal.returns-clause-ok
 returns-clause-ok g c =
@@ -106,8 +107,8 @@ returns-clause-ok g c =
     elim c.match-outcome.branch [
       | in-Waits w ↦ rw (w.self-is, ← c.self.view_is, c.reserve_step.ensures.rows, c.reserve_step.ensures.entries, table) (waits_on _ t by k op is outcome comes w.in-Waits.is)
       | in_default w ↦
-          let breaks = rw (w.add.ensures.rows, w.add.ensures.entries, c.reserve_step.ensures.rows, c.reserve_step.ensures.entries) at w.break_cycles.ensures.breaks in
-          rw (w.self-is, ← c.self.view_is, w.break_cycles.ensures.rows, w.add.ensures.rows, c.reserve_step.ensures.rows, w.break_cycles.ensures.table, table)
+          let breaks = rw (c.reserve_step.ensures.rows, c.reserve_step.ensures.entries) at w.settle.ensures.breaks in
+          rw (w.self-is, ← c.self.view_is, w.settle.ensures.rows, c.reserve_step.ensures.rows, w.settle.ensures.table, table)
           (retried _ _ t by k op is outcome (record {
             allowed = retry_comes m.log.rows m.log.entries by t k op outcome comes w.in_default.not-Waits;
             victims = breaks.victims;
@@ -136,7 +137,7 @@ returns-clause-sound g c =
       | in_default w ↦
           let kept = kept_answered g.S.TopStore m.log.rows m.log.entries c.reserve_step.new.tables c.ask_again.new.self m.opened m.store roomy.kept by t is.wait is.waits is.of_line is.line k op outcome
           (retry_comes m.log.rows m.log.entries by t k op outcome comes w.in_default.not-Waits) w.in_default.not-Waits comes c.in_ok-outcome.ensures.reaches c.in_ok-outcome.ensures.waits in
-          let breaks = rw (w.add.ensures.rows, w.add.ensures.entries, c.reserve_step.ensures.rows, c.reserve_step.ensures.entries) at w.break_cycles.ensures.breaks in
-          let next = settled_broken g.S.TopStore m.log.rows m.log.entries c.reserve_step.new.tables m.opened m.store roomy (entry by (Access t k op) (answer_of outcome)) c.ask_again.new.self _ _ kept breaks w.break_cycles.ensures.table in
-          rw (w.self-is, w.break_cycles.ensures.rows, w.add.ensures.rows, c.reserve_step.ensures.rows) (sound g.S.TopStore _ _ next refl)
+          let breaks = rw (c.reserve_step.ensures.rows, c.reserve_step.ensures.entries) at w.settle.ensures.breaks in
+          let next = settled_broken g.S.TopStore m.log.rows m.log.entries c.reserve_step.new.tables m.opened m.store roomy (entry by (Access t k op) (answer_of outcome)) c.ask_again.new.self _ _ kept breaks w.settle.ensures.table in
+          rw (w.self-is, w.settle.ensures.rows, c.reserve_step.ensures.rows) (sound g.S.TopStore _ _ next refl)
     ]

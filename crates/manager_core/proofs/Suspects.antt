@@ -1,0 +1,202 @@
+-- Where an access closes no cycle of waits, told by those pairs alone that it can have added.
+use Rattle.std.proofs.Common.{◌≡◌, ℕ, zero, suc, ◌+◌, nat_eq, Bool, true, false, not, ◌&&◌, List, [], ◌∷◌, take, Option, Some, None, unwrap_or, refl, sym, ap, ◌∙◌, arith}
+use Rattle.std.specs.Prelude.{slice_get}
+use Rattle.std.specs.List.{list_any}
+use Rattle.std.proofs.lemmas.Bool.{and_from, and_parts, eqb-true, false≢true, false_from_ne_true, ltb-true, not_from_false, or_left, or_right}
+use Rattle.std.proofs.lemmas.Option.{none-some}
+use Rattle.txn_names.specs.Path.{Path, is_front, label_eq, meet}
+use Rattle.txn_names.proofs.Names.{label_eq_self, path_eq_self}
+use Rattle.txn_tree.specs.States.{States, names}
+use Rattle.txn_tree.specs.Asked.{IsNumberOf, is_absent_in, is_name}
+use Rattle.lock_table.specs.Locked.{Table}
+use Rattle.lock_table.specs.Blocking.{is_blocker_in, numbers}
+use Rattle.lock_table.proofs.Lists.{witness}
+use Rattle.serial_spec.proofs.Taking.{take_past}
+use Rattle.serial_spec.specs.declared.entry.Answer.TheVariants.{Done, Waits, Refused}
+use Rattle.serial_spec.specs.declared.entry.By.{By}
+use Rattle.serial_spec.specs.declared.entry.By.TheVariants.{Close}
+use Rattle.serial_spec.specs.declared.entry.Entry.{Entry}
+use Rattle.serial_spec.specs.declared.entry.Refusal.{Refusal}
+use Rattle.serial_spec.specs.declared.event.Event.TheVariants.{Access}
+use Rattle.serial_spec.specs.declared.operation.Kind.{Kind}
+use Rattle.serial_spec.specs.declared.operation.Op.{Op}
+use Rattle.serial_spec.specs.declared.operation.Reply.{Reply}
+use Rattle.serial_spec.specs.Operations.{kind}
+use Rattle.serial_spec.specs.History.{Name, History, is_active}
+use Rattle.serial_spec.specs.Locks.{conflicts, foot, is_blocker}
+use Rattle.serial_spec.specs.Rows.{Rows}
+use Rattle.serial_spec.specs.Legal.{AreAllowed}
+use Rattle.serial_spec.specs.Waits.{wait_of as wait_by, waits_by, waits_for}
+use Rattle.txn_history.proofs.Theorems.{access_adds_at_key, quiet_stays, wait_adds_own}
+use Rattle.wait_cycles.specs.Waiting.{AreOnce, wait_of}
+use Rattle.wait_cycles.specs.declared.waits.Wait.{Wait}
+use Rattle.manager_core.specs.declared.outcome.Outcome.{Outcome}
+use Rattle.manager_core.specs.declared.outcome.Outcome.TheVariants as made
+use Rattle.manager_core.specs.Outcomes.{answer_of}
+use Rattle.manager_core.specs.Kept.{AreTablesOf}
+use Rattle.manager_core.specs.Lines.{access_by}
+use Rattle.manager_core.specs.Pairs.{is_beside, is_held_up, is_in_branch, is_kept_out_at, passes, waits_for_in, waits_for_other}
+use Rattle.manager_core.specs.State.{entry}
+use Rattle.manager_core.specs.Tables.{Tabled}
+use Rattle.manager_core.specs.Victims.{StaysQuiet}
+use Rattle.manager_core.proofs.Lasting.{is_open}
+use Rattle.manager_core.proofs.Locks.{blocker_as, name_at, present}
+use Rattle.manager_core.proofs.Named.{any_got, any_next}
+use Rattle.manager_core.proofs.Pairing.{as_named, tell_waits}
+
+-- ---- the waits, a place at a time
+
+pub here_passes : (p : Wait → Bool) (ws : List Wait) (i : ℕ) → passes p (slice_get ws i) ≡ true → list_any p ws ≡ true
+here_passes p [] i e = absurd (false≢true e)
+here_passes p (w ∷ ws) zero e = or_left (p w) (list_any p ws) e
+here_passes p (w ∷ ws) (suc i) e = or_right (p w) (list_any p ws) (here_passes p ws i e)
+
+pub next_fails : (p : Wait → Bool) (ws : List Wait) (i : ℕ) → list_any p (take i ws) ≡ false → passes p (slice_get ws i) ≡ false → list_any p (take (i + 1) ws) ≡ false
+next_fails p ws i none e = by (slice_get ws i) refl e
+  where
+    by : (o : Option Wait) → slice_get ws i ≡ o → passes p o ≡ false → list_any p (take (i + 1) ws) ≡ false
+    by None at f = ap (list_any p) (take_past ws i at) ∙ none
+    by (Some w) at f = any_next p ws i w at none f
+
+-- ---- who waits, by place and by name
+
+-- nobody waits for itself
+no_own : (tree : States) (locks : Table) (w : Wait) → waits_for_in tree locks w w.txn ≡ false
+no_own tree locks w = false_from_ne_true _ (λ f.
+    let b = witness (is_held_up tree locks w w.txn) (numbers tree) f in
+    not_beside (slice_get (names tree) w.txn) (slice_get (names tree) b.0) (and_parts (is_blocker_in tree locks w.txn w.key (kind w.op) b.0) (is_in_branch tree w.txn b.0 w.txn) b.1).1)
+  where
+    not_beside : (o p : Option Path) → is_beside o p o ≡ true → ⊥
+    not_beside None p e = false≢true e
+    not_beside (Some t) None e = false≢true e
+    not_beside (Some t) (Some b) e = let less = ltb-true (meet t b) (meet t b) e in omega (arith, less)
+
+-- the wait that an entry makes stands at a place
+record IsAt (h : History) (tables : Tabled) (u : Name) (x : Entry) : Type 0 where
+  wait : Wait
+  place : ℕ
+  stands : slice_get tables.waits.waits place ≡ Some wait
+  kept : wait_of tables.waits wait.txn ≡ Some wait
+  name : slice_get (names tables.tree) wait.txn ≡ Some u
+  event : x.event ≡ Access u wait.key wait.op
+
+-- a number is of one name
+one_number : (tree : States) (t : Name) (n m : ℕ) → IsNumberOf tree t n → slice_get (names tree) m ≡ Some t → n ≡ m
+one_number tree t n m number at = eqb-true n m (number m ∙ ap (λ o. is_name o t) at ∙ path_eq_self t)
+
+module _ (rows : Rows) (h : History) (tables : Tabled) (are : AreTablesOf rows h tables) (allowed : AreAllowed rows h) (once : AreOnce tables.waits) where
+  at_place : (u : Name) (x : Entry) → wait_by h u ≡ Some x → IsAt h tables u x
+  at_place u x waits =
+      let tell = tell_waits rows h tables allowed are in
+      let found = tell.all u x waits in
+      let w = found.1 in
+      let same = tell.known found.0 w found.3 in
+      let i = once.all found.0 w found.3 in
+      let there : same.0 ≡ u = ap (λ o. unwrap_or o u) (sym same.2 ∙ found.2) in
+      let entry_is : same.1 ≡ x = ap (λ o. unwrap_or o x) (sym same.3 ∙ ap (wait_by h) there ∙ waits) in
+      record {
+        wait = w;
+        place = i.0;
+        stands = i.1;
+        kept = ap (wait_of tables.waits) same.5 ∙ found.3;
+        name = ap (slice_get (names tables.tree)) same.5 ∙ found.2;
+        event = ap (λ (y : Entry). y.event) (sym entry_is) ∙ same.4 ∙ ap (λ y. Access y w.key w.op) there;
+      }
+
+  -- where one that waits waits for no other by numbers, it waits for nobody by names
+  waits_for_nobody : (t : Name) (n : ℕ) (w : Wait) → IsNumberOf tables.tree t n → wait_of tables.waits n ≡ Some w
+      → list_any (waits_for_other tables.tree tables.estate.locks w) tables.waits.waits ≡ false → (u : Name) → waits_for h t u ≡ false
+  waits_for_nobody t n w number kept none u = false_from_ne_true _ (λ f. by (wait_by h t) (wait_by h u) refl refl f f)
+    where
+      found : (x y : Entry) → wait_by h t ≡ Some x → wait_by h u ≡ Some y → waits_for h t u ≡ true → ⊥
+      found x y is_x is_y f =
+          let one = at_place t x is_x in
+          let other = at_place u y is_y in
+          let same : one.wait ≡ w =
+          ap (λ o. unwrap_or o w) (sym one.kept ∙ ap (wait_of tables.waits) (sym (one_number tables.tree t n one.wait.txn number one.name)) ∙ kept) in
+          let for : waits_for_in tables.tree tables.estate.locks w other.wait.txn ≡ true =
+          ap (λ (v : Wait). waits_for_in tables.tree tables.estate.locks v other.wait.txn) (sym same)
+          ∙ as_named rows h tables are one.wait other.wait.txn t u x y one.name other.name is_x is_y one.event ∙ f in
+          let apart : nat_eq other.wait.txn w.txn ≡ false = false_from_ne_true _ (λ e.
+          false≢true (sym (no_own tables.tree tables.estate.locks w) ∙ ap (waits_for_in tables.tree tables.estate.locks w) (sym (eqb-true other.wait.txn w.txn e)) ∙ for)) in
+          false≢true (sym none ∙ any_got (waits_for_other tables.tree tables.estate.locks w) tables.waits.waits other.place other.wait other.stands
+          (and_from _ _ (not_from_false (nat_eq other.wait.txn w.txn) apart) for))
+
+      by : (o p : Option Entry) → wait_by h t ≡ o → wait_by h u ≡ p → waits_by h t u o p ≡ true → waits_for h t u ≡ true → ⊥
+      by None p is_o is_p f g = false≢true f
+      by (Some x) None is_o is_p f g = false≢true f
+      by (Some x) (Some y) is_o is_p f g = found x y is_o is_p g
+
+  -- where it keeps nobody out who waits at a key by numbers, it keeps nobody out there by names
+  keeps_nobody_out : (t : Name) (n : ℕ) → slice_get (names tables.tree) n ≡ Some t → (k : List ℕ)
+      → list_any (is_kept_out_at tables.tree tables.estate.locks n k) tables.waits.waits ≡ false
+      → (u : Name) (p : Op) (x : Entry) → wait_by h u ≡ Some x → x.event ≡ Access u k p → is_blocker h u k (kind p) t ≡ false
+  keeps_nobody_out t n at k none u p x waits event = false_from_ne_true _ (λ f.
+      let there = at_place u x waits in
+      let same : Access u there.wait.key there.wait.op ≡ Access u k p = sym there.event ∙ event in
+      let key : there.wait.key ≡ k = ap (λ e. (unwrap_or (access_by Close e) (Close, k, p)).1) same in
+      let op : there.wait.op ≡ p = ap (λ e. (unwrap_or (access_by Close e) (Close, k, p)).2) same in
+      let blocks : is_blocker_in tables.tree tables.estate.locks there.wait.txn k (kind there.wait.op) n ≡ true =
+      ap (λ o. is_blocker_in tables.tree tables.estate.locks there.wait.txn k (kind o) n) op
+      ∙ blocker_as rows h tables are u there.wait.txn there.name k (kind p) n t at ∙ f in
+      false≢true (sym none ∙ any_got (is_kept_out_at tables.tree tables.estate.locks n k) tables.waits.waits there.place there.wait there.stands
+      (and_from _ _ (ap (λ q. label_eq q k) key ∙ label_eq_self k) blocks)))
+
+-- who does not wait by numbers waits for nobody
+waits_not : (rows : Rows) (h : History) (tables : Tabled) → AreTablesOf rows h tables → AreAllowed rows h → (t : Name) (n : ℕ) → IsNumberOf tables.tree t n
+    → wait_of tables.waits n ≡ None → (u : Name) → waits_for h t u ≡ false
+waits_not rows h tables are allowed t n number none u = by (wait_by h t) refl
+  where
+    by : (o : Option Entry) → wait_by h t ≡ o → waits_by h t u o (wait_by h u) ≡ false
+    by None is = refl
+    by (Some x) is =
+        let found = (tell_waits rows h tables allowed are).all t x is in
+        absurd (none-some found.1 (sym none ∙ ap (wait_of tables.waits) (one_number tables.tree t n found.0 number found.2) ∙ found.3))
+
+-- one that never began does not act, so it keeps nobody out, and waits for nobody
+module _ (rows : Rows) (h : History) (tables : Tabled) (are : AreTablesOf rows h tables) (t : Name) (absent : is_absent_in tables.tree t ≡ true) where
+  idle : is_active h t ≡ true → ⊥
+  idle acts = false≢true (sym (present h tables.tree are.in_tree t acts) ∙ absent)
+
+  absent_keeps_nobody_out : (u : Name) (k : List ℕ) (x : Kind) → is_blocker h u k x t ≡ false
+  absent_keeps_nobody_out u k x = false_from_ne_true _ (λ f. idle (and_parts (is_active h t) (not (is_front t u) && conflicts (foot h t k) x) f).0)
+
+  absent_waits_not : (u : Name) → waits_for h t u ≡ false
+  absent_waits_not u = by (wait_by h t) refl
+    where
+      by : (o : Option Entry) → wait_by h t ≡ o → waits_by h t u o (wait_by h u) ≡ false
+      by None is = refl
+      by (Some x) is = absurd (idle (is_open h t x is).acts)
+
+-- ---- an entry of an access
+
+module _ (rows : Rows) (h : History) (tables : Tabled) (by : By) (t : Name) (k : List ℕ) (op : Op) where
+  pub quiet_if_refused : (r : Refusal) → StaysQuiet rows (entry by (Access t k op) (Refused r)) h tables
+  quiet_if_refused r allowed are q = quiet_stays rows (entry by (Access t k op) (Refused r)) h allowed refl q
+
+  pub quiet_if_absent : (outcome : Outcome) → is_absent_in tables.tree t ≡ true → StaysQuiet rows (entry by (Access t k op) (answer_of outcome)) h tables
+  quiet_if_absent (made.Done r) absent allowed are q =
+      let e : Entry = entry by (Access t k op) (Done r) in
+      access_adds_at_key rows e h allowed t k op r refl (λ u p x waits event. absent_keeps_nobody_out rows (e ∷ h) tables are t absent u k (kind p)) q
+  quiet_if_absent made.Waits absent allowed are q =
+      let e : Entry = entry by (Access t k op) Waits in
+      wait_adds_own rows e h allowed t (path_eq_self t) refl (absent_waits_not rows (e ∷ h) tables are t absent) q
+  quiet_if_absent (made.Refused r) absent allowed are q = quiet_if_refused r allowed are q
+
+  pub quiet_if_nobody_is_kept_out : (r : Reply) (n : ℕ) → AreOnce tables.waits → IsNumberOf tables.tree t n
+      → list_any (is_kept_out_at tables.tree tables.estate.locks n k) tables.waits.waits ≡ false → StaysQuiet rows (entry by (Access t k op) (Done r)) h tables
+  quiet_if_nobody_is_kept_out r n once number none allowed are q =
+      let e : Entry = entry by (Access t k op) (Done r) in
+      access_adds_at_key rows e h allowed t k op r refl (keeps_nobody_out rows (e ∷ h) tables are allowed once t n (name_at tables.tree t n number) k none) q
+
+  pub quiet_if_it_waits_for_nobody : (n : ℕ) (w : Wait) → AreOnce tables.waits → IsNumberOf tables.tree t n → wait_of tables.waits n ≡ Some w
+      → list_any (waits_for_other tables.tree tables.estate.locks w) tables.waits.waits ≡ false → StaysQuiet rows (entry by (Access t k op) Waits) h tables
+  quiet_if_it_waits_for_nobody n w once number kept none allowed are q =
+      let e : Entry = entry by (Access t k op) Waits in
+      wait_adds_own rows e h allowed t (path_eq_self t) refl (waits_for_nobody rows (e ∷ h) tables are allowed once t n w number kept none) q
+
+  pub quiet_if_it_does_not_wait : (n : ℕ) → IsNumberOf tables.tree t n → wait_of tables.waits n ≡ None
+      → StaysQuiet rows (entry by (Access t k op) Waits) h tables
+  quiet_if_it_does_not_wait n number none allowed are q =
+      let e : Entry = entry by (Access t k op) Waits in
+      wait_adds_own rows e h allowed t (path_eq_self t) refl (waits_not rows (e ∷ h) tables are allowed t n number none) q

@@ -1,0 +1,134 @@
+//! Whether an access may have closed a cycle of waits, and the breaking of those that it has closed.
+//!
+//! Each step looks for pairs of which the first waits for the second only where the step itself can have added one. All pairs
+//! together are as many as those that wait, squared, and most steps add none.
+ghost use Rattle.std.specs.Prelude.{◌≡◌, ◌≤◌, ◌+◌, ◌*◌, ◌∷◌, length, slice_get, IsFalse};
+ghost use Rattle.std.specs.List.{list_any};
+ghost use Rattle.serial_spec.specs.declared.entry.By.{By};
+ghost use Rattle.serial_spec.specs.declared.event.Event.TheVariants.{Access};
+ghost use Rattle.serial_spec.specs.declared.operation.Op.{Op};
+ghost use Rattle.serial_spec.specs.History.{History};
+ghost use Rattle.serial_spec.specs.Legal.{AreAllowed};
+ghost use Rattle.serial_spec.specs.Rows.{Rows};
+ghost use Rattle.serial_spec.specs.Waits.{Quiet};
+ghost use Rattle.wait_cycles.specs.Waiting.{AreOnce};
+ghost use Rattle.manager_core.specs.Kept.{AreTablesOf};
+ghost use Rattle.manager_core.specs.Outcomes.{answer_of};
+ghost use Rattle.manager_core.specs.Pairs.{is_kept_out_at, passes, waits_for_other};
+ghost use Rattle.manager_core.specs.State.{entry};
+ghost use Rattle.manager_core.specs.Tables.{rows_in};
+ghost use Rattle.manager_core.specs.Victims.{Breaks, StaysQuiet};
+
+use crate::accessing::Request;
+use crate::breaker::Breaker;
+use crate::breaking::break_cycles;
+use crate::log::Log;
+use crate::outcome::Outcome;
+use crate::pairs::waits_for;
+use crate::tables::Tables;
+use lock_table::Locks;
+use serial_spec::Event;
+use txn_names::{Key, Name};
+use txn_tree::{Tree, TxnNo};
+use wait_cycles::{Wait, Waits};
+
+// Whether another waits at this place, for which the access waits.
+fn waits_for_one_at(tree: &Tree, locks: &Locks, waits: &Waits, wait: &Wait, place: usize) -> bool
+    ensures { result ≡ passes (waits_for_other tree.now locks.now wait.now) (slice_get waits.now.waits place) }
+{
+    match waits.at(place) {
+        Some(other) => other.txn != wait.txn && waits_for(tree, locks, wait, other.txn),
+        None => false,
+    }
+}
+
+// Whether the access, which waits, waits for any other that waits.
+#[tactic(auto, using(crate::proofs::Suspects::here_passes, crate::proofs::Suspects::next_fails))]
+fn waits_for_any(tree: &Tree, locks: &Locks, waits: &Waits, wait: &Wait) -> bool
+    ensures result { result ≡ list_any (waits_for_other tree.now locks.now wait.now) waits.now.waits }
+    ensures once { AreOnce waits.now }
+{
+    for place in 0..waits.len() {
+        if waits_for_one_at(tree, locks, waits, wait, place) {
+            return true;
+        }
+    }
+    false
+}
+
+// Whether an access waits at this place, at the key, which the transaction keeps from being answered.
+fn keeps_out_at(
+    tree: &Tree,
+    locks: &Locks,
+    waits: &Waits,
+    txn: TxnNo,
+    key: &Key,
+    place: usize,
+) -> bool
+    ensures { result ≡ passes (is_kept_out_at tree.now locks.now txn key.now) (slice_get waits.now.waits place) }
+{
+    match waits.at(place) {
+        Some(wait) => wait.key == *key && locks.blocks(tree, txn, wait.txn, key, wait.op.kind()),
+        None => false,
+    }
+}
+
+// Whether the transaction keeps any access that waits at the key from being answered.
+#[tactic(auto, using(crate::proofs::Suspects::here_passes, crate::proofs::Suspects::next_fails))]
+fn keeps_any_out(tree: &Tree, locks: &Locks, waits: &Waits, txn: TxnNo, key: &Key) -> bool
+    ensures result { result ≡ list_any (is_kept_out_at tree.now locks.now txn key.now) waits.now.waits }
+    ensures once { AreOnce waits.now }
+{
+    for place in 0..waits.len() {
+        if keeps_out_at(tree, locks, waits, txn, key, place) {
+            return true;
+        }
+    }
+    false
+}
+
+// Whether the access that was entered last may have closed a cycle of waits. One that began to wait closes none unless it
+// waits for another that waits. One that was answered closes none unless its new lock keeps out another that waits at this
+// key. One that was refused closes none. It takes no memory.
+fn may_close_cycle(tables: &Tables, name: &Name, key: &Key, outcome: &Outcome) -> bool
+    ensures { IsFalse result → (rows : Rows) (h : History) (by : By) (op : Op) → StaysQuiet rows (entry by (Access name.now key.now op) (answer_of outcome.now)) h tables.now }
+{
+    let Some(txn) = tables.tree.no_of(name) else {
+        return false;
+    };
+    let (tree, locks, waits) = (&tables.tree, tables.estate.locks(), &tables.waits);
+    match outcome {
+        Outcome::Done(_) => keeps_any_out(tree, locks, waits, txn, key),
+        Outcome::Waits => match waits.of(txn) {
+            Some(wait) => waits_for_any(tree, locks, waits, wait),
+            None => false,
+        },
+        Outcome::Refused(_) => false,
+    }
+}
+
+/// Enters an access, which the tables have, and aborts the last begun of those that lie on a cycle of waits, until no cycle is
+/// left. It takes no memory: there is room for the entry, to abort all that wait, and to look for them.
+pub(crate) fn settle(
+    log: &mut Log,
+    tables: &mut Tables,
+    breaker: &mut Breaker,
+    request: &Request,
+    outcome: &Outcome,
+)
+    requires allowed { AreAllowed log.old.rows (entry request.now.by (Access request.now.name request.now.key request.now.op) (answer_of outcome.now) ∷ log.old.entries) }
+    requires are { AreTablesOf log.old.rows (entry request.now.by (Access request.now.name request.now.key request.now.op) (answer_of outcome.now) ∷ log.old.entries) tables.old }
+    requires quiet { Quiet log.old.entries }
+    requires room { length tables.old.waits.waits + 1 ≤ log.old.room }
+    requires marks_room { length tables.old.waits.waits ≤ tables.old.marks.room }
+    requires work_room { length tables.old.waits.waits * length tables.old.waits.waits ≤ breaker.old }
+    ensures rows { log.new.rows ≡ log.old.rows }
+    ensures breaks { Breaks log.old.rows (entry request.now.by (Access request.now.name request.now.key request.now.op) (answer_of outcome.now) ∷ log.old.entries) log.new.entries tables.new }
+    ensures table { rows_in tables.new ≡ rows_in tables.old }
+{
+    let Request { by, name, key, op } = request;
+    log.add(*by, Event::Access(*name, *key, *op), outcome);
+    if may_close_cycle(tables, name, key, outcome) {
+        break_cycles(log, tables, breaker);
+    }
+}
