@@ -87,9 +87,10 @@ fn keeps_any_out(tree: &Tree, locks: &Locks, waits: &Waits, txn: TxnNo, key: &Ke
     false
 }
 
-// Whether the access that was entered last may have closed a cycle of waits. One that began to wait closes none unless it
-// waits for another that waits. One that was answered closes none unless its new lock keeps out another that waits at this
-// key. One that was refused closes none. It takes no memory.
+// Whether the access that was entered last may have closed a cycle of waits. One that began to wait adds pairs of its own
+// transaction alone, and a cycle of these needs one whose first it is: so it closes none unless it waits for another that
+// waits. One that was answered adds pairs of those alone whom its lock keeps out at this key: so it closes none unless one
+// waits there. One that was refused adds no pair. It takes no memory.
 fn may_close_cycle(tables: &Tables, name: &Name, key: &Key, outcome: &Outcome) -> bool
     ensures { IsFalse result → (rows : Rows) (h : History) (by : By) (op : Op) → StaysQuiet rows (entry by (Access name.now key.now op) (answer_of outcome.now)) h tables.now }
 {
