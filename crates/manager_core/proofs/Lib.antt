@@ -23,6 +23,7 @@ pub mod Waits
 pub mod Lasting
 pub mod WaitTables
 pub mod Retrying
+pub mod KeptOut
 pub mod Lines
 pub mod Branches
 pub mod HeldUp

@@ -19,8 +19,8 @@ fn is_full_for(log: &Log, key: &Key) -> bool
 }
 
 impl Tables {
-    // The cause that access, commit and abort share.
-    fn refusal_at_end(&self, name: &Name) -> Option<Refusal>
+    /// The cause that access, commit and abort share.
+    pub(crate) fn refusal_at_end(&self, name: &Name) -> Option<Refusal>
         ensures cause { result ≡ cause_in self.now name.now }
         ensures some { 0 < length name.now }
     {

@@ -16,6 +16,7 @@ mod manager;
 mod outcome;
 mod pairs;
 mod settling;
+mod parking;
 mod tables;
 mod waiting;
 

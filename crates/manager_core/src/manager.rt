@@ -10,6 +10,8 @@ ghost use Rattle.manager_core.specs.Lines.{IsFree, IsWaitOf, waits_no_more, acce
 ghost use Rattle.manager_core.specs.Outcomes.{answer_of};
 ghost use Rattle.manager_core.specs.State.{entry};
 
+mod parked;
+
 use crate::accessing::Request;
 use crate::breaker::Breaker;
 use crate::breaking::reserve_step;
@@ -295,22 +297,6 @@ impl<S: TopStore> Manager<S> {
         let outcome = Outcome::of(self.tables.abort(name));
         self.log.add(by, Event::Abort(*name), &outcome);
         Ok(outcome)
-    }
-
-    /// Gives up an access that waits by this line: it is answered `Stuck`, and its transaction waits no more.
-    pub fn cancel(&mut self, by: By, event: &Event) -> Result<(), NoMemory>
-        requires waits { IsWaitOf self.old.history by event.now }
-        ensures ok { OnOk result (self.new ≡ record self.old { history = entry by event.now Stuck ∷ self.old.history }) }
-        ensures err { OnErr result (self.new ≡ self.old) }
-        ensures sound { OnOk result (IsSound S.TopStore self.new) }
-    {
-        let Event::Access(name, _, _) = event else {
-            unreachable!()
-        };
-        self.log.reserve(1)?;
-        self.tables.end_wait(name);
-        self.log.add_stuck(by, *event);
-        Ok(())
     }
 
     /// Aborts the live top-level transactions, in the order in which they began.

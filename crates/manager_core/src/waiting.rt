@@ -17,8 +17,8 @@ use crate::tables::Tables;
 use serial_spec::{By, Op};
 use txn_names::{Key, Name};
 
-// Whether both are of one line of a session.
-fn same_line(a: By, b: By) -> bool
+/// Whether both are of one line of a session.
+pub(crate) fn same_line(a: By, b: By) -> bool
     ensures { result ≡ same_line a b }
 {
     match (a, b) {

@@ -33,7 +33,7 @@ same_is (Line u m) s l e =
 same_is Victim s l e = cc
 same_is Close s l e = cc
 
-other_session : (u s m l : ℕ) → eqb u s ≡ false → same_line (Line u m) (Line s l) ≡ false
+pub other_session : (u s m l : ℕ) → eqb u s ≡ false → same_line (Line u m) (Line s l) ≡ false
 other_session u s m l e = rw e refl
 
 other_line : (s m l : ℕ) → m < l → same_line (Line s m) (Line s l) ≡ false

@@ -100,8 +100,8 @@ fn note_line(lines: &mut IndexMap<(u32, u32), Option<Event>>, entry: &Entry)
     }
 }
 
-// Whether both are one event.
-fn is_same(one: &Event, other: &Event) -> bool
+/// Whether both are one event.
+pub fn is_same(one: &Event, other: &Event) -> bool
     ensures { IsTrue result ↔ (one.now ≡ other.now) }
 {
     *one == *other

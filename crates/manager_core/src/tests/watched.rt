@@ -6,11 +6,11 @@ ghost use Rattle.std.specs.Prelude.{◌≡◌, OnErr};
 ghost use Rattle.serial_spec.specs.declared.entry.By.TheVariants.{Line};
 ghost use Rattle.serial_spec.specs.declared.event.Event.TheVariants.{Access};
 ghost use Rattle.manager_core.specs.Calls.{WaitsOrIsUndone};
-ghost use Rattle.manager_core.specs.Lines.{IsFree, IsWaitOf};
+ghost use Rattle.manager_core.specs.Lines.{IsFree};
 
 use crate::{Manager, OpenFault, Outcome, Parts};
 use durable_top::{MemStore, Row, TopStore, are_rising};
-use serial_spec::{Answer, By, Entry, Event, NoMemory, Op, PlainTable, Refusal, Reply};
+use serial_spec::{Answer, By, Entry, Event, NoMemory, Op, PlainTable, Refusal, Reply, When};
 use std::alloc::Global;
 use std::hash::{DefaultHasher, Hash, Hasher};
 use std::process::Abort;
@@ -44,6 +44,14 @@ fn op(rt: &impl Abort, verb: &str, amount: &str) -> Op {
     }
 }
 
+fn when(rt: &impl Abort, word: &str) -> When {
+    match word {
+        "begun" => When::Begun,
+        "done" => When::Done,
+        _ => rt.panic(word),
+    }
+}
+
 // What a line asks, spelled as in a session.
 fn event(rt: &impl Abort, text: &str) -> Event {
     let (verb, rest) = text.split_once(' ').expect(rt, text);
@@ -53,6 +61,7 @@ fn event(rt: &impl Abort, text: &str) -> Event {
         "begin" => Event::Begin(name),
         "commit" => Event::Commit(name),
         "abort" => Event::Abort(name),
+        "after" => Event::After(name, when(rt, rest)),
         _ => {
             let (what, amount) = rest.split_once(' ').unwrap_or((rest, ""));
             Event::Access(name, key(rt, what), op(rt, verb, amount))
@@ -218,8 +227,7 @@ pub fn call<S: TopStore>(
         Event::Access(name, key, op) => manager.access(by, name, key, *op),
         Event::Commit(name) => manager.commit(by, name),
         Event::Abort(name) => manager.abort(by, name),
-        // It has none for this.
-        Event::After(_, _) => Ok(Outcome::Refused(Refusal::Unknown)),
+        Event::After(name, when) => manager.after(by, name, *when),
     }
 }
 
@@ -342,10 +350,9 @@ fn access<S: TopStore>(
     }
 }
 
-// Gives up an access that waits.
-fn give_up<S: TopStore>(rt: &impl Abort, watched: &mut Watched<S>, by: By, event: &Event)
-    requires { IsWaitOf watched.old.manager.history by event.now }
-{
+// Gives up a line that is held up.
+fn give_up<S: TopStore>(rt: &impl Abort, watched: &mut Watched<S>, by: By, event: &Event) {
+    assert!(rt; watched.manager.held_up(by, event));
     let before = look(watched);
     if watched.manager.cancel(by, event).is_err() {
         assert!(rt; is_as_before(watched, before));
@@ -353,6 +360,7 @@ fn give_up<S: TopStore>(rt: &impl Abort, watched: &mut Watched<S>, by: By, event
     }
     owe(rt, &mut watched.due, by, event, Answer::Stuck);
     assert!(rt; is_due(watched));
+    assert!(rt; !watched.manager.held_up(by, event));
     assert!(rt; !watched.manager.waiting(name_of(event)));
 }
 
@@ -370,6 +378,27 @@ fn wait_and_give_up<S: TopStore>(rt: &impl Abort, watched: &mut Watched<S>, by: 
     give_up(rt, watched, by, event);
 }
 
+// A line that waits for a condition: as long as it does not hold nothing changes.
+fn wait_for<S: TopStore>(rt: &impl Abort, watched: &mut Watched<S>, by: By, event: &Event) -> Answer {
+    assert!(rt; watched.manager.free(by, event));
+    let before = look(watched);
+    let outcome = match call(&mut watched.manager, by, event) {
+        Ok(outcome) => outcome,
+        Err(_) => {
+            assert!(rt; is_as_before(watched, before));
+            call(&mut watched.manager, by, event).expect(rt, "memory")
+        }
+    };
+    assert!(rt; watched.manager.held_up(by, event) == (outcome == Outcome::Waits));
+    if outcome == Outcome::Waits {
+        assert!(rt; is_as_before(watched, before));
+    } else {
+        owe(rt, &mut watched.due, by, event, outcome.answer());
+        assert!(rt; is_due(watched));
+    }
+    outcome.answer()
+}
+
 const NOT_STORED: Answer = Answer::Refused(Refusal::Store);
 
 // Makes the call of a line, and gives its answer. A line that waits already asks again. Where an access is to be stuck
@@ -381,7 +410,13 @@ fn answer_to<S: TopStore>(
     victims: &str,
 ) -> Answer {
     let Entry { by, event, answer } = line;
-    if *answer == Answer::Stuck {
+    let is_after = matches!(event, Event::After(_, _));
+    if is_after && *answer == Answer::Stuck {
+        give_up(rt, watched, *by, event);
+        Answer::Stuck
+    } else if is_after {
+        wait_for(rt, watched, *by, event)
+    } else if *answer == Answer::Stuck {
         wait_and_give_up(rt, watched, *by, event);
         Answer::Stuck
     } else if watched.manager.free(*by, event) {

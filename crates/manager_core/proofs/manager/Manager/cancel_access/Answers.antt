@@ -2,7 +2,7 @@ use Rattle.std.proofs.Common.{rules, refl}
 use Rattle.manager_core.proofs.Kept.{kept_stuck}
 use Rattle.manager_core.proofs.Facts.{sound}
 use Rattle.manager_core.proofs.Settled.{settled_next, stuck_no_wait}
-use Rattle.manager_core.proofs.manager.Manager.cancel.Goals as goal
+use Rattle.manager_core.proofs.manager.Manager.cancel_access.Goals as goal
 
 pub invariant_of-self-2 : goal.invariant_of-self-2
 invariant_of-self-2 g c =

@@ -1,0 +1,131 @@
+-- What keeps a line from its answer, by the tables and by the history.
+use Rattle.std.proofs.Common.{◌≡◌, ℕ, ◌<◌, Bool, true, false, not, cond, ◌&&◌, ◌||◌, List, length, Option, Some, None, option_map, is_some, refl, sym, ap, subst, ◌∙◌}
+use Rattle.std.specs.Prelude.{IsTrue, ◌↔◌}
+use Rattle.std.proofs.lemmas.Bool.{true≢false}
+use Rattle.serial_spec.specs.declared.operation.Op.{Op}
+use Rattle.serial_spec.specs.declared.operation.Reply.{Reply}
+use Rattle.serial_spec.specs.declared.operation.Reply.TheVariants.{Ok}
+use Rattle.serial_spec.specs.declared.entry.By.{By}
+use Rattle.serial_spec.specs.declared.entry.Refusal.{Refusal}
+use Rattle.serial_spec.specs.declared.entry.Refusal.TheVariants.{Unknown, Done as HasCommitted, Orphan}
+use Rattle.serial_spec.specs.declared.event.When.{When}
+use Rattle.serial_spec.specs.declared.event.When.TheVariants.{Begun, Done as Ended}
+use Rattle.serial_spec.specs.declared.event.Event.{Event}
+use Rattle.serial_spec.specs.declared.event.Event.TheVariants.{Access, After}
+use Rattle.serial_spec.specs.declared.entry.Answer.{Answer}
+use Rattle.serial_spec.specs.declared.entry.Answer.TheVariants.{Done, Waits, Refused}
+use Rattle.serial_spec.specs.declared.entry.Entry.{Entry}
+use Rattle.serial_spec.specs.Operations.{kind, reply_of}
+use Rattle.serial_spec.specs.History.{Name, History, or_else, has_begun, top_aborted, status, is_committed}
+use Rattle.serial_spec.specs.Locks.{is_blocked}
+use Rattle.serial_spec.specs.Values.{seen}
+use Rattle.serial_spec.specs.Rows.{Rows, value_in}
+use Rattle.serial_spec.specs.Waits.{same_line, wait_of}
+use Rattle.serial_spec.specs.Allowed.{when, refused_or, cause_at_end, cause_at_access, has_come, has_waited, answer}
+use Rattle.serial_spec.specs.Legal.{AreAllowed}
+use Rattle.manager_core.specs.Kept.{AreTablesOf}
+use Rattle.manager_core.specs.Lines.{IsWaitOf, waiting_access, access_by}
+use Rattle.manager_core.specs.Parking.{IsKeptOut, come_by}
+use Rattle.manager_core.specs.Tables.{Tabled, cause_in}
+use Rattle.manager_core.proofs.Trees.{same_at_end}
+use Rattle.manager_core.proofs.Waits.{same_by}
+use Rattle.manager_core.proofs.Retrying.{IsWaiting, waiting_is}
+
+-- ---- conditions
+
+begun_by : (b c : Bool) (o : Option Name) → come_by (or_else (when (not b) Unknown) (or_else (option_map (λ a. Orphan a) o) (when c HasCommitted))) Begun ≡ b
+begun_by false c o = refl
+begun_by true c (Some a) = refl
+begun_by true true None = refl
+begun_by true false None = refl
+
+ended_by : (b c : Bool) (o : Option Name)
+    → come_by (or_else (when (not b) Unknown) (or_else (option_map (λ a. Orphan a) o) (when c HasCommitted))) Ended ≡ (b && (c || is_some o))
+ended_by false c o = refl
+ended_by true true (Some a) = refl
+ended_by true false (Some a) = refl
+ended_by true true None = refl
+ended_by true false None = refl
+
+come_as : (h : History) (t : Name) (w : When) → come_by (cause_at_end h t) w ≡ has_come h t w
+come_as h t Begun = begun_by (has_begun h t) (is_committed (status h t)) (top_aborted h t)
+come_as h t Ended = ended_by (has_begun h t) (is_committed (status h t)) (top_aborted h t)
+
+pub has_come_as : (rows : Rows) (h : History) (tables : Tabled) → AreAllowed rows h → AreTablesOf rows h tables → (t : Name) → 0 < length t → (w : When)
+    → come_by (cause_in tables t) w ≡ has_come h t w
+has_come_as rows h tables allowed are t some w = ap (λ c. come_by c w) (same_at_end rows h tables allowed are t some) ∙ come_as h t w
+
+-- an `after` line has no answer exactly where its condition does not hold
+pub after_none : (rows : Rows) (h : History) (by : By) (t : Name) (w : When) → has_come h t w ≡ false → answer rows h by (After t w) ≡ None
+after_none rows h by t w e = ap (λ b. cond b (Some (Done Ok)) None) e
+
+pub after_due : (rows : Rows) (h : History) (by : By) (t : Name) (w : When) → has_come h t w ≡ true → answer rows h by (After t w) ≡ Some (Done Ok)
+after_due rows h by t w e = ap (λ b. cond b (Some (Done Ok)) None) e
+
+-- ---- accesses
+
+-- the wait as it is kept
+pub waiting_of : (h : History) (by : By) (t : Name) (k : List ℕ) (o : Op) → IsWaitOf h by (Access t k o) → waiting_access (wait_of h t) ≡ Some (by, k, o)
+waiting_of h by t k o (w, waits, own, is) = rw (waits, is, same_by w.by by own) refl
+
+pub is_wait_of : (rows : Rows) (h : History) (allowed : AreAllowed rows h) (by : By) (t : Name) (k : List ℕ) (o : Op) → waiting_access (wait_of h t) ≡ Some (by, k, o)
+    → IsWaitOf h by (Access t k o)
+is_wait_of rows h allowed by t k o e =
+    let is = waiting_is rows h allowed t by k o e in
+    (is.wait, is.waits, is.of_line, is.event_is)
+
+refused_some : (c : Option Refusal) (a : Option Answer) → is_some c ≡ true → refused_or c a ≡ None → ⊥
+refused_some None a s e = cc
+refused_some (Some r) a s e = cc
+
+by_block : (c : Option Refusal) (b w : Bool) (r : Reply) → c ≡ None → w ≡ true
+    → IsTrue b ↔ (refused_or c (cond b (cond w None (Some Waits)) (Some (Done r))) ≡ None)
+by_block c true w r none waited = (λ _. rw (none, waited) refl, λ _. refl)
+by_block c false w r none waited = (λ f. cc, λ e. let no : refused_or None (Some (Done r)) ≡ None = subst (λ x. refused_or x (Some (Done r)) ≡ None) none e in cc)
+
+module _ (rows : Rows) (h : History) (by : By) (t : Name) (k : List ℕ) (o : Op) where
+  -- one that a cause refuses is answered
+  pub refused_out : is_some (cause_at_access rows h by t k) ≡ true → IsKeptOut rows h by (Access t k o) → ⊥
+  refused_out some out = refused_some (cause_at_access rows h by t k) _ some out.none
+
+  -- one that waits, and is refused by no cause, is kept out exactly where it is blocked
+  pub kept_out_as : AreAllowed rows h → IsWaitOf h by (Access t k o) → cause_at_access rows h by t k ≡ None
+      → IsTrue (is_blocked h t k (kind o)) ↔ IsKeptOut rows h by (Access t k o)
+  kept_out_as allowed waits none =
+      let is = waiting_is rows h allowed t by k o (waiting_of h by t k o waits) in
+      let both = by_block (cause_at_access rows h by t k) (is_blocked h t k (kind o)) (has_waited h by) (reply_of (seen (value_in rows) h t k) o) none is.waited in
+      (λ b. record { can = waits; none = both.0 b }, λ out. both.1 out.none)
+
+pub none_of : {X : Type 0} (x : Option X) → is_some x ≡ false → x ≡ None
+none_of None e = refl
+none_of (Some y) e = absurd (true≢false e)
+
+-- told by whether no lock keeps it out
+pub by_may : {X : Type 0} (b m : Bool) → m ≡ not b → IsTrue b ↔ X → IsTrue (not m) ↔ X
+by_may true m is both = (λ e. both.0 refl, λ x. ap not is)
+by_may false m is both = (λ e. both.0 (sym (ap not is) ∙ e), λ x. ap not is ∙ both.1 x)
+
+-- ---- whether an access waits by a line
+
+-- one that is not kept does not
+pub none_waits_by : (h : History) (by : By) (t : Name) (k : List ℕ) (o : Op) → waiting_access (wait_of h t) ≡ None → IsWaitOf h by (Access t k o) → ⊥
+none_waits_by h by t k o none waits = let no : Some (by, k, o) ≡ None = sym (waiting_of h by t k o waits) ∙ none in true≢false (ap is_some no)
+
+module _ (rows : Rows) (h : History) (allowed : AreAllowed rows h) (by line : By) (t : Name) (k q : List ℕ) (o p : Op) (kept : waiting_access (wait_of h t) ≡ Some (line, q, p)) where
+  -- the wait is this one exactly where it is by this line and of this event
+  pub waits_by_both : (x : Event) → x ≡ Access t k o → (b : Bool) → IsTrue b ↔ (IsTrue (same_line line by) × (Access t q p ≡ x)) → IsTrue b ↔ IsWaitOf h by x
+  waits_by_both x event b same = subst (λ y. IsTrue b ↔ IsWaitOf h by y) (sym event) (forth, back)
+    where
+      is : IsWaiting h t line q p
+      is = waiting_is rows h allowed t line q p kept
+
+      forth : IsTrue b → IsWaitOf h by (Access t k o)
+      forth e = let both = same.0 e in (is.wait, is.waits, ap (λ y. same_line y by) is.by_is ∙ both.0, is.event_is ∙ both.1 ∙ event)
+
+      back : IsWaitOf h by (Access t k o) → IsTrue b
+      back (w, waits, own, asked) =
+          let found : w ≡ is.wait = let both : Some w ≡ Some is.wait = sym waits ∙ is.waits in cc in
+          same.1 (
+            ap (λ y. same_line y by) (sym is.by_is) ∙ ap (λ (y : Entry). same_line y.by by) (sym found) ∙ own,
+            sym is.event_is ∙ ap (λ (y : Entry). y.event) (sym found) ∙ asked ∙ sym event,
+          )

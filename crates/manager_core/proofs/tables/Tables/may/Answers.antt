@@ -1,0 +1,14 @@
+use Rattle.std.proofs.Common.{not, ap, ◌∙◌}
+use Rattle.serial_spec.specs.Operations.{kind}
+use Rattle.manager_core.specs.Tables.{Tabled}
+use Rattle.manager_core.proofs.Locks.{blocked_as}
+use Rattle.manager_core.proofs.tables.Tables.may.Goals as goal
+
+pub returns : goal.returns
+returns c =
+    let m : Tabled = record { tree = c.self.inside.tree; marks = c.self.inside.marks; estate = c.self.inside.estate; waits = c.self.inside.waits } in
+    let number = rw (← c.self.view_is) at c.number_of-txn.ensures.number in
+    rw (← c.self.view_is)
+    (λ rows h are.
+    c.may.ensures
+    ∙ rw (c.locks.ensures, c.kind.ensures) (ap not (blocked_as rows h m are c.args.name.now c.number_of-txn.result number c.args.key.now (kind c.args.op))))

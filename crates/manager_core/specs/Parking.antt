@@ -1,0 +1,38 @@
+-- Lines that are parked: what comes of an `after` line, and what its condition is by the cause that refuses other lines.
+use Rattle.std.specs.Prelude.{◌≡◌, ◌⊎◌, Bool, true, false, Option, Some, None}
+use Rattle.serial_spec.specs.declared.entry.By.{By}
+use Rattle.serial_spec.specs.declared.entry.Refusal.{Refusal}
+use Rattle.serial_spec.specs.declared.entry.Refusal.TheVariants.{Unknown}
+use Rattle.serial_spec.specs.declared.event.Event.{Event}
+use Rattle.serial_spec.specs.declared.event.When.{When}
+use Rattle.serial_spec.specs.declared.event.When.TheVariants.{Begun, Done as Ended}
+use Rattle.serial_spec.specs.History.{History}
+use Rattle.serial_spec.specs.Rows.{Rows}
+use Rattle.serial_spec.specs.Allowed.{answer}
+use Rattle.txn_history.specs.Lines.{CanGiveUp}
+use Rattle.manager_core.specs.declared.outcome.Outcome.{Outcome}
+use Rattle.manager_core.specs.declared.outcome.Outcome.TheVariants.{Waits}
+use Rattle.manager_core.specs.State.{State}
+use Rattle.manager_core.specs.Calls.{Added}
+
+-- the condition does not hold yet: the line waits, without an entry, and nothing has changed
+pub record Awaits {S : Type 0} (old new : State S) (by : By) (event : Event) (outcome : Outcome) : Type 0 where
+  pub none : answer old.rows old.history by event ≡ None
+  pub outcome_is : outcome ≡ Waits
+  pub same : new ≡ old
+
+-- the line was answered, or its condition does not hold yet
+abbrev pub Awaited : {S : Type 0} → State S → State S → By → Event → Outcome → Type 0
+Awaited old new by event outcome = Added old new by event outcome ⊎ Awaits old new by event outcome
+
+-- a call may give the line up, and no call answers it
+pub record IsKeptOut (rows : Rows) (h : History) (by : By) (event : Event) : Type 0 where
+  pub can : CanGiveUp h by event
+  pub none : answer rows h by event ≡ None
+
+-- Whether a condition holds, by the cause that refuses an abort: whoever has begun is live, or has come to its end
+abbrev pub come_by : Option Refusal → When → Bool
+come_by (Some Unknown) when = false
+come_by (Some cause) when = true
+come_by None Begun = true
+come_by None Ended = false

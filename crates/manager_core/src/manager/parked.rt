@@ -1,0 +1,90 @@
+//! Lines that wait for a condition, and lines that are given up.
+ghost use Rattle.std.specs.Prelude.{◌≡◌, ◌↔◌, ◌∷◌, IfOk, OnErr, OnOk, IsTrue};
+ghost use Rattle.serial_spec.specs.declared.event.Event.TheVariants.{After};
+ghost use Rattle.serial_spec.specs.declared.entry.Answer.TheVariants.{Stuck};
+ghost use Rattle.manager_core.specs.Lines.{CanGiveUp, IsFree, IsWaitOf};
+ghost use Rattle.manager_core.specs.Parking.{Awaited, IsKeptOut};
+ghost use Rattle.manager_core.specs.State.{entry};
+
+use crate::manager::Manager;
+use crate::outcome::Outcome;
+use durable_top::TopStore;
+use serial_spec::{By, Event, NoMemory, Reply, When};
+use txn_names::Name;
+
+impl<S: TopStore> Manager<S> {
+    ghost use Rattle.manager_core.specs.Sound.{IsSound};
+
+    /// Answers an `after` line once its condition holds: that the transaction has begun; or that it has committed, or has
+    /// begun and has an aborted ancestor, itself included. Until then the line waits, without an entry, and nothing changes.
+    pub fn after(&mut self, by: By, name: &Name, when: When) -> Result<Outcome, NoMemory>
+        requires free { IsFree self.old.history by (After name.now when) }
+        ensures ok { IfOk result (λ outcome. Awaited self.old self.new by (After name.now when) outcome) }
+        ensures err { OnErr result (self.new ≡ self.old) }
+        ensures sound { OnOk result (IsSound S.TopStore self.new) }
+    {
+        if !self.tables.has_come(name, when) {
+            return Ok(Outcome::Waits);
+        }
+        self.log.reserve(1)?;
+        let outcome = Outcome::Done(Reply::Ok);
+        self.log.add(by, Event::After(*name, when), &outcome);
+        Ok(outcome)
+    }
+
+    /// Whether the line may be given up and no call answers it: its access waits by it and is kept out still, or it is free
+    /// and its condition does not hold. It takes no memory.
+    pub fn held_up(&self, by: By, event: &Event) -> bool
+        ensures { IsTrue result ↔ IsKeptOut self.now.rows self.now.history by event.now }
+    {
+        match event {
+            Event::Access(name, key, op) => {
+                self.tables.is_kept_out(&self.log, by, name, key, *op)
+            }
+            Event::After(name, when) => self.free(by, event) && !self.tables.has_come(name, *when),
+            _ => false,
+        }
+    }
+
+    // Gives up an access that waits by this line.
+    fn cancel_access(&mut self, by: By, event: &Event) -> Result<(), NoMemory>
+        requires waits { IsWaitOf self.old.history by event.now }
+        ensures ok { OnOk result (self.new ≡ record self.old { history = entry by event.now Stuck ∷ self.old.history }) }
+        ensures err { OnErr result (self.new ≡ self.old) }
+        ensures sound { OnOk result (IsSound S.TopStore self.new) }
+    {
+        let Event::Access(name, _, _) = event else {
+            unreachable!()
+        };
+        self.log.reserve(1)?;
+        self.tables.end_wait(name);
+        self.log.add_stuck(by, *event);
+        Ok(())
+    }
+
+    // Gives up an `after` line whose condition does not hold.
+    fn cancel_after(&mut self, by: By, name: &Name, when: When) -> Result<(), NoMemory>
+        requires may { CanGiveUp self.old.history by (After name.now when) }
+        ensures ok { OnOk result (self.new ≡ record self.old { history = entry by (After name.now when) Stuck ∷ self.old.history }) }
+        ensures err { OnErr result (self.new ≡ self.old) }
+        ensures sound { OnOk result (IsSound S.TopStore self.new) }
+    {
+        self.log.reserve(1)?;
+        self.log.add_stuck(by, Event::After(*name, when));
+        Ok(())
+    }
+
+    /// Gives a line up, an access that waits by it or an `after` line whose condition does not hold: it is answered `Stuck`.
+    /// Its transaction waits no more.
+    pub fn cancel(&mut self, by: By, event: &Event) -> Result<(), NoMemory>
+        requires may { CanGiveUp self.old.history by event.now }
+        ensures ok { OnOk result (self.new ≡ record self.old { history = entry by event.now Stuck ∷ self.old.history }) }
+        ensures err { OnErr result (self.new ≡ self.old) }
+        ensures sound { OnOk result (IsSound S.TopStore self.new) }
+    {
+        match event {
+            Event::After(name, when) => self.cancel_after(by, name, *when),
+            _ => self.cancel_access(by, event),
+        }
+    }
+}
