@@ -102,6 +102,25 @@ rising_filtered p xs ys up up' all all' =
     by u true e = ap (λ b. b && list_any (nat_eq u) xs) e ∙ all u e ∙ sym (all' u e) ∙ ap (λ b. b && list_any (nat_eq u) ys) (sym e)
     by u false e = ap (λ b. b && list_any (nat_eq u) xs) e ∙ ap (λ b. b && list_any (nat_eq u) ys) (sym e)
 
+-- ---- rivals
+
+-- a lock that conflicts is one that is there
+pub stands_there : (table : Table) (k : List ℕ) (x : Kind) (u : ℕ) → conflicts (whole (modes_in table u k)) x ≡ true → cells.stands (λ modes. conflicts (whole modes) x) (cells.content table u k) ≡ true
+stands_there table k x u = by (cells.content table u k)
+  where
+    by : (o : Option Modes) → conflicts (whole (unwrap_or o free)) x ≡ true → cells.stands (λ modes. conflicts (whole modes) x) o ≡ true
+    by None e = absurd (false≢true e)
+    by (Some modes) e = e
+
+-- so it has a place
+pub placed_there : (table : Table) (k : List ℕ) (x : Kind) (holders : List ℕ) → ((u : ℕ) → list_any (nat_eq u) holders ≡ cells.has_place table u k)
+    → ((u : ℕ) → cells.has_place table u k ≡ false → cells.content table u k ≡ None) → (u : ℕ) → conflicts (whole (modes_in table u k)) x ≡ true → list_any (nat_eq u) holders ≡ true
+placed_there table k x holders each elsewhere u e = by (cells.has_place table u k) refl
+  where
+    by : (b : Bool) → cells.has_place table u k ≡ b → list_any (nat_eq u) holders ≡ true
+    by true has = each u ∙ has
+    by false none = absurd (false≢true (sym (ap (cells.stands (λ modes. conflicts (whole modes) x)) (elsewhere u none)) ∙ stands_there table k x u e))
+
 -- ---- blockers
 
 module _ (tree : States) (table : Table) (t : ℕ) (k : List ℕ) (x : Kind) where
@@ -113,34 +132,21 @@ module _ (tree : States) (table : Table) (t : ℕ) (k : List ℕ) (x : Kind) whe
       by None at h = absurd (false≢true h)
       by (Some n) at h = slice_get_within (names tree) u n at
 
-  -- and has something at the key
-  has_content : (u : ℕ) → is_blocker_in tree table t k x u ≡ true → is_some (cells.content table u k) ≡ true
-  has_content u e = by (cells.content table u k) (and_parts (not (is_under tree u t)) (conflicts (whole (modes_in table u k)) x) (and_parts (has_number tree u) _ e).1).1
-    where
-      by : (o : Option Modes) → conflicts (whole (unwrap_or o free)) x ≡ true → is_some o ≡ true
-      by None h = absurd (false≢true h)
-      by (Some modes) h = refl
+  -- and its lock conflicts
+  rival : (rivals : List ℕ) → ((u : ℕ) → conflicts (whole (modes_in table u k)) x ≡ true → list_any (nat_eq u) rivals ≡ true) → (u : ℕ) → is_blocker_in tree table t k x u ≡ true → list_any (nat_eq u) rivals ≡ true
+  rival rivals all u e = all u (and_parts (not (is_under tree u t)) (conflicts (whole (modes_in table u k)) x) (and_parts (has_number tree u) _ e).1).1
 
-  -- it has a place there, for elsewhere there is nothing
-  held : (holders : List ℕ) → ((u : ℕ) → list_any (nat_eq u) holders ≡ cells.has_place table u k) → ((u : ℕ) → cells.has_place table u k ≡ false → cells.content table u k ≡ None)
-      → (u : ℕ) → is_blocker_in tree table t k x u ≡ true → list_any (nat_eq u) holders ≡ true
-  held holders each elsewhere u e = by (cells.has_place table u k) refl
-    where
-      by : (b : Bool) → cells.has_place table u k ≡ b → list_any (nat_eq u) holders ≡ true
-      by true has = each u ∙ has
-      by false none = absurd (false≢true (sym (ap is_some (elsewhere u none)) ∙ has_content u e))
-
-  -- it is the same to look among those who have a place at the key
-  pub among_holders : (holders : List ℕ) → ((u : ℕ) → list_any (nat_eq u) holders ≡ cells.has_place table u k)
-      → ((u : ℕ) → cells.has_place table u k ≡ false → cells.content table u k ≡ None) → list_any (is_blocker_in tree table t k x) holders ≡ is_blocked_in tree table t k x
-  among_holders holders each elsewhere =
+  -- it is the same to look among any where all are whose locks conflict
+  pub among_rivals : (rivals : List ℕ) → ((u : ℕ) → conflicts (whole (modes_in table u k)) x ≡ true → list_any (nat_eq u) rivals ≡ true)
+      → list_any (is_blocker_in tree table t k x) rivals ≡ is_blocked_in tree table t k x
+  among_rivals rivals all =
       let blocks = is_blocker_in tree table t k x in
-      same_tests (list_any blocks holders) (is_blocked_in tree table t k x)
+      same_tests (list_any blocks rivals) (is_blocked_in tree table t k x)
       (λ e.
-      let w = witness blocks holders e in
+      let w = witness blocks rivals e in
       let begun = number_of w.0 w.1 in
       any_in_range blocks 0 (length (names tree)) w.0 (omega arith) (omega (arith, begun)) w.1)
-      (λ e. let w = witness blocks (numbers tree) e in any_of_those blocks holders w.0 (held holders each elsewhere w.0 w.1) w.1)
+      (λ e. let w = witness blocks (numbers tree) e in any_of_those blocks rivals w.0 (rival rivals all w.0 w.1) w.1)
 
   -- where nobody blocks there is no blocker
   pub blocked_by : (n : ℕ) → is_blocker_in tree table t k x n ≡ true → is_blocked_in tree table t k x ≡ false → ⊥
@@ -149,8 +155,8 @@ module _ (tree : States) (table : Table) (t : ℕ) (k : List ℕ) (x : Kind) whe
       true≢false (sym (any_in_range (is_blocker_in tree table t k x) 0 (length (names tree)) n (omega arith) (omega (arith, begun)) here) ∙ free)
 
   -- and they stand in the same order
-  pub filter_holders : (holders : List ℕ) → IsStrictlyIncreasing holders → ((u : ℕ) → list_any (nat_eq u) holders ≡ cells.has_place table u k)
-      → ((u : ℕ) → cells.has_place table u k ≡ false → cells.content table u k ≡ None) → filter (is_blocker_in tree table t k x) holders ≡ blockers_in tree table t k x
-  filter_holders holders rising each elsewhere =
-      rising_filtered (is_blocker_in tree table t k x) holders (numbers tree) rising (rising_range (length (names tree))) (held holders each elsewhere)
+  pub filter_rivals : (rivals : List ℕ) → IsStrictlyIncreasing rivals → ((u : ℕ) → conflicts (whole (modes_in table u k)) x ≡ true → list_any (nat_eq u) rivals ≡ true)
+      → filter (is_blocker_in tree table t k x) rivals ≡ blockers_in tree table t k x
+  filter_rivals rivals rising all =
+      rising_filtered (is_blocker_in tree table t k x) rivals (numbers tree) rising (rising_range (length (names tree))) (rival rivals all)
       (λ u e. let begun = number_of u e in any_in_range (nat_eq u) 0 (length (names tree)) u (omega arith) (omega (arith, begun)) (eq-eqb u u refl))

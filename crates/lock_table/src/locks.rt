@@ -3,8 +3,8 @@ ghost use Rattle.std.specs.Prelude.{◌≡◌, ◌&&◌, not, nat_eq, false, IsO
 ghost use Rattle.std.specs.List.{IsDistinct, list_any};
 ghost use Rattle.std.specs.List.Sorted.{IsStrictlyIncreasing};
 ghost use Rattle.txn_names.specs.Path.{label_eq};
-ghost use Rattle.serial_spec.specs.Locks.{mode_of};
-ghost use Rattle.lock_table.specs.Locked.{IsTowards, free, handed_up, has_place, held_by, modes_in, with_childs, with_place};
+ghost use Rattle.serial_spec.specs.Locks.{conflicts, mode_of};
+ghost use Rattle.lock_table.specs.Locked.{IsTowards, free, handed_up, has_place, held_by, modes_in, whole, with_childs, with_place};
 ghost use Rattle.lock_table.specs.Blocking.{blockers_in, is_blocked_in, is_blocker_in, is_under};
 
 use crate::modes::{FREE, Modes};
@@ -94,6 +94,18 @@ impl Locks {
         self.table.holders(key)
     }
 
+    // Transactions, the first begun first, among whom are all whose locks on the key conflict with an access of this kind. A reader
+    // keeps no reader out.
+    fn rivals(&self, key: &Key, kind: Kind) -> &[TxnNo]
+        ensures all { (u : ℕ) → IsTrue (conflicts (whole (modes_in self.now u key.now)) kind) → IsTrue (list_any (nat_eq u) result.now) }
+        ensures rising { IsStrictlyIncreasing result.now }
+    {
+        match kind {
+            Kind::Read => self.table.standing_out(key),
+            Kind::Write => self.table.holders(key),
+        }
+    }
+
     fn is_any_blocker(
         &self,
         tree: &Tree,
@@ -110,12 +122,12 @@ impl Locks {
     }
 
     /// Whether nobody keeps the transaction from an access of this kind: of those that have begun, all but itself and
-    /// its ancestors have locks on the key that do not conflict. It looks at the holders of this key alone, and takes no
-    /// memory.
+    /// its ancestors have locks on the key that do not conflict. For a read it looks at the writers of this key alone, for a
+    /// write at all its holders, and it takes no memory.
     pub fn may(&self, tree: &Tree, txn: TxnNo, key: &Key, kind: Kind) -> bool
         ensures { result ≡ not (is_blocked_in tree.now self.now txn key.now kind) }
     {
-        !self.is_any_blocker(tree, txn, key, kind, self.table.holders(key))
+        !self.is_any_blocker(tree, txn, key, kind, self.rivals(key, kind))
     }
 
     /// Those that keep the transaction from an access of this kind, the first begun first. Where there is nobody it takes no
@@ -131,7 +143,7 @@ impl Locks {
         ensures succeeds { IsFalse (is_blocked_in tree.now self.now txn key.now kind) → IsOk result }
     {
         let mut found = Vec::new(self.alloc);
-        for holder in self.table.holders(key) {
+        for holder in self.rivals(key, kind) {
             if self.is_blocker(tree, txn, key, kind, *holder) {
                 found.push(*holder)?;
             }

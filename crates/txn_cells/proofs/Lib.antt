@@ -3,3 +3,4 @@ pub mod Handing
 pub mod Reserving
 pub mod ByKey
 pub mod Dropping
+pub mod Marking

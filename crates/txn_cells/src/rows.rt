@@ -4,7 +4,7 @@ ghost use Rattle.std.specs.Map.{lookup};
 ghost use Rattle.std.specs.List.{IsDistinct, list_any};
 ghost use Rattle.txn_names.specs.Path.{label_eq};
 ghost use Rattle.txn_cells.specs.Cells.{IsTowards, handed_up, is_under, merged, with_childs, with_place};
-ghost use Rattle.txn_cells.specs.Kept.{cells_in, content, content_at, has_place, has_cell_at, keys_in};
+ghost use Rattle.txn_cells.specs.Kept.{cells_in, content, content_at, has_place, has_cell_at, keys_in, stands};
 
 use crate::cells::Cells;
 use crate::inherit::Inherit;
@@ -135,6 +135,16 @@ impl<V: Copy> Rows<V> {
 }
 
 impl<V: Inherit> Rows<V> {
+    /// Whether what the transaction has at the key stands out.
+    pub(crate) fn stands_out(&self, txn: TxnNo, key: &Key) -> bool
+        ensures { result ≡ stands V.outstanding (content self.now txn key.now) }
+    {
+        match self.get(txn, key) {
+            Some(value) => value.stands_out(),
+            None => false,
+        }
+    }
+
     /// The transaction inherits what stands in these cells.
     pub(crate) fn inherit(&mut self, txn: TxnNo, child: &Cells<V>)
         requires cells { (q : List ℕ) → IsTrue (has_cell_at child.now q) → IsTrue (has_place self.old txn q) }

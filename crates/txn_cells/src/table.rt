@@ -4,7 +4,7 @@ ghost use Rattle.std.specs.List.{IsDistinct, list_any};
 ghost use Rattle.std.specs.List.Sorted.{IsStrictlyIncreasing};
 ghost use Rattle.txn_names.specs.Path.{label_eq};
 ghost use Rattle.txn_cells.specs.Cells.{IsTowards, handed_up, is_under, with_childs, with_place};
-ghost use Rattle.txn_cells.specs.Kept.{cells_in, content, has_place, keys_in};
+ghost use Rattle.txn_cells.specs.Kept.{cells_in, content, has_place, is_holder, is_marked, keys_in, stands};
 
 use crate::index::KeyIndex;
 use crate::inherit::Inherit;
@@ -18,22 +18,36 @@ use txn_tree::{Tree, TxnNo};
 /// What each transaction, by its number, has at each key. Room is made by a place for a transaction and a key; a new place
 /// is empty.
 #[derive(Drop)]
-pub struct CellTable<V: Copy> {
+pub struct CellTable<V: Inherit> {
     rows: Rows<V>,
     index: KeyIndex,
 }
 
-impl<V: Copy> Model for CellTable<V> {
-    ghost use Rattle.txn_cells.specs.Kept.{AreHoldersOf, Table};
+impl<V: Inherit> Model for CellTable<V> {
+    ghost use Rattle.txn_cells.specs.Kept.{AreHoldersOf, AreMarkedIn, Table};
 
     ghost Value = { Table V };
 
     ghost view = { λ t. t.rows };
 
-    ghost invariant = { λ t. AreHoldersOf t.rows t.index };
+    ghost invariant = { λ t. AreHoldersOf t.rows t.index × AreMarkedIn V.outstanding t.rows t.index };
 }
 
-impl<V: Copy> CellTable<V> {
+// Marks the transaction at each of these keys where what it has stands out.
+fn mark_at<V: Inherit>(rows: &Rows<V>, index: &mut KeyIndex, txn: TxnNo, keys: &[Key])
+    requires { (q : List ℕ) → IsTrue (list_any (label_eq q) keys.now) → IsTrue (is_holder index.old txn q) }
+    ensures holders { (u : ℕ) → (q : List ℕ) → is_holder index.new u q ≡ is_holder index.old u q }
+    ensures kept { (u : ℕ) → (q : List ℕ) → IsTrue (is_marked index.old u q) → IsTrue (is_marked index.new u q) }
+    ensures marked { (q : List ℕ) → IsTrue (list_any (label_eq q) keys.now) → IsTrue (stands V.outstanding (content rows.now txn q)) → IsTrue (is_marked index.new txn q) }
+{
+    for key in keys {
+        if rows.stands_out(txn, key) {
+            index.mark(txn, key);
+        }
+    }
+}
+
+impl<V: Inherit> CellTable<V> {
     /// No places. It takes no memory yet.
     pub fn new(alloc: Global) -> Self
         ensures contents { (u : ℕ) → (q : List ℕ) → content result u q ≡ None }
@@ -60,6 +74,16 @@ impl<V: Copy> CellTable<V> {
         ensures elsewhere { (u : ℕ) → IsFalse (has_place self.now u key.now) → content self.now u key.now ≡ None }
     {
         self.index.holders(key)
+    }
+
+    /// Transactions that have a place at the key, each once, in the order in which they began: all those whose content there
+    /// stands out, and maybe some whose content did once. It goes to no other.
+    pub fn standing_out(&self, key: &Key) -> &[TxnNo]
+        ensures all { (u : ℕ) → IsTrue (stands V.outstanding (content self.now u key.now)) → IsTrue (list_any (nat_eq u) result.now) }
+        ensures places { (u : ℕ) → IsTrue (list_any (nat_eq u) result.now) → IsTrue (has_place self.now u key.now) }
+        ensures rising { IsStrictlyIncreasing result.now }
+    {
+        self.index.marked(key)
     }
 
     // Makes a place as `reserve` does, and leaves the keys of others in their order.
@@ -141,6 +165,9 @@ impl<V: Copy> CellTable<V> {
         ensures places { (u : ℕ) → (q : List ℕ) → has_place self.new u q ≡ has_place self.old u q }
     {
         self.rows.set(txn, key, value);
+        if value.stands_out() {
+            self.index.mark(txn, key);
+        }
     }
 
     // Drops the cells of the transaction.
@@ -167,9 +194,7 @@ impl<V: Copy> CellTable<V> {
             next = tree.next_sibling(child);
         }
     }
-}
 
-impl<V: Inherit> CellTable<V> {
     /// Hands up what a committed child has: it has nothing any more, and its parent has at each key what `inherit` makes
     /// of the two. Where the parent is the root, which has no number, it is gone. It takes no memory.
     pub fn hand_up(&mut self, child: TxnNo, parent: Option<TxnNo>)
@@ -182,6 +207,7 @@ impl<V: Inherit> CellTable<V> {
         if let Some(parent) = parent {
             if parent != child {
                 self.rows.inherit(parent, &cells);
+                mark_at(&self.rows, &mut self.index, parent, cells.keys());
             }
         }
     }

@@ -1,6 +1,6 @@
 //! Each call at many transactions and keys, at a value that a child leaves in place of its parent's. Under a trial run that
 //! refuses a growth the call is made again.
-ghost use Rattle.std.specs.Prelude.{◌≡◌};
+ghost use Rattle.std.specs.Prelude.{◌≡◌, false};
 
 use crate::{CellTable, Inherit};
 use serial_spec::NoMemory;
@@ -18,10 +18,18 @@ struct Latest(u32);
 impl Inherit for Latest {
     ghost inherited = { λ child own. child };
 
+    ghost outstanding = { λ value. false };
+
     fn inherit(child: Latest, _own: Option<Latest>) -> Latest
         ensures { result ≡ child }
     {
         child
+    }
+
+    fn stands_out(self) -> bool
+        ensures { result ≡ false }
+    {
+        false
     }
 }
 
