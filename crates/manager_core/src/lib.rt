@@ -15,8 +15,8 @@ mod log;
 mod manager;
 mod outcome;
 mod pairs;
-mod settling;
 mod parking;
+mod settling;
 mod tables;
 mod waiting;
 

@@ -87,9 +87,9 @@ module _ (ss : List Session) where
   sum_less h h2 s zero same fewer there = absurd (omega (arith, there))
   sum_less h h2 s (suc n) same fewer there = ⊎_elim
       (λ (is : (eqb n s ≡ true) × (n ≡ s)). let last : pending ss h2 n < pending ss h n = subst (λ u. pending ss h2 u < pending ss h u) (sym is.1) fewer in
-          omega (arith, last, sum_same h h2 s n same (omega (arith, is.1))))
+      omega (arith, last, sum_same h h2 s n same (omega (arith, is.1))))
       (λ (other : (eqb n s ≡ false) × (n ≡ s → ⊥)).
-          omega (arith, same n other.1, sum_less h h2 s n same fewer (earlier other.1)))
+      omega (arith, same n other.1, sum_less h h2 s n same fewer (earlier other.1)))
       (eqb_tells n s)
     where
       earlier : (n ≡ s → ⊥) → s < n

@@ -379,7 +379,12 @@ fn wait_and_give_up<S: TopStore>(rt: &impl Abort, watched: &mut Watched<S>, by: 
 }
 
 // A line that waits for a condition: as long as it does not hold nothing changes.
-fn wait_for<S: TopStore>(rt: &impl Abort, watched: &mut Watched<S>, by: By, event: &Event) -> Answer {
+fn wait_for<S: TopStore>(
+    rt: &impl Abort,
+    watched: &mut Watched<S>,
+    by: By,
+    event: &Event,
+) -> Answer {
     assert!(rt; watched.manager.free(by, event));
     let before = look(watched);
     let outcome = match call(&mut watched.manager, by, event) {
