@@ -4,7 +4,7 @@ use Rattle.interleavings.proofs.run.serve_access.Goals as goal
 
 pub cancel-requires : goal.cancel-requires
 cancel-requires g c = record {
-  waits = waits_alone c.args.manager.now c.access.new.self c.args.line c.args.name.now c.args.key.now c.args.op c.in_ok-access.field-0 c.requires.nobody c.in_ok-access.ensures.ok c.in-Waits.is;
+  may = waits_alone c.args.manager.now c.access.new.self c.args.line c.args.name.now c.args.key.now c.args.op c.in_ok-access.field-0 c.requires.nobody c.in_ok-access.ensures.ok c.in-Waits.is;
 }
 
 pub returns-in-Waits : goal.returns-in-Waits
