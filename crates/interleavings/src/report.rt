@@ -1,9 +1,15 @@
 //! The report of a finished run.
-ghost use Rattle.std.specs.Prelude.{◌≡◌, reverse};
+ghost use Rattle.std.specs.Prelude.{◌≡◌, ℕ, List, [], ◌∷◌, map, reverse, IfOk, IsFalse, None};
+ghost use Rattle.serial_spec.specs.History.{begun, is_live};
+ghost use Rattle.serial_spec.specs.Legal.{first_live};
 ghost use Rattle.durable_top.specs.Store.{plain};
+ghost use Rattle.manager_core.specs.Sound.{IsSound};
 
-use durable_top::Row;
-use serial_spec::{Entry, PlainTable};
+use durable_top::{Row, TopStore};
+use manager_core::Manager;
+use serial_spec::{Entry, NoMemory, PlainTable};
+use session_text::Sessions;
+use std::alloc::Global;
 use std::marker::Model;
 use txn_names::Label;
 
@@ -72,4 +78,39 @@ impl Report {
     {
         &self.table
     }
+}
+
+/// The labels of the sessions.
+pub(crate) fn labels_of(alloc: Global, sessions: &Sessions) -> Result<Vec<Label>, NoMemory>
+    ensures { IfOk result (λ labels. labels.items ≡ map (λ s. s.label) sessions.now) }
+{
+    let mut labels = Vec::new(alloc);
+    // What is known of a text comes with its length: here that it has few sessions.
+    let _count = sessions.len();
+    let mut session = 0;
+    while let Some(label) = sessions.label(session) {
+        labels.push(*label)?;
+        session += 1;
+    }
+    Ok(labels)
+}
+
+/// The report of a manager whose top-level transactions have ended, and its store.
+pub(crate) fn report_of<S: TopStore>(manager: Manager<S>, labels: Vec<Label>) -> (Report, S)
+    requires sound { IsSound S.TopStore manager }
+    requires closed { first_live manager.history (begun manager.history) ≡ None }
+    requires ended { (l : List ℕ) → IsFalse (is_live manager.history (l ∷ [])) }
+    ensures report { result.0 ≡ record { opening = manager.rows; labels = labels.items; history = manager.history; table = manager.table } }
+    ensures store { result.1 ≡ manager.store }
+{
+    let parts = manager.into_parts();
+    // What is known of a table comes with its length: that its keys rise.
+    let _rows = parts.table.len();
+    let report = Report {
+        opening: parts.opening,
+        labels,
+        history: parts.history,
+        table: parts.table,
+    };
+    (report, parts.store)
 }

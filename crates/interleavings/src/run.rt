@@ -12,7 +12,7 @@ ghost use Rattle.interleavings.specs.Serving.{Serves};
 ghost use Rattle.interleavings.specs.Lines.{AreAnswered, AreDone};
 ghost use Rattle.interleavings.specs.Runs.{HasRunCause, IsRun};
 
-use crate::report::Report;
+use crate::report::{Report, labels_of, report_of};
 use durable_top::TopStore;
 use manager_core::{Manager, OpenFault, Outcome};
 use serial_spec::{By, Event, NoMemory, Op};
@@ -25,20 +25,6 @@ use txn_names::{Key, Label, Name};
 pub enum RunFault {
     NoMemory,
     Open(OpenFault),
-}
-
-fn labels_of(alloc: Global, sessions: &Sessions) -> Result<Vec<Label>, NoMemory>
-    ensures { IfOk result (λ labels. labels.items ≡ map (λ s. s.label) sessions.now) }
-{
-    let mut labels = Vec::new(alloc);
-    // What is known of a text comes with its length: here that it has few sessions.
-    let _count = sessions.len();
-    let mut session = 0;
-    while let Some(label) = sessions.label(session) {
-        labels.push(*label)?;
-        session += 1;
-    }
-    Ok(labels)
 }
 
 // Answers an access. One that has to wait is given up: with one session nobody else can go on.
@@ -107,26 +93,6 @@ fn run_opened<S: TopStore>(manager: &mut Manager<S>, sessions: &Sessions) -> Res
 {
     serve_all(manager, sessions)?;
     manager.close()
-}
-
-// The report of a manager whose top-level transactions have ended, and its store.
-fn report_of<S: TopStore>(manager: Manager<S>, labels: Vec<Label>) -> (Report, S)
-    requires sound { IsSound S.TopStore manager }
-    requires closed { first_live manager.history (begun manager.history) ≡ None }
-    requires ended { (l : List ℕ) → IsFalse (is_live manager.history (l ∷ [])) }
-    ensures report { result.0 ≡ record { opening = manager.rows; labels = labels.items; history = manager.history; table = manager.table } }
-    ensures store { result.1 ≡ manager.store }
-{
-    let parts = manager.into_parts();
-    // What is known of a table comes with its length: that its keys rise.
-    let _rows = parts.table.len();
-    let report = Report {
-        opening: parts.opening,
-        labels,
-        history: parts.history,
-        table: parts.table,
-    };
-    (report, parts.store)
 }
 
 /// Runs the sessions over the store, and gives it back with the report. At present there is one session at most,

@@ -1,5 +1,5 @@
 use Rattle.interleavings.proofs.Reported.{reported}
-use Rattle.interleavings.proofs.run.report_of.Goals as goal
+use Rattle.interleavings.proofs.report.report_of.Goals as goal
 
 pub invariant_of-report : goal.invariant_of-report
 invariant_of-report g c =

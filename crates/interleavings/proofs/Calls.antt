@@ -1,0 +1,150 @@
+-- What each call of the manager is as an attempt.
+use Rattle.std.proofs.Common.{◌≡◌, ℕ, ◌⊎◌, inl, inr, ⊎_elim, Bool, true, false, List, [], ◌∷◌, Option, Some, is_some, Result, Ok, Err, OnOk, IfOk, IsTrue, ◌↔◌, refl, sym, ap, subst, ◌∙◌}
+use Rattle.std.proofs.Common.{None as Nothing}
+use Rattle.serial_spec.specs.declared.operation.Op.{Op}
+use Rattle.serial_spec.specs.declared.entry.By.{By}
+use Rattle.serial_spec.specs.declared.entry.Entry.{Entry}
+use Rattle.serial_spec.specs.declared.event.Event.{Event}
+use Rattle.serial_spec.specs.declared.event.Event.TheVariants.{Begin, Access, Commit, Abort, After}
+use Rattle.serial_spec.specs.declared.event.When.{When}
+use Rattle.serial_spec.specs.History.{Name, History}
+use Rattle.serial_spec.specs.Waits.{Quiet, wait_of, same_line}
+use Rattle.serial_spec.specs.Allowed.{answer}
+use Rattle.serial_spec.specs.Interleaving.{AfterVictims}
+use Rattle.txn_history.specs.Lines.{IsFree, IsWaitOf}
+use Rattle.txn_history.proofs.Tests.{clash}
+use Rattle.durable_top.specs.declared.store.TopStore.{Ghosts}
+use Rattle.manager_core.specs.declared.outcome.Outcome.{Outcome}
+use Rattle.manager_core.specs.Outcomes.{answer_of}
+use Rattle.manager_core.specs.State.{State, entry}
+use Rattle.manager_core.specs.Asked.{IsLater}
+use Rattle.manager_core.specs.Sound.{IsSound}
+use Rattle.manager_core.specs.Calls.{Added, Answered, Committed, Retried, WaitsOn}
+use Rattle.manager_core.specs.Parking.{Awaited, Awaits}
+use Rattle.manager_core.proofs.Waits.{same_by}
+use Rattle.interleavings.specs.Attempts.{Attempts, GoesOn, Enters, StaysOut}
+use Rattle.interleavings.proofs.Schedules.{on_same}
+
+module _ {S : Type 0} (g : Ghosts S) (old new : State S) (by : By) (e : Event) (o : Outcome) where
+  -- beside the history nothing has changed
+  beside_on : new ≡ record old { history = new.history } → GoesOn g old new
+  beside_on same = record {
+    rows = ap (λ (m : State S). m.rows) same;
+    opened = ap (λ (m : State S). m.opened) same;
+    later = subst (IsLater g old.store) (sym (ap (λ (m : State S). m.store) same)) (on_same g old).later;
+  }
+
+  pub answered_attempt : Answered old new by e o → Attempts g old new by e o
+  answered_attempt a = record {
+    told = inl (record { allowed = a.allowed; victims = a.victims; broken = a.broken });
+    on = beside_on a.beside;
+  }
+
+  -- where no cycle stands there are no victims
+  pub added_attempt : Quiet new.history → Added old new by e o → Attempts g old new by e o
+  added_attempt quiet a = record {
+    told = inl (record { allowed = a.allowed; victims = []; broken = (subst Quiet history quiet, history) });
+    on = beside_on (a.added ∙ ap (λ h. record old { history = h }) (sym history));
+  }
+    where
+      history : new.history ≡ entry by e (answer_of o) ∷ old.history
+      history = ap (λ (m : State S). m.history) a.added
+
+  pub awaited_attempt : Quiet new.history → Awaited old new by e o → Attempts g old new by e o
+  awaited_attempt quiet a = ⊎_elim
+      (λ (added : Added old new by e o). added_attempt quiet added)
+      (λ (awaits : Awaits old new by e o). record {
+        told = inr (record { none = awaits.none; outcome_is = awaits.outcome_is; same = ap (λ (m : State S). m.history) awaits.same });
+        on = subst (GoesOn g old) (sym awaits.same) (on_same g old);
+      })
+      a
+
+pub committed_attempt : {S : Type 0} (g : Ghosts S) (old new : State S) (by : By) (t : Name) (o : Outcome) → Quiet new.history → Committed g old new by t o
+    → Attempts g old new by (Commit t) o
+committed_attempt {S} g old new by t o quiet c = record {
+  told = inl (record { allowed = c.allowed; victims = []; broken = (subst Quiet history quiet, history) });
+  on = record {
+    rows = ap (λ (m : State S). m.rows) c.added;
+    opened = ap (λ (m : State S). m.opened) c.added;
+    later = c.later;
+  };
+}
+  where
+    history : new.history ≡ entry by (Commit t) (answer_of o) ∷ old.history
+    history = ap (λ (m : State S). m.history) c.added
+
+-- the wait that is asked for again is the one of this line
+pub retried_attempt : {S : Type 0} (g : Ghosts S) (old new : State S) (by : By) (t : Name) (k : List ℕ) (op : Op) (o : Outcome) → IsWaitOf old.history by (Access t k op)
+    → Retried old new t o → Attempts g old new by (Access t k op) o
+retried_attempt {S} g old new by t k op o (w, waits, own, is) r = ⊎_elim
+    (λ (a : Answered old new r.wait.by r.wait.event o).
+    answered_attempt g old new by (Access t k op) o (subst (λ x. Answered old new by x o) event_is (subst (λ b. Answered old new b r.wait.event o) by_is a)))
+    (λ (out : WaitsOn old new r.wait o). record {
+      told = inr (record {
+        none = subst (λ x. answer old.rows old.history by x ≡ Nothing) event_is (subst (λ b. answer old.rows old.history b r.wait.event ≡ Nothing) by_is out.none);
+        outcome_is = out.outcome_is;
+        same = ap (λ (m : State S). m.history) out.same;
+      });
+      on = subst (GoesOn g old) (sym out.same) (on_same g old);
+    })
+    r.told
+  where
+    found : w ≡ r.wait
+    found = let both : Some w ≡ Some r.wait = sym waits ∙ r.waits in cc
+
+    by_is : r.wait.by ≡ by
+    by_is = ap (λ (x : Entry). x.by) (sym found) ∙ same_by w.by by own
+
+    event_is : r.wait.event ≡ Access t k op
+    event_is = ap (λ (x : Entry). x.event) (sym found) ∙ is
+
+-- ---- by what a call answered
+
+module _ {S E : Type 0} (g : Ghosts S) (old new : State S) (by : By) where
+  pub if_added : (e : Event) (r : Result Outcome E) → IfOk r (λ o. Added old new by e o) → OnOk r (IsSound g new) → IfOk r (λ o. Attempts g old new by e o)
+  if_added e (Ok o) a sound = added_attempt g old new by e o sound.quiet a
+  if_added e (Err x) a sound = tt
+
+  pub if_answered : (e : Event) (r : Result Outcome E) → IfOk r (λ o. Answered old new by e o) → IfOk r (λ o. Attempts g old new by e o)
+  if_answered e (Ok o) a = answered_attempt g old new by e o a
+  if_answered e (Err x) a = tt
+
+  pub if_awaited : (e : Event) (r : Result Outcome E) → IfOk r (λ o. Awaited old new by e o) → OnOk r (IsSound g new) → IfOk r (λ o. Attempts g old new by e o)
+  if_awaited e (Ok o) a sound = awaited_attempt g old new by e o sound.quiet a
+  if_awaited e (Err x) a sound = tt
+
+  pub if_committed : (t : Name) (r : Result Outcome E) → IfOk r (λ o. Committed g old new by t o) → OnOk r (IsSound g new) → IfOk r (λ o. Attempts g old new by (Commit t) o)
+  if_committed t (Ok o) a sound = committed_attempt g old new by t o sound.quiet a
+  if_committed t (Err x) a sound = tt
+
+  pub if_retried : (t : Name) (k : List ℕ) (op : Op) (r : Result Outcome E) → IsWaitOf old.history by (Access t k op) → IfOk r (λ o. Retried old new t o)
+      → IfOk r (λ o. Attempts g old new by (Access t k op) o)
+  if_retried t k op (Ok o) waits a = retried_attempt g old new by t k op o waits a
+  if_retried t k op (Err x) waits a = tt
+
+-- ---- which call may be made
+
+-- what waits is an access, so that every other line is free
+pub free_begin : (h : History) (by : By) (t : Name) → IsFree h by (Begin t) ⊎ IsWaitOf h by (Begin t) → IsFree h by (Begin t)
+free_begin h by t (inl free) = free
+free_begin h by t (inr none) = absurd none
+
+pub free_commit : (h : History) (by : By) (t : Name) → IsFree h by (Commit t) ⊎ IsWaitOf h by (Commit t) → IsFree h by (Commit t)
+free_commit h by t (inl free) = free
+free_commit h by t (inr none) = absurd none
+
+pub free_abort : (h : History) (by : By) (t : Name) → IsFree h by (Abort t) ⊎ IsWaitOf h by (Abort t) → IsFree h by (Abort t)
+free_abort h by t (inl free) = free
+free_abort h by t (inr none) = absurd none
+
+pub free_after : (h : History) (by : By) (t : Name) (w : When) → IsFree h by (After t w) ⊎ IsWaitOf h by (After t w) → IsFree h by (After t w)
+free_after h by t w (inl free) = free
+free_after h by t w (inr none) = absurd none
+
+-- and an access that is not free waits
+pub waits_unless_free : (h : History) (by : By) (e : Event) (b : Bool) → IsTrue b ↔ IsFree h by e → b ≡ false → IsFree h by e ⊎ IsWaitOf h by e → IsWaitOf h by e
+waits_unless_free h by e b is other (inl free) = clash (is.1 free) other
+waits_unless_free h by e b is other (inr waits) = waits
+
+pub some_wait : (h : History) (by : By) (t : Name) (k : List ℕ) (op : Op) → IsWaitOf h by (Access t k op) → is_some (wait_of h t) ≡ true
+some_wait h by t k op (w, waits, own, is) = ap is_some waits

@@ -1,0 +1,114 @@
+-- The close, and what a whole run comes to.
+use Rattle.std.proofs.Common.{◌≡◌, ℕ, ◌+◌, ◌≤◌, List, [], ◌∷◌, ◌++◌, length, map, None, Result, Ok, Err, OnOk, IfOk, IfErr, refl, sym, ap, subst, ◌∙◌, arith}
+use Rattle.serial_spec.specs.History.{Name, History, begun}
+use Rattle.serial_spec.specs.Legal.{first_live, Legal}
+use Rattle.serial_spec.specs.Rows.{Rows, value_in}
+use Rattle.serial_spec.specs.Interleaving.{Session, AllAnswered, IsInterleaving, IsFinished}
+use Rattle.serial_spec.specs.Follows.{Steps, Rounds, AfterClose, Follows}
+use Rattle.txn_history.specs.Turns.{IsUnderWay}
+use Rattle.txn_history.proofs.Following.{close_finishes}
+use Rattle.durable_top.specs.declared.store.TopStore.{Ghosts}
+use Rattle.durable_top.specs.Store.{counted}
+use Rattle.manager_core.specs.State.{State}
+use Rattle.manager_core.specs.Sound.{IsSound, IsTrusted, store_refusals}
+use Rattle.manager_core.specs.Closing.{closings}
+use Rattle.manager_core.specs.Calls.{Closed}
+use Rattle.interleavings.specs.Told.{Told}
+use Rattle.interleavings.specs.Turning.{Turning, AreTurns, IsStart, IsClosed}
+use Rattle.interleavings.specs.Scheduled.{Goes, RunsList, RunsAll, RunsWhole, RunsOut, AllThere, IsRun}
+
+-- ---- the close
+
+-- closing entries of a legal history close, each, the first begun that is live
+after_closings : (rows : Rows) (h : History) (names later : List Name) (h2 : History) → Legal rows (closings names ++ h) → AfterClose (closings names ++ h) later h2
+    → (ts : List Name) × AfterClose h ts h2
+after_closings rows h [] later h2 legal after = (later, after)
+after_closings rows h (t ∷ names) later h2 legal after = after_closings rows h names (t ∷ later) h2 legal.0 (legal.1.0, after)
+
+module _ {S : Type 0} (g : Ghosts S) where
+  pub is_closed : (old : Turning S) (numbers : List ℕ) (new : State S) (labels : List (List ℕ)) → AreTurns old numbers → AllAnswered old.sessions old.core.history
+      → Closed old.core new → IsSound g new → labels ≡ map (λ s. s.label) old.sessions
+      → IsClosed g old (record { opening = new.rows; labels = labels; history = new.history; table = new.table }) new.store
+  is_closed old numbers new labels turns all closed sound named = record {
+    answered = all;
+    opening = rows;
+    labels = named;
+    names = after.0;
+    close = after.1;
+    interleaving = subst (λ r. IsInterleaving r old.sessions new.history) (sym rows) finishes.0.in_turn;
+    finished = finishes.1;
+    store = ap (λ (m : State S). m.store) closed.added;
+    stored = sound.backed.same;
+    refusals = subst (λ n. g.faults new.store ≡ counted (n + store_refusals new.history)) (ap (λ (m : State S). m.opened) closed.added) sound.backed.refusals;
+  }
+    where
+      rows : new.rows ≡ old.core.rows
+      rows = ap (λ (m : State S). m.rows) closed.added
+
+      history : new.history ≡ closings closed.names ++ old.core.history
+      history = ap (λ (m : State S). m.history) closed.added
+
+      after : (ts : List Name) × AfterClose old.core.history ts new.history
+      after = after_closings new.rows old.core.history closed.names [] new.history (subst (Legal new.rows) history sound.legal)
+          (subst (λ h. first_live h (begun h) ≡ None) history closed.none_left, history)
+
+      finishes : IsUnderWay old.core.rows old.sessions new.history × IsFinished old.sessions new.history
+      finishes = close_finishes old.core.rows old.sessions old.core.history after.0 new.history turns.way all after.1
+
+  -- ---- a run
+
+  pub runs_whole : {T E : Type 0} (schedule : List ℕ) (first mid last : Turning S) (r : Result T E) → RunsList g schedule first mid → OnOk r (RunsAll g mid last)
+      → OnOk r (RunsWhole g schedule first last)
+  runs_whole schedule first mid last (Ok x) list all = record { between = mid; list = list; all = all }
+  runs_whole schedule first mid last (Err x) list all = tt
+
+  pub is_run : (ss : List Session) (schedule : List ℕ) (store left : S) (first last : Turning S) (r : Told) → AllThere ss schedule → IsStart g ss store first
+      → RunsWhole g schedule first last → IsClosed g last r left → IsRun g ss schedule store r left
+  is_run ss schedule store left first last r there start whole closed = record {
+    there = there;
+    opening = λ none. ap value_in rows_first ∙ start.opened.rows (undoubted none);
+    labels = subst (λ x. r.labels ≡ map (λ s. s.label) x) same_sessions closed.labels;
+    follows = record {
+      scheduled = mid.core.history;
+      steps = subst (λ x. Steps x ss schedule [] mid.core.history) (sym rows_first)
+          (subst (λ x. Steps first.core.rows x schedule [] mid.core.history) start.sessions
+          (subst (λ h. Steps first.core.rows first.sessions schedule h mid.core.history) start.opened.history list.steps));
+      count = all.count;
+      ran = last.core.history;
+      rounds = subst (λ x. Rounds x ss all.count mid.core.history last.core.history) (sym rows_mid)
+          (subst (λ x. Rounds mid.core.rows x all.count mid.core.history last.core.history) sessions_mid all.rounds);
+      all = subst (λ x. AllAnswered x last.core.history) sessions_mid all.all;
+      names = closed.names;
+      close = closed.close;
+    };
+    interleaving = subst (λ x. IsInterleaving r.opening x r.history) same_sessions closed.interleaving;
+    finished = subst (λ x. IsFinished x r.history) same_sessions closed.finished;
+    stored = closed.stored;
+    refusals = closed.refusals ∙ ap (λ n. counted (n + store_refusals r.history)) (all.goes.on.opened ∙ list.goes.on.opened ∙ start.opened.faults);
+  }
+    where
+      mid : Turning S
+      mid = whole.between
+
+      list : RunsList g schedule first mid
+      list = whole.list
+
+      all : RunsAll g mid last
+      all = whole.all
+
+      rows_mid : r.opening ≡ mid.core.rows
+      rows_mid = closed.opening ∙ all.goes.on.rows
+
+      rows_first : r.opening ≡ first.core.rows
+      rows_first = rows_mid ∙ list.goes.on.rows
+
+      sessions_mid : mid.sessions ≡ ss
+      sessions_mid = list.goes.sessions ∙ start.sessions
+
+      same_sessions : last.sessions ≡ ss
+      same_sessions = all.goes.sessions ∙ sessions_mid
+
+      undoubted : g.doubt left ≡ 0 → g.doubt first.core.store ≡ 0
+      undoubted none =
+          let last_none : g.doubt last.core.store ≡ 0 = sym (ap g.doubt closed.store) ∙ none in
+          omega (arith, list.goes.on.later.doubt, all.goes.on.later.doubt, last_none)

@@ -1,0 +1,109 @@
+-- A run, one call after another.
+use Rattle.std.proofs.Common.{◌≡◌, ℕ, zero, suc, ◌+◌, ◌<◌, ◌≤◌, ◌⊎◌, inl, inr, Bool, List, [], ◌∷◌, ◌++◌, length, Option, Some, None, refl, sym, ap, subst, ◌∙◌, arith}
+use Rattle.serial_spec.specs.declared.event.Event.{Event}
+use Rattle.serial_spec.specs.History.{History}
+use Rattle.serial_spec.specs.Rows.{Rows}
+use Rattle.serial_spec.specs.Interleaving.{Session, AllAnswered, Step, MustGiveUp}
+use Rattle.serial_spec.specs.Follows.{Steps, StepOfEach, Unsticks, NoneGivesUp, Round, Rounds}
+use Rattle.durable_top.specs.declared.store.TopStore.{Ghosts}
+use Rattle.manager_core.specs.State.{State}
+use Rattle.manager_core.specs.Asked.{IsLater}
+use Rattle.interleavings.specs.declared.turns.Turn.{Turn}
+use Rattle.interleavings.specs.Attempts.{GoesOn}
+use Rattle.interleavings.specs.Turning.{Turning, Stepped, Unstuck, GivesUpLine}
+use Rattle.interleavings.specs.Scheduled.{Goes, RunsList, RunsEach, RunsRound, RunsSoFar, RunsAll}
+
+-- ---- going on
+
+later_still : {S : Type 0} (g : Ghosts S) (a b c : S) → IsLater g a b → IsLater g b c → IsLater g a c
+later_still g a b c h k = record { doubt = omega (arith, h.doubt, k.doubt); failures = omega (arith, h.failures, k.failures) }
+
+pub on_still : {S : Type 0} (g : Ghosts S) (old mid new : State S) → GoesOn g old mid → GoesOn g mid new → GoesOn g old new
+on_still g old mid new a b = record {
+  rows = b.rows ∙ a.rows;
+  opened = b.opened ∙ a.opened;
+  later = later_still g old.store mid.store new.store a.later b.later;
+}
+
+pub on_same : {S : Type 0} (g : Ghosts S) (old : State S) → GoesOn g old old
+on_same g old = record { rows = refl; opened = refl; later = record { doubt = omega arith; failures = omega arith } }
+
+steps_more : (rows : Rows) (ss : List Session) (list : List ℕ) (s : ℕ) (h mid h2 : History) → Steps rows ss list h mid → Step rows ss mid s h2
+    → Steps rows ss (list ++ s ∷ []) h h2
+steps_more rows ss [] s h mid h2 same step = (h2, subst (λ x. Step rows ss x s h2) same step, refl)
+steps_more rows ss (t ∷ list) s h mid h2 (next, first, rest) step = (next, first, steps_more rows ss list s next mid h2 rest step)
+
+module _ {S : Type 0} (g : Ghosts S) where
+  goes_same : (t : Turning S) → Goes g t t
+  goes_same t = record { sessions = refl; on = on_same g t.core }
+
+  goes_still : (old mid new : Turning S) → Goes g old mid → Goes g mid new → Goes g old new
+  goes_still old mid new a b = record { sessions = b.sessions ∙ a.sessions; on = on_still g old.core mid.core new.core a.on b.on }
+
+  module _ (old mid new : Turning S) (goes : Goes g old mid) where
+    -- what a relation says of the rows and sessions in the middle it says of those at first
+    back : (P : Rows → List Session → Type 0) → P mid.core.rows mid.sessions → P old.core.rows old.sessions
+    back P p = subst (λ r. P r old.sessions) goes.on.rows (subst (P mid.core.rows) goes.sessions p)
+
+    after_step : (s : ℕ) (turn : Turn) → Stepped g mid new s turn → Goes g old new
+    after_step s turn st = goes_still old mid new goes (record { sessions = st.sessions; on = st.on })
+
+    step_back : (s : ℕ) (turn : Turn) → Stepped g mid new s turn → Step old.core.rows old.sessions mid.core.history s new.core.history
+    step_back s turn st = back (λ r ss. Step r ss mid.core.history s new.core.history) st.step
+
+  -- ---- a list
+
+  pub list_none : (t : Turning S) → RunsList g [] t t
+  list_none t = record { goes = goes_same t; steps = refl }
+
+  pub list_more : (list : List ℕ) (s : ℕ) (turn : Turn) (old mid new : Turning S) → RunsList g list old mid → Stepped g mid new s turn → RunsList g (list ++ s ∷ []) old new
+  list_more list s turn old mid new so_far st = record {
+    goes = after_step old mid new so_far.goes s turn st;
+    steps = steps_more old.core.rows old.sessions list s old.core.history mid.core.history new.core.history so_far.steps (step_back old mid new so_far.goes s turn st);
+  }
+
+  -- ---- a round
+
+  pub each_none : (t : Turning S) → RunsEach g 0 t t
+  each_none t = record { goes = goes_same t; each = refl }
+
+  pub each_more : (n : ℕ) (turn : Turn) (old mid new : Turning S) → RunsEach g n old mid → Stepped g mid new n turn → RunsEach g (suc n) old new
+  each_more n turn old mid new so_far st = record {
+    goes = after_step old mid new so_far.goes n turn st;
+    each = (mid.core.history, so_far.each, step_back old mid new so_far.goes n turn st);
+  }
+
+  unsticks : (old new : Turning S) (line : Option (ℕ × ℕ)) → GivesUpLine old new line → Unsticks old.core.rows old.sessions old.core.history new.core.history
+  unsticks old new None told = inr (told.0, ap (λ (t : Turning S). t.core.history) told.1)
+  unsticks old new (Some line) told = inl (line.0, told.1.0, told.1.1, told.1.2)
+
+  pub round_of : (old mid new : Turning S) (line : Option (ℕ × ℕ)) → RunsEach g (length old.sessions) old mid → Unstuck g mid new line → RunsRound g old new
+  round_of old mid new line each un = record {
+    goes = goes_still old mid new each.goes (record { sessions = un.sessions; on = un.on });
+    round = (mid.core.history, each.each, back old mid new each.goes (λ r ss. Unsticks r ss mid.core.history new.core.history) (unsticks mid new line un.told));
+  }
+
+  -- ---- rounds
+
+  pub rounds_none : (t : Turning S) → RunsSoFar g t t
+  rounds_none t = record { goes = goes_same t; count = 0; rounds = refl }
+
+  pub rounds_more : (old mid new : Turning S) → RunsSoFar g old mid → (AllAnswered mid.sessions mid.core.history → ⊥) → RunsRound g mid new → RunsSoFar g old new
+  rounds_more old mid new so_far left round = record {
+    goes = goes_still old mid new so_far.goes round.goes;
+    count = suc so_far.count;
+    rounds = (
+      mid.core.history,
+      so_far.rounds,
+      subst (λ ss. AllAnswered ss mid.core.history → ⊥) so_far.goes.sessions left,
+      back old mid new so_far.goes (λ r ss. Round r ss mid.core.history new.core.history) round.round,
+    );
+  }
+
+  pub rounds_all : (old new : Turning S) → RunsSoFar g old new → AllAnswered new.sessions new.core.history → RunsAll g old new
+  rounds_all old new so_far all = record {
+    goes = so_far.goes;
+    count = so_far.count;
+    rounds = so_far.rounds;
+    all = subst (λ ss. AllAnswered ss new.core.history) so_far.goes.sessions all;
+  }

@@ -1,0 +1,25 @@
+use Rattle.std.proofs.Common.{◌<◌, length, subst}
+use Rattle.txn_history.specs.Turns.{pending_in}
+use Rattle.txn_history.proofs.Rounds.{round_adds}
+use Rattle.txn_history.proofs.Tests.{clash}
+use Rattle.interleavings.proofs.Schedules.{rounds_all, rounds_more, rounds_none}
+use Rattle.interleavings.proofs.schedule.run_rounds.Goals as goal
+
+pub loop-turns-init : goal.loop-turns-init
+loop-turns-init g c = rounds_none g.S.TopStore c.args.turns.now
+
+pub loop-turns-smaller : goal.loop-turns-smaller
+loop-turns-smaller g c =
+    let old = c.loop-turns.turns in
+    let new = c.run_round.new.turns in
+    let round = c.in_ok-run_round.ensures in
+    rw round.goes.sessions
+    (round_adds old.core.rows old.sessions old.core.history new.core.history (λ all. clash (c.finished.ensures.1 all) c.loop-turns-test.true) round.round)
+
+pub loop-turns-preserved : goal.loop-turns-preserved
+loop-turns-preserved g c =
+    rounds_more g.S.TopStore c.args.turns.now c.loop-turns.turns c.run_round.new.turns c.loop-turns.invariant
+    (λ all. clash (c.finished.ensures.1 all) c.loop-turns-test.true) c.in_ok-run_round.ensures
+
+pub returns : goal.returns
+returns g c = rounds_all g.S.TopStore c.args.turns.now c.loop-turns.turns c.loop-turns.invariant (c.finished.ensures.0 c.loop-turns-test.false)

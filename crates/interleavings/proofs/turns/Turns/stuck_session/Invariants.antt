@@ -1,0 +1,7 @@
+use Rattle.std.proofs.Common.{◌≡◌, ℕ, ◌<◌, false}
+use Rattle.interleavings.specs.Turning.{IsFirstOpen, can_go_on}
+use Rattle.interleavings.proofs.turns.Turns.stuck_session.Given as goal
+
+-- none before can go on
+abbrev pub invariant-loop-session : goal.invariant-loop-session
+invariant-loop-session g l = (u : ℕ) → u < l.session → can_go_on l.self.core.rows l.self.sessions l.self.core.history u ≡ false

@@ -1,0 +1,206 @@
+//! Sessions under way, a line at a time.
+ghost use Rattle.std.specs.Prelude.{◌≡◌, ◌↔◌, length, replicate, IfErr, IfOk, IsTrue, OnErr, OnOk};
+ghost use Rattle.serial_spec.specs.Interleaving.{AllAnswered};
+ghost use Rattle.txn_history.specs.Turns.{IsUnderWay};
+ghost use Rattle.manager_core.specs.Opening.{HasCause};
+ghost use Rattle.interleavings.specs.Turning.{IsClosed, IsFirstOpen, IsStart, Stepped, TellsStuck, Unstuck, can_go_on, next_number};
+
+use crate::attempt::attempt;
+use crate::report::{Report, labels_of, report_of};
+use durable_top::TopStore;
+use manager_core::{Manager, OpenFault, Outcome};
+use serial_spec::{By, NoMemory};
+use session_text::Sessions;
+use std::alloc::Global;
+use std::marker::Model;
+
+// The first line of each of so many sessions.
+fn first_lines(alloc: Global, count: usize) -> Result<Vec<u32>, NoMemory>
+    ensures { IfOk result (λ next. next.items ≡ replicate count 1) }
+{
+    vec![in alloc; 1; count]
+}
+
+/// What came of an attempt.
+#[derive(Clone, Copy, Debug, PartialEq, Eq)]
+pub enum Turn {
+    /// The line was answered.
+    Answered,
+    /// The line waits, or its condition does not hold yet.
+    Parked,
+    /// There is no such session, or all of its lines are answered.
+    OutOfTurn,
+}
+
+/// Sessions over a manager. Any session's next line may be attempted at any time. The history is empty at first, and
+/// always legal, without a cycle of waits, and an interleaving of the sessions' lines as far as they are answered.
+#[derive(Drop)]
+pub struct Turns<'a, S: TopStore> {
+    alloc: Global,
+    sessions: &'a Sessions,
+    manager: Manager<S>,
+    // The number of each session's next line, one past its last where all are answered.
+    next: Vec<u32>,
+}
+
+impl<'a, S: TopStore> Model for Turns<'a, S> {
+    ghost use Rattle.interleavings.specs.Turning.{AreTurns, Turning};
+
+    ghost Value = { Turning S };
+
+    ghost view = { λ t. record { sessions = t.sessions.now; core = t.manager } };
+
+    ghost invariant = { λ t. AreTurns (record { sessions = t.sessions.now; core = t.manager }) t.next.items };
+}
+
+impl<'a, S: TopStore> Turns<'a, S> {
+    /// No line is attempted yet. On an error the store is dropped.
+    pub fn open(alloc: Global, sessions: &'a Sessions, store: S) -> Result<Turns<'a, S>, OpenFault>
+        ensures ok { IfOk result (λ turns. IsStart S.TopStore sessions.now store turns) }
+        ensures way { IfOk result (λ turns. IsUnderWay turns.core.rows turns.sessions turns.core.history) }
+        ensures err { IfErr result (λ fault. HasCause S.TopStore store fault) }
+    {
+        let Ok(next) = first_lines(alloc, sessions.len()) else {
+            return Err(OpenFault::NoMemory);
+        };
+        match Manager::open(alloc, store) {
+            Ok(manager) => Ok(Turns {
+                alloc,
+                sessions,
+                manager,
+                next,
+            }),
+            Err(fault) => Err(fault),
+        }
+    }
+
+    /// How many sessions there are.
+    pub fn count(&self) -> u32
+        ensures { result ≡ length self.now.sessions }
+    {
+        self.sessions.len() as u32
+    }
+
+    /// The number of the session's next line, where there is such a session and it has a line left.
+    pub fn next_line(&self, session: u32) -> Option<u32>
+        ensures { result ≡ next_number self.now.sessions self.now.core.history session }
+    {
+        let line = *self.next.get(session as usize)?;
+        self.sessions.line(session, line)?;
+        Some(line)
+    }
+
+    // The first session that has a line left.
+    fn first_open(&self) -> Option<u32>
+        ensures { IsFirstOpen self.now.sessions self.now.core.history result }
+    {
+        for session in 0..self.count() {
+            if self.next_line(session).is_some() {
+                return Some(session);
+            }
+        }
+        None
+    }
+
+    /// Whether every line is answered.
+    pub fn finished(&self) -> bool
+        ensures { IsTrue result ↔ AllAnswered self.now.sessions self.now.core.history }
+    {
+        self.first_open().is_none()
+    }
+
+    /// Attempts the session's next line: it is answered as the definitions say, or it begins to wait, or nothing happens;
+    /// then those are aborted that break the cycles of waits. The only error is that memory runs out, and nothing has
+    /// changed then.
+    pub fn step(&mut self, session: u32) -> Result<Turn, NoMemory>
+        ensures ok { IfOk result (λ turn. Stepped S.TopStore self.old self.new session turn) }
+        ensures way { OnOk result (IsUnderWay self.new.core.rows self.new.sessions self.new.core.history) }
+        ensures err { OnErr result (self.new ≡ self.old) }
+    {
+        // What is known of a text comes with its length: here that a session has few lines.
+        let _count = self.sessions.len();
+        let Some(line) = self.next_line(session) else {
+            return Ok(Turn::OutOfTurn);
+        };
+        let text = self.sessions.line(session, line).unwrap();
+        let by = By::Line { session, line };
+        match attempt(&mut self.manager, by, text.event())? {
+            Outcome::Waits => Ok(Turn::Parked),
+            _ => {
+                self.next[session as usize] = line + 1;
+                Ok(Turn::Answered)
+            }
+        }
+    }
+
+    // Whether the session's next line may be answered, or begin to wait.
+    fn can_go_on(&self, session: u32) -> bool
+        ensures { result ≡ can_go_on self.now.core.rows self.now.sessions self.now.core.history session }
+    {
+        match self.next_line(session) {
+            Some(line) => {
+                let text = self.sessions.line(session, line).unwrap();
+                !self
+                    .manager
+                    .held_up(By::Line { session, line }, text.event())
+            }
+            None => false,
+        }
+    }
+
+    // The session whose line must be given up, if one must.
+    fn stuck_session(&self) -> Option<u32>
+        ensures { TellsStuck self.now.core.rows self.now.sessions self.now.core.history result }
+    {
+        let first = self.first_open()?;
+        for session in 0..self.count() {
+            if self.can_go_on(session) {
+                return None;
+            }
+        }
+        Some(first)
+    }
+
+    /// Applies the stuck rule once: where lines are left and none of the sessions can go on, the next line of the first
+    /// session that has one is given up. Answers its session and number. The only error is that memory runs out, and
+    /// nothing has changed then.
+    pub fn stuck(&mut self) -> Result<Option<(u32, u32)>, NoMemory>
+        ensures ok { IfOk result (λ line. Unstuck S.TopStore self.old self.new line) }
+        ensures way { OnOk result (IsUnderWay self.new.core.rows self.new.sessions self.new.core.history) }
+        ensures err { OnErr result (self.new ≡ self.old) }
+    {
+        // As in `step`.
+        let _count = self.sessions.len();
+        let Some(session) = self.stuck_session() else {
+            return Ok(None);
+        };
+        let line = self.next_line(session).unwrap();
+        let text = self.sessions.line(session, line).unwrap();
+        self.manager
+            .cancel(By::Line { session, line }, text.event())?;
+        self.next[session as usize] = line + 1;
+        Ok(Some((session, line)))
+    }
+
+    /// Aborts the live top-level transactions in the order in which they began, and gives the report of the run, and the
+    /// store. It gives the value back unchanged where lines are left, or memory runs out.
+    pub fn into_report(self) -> Result<(Report, S), Turns<'a, S>>
+        ensures ok { IfOk result (λ run. IsClosed S.TopStore self.entry run.0 run.1) }
+        ensures err { IfErr result (λ turns. turns ≡ self.entry) }
+    {
+        let mut turns = self;
+        if !turns.finished() {
+            return Err(turns);
+        }
+        let Ok(labels) = labels_of(turns.alloc, turns.sessions) else {
+            return Err(turns);
+        };
+        match turns.manager.close() {
+            Ok(()) => {
+                let Turns { manager, .. } = turns;
+                Ok(report_of(manager, labels))
+            }
+            Err(_) => Err(turns),
+        }
+    }
+}
