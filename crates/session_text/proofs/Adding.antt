@@ -6,16 +6,10 @@ use Rattle.std.proofs.lemmas.Bool.{eqb-false}
 use Rattle.serial_spec.specs.Interleaving.{Session}
 use Rattle.serial_spec.specs.declared.event.Event.{Event}
 use Rattle.session_text.specs.declared.text_line.TextLine.{TextLine}
-use Rattle.session_text.specs.declared.text_line.TextLine.TheVariants.{Command}
+use Rattle.session_text.specs.declared.text_line.TextLine.TheVariants.{Header, Command}
 use Rattle.session_text.specs.Grammar.{IsText}
-use Rattle.session_text.specs.Stage.{IsServedText}
-use Rattle.session_text.specs.Texts.{IsTextLine, open_lines, misplaced, refusal, grown}
-use Rattle.session_text.proofs.Growth.{push_last, text_with_line, header_placed}
-use Rattle.session_text.proofs.Served.{served_with_line}
-
--- what keeps: the sessions are a text, and one that is served
-abbrev pub IsKept : List Session → Type 0
-IsKept ss = IsText ss × IsServedText ss
+use Rattle.session_text.specs.Texts.{IsTextLine, open_lines, misplaced, with_header, grown}
+use Rattle.session_text.proofs.Growth.{push_last, unchanged_last, text_with_header, text_with_line, header_placed}
 
 pub some_placed : (ss : List Session) (e : Event) → misplaced ss (Command e) ≡ None → 0 < length ss
 some_placed ss e h = omega (arith, eqb-false (length ss) 0 (header_placed (nat_eq (length ss) 0) (nat_le 1024 (length (open_lines ss))) h).0)
@@ -30,9 +24,21 @@ pushed ss n s t e l len is placed read label lines =
     ∙ push_last ss s t e some (subst (λ (k : ℕ). s ≡ get_or ss (k - 1) s) len read) (ap₂ (λ (a : List ℕ) (es : List Event). record { label = a; lines = es }) label lines)
     ∙ ap (grown ss) (sym is)
 
-pub kept : (ss : List Session) (e : Event) (l : TextLine) → IsKept ss → IsTextLine l → l ≡ Command e → misplaced ss l ≡ None → refusal ss l ≡ None → IsKept (grown ss l)
-kept ss e l h valid is placed served =
+pub kept : (ss : List Session) (e : Event) (l : TextLine) → IsText ss → IsTextLine l → l ≡ Command e → misplaced ss l ≡ None → IsText (grown ss l)
+kept ss e l h valid is placed =
     let placed2 : misplaced ss (Command e) ≡ None = subst (λ (x : TextLine). misplaced ss x ≡ None) is placed in
-    let served2 : refusal ss (Command e) ≡ None = subst (λ (x : TextLine). refusal ss x ≡ None) is served in
-    subst (λ (x : TextLine). IsKept (grown ss x)) (sym is)
-    (text_with_line ss e h.0 (subst IsTextLine is valid) placed2, served_with_line ss e h.1 served2)
+    subst (λ (x : TextLine). IsText (grown ss x)) (sym is) (text_with_line ss e h (subst IsTextLine is valid) placed2)
+
+pub kept_header : (ss more : List Session) (l : TextLine) (a : List ℕ) → IsText ss → IsTextLine l → l ≡ Header a → misplaced ss l ≡ None → more ≡ with_header ss a → IsText more
+kept_header ss more l a h valid is placed grows =
+    subst IsText (sym grows) (text_with_header ss a h (subst IsTextLine is valid) (subst (λ (x : TextLine). misplaced ss x ≡ None) is placed))
+
+-- a push that failed
+pub unpushed : (ss : List Session) (n : ℕ) (s t : Session) (e : Event) (l : TextLine)
+    → n ≡ length ss → l ≡ Command e → misplaced ss l ≡ None
+    → s ≡ get_or ss (n - 1) s → t.label ≡ s.label → t.lines ≡ s.lines
+    → set ss (n - 1) t ≡ ss
+unpushed ss n s t e l len is placed read label lines =
+    let some : 0 < length ss = some_placed ss e (subst (λ (x : TextLine). misplaced ss x ≡ None) is placed) in
+    ap (λ k. set ss (k - 1) t) len
+    ∙ unchanged_last ss s t some (subst (λ (k : ℕ). s ≡ get_or ss (k - 1) s) len read) (ap₂ (λ (a : List ℕ) (es : List Event). record { label = a; lines = es }) label lines)

@@ -1,7 +1,6 @@
 -- The first fault of a text.
 use Rattle.std.proofs.Common.{◌≡◌, ℕ, ◌+◌, ◌<◌, List, [], ◌∷◌, ◌++◌, length, true, false, Bool, cond, nat_eq, inl, inr, None, Result, Ok, Err, refl, sym, ap, ◌∙◌, subst, arith, append_assoc, length-append}
 use Rattle.std.specs.List.{join_with_byte, list_any, onto_first, AllByRecursion}
-use Rattle.std.specs.Option.{option_or}
 use Rattle.std.proofs.lemmas.Bool.{or_from, eqb-false}
 use Rattle.serial_spec.specs.Interleaving.{Session}
 use Rattle.serial_spec.specs.declared.event.Event.{Event}
@@ -9,12 +8,12 @@ use Rattle.session_text.specs.declared.fault.LineKind.{LineKind}
 use Rattle.session_text.specs.declared.fault.LineKind.TheVariants as kind
 use Rattle.session_text.specs.declared.text_line.TextLine.{TextLine}
 use Rattle.session_text.specs.declared.text_line.TextLine.TheVariants.{Header, Command}
-use Rattle.session_text.specs.Grammar.{spelled_text}
+use Rattle.session_text.specs.Grammar.{IsText, spelled_text}
 use Rattle.session_text.specs.Laws.{line_count, IsFirstFault, FirstFaultsTold}
 use Rattle.session_text.specs.Steps.{◌>>=◌, unless}
-use Rattle.session_text.specs.Texts.{Read, grown, misplaced, refusal, line_of, with_line, with_bytes, at_line, read_from}
+use Rattle.session_text.specs.Texts.{Read, grown, misplaced, line_of, with_line, with_bytes, at_line, read_from}
 use Rattle.session_text.specs.Words.{cut_at}
-use Rattle.session_text.proofs.Adding.{IsKept, some_placed}
+use Rattle.session_text.proofs.Adding.{some_placed}
 use Rattle.session_text.proofs.Bytes.{joined_cut}
 use Rattle.session_text.proofs.Growth.{longer, parted, with_line-last}
 use Rattle.session_text.proofs.Reading.{bind_ok}
@@ -56,9 +55,9 @@ count_grown ss (Command e) h = count_line ss e (some_placed ss e h)
 
 count_more : (ss more : List Session) (p : List ℕ) → with_bytes ss p ≡ Ok more → line_count more ≡ line_count ss + 1
 count_more ss more p e =
-    let l = bind_ok (line_of p) (λ l. unless (option_or (misplaced ss l) (refusal ss l)) (grown ss l)) more e in
-    let f = faultless (misplaced ss l.0) (refusal ss l.0) (grown ss l.0) more l.2 in
-    ap line_count (sym f.2) ∙ count_grown ss l.0 f.0
+    let l = bind_ok (line_of p) (λ l. unless (misplaced ss l) (grown ss l)) more e in
+    let f = faultless (misplaced ss l.0) (grown ss l.0) more l.2 in
+    ap line_count (sym f.1) ∙ count_grown ss l.0 f.0
 
 -- ---- the first fault
 
@@ -67,7 +66,7 @@ same_err m n j k h =
     let same : ◌≡◌ {A = ℕ × LineKind} (m, j) (n, k) = cc in
     (ap (λ (p : ℕ × LineKind). p.0) same, ap (λ (p : ℕ × LineKind). p.1) same)
 
-at_end : (p : List ℕ) (n : ℕ) (ss : List Session) (m : ℕ) (k : LineKind) (t : Bool) → nat_eq (length p) 0 ≡ t → IsKept ss → n ≡ line_count ss + 1 → IsPart 10 p
+at_end : (p : List ℕ) (n : ℕ) (ss : List Session) (m : ℕ) (k : LineKind) (t : Bool) → nat_eq (length p) 0 ≡ t → IsText ss → n ≡ line_count ss + 1 → IsPart 10 p
     → ◌≡◌ {A = Read} (cond t (Ok ss) (Err (n, kind.End))) (Err (m, k)) → IsFirstFault (spelled_text ss ++ p) m k
 at_end p n ss m k true e h count one r = cc
 at_end p n ss m k false e h count one r =
@@ -75,8 +74,7 @@ at_end p n ss m k false e h count one r =
     let some : length p ≡ 0 → ⊥ = eqb-false (length p) 0 e in
     record {
       before = ss;
-      text = h.0;
-      served = h.1;
+      text = h;
       counted = sym same.0 ∙ count;
       line = p;
       one_line = one;
@@ -84,12 +82,11 @@ at_end p n ss m k false e h count one r =
     }
 
 -- the faulty line, and what comes behind it
-in_line : (p : List ℕ) (rest : List ℕ) (n : ℕ) (ss : List Session) (j : LineKind) (m : ℕ) (k : LineKind) → IsKept ss → n ≡ line_count ss + 1 → IsPart 10 p
+in_line : (p : List ℕ) (rest : List ℕ) (n : ℕ) (ss : List Session) (j : LineKind) (m : ℕ) (k : LineKind) → IsText ss → n ≡ line_count ss + 1 → IsPart 10 p
     → with_bytes ss p ≡ Err j → (n ≡ m) × (j ≡ k) → IsFirstFault (spelled_text ss ++ (p ++ 10 ∷ rest)) m k
 in_line p rest n ss j m k h count one bad same = record {
   before = ss;
-  text = h.0;
-  served = h.1;
+  text = h;
   counted = sym same.0 ∙ count;
   line = p;
   one_line = one;
@@ -98,8 +95,8 @@ in_line p rest n ss j m k h count one bad same = record {
 
 -- a line that is read, or the fault
 line_by : (p q : List ℕ) (ps : List (List ℕ)) (n : ℕ) (ss : List Session) (m : ℕ) (k : LineKind) (r : Result (List Session) LineKind)
-    → ((more : List Session) → IsKept more → n + 1 ≡ line_count more + 1 → read_from (n + 1) more (q ∷ ps) ≡ Err (m, k) → IsFirstFault (spelled_text more ++ join_with_byte 10 (q ∷ ps)) m k)
-    → IsKept ss → n ≡ line_count ss + 1 → IsPart 10 p → with_bytes ss p ≡ r
+    → ((more : List Session) → IsText more → n + 1 ≡ line_count more + 1 → read_from (n + 1) more (q ∷ ps) ≡ Err (m, k) → IsFirstFault (spelled_text more ++ join_with_byte 10 (q ∷ ps)) m k)
+    → IsText ss → n ≡ line_count ss + 1 → IsPart 10 p → with_bytes ss p ≡ r
     → (at_line n r >>= λ more. read_from (n + 1) more (q ∷ ps)) ≡ Err (m, k) → IsFirstFault (spelled_text ss ++ join_with_byte 10 (p ∷ q ∷ ps)) m k
 line_by p q ps n ss m k (Err j) next h count one bad e =
     in_line p (join_with_byte 10 (q ∷ ps)) n ss j m k h count one bad (same_err n m j k e)
@@ -111,7 +108,7 @@ line_by p q ps n ss m k (Ok more) next h count one good e =
     ∙ ap (λ bs. spelled_text ss ++ bs) (append_assoc p (10 ∷ []) (join_with_byte 10 (q ∷ ps))) in
     subst (λ (bs : List ℕ). IsFirstFault bs m k) bytes (next more line.0 (omega (arith, count, count_more ss more p good)) e)
 
-fault_reads : (ps : List (List ℕ)) (n : ℕ) (ss : List Session) (m : ℕ) (k : LineKind) → IsKept ss → n ≡ line_count ss + 1 → AllByRecursion (IsPart 10) ps
+fault_reads : (ps : List (List ℕ)) (n : ℕ) (ss : List Session) (m : ℕ) (k : LineKind) → IsText ss → n ≡ line_count ss + 1 → AllByRecursion (IsPart 10) ps
     → read_from n ss ps ≡ Err (m, k) → IsFirstFault (spelled_text ss ++ join_with_byte 10 ps) m k
 fault_reads [] n ss m k h count one e = cc
 fault_reads (p ∷ []) n ss m k h count one e = at_end p n ss m k (nat_eq (length p) 0) refl h count one.0 e

@@ -64,6 +64,15 @@ push_last ss s t e h same grown =
     ∙ sym (with_line-last p.0 p.1 e)
     ∙ ap (λ (ts : List Session). with_line ts e) (sym p.2)
 
+pub unchanged_last : (ss : List Session) (s t : Session) → 0 < length ss → s ≡ get_or ss (length ss - 1) s → t ≡ s → set ss (length ss - 1) t ≡ ss
+unchanged_last ss s t h same is =
+    let p = parted ss (λ z. omega (arith, z, h)) in
+    let last : p.1 ≡ s = sym (read_last p.0 p.1 s) ∙ ap (λ (ts : List Session). get_or ts (length ts - 1) s) (sym p.2) ∙ sym same in
+    ap (λ (ts : List Session). set ts (length ts - 1) t) p.2
+    ∙ set_last p.0 p.1 t
+    ∙ ap (λ (u : Session). p.0 ++ u ∷ []) (is ∙ sym last)
+    ∙ sym p.2
+
 -- ---- facts of each element
 
 pub all_pushed : {A : Type 0} (P : A → Type 0) (xs : List A) (x : A) → AllByRecursion P xs → P x → AllByRecursion P (xs ++ x ∷ [])

@@ -2,7 +2,6 @@ pub mod Cutting
 pub mod Numerals
 pub mod Bytes
 pub mod Growth
-pub mod Served
 pub mod Reading
 pub mod Adding
 pub mod Spelling

@@ -17,4 +17,4 @@ lines_read_back bs e = (event_reads bs e, λ h. ap event_of h.1 ∙ event_again 
 
 pub texts_read_back : TextsReadBack
 texts_read_back bs ss =
-    (λ h. let r = text_reads bs ss h in (r.0.0, r.0.1, r.1), λ h. ap sessions_of h.2 ∙ text_again ss (h.0, h.1))
+    (text_reads bs ss, λ h. ap sessions_of h.1 ∙ text_again ss h.0)

@@ -1,8 +1,7 @@
 -- Whole texts: what is read is spelled so, and what is spelled so is read.
-use Rattle.std.proofs.Common.{◌≡◌, ℕ, ◌+◌, ◌<◌, List, [], ◌∷◌, ◌++◌, length, true, false, Bool, cond, nat_eq, Option, Some, None, Result, Ok, Err, refl, sym, ap, ap₂, ◌∙◌, subst, arith, append_assoc, append-nil, length-append}
+use Rattle.std.proofs.Common.{◌≡◌, ℕ, ◌+◌, ◌<◌, List, [], ◌∷◌, ◌++◌, length, true, false, Bool, cond, nat_eq, Option, Some, None, Result, Ok, Err, refl, sym, ap, ◌∙◌, subst, arith, append_assoc, append-nil, length-append}
 use Rattle.std.specs.Prelude.{codes, nat_le}
 use Rattle.std.specs.List.{join_with_byte}
-use Rattle.std.specs.Option.{option_or}
 use Rattle.std.proofs.lemmas.Bool.{eqb-true, ne_eqb, lt-leb}
 use Rattle.serial_spec.specs.Interleaving.{Session}
 use Rattle.serial_spec.specs.Printing.{spelled_event}
@@ -13,12 +12,11 @@ use Rattle.session_text.specs.declared.text_line.TextLine.{TextLine}
 use Rattle.session_text.specs.declared.text_line.TextLine.TheVariants.{Header, Command}
 use Rattle.session_text.specs.Grammar.{IsEvent, IsSession, IsText, spelled_lines, spelled_session, spelled_text}
 use Rattle.session_text.specs.Steps.{◌>>=◌, unless}
-use Rattle.session_text.specs.Texts.{IsTextLine, with_line, grown, misplaced, refusal, with_bytes, at_line, read_from, sessions_of, Read, line_of}
+use Rattle.session_text.specs.Texts.{IsTextLine, with_line, grown, misplaced, with_bytes, at_line, read_from, sessions_of, Read, line_of}
 use Rattle.session_text.specs.Words.{cut_at}
 use Rattle.session_text.proofs.Bytes.{cut_behind, cut_some, joined_cut}
 use Rattle.session_text.proofs.Growth.{longer, open_lines-last, with_line-last, parted, all_front, all_at, apart_front, last_apart, text_with_header, text_with_line}
-use Rattle.session_text.proofs.Served.{served_with_header, served_with_line, served_front, header_unrefused, command_unrefused}
-use Rattle.session_text.proofs.Adding.{IsKept, some_placed}
+use Rattle.session_text.proofs.Adding.{some_placed}
 use Rattle.session_text.proofs.Reading.{bind_ok}
 use Rattle.session_text.proofs.TextLines.{spelled_line, line_reads, line_again, line_lacks}
 
@@ -58,22 +56,21 @@ spelled_grown ss (Command e) h = spelled_with_line ss e (some_placed ss e h)
 
 -- ---- one line read
 
-kept_grown : (ss : List Session) (l : TextLine) → IsKept ss → IsTextLine l → misplaced ss l ≡ None → refusal ss l ≡ None → IsKept (grown ss l)
-kept_grown ss (Header l) h k placed served = (text_with_header ss l h.0 k placed, served_with_header ss l h.1 served)
-kept_grown ss (Command e) h k placed served = (text_with_line ss e h.0 k placed, served_with_line ss e h.1 served)
+text_grown : (ss : List Session) (l : TextLine) → IsText ss → IsTextLine l → misplaced ss l ≡ None → IsText (grown ss l)
+text_grown ss (Header l) h k placed = text_with_header ss l h k placed
+text_grown ss (Command e) h k placed = text_with_line ss e h k placed
 
-pub faultless : (a b : Option LineKind) (x y : List Session) → unless (option_or a b) x ≡ Ok y → (a ≡ None) × (b ≡ None) × (x ≡ y)
-faultless None None x y h = (refl, refl, cc)
-faultless None (Some k) x y h = cc
-faultless (Some k) b x y h = cc
+pub faultless : (a : Option LineKind) (x y : List Session) → unless a x ≡ Ok y → (a ≡ None) × (x ≡ y)
+faultless None x y h = (refl, cc)
+faultless (Some k) x y h = cc
 
-pub with_bytes_reads : (ss more : List Session) (p : List ℕ) → IsKept ss → with_bytes ss p ≡ Ok more → IsKept more × (spelled_text more ≡ spelled_text ss ++ (p ++ 10 ∷ []))
+pub with_bytes_reads : (ss more : List Session) (p : List ℕ) → IsText ss → with_bytes ss p ≡ Ok more → IsText more × (spelled_text more ≡ spelled_text ss ++ (p ++ 10 ∷ []))
 with_bytes_reads ss more p h e =
-    let l = bind_ok (line_of p) (λ l. unless (option_or (misplaced ss l) (refusal ss l)) (grown ss l)) more e in
-    let f = faultless (misplaced ss l.0) (refusal ss l.0) (grown ss l.0) more l.2 in
+    let l = bind_ok (line_of p) (λ l. unless (misplaced ss l) (grown ss l)) more e in
+    let f = faultless (misplaced ss l.0) (grown ss l.0) more l.2 in
     let r = line_reads p l.0 l.1 in (
-      subst IsKept f.2 (kept_grown ss l.0 h r.0 f.0 f.1),
-      ap spelled_text (sym f.2) ∙ spelled_grown ss l.0 f.0 ∙ ap (λ bs. spelled_text ss ++ (bs ++ 10 ∷ [])) (sym r.1),
+      subst IsText f.1 (text_grown ss l.0 h r.0 f.0),
+      ap spelled_text (sym f.1) ∙ spelled_grown ss l.0 f.0 ∙ ap (λ bs. spelled_text ss ++ (bs ++ 10 ∷ [])) (sym r.1),
     )
 
 at_line_ok : (n : ℕ) (r : Result (List Session) LineKind) (ss : List Session) → at_line n r ≡ Ok ss → r ≡ Ok ss
@@ -87,13 +84,13 @@ ends n [] ss ts true e h = (cc, refl)
 ends n (b ∷ p) ss ts true e h = absurd (omega (arith, eqb-true (length (b ∷ p)) 0 e))
 ends n p ss ts false e h = cc
 
-pub read_reads : (ps : List (List ℕ)) (n : ℕ) (ss ts : List Session) → IsKept ss → read_from n ss ps ≡ Ok ts → IsKept ts × (spelled_text ts ≡ spelled_text ss ++ join_with_byte 10 ps)
+pub read_reads : (ps : List (List ℕ)) (n : ℕ) (ss ts : List Session) → IsText ss → read_from n ss ps ≡ Ok ts → IsText ts × (spelled_text ts ≡ spelled_text ss ++ join_with_byte 10 ps)
 read_reads [] n ss ts h e =
     let same : ss ≡ ts = cc in
-    (subst IsKept same h, ap spelled_text (sym same) ∙ sym (append-nil (spelled_text ss)))
+    (subst IsText same h, ap spelled_text (sym same) ∙ sym (append-nil (spelled_text ss)))
 read_reads (p ∷ []) n ss ts h e =
     let r = ends n p ss ts (nat_eq (length p) 0) refl e in
-    (subst IsKept r.0 h, ap spelled_text (sym r.0) ∙ sym (append-nil (spelled_text ss)) ∙ ap (λ bs. spelled_text ss ++ bs) (sym r.1))
+    (subst IsText r.0 h, ap spelled_text (sym r.0) ∙ sym (append-nil (spelled_text ss)) ∙ ap (λ bs. spelled_text ss ++ bs) (sym r.1))
 read_reads (p ∷ q ∷ ps) n ss ts h e =
     let more = bind_ok (at_line n (with_bytes ss p)) (λ more. read_from (n + 1) more (q ∷ ps)) ts e in
     let line = with_bytes_reads ss more.0 p h (at_line_ok n (with_bytes ss p) more.0 more.1) in
@@ -105,10 +102,10 @@ read_reads (p ∷ q ∷ ps) n ss ts h e =
           ∙ ap (λ bs. spelled_text ss ++ bs) (append_assoc p (10 ∷ []) (join_with_byte 10 (q ∷ ps))),
     )
 
-pub empty : IsKept []
-empty = (record { few = omega arith; sessions = tt; apart = tt }, tt)
+pub empty : IsText []
+empty = record { few = omega arith; sessions = tt; apart = tt }
 
-pub text_reads : (bs : List ℕ) (ss : List Session) → sessions_of bs ≡ Ok ss → IsKept ss × (bs ≡ spelled_text ss)
+pub text_reads : (bs : List ℕ) (ss : List Session) → sessions_of bs ≡ Ok ss → IsText ss × (bs ≡ spelled_text ss)
 text_reads bs ss h =
     let r = read_reads (cut_at 10 bs) 1 [] ss empty h in
     (r.0, sym (joined_cut 10 bs) ∙ sym r.1)
@@ -116,13 +113,13 @@ text_reads bs ss h =
 -- ---- what is spelled is read
 
 -- a line that has no fault, and what comes behind its line feed
-step : (n : ℕ) (ss : List Session) (l : TextLine) (rest : List ℕ) → IsTextLine l → misplaced ss l ≡ None → refusal ss l ≡ None
+step : (n : ℕ) (ss : List Session) (l : TextLine) (rest : List ℕ) → IsTextLine l → misplaced ss l ≡ None
     → read_from n ss (cut_at 10 (spelled_line l ++ 10 ∷ rest)) ≡ read_from (n + 1) (grown ss l) (cut_at 10 rest)
-step n ss l rest h placed served =
+step n ss l rest h placed =
     let s = cut_some 10 rest in
     let grows : with_bytes ss (spelled_line l) ≡ Ok (grown ss l) =
-    ap (λ (r : Result TextLine LineKind). r >>= λ l. unless (option_or (misplaced ss l) (refusal ss l)) (grown ss l)) (line_again l h)
-    ∙ ap₂ (λ a b. unless (option_or a b) (grown ss l)) placed served in
+    ap (λ (r : Result TextLine LineKind). r >>= λ l. unless (misplaced ss l) (grown ss l)) (line_again l h)
+    ∙ ap (λ a. unless a (grown ss l)) placed in
     ap (read_from n ss) (cut_behind 10 (spelled_line l) rest (line_lacks l h) ∙ ap (λ ps. spelled_line l ∷ ps) s.2)
     ∙ ap (λ r. at_line n r >>= λ more. read_from (n + 1) more (s.0 ∷ s.1)) grows
     ∙ ap (read_from (n + 1) (grown ss l)) (sym s.2)
@@ -154,16 +151,15 @@ abbrev ReadsOn : ℕ → List Session → List ℕ → List Session → List ℕ
 ReadsOn n ss bs ts rest = (m : ℕ) × (read_from n ss (cut_at 10 bs) ≡ read_from m ts (cut_at 10 rest))
 
 -- the lines of a session
-lines_again : (fs es : List Event) (n : ℕ) (xs : List Session) (l : List ℕ) (rest : List ℕ) → IsKept (xs ++ session l (es ++ fs) ∷ [])
+lines_again : (fs es : List Event) (n : ℕ) (xs : List Session) (l : List ℕ) (rest : List ℕ) → IsText (xs ++ session l (es ++ fs) ∷ [])
     → ReadsOn n (xs ++ session l es ∷ []) (spelled_lines fs ++ rest) (xs ++ session l (es ++ fs) ∷ []) rest
 lines_again [] es n xs l rest h = (n, ap (λ ds. read_from n (xs ++ session l ds ∷ []) (cut_at 10 rest)) (sym (append-nil es)))
 lines_again (e ∷ fs) es n xs l rest h =
     let ss : List Session = xs ++ session l es ∷ [] in
-    let whole : IsSession (session l (es ++ e ∷ fs)) = all_at IsSession xs (session l (es ++ e ∷ fs)) [] h.0.sessions in
+    let whole : IsSession (session l (es ++ e ∷ fs)) = all_at IsSession xs (session l (es ++ e ∷ fs)) [] h.sessions in
     let here = step n ss (Command e) (spelled_lines fs ++ rest) (all_at IsEvent es e fs whole.events)
-    (command_fits xs l es e fs h.0)
-    (command_unrefused xs l es e fs h.1) in
-    let on = lines_again fs (es ++ e ∷ []) (n + 1) xs l rest (subst (λ ds. IsKept (xs ++ session l ds ∷ [])) (sym (append_assoc es (e ∷ []) fs)) h) in (
+    (command_fits xs l es e fs h) in
+    let on = lines_again fs (es ++ e ∷ []) (n + 1) xs l rest (subst (λ ds. IsText (xs ++ session l ds ∷ [])) (sym (append_assoc es (e ∷ []) fs)) h) in (
       on.0,
       ap (λ bs. read_from n ss (cut_at 10 bs)) (append_assoc (spelled_event e) (10 ∷ spelled_lines fs) rest)
           ∙ here
@@ -172,18 +168,15 @@ lines_again (e ∷ fs) es n xs l rest h =
           ∙ ap (λ ds. read_from on.0 (xs ++ session l ds ∷ []) (cut_at 10 rest)) (append_assoc es (e ∷ []) fs),
     )
 
-kept_front : (xs ys : List Session) → IsKept (xs ++ ys) → IsKept xs
-kept_front xs ys h = (text_front xs ys h.0, served_front xs ys h.1)
-
 -- the sessions of a text
-sessions_again : (ss : List Session) (n : ℕ) (xs : List Session) → IsKept (xs ++ ss) → read_from n xs (cut_at 10 (spelled_text ss)) ≡ Ok (xs ++ ss)
+sessions_again : (ss : List Session) (n : ℕ) (xs : List Session) → IsText (xs ++ ss) → read_from n xs (cut_at 10 (spelled_text ss)) ≡ Ok (xs ++ ss)
 sessions_again [] n xs h = ap Ok (sym (append-nil xs))
 sessions_again (s ∷ ss) n xs h =
-    let whole : IsKept ((xs ++ s ∷ []) ++ ss) = subst IsKept (sym (append_assoc xs (s ∷ []) ss)) h in
-    let here : IsKept (xs ++ s ∷ []) = kept_front (xs ++ s ∷ []) ss whole in
-    let label = all_at IsSession xs s [] here.0.sessions in
+    let whole : IsText ((xs ++ s ∷ []) ++ ss) = subst IsText (sym (append_assoc xs (s ∷ []) ss)) h in
+    let here : IsText (xs ++ s ∷ []) = text_front (xs ++ s ∷ []) ss whole in
+    let label = all_at IsSession xs s [] here.sessions in
     let head = step n xs (Header s.label) (spelled_lines s.lines ++ spelled_text ss) label.label
-    (header_fits xs s here.0) (header_unrefused xs s here.1) in
+    (header_fits xs s here) in
     let lines = lines_again s.lines [] (n + 1) xs s.label (spelled_text ss) here in
     ap (λ bs. read_from n xs (cut_at 10 bs)) (append_assoc (codes "session " ++ s.label) (10 ∷ spelled_lines s.lines) (spelled_text ss))
     ∙ head
@@ -191,5 +184,5 @@ sessions_again (s ∷ ss) n xs h =
     ∙ sessions_again ss lines.0 (xs ++ s ∷ []) whole
     ∙ ap Ok (append_assoc xs (s ∷ []) ss)
 
-pub text_again : (ss : List Session) → IsKept ss → sessions_of (spelled_text ss) ≡ Ok ss
+pub text_again : (ss : List Session) → IsText ss → sessions_of (spelled_text ss) ≡ Ok ss
 text_again ss h = sessions_again ss 1 [] h

@@ -11,7 +11,6 @@ use Rattle.session_text.specs.declared.fault.LineKind.TheVariants as kind
 use Rattle.session_text.specs.Numbers.{number_of}
 use Rattle.session_text.specs.Commands.{event_of}
 use Rattle.session_text.specs.Grammar.{IsEvent, IsText, spelled_text}
-use Rattle.session_text.specs.Stage.{IsServedText}
 use Rattle.session_text.specs.Texts.{sessions_of, with_bytes}
 
 abbrev pub NumbersReadBack : Type 0
@@ -21,7 +20,7 @@ abbrev pub LinesReadBack : Type 0
 LinesReadBack = (bs : List ℕ) (e : Event) → (event_of bs ≡ Ok e) ↔ (IsEvent e × (bs ≡ spelled_event e))
 
 abbrev pub TextsReadBack : Type 0
-TextsReadBack = (bs : List ℕ) (ss : List Session) → (sessions_of bs ≡ Ok ss) ↔ (IsText ss × IsServedText ss × (bs ≡ spelled_text ss))
+TextsReadBack = (bs : List ℕ) (ss : List Session) → (sessions_of bs ≡ Ok ss) ↔ (IsText ss × (bs ≡ spelled_text ss))
 
 -- how many lines spell these sessions, headers counted
 abbrev pub line_count : List Session → ℕ
@@ -32,11 +31,10 @@ line_count (s ∷ ss) = 1 + length s.lines + line_count ss
 abbrev pub EndsEarly : List ℕ → List ℕ → List ℕ → LineKind → Type 0
 EndsEarly bs before line k = (bs ≡ before ++ line) × (0 < length line) × (k ≡ kind.End)
 
--- the lines before line n are a text that is served, and line n may not stand behind them
+-- the lines before line n are a text, and line n may not stand behind them
 pub record IsFirstFault (bs : List ℕ) (n : ℕ) (k : LineKind) : Type 0 where
   pub before : List Session
   pub text : IsText before
-  pub served : IsServedText before
   pub counted : n ≡ line_count before + 1
   pub line : List ℕ
   pub one_line : IsFalse (list_any (λ b. b == 10) line)

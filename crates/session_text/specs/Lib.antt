@@ -3,6 +3,5 @@ pub mod Words
 pub mod Numbers
 pub mod Commands
 pub mod Grammar
-pub mod Stage
 pub mod Texts
 pub mod Laws

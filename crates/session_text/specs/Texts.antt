@@ -1,6 +1,5 @@
 -- What the bytes of a file are read as: its sessions, or the line and the kind of the first fault.
 use Rattle.std.specs.Prelude.{◌≡◌, ℕ, ◌+◌, ◌-◌, ◌==◌, nat_le, if◌then◌else◌, List, [], ◌∷◌, ◌++◌, length, codes, Option, Some, None, Result, Ok, Err, slice_get, option_map}
-use Rattle.std.specs.Option.{option_or}
 use Rattle.std.specs.Str.{bytes_eq}
 use Rattle.txn_names.specs.Reading.{label_of}
 use Rattle.txn_names.specs.Text.{IsLabel}
@@ -16,7 +15,6 @@ use Rattle.session_text.specs.Steps.{◌>>=◌, or_fault, unless}
 use Rattle.session_text.specs.Words.{cut_at}
 use Rattle.session_text.specs.Commands.{Words, one, event_of}
 use Rattle.session_text.specs.Grammar.{IsEvent, is_taken}
-use Rattle.session_text.specs.Stage.{header_refusal, command_refusal}
 
 -- ---- one line, by itself
 
@@ -83,15 +81,11 @@ misplaced ss (Command e) =
     else if nat_le 1024 (length (open_lines ss)) then Some kind.Limit
     else None
 
-abbrev pub refusal : List Session → TextLine → Option LineKind
-refusal ss (Header l) = header_refusal (length ss)
-refusal ss (Command e) = command_refusal e
-
 -- the sessions with this line, or its first fault
 abbrev pub with_bytes : List Session → List ℕ → Result (List Session) LineKind
 with_bytes ss bs = do
   l ← line_of bs
-  unless (option_or (misplaced ss l) (refusal ss l)) (grown ss l)
+  unless (misplaced ss l) (grown ss l)
 
 -- ---- line by line
 

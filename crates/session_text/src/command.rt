@@ -7,7 +7,7 @@ ghost use Rattle.session_text.specs.Commands.{event_of, key_in, keyed, name_in, 
 
 use crate::cut::cut;
 use crate::fault::LineKind;
-use crate::number::number;
+use crate::number::parse_number;
 use serial_spec::{Event, Op, When};
 use txn_names::{Key, Name};
 
@@ -61,7 +61,7 @@ fn key_in(word: &[u8]) -> Result<Key, LineKind>
 fn number_in(word: &[u8]) -> Result<i64, LineKind>
     ensures { result ≡ number_in word.now }
 {
-    number(word).ok_or(LineKind::Number)
+    parse_number(word).ok_or(LineKind::Number)
 }
 
 fn when_in(word: &[u8]) -> Result<When, LineKind>

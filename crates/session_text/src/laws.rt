@@ -12,7 +12,7 @@ pub fn lines_read_back()
     ensures { LinesReadBack }
 {}
 
-/// Bytes are read as sessions exactly where they spell them, and they are served.
+/// Bytes are read as sessions exactly where they spell them.
 pub fn texts_read_back()
     ensures { TextsReadBack }
 {}

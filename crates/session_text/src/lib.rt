@@ -4,9 +4,7 @@
 //! lines up to the next header are its lines:
 //! `begin N`, `get N K`, `set N K V`, `add N K V`, `del N K`, `commit N`, `abort N`, `after N begun` and
 //! `after N done`, where N is a name, K a key and V a number. Words stand one space apart. Each line has one spelling.
-//!
-//! At present one session is served, without `after` lines (`stage`): an `after` line that is right by the above is
-//! refused as `Word`, and a second header as `Header`.
+//! There are at most 64 sessions, each with a label of its own and at most 1,024 lines.
 #![tactic(auto)]
 
 mod command;
@@ -16,11 +14,11 @@ pub mod laws;
 mod line;
 mod number;
 mod sessions;
-mod stage;
 mod text_line;
 
 pub use fault::{LineKind, TextFault};
 pub use line::{Line, parse_line};
+pub use number::parse_number;
 pub use sessions::Sessions;
 
 #[cfg(test)]

@@ -32,8 +32,9 @@ fn is_numeral(bytes: &[u8]) -> bool
     }
 }
 
-/// The number that the bytes spell, where it is an `i64`. Each number has one spelling.
-pub(crate) fn number(bytes: &[u8]) -> Option<i64>
+/// The number that the bytes spell, where it is an `i64`: `0`, or digits of which the first is not `0`, with a `-` before
+/// them or not. Each number has one spelling.
+pub fn parse_number(bytes: &[u8]) -> Option<i64>
     ensures { result ≡ number_of bytes.now }
 {
     if !is_numeral(bytes) {

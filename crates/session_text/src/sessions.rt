@@ -1,14 +1,12 @@
 //! The sessions of a text.
 ghost use Rattle.std.specs.Prelude.{◌≡◌, ◌==◌, ◌++◌, [], ◌∷◌, length, MatchResult, OnErr, OnOk};
-ghost use Rattle.std.specs.Option.{option_copied, option_or};
+ghost use Rattle.std.specs.Option.{option_copied};
 ghost use Rattle.session_text.specs.Grammar.{IsText, is_taken};
-ghost use Rattle.session_text.specs.Stage.{IsServedText};
-ghost use Rattle.session_text.specs.Texts.{IsTextLine, Tells, at_line, grown, label_at, line_at, misplaced, open_lines, refusal, sessions_of, with_bytes};
+ghost use Rattle.session_text.specs.Texts.{IsTextLine, Tells, at_line, grown, label_at, line_at, misplaced, open_lines, sessions_of, with_bytes};
 
 use crate::cut::cut;
 use crate::fault::{LineKind, TextFault};
 use crate::line::Line;
-use crate::stage::{command_refusal, header_refusal};
 use crate::text_line::TextLine;
 use serial_spec::NoMemory;
 use std::alloc::Global;
@@ -46,13 +44,12 @@ impl Model for Sessions {
     ghost use Rattle.std.specs.Prelude.{List};
     ghost use Rattle.serial_spec.specs.Interleaving.{Session};
     ghost use Rattle.session_text.specs.Grammar.{IsText};
-    ghost use Rattle.session_text.specs.Stage.{IsServedText};
 
     ghost Value = { List Session };
 
     ghost view = { λ s. s.sessions.items };
 
-    ghost invariant = { λ s. IsText s.sessions.items × IsServedText s.sessions.items };
+    ghost invariant = { λ s. IsText s.sessions.items };
 }
 
 impl Sessions {
@@ -84,7 +81,6 @@ impl Sessions {
     pub fn len(&self) -> usize
         ensures len { result ≡ length self.now }
         ensures text { IsText self.now }
-        ensures served { IsServedText self.now }
     {
         self.sessions.len()
     }
@@ -133,7 +129,7 @@ impl Sessions {
 
     // Why a line may not stand behind these sessions.
     fn fault_of(&self, line: &TextLine) -> Option<LineKind>
-        ensures { result ≡ option_or (misplaced self.now line.now) (refusal self.now line.now) }
+        ensures { result ≡ misplaced self.now line.now }
     {
         match line {
             TextLine::Header(label) => {
@@ -142,17 +138,17 @@ impl Sessions {
                 } else if self.sessions.len() >= MOST_SESSIONS {
                     Some(LineKind::Limit)
                 } else {
-                    header_refusal(self.sessions.len())
+                    None
                 }
             }
-            TextLine::Command(line) => {
+            TextLine::Command(_) => {
                 let lines = open_lines(&self.sessions);
                 if self.sessions.is_empty() {
                     Some(LineKind::Header)
                 } else if lines.len() >= MOST_LINES {
                     Some(LineKind::Limit)
                 } else {
-                    command_refusal(line.event())
+                    None
                 }
             }
         }
@@ -161,7 +157,6 @@ impl Sessions {
     fn add(&mut self, alloc: Global, line: TextLine) -> Result<(), NoMemory>
         requires valid { IsTextLine line }
         requires placed { misplaced self.old line ≡ None }
-        requires served { refusal self.old line ≡ None }
         ensures ok { OnOk result (self.new ≡ grown self.old line) }
         ensures err { OnErr result (self.new ≡ self.old) }
     {

@@ -91,8 +91,10 @@ fn texts_and_their_faults(rt: HostRuntime) {
 
 // A text says what is asked, in any order: what may be done is for the run to answer.
 #[test]
-fn every_command_but_after_is_served(rt: HostRuntime) {
+fn every_command_is_served(rt: HostRuntime) {
     for text in [
+        "session s\nafter a begun\nafter a/b done\n",
+        "session s\nsession q\nsession r\nbegin a\nsession t\n",
         "session s\nget a x\n",
         "session s\nbegin a/b/c/d/e/f/g/h\n",
         "session s\nbegin a\nbegin a\nbegin b\nbegin a/b\n",
@@ -104,13 +106,16 @@ fn every_command_but_after_is_served(rt: HostRuntime) {
 }
 
 #[test]
-fn lines_that_are_not_served_yet(rt: HostRuntime) {
+fn headers_and_conditions_with_faults(rt: HostRuntime) {
     for (text, fault) in [
-        ("session s\nsession q\n", (2, LineKind::Header)),
         ("session s\nsession Q\n", (2, LineKind::Label)),
-        ("session s\nget a x\nsession q\n", (3, LineKind::Header)),
-        ("session s\nafter a begun\n", (2, LineKind::Word)),
-        ("session s\nbegin a\nafter a done\n", (3, LineKind::Word)),
+        ("session s\nsession q\nsession s\n", (3, LineKind::Header)),
+        (
+            "session s\nget a x\nsession q\nsession q\n",
+            (4, LineKind::Header),
+        ),
+        ("session s\nsession q r\n", (2, LineKind::Shape)),
+        ("session s\nafter a gone\n", (2, LineKind::Word)),
         ("session s\nbegin a\nafter a\n", (3, LineKind::Shape)),
         ("session s\nafter A begun\n", (2, LineKind::Name)),
         ("after a begun\n", (1, LineKind::Header)),
@@ -133,9 +138,31 @@ fn headers(rt: &impl Abort, alloc: Global, count: usize) -> String {
 
 #[test]
 fn many_headers(rt: HostRuntime) {
-    let text = headers(&rt, rt.alloc(), 65);
-    let fault = Some((2, LineKind::Header));
+    for (count, fault) in [(64, None), (65, Some((65, LineKind::Limit)))] {
+        let text = headers(&rt, rt.alloc(), count);
+        assert!(rt; is_fault(rt.alloc(), text.as_bytes(), fault), "{count}");
+    }
+}
+
+// A label that is taken is told before the limit, and the lines of each session are counted apart.
+#[test]
+fn a_text_of_many_sessions(rt: HostRuntime) {
+    let mut text = headers(&rt, rt.alloc(), 64);
+    text.push_str("get a x\nsession s63\n")
+        .expect(&rt, "memory");
+    let fault = Some((66, LineKind::Header));
     assert!(rt; is_fault(rt.alloc(), text.as_bytes(), fault));
+    let mut text = long_session(&rt, rt.alloc(), 1024, "session q\n");
+    text.push_str("get b x\nafter a done\n")
+        .expect(&rt, "memory");
+    let sessions = sessions_of(&rt, rt.alloc(), &text);
+    let (a, b, x) = (name(&rt, "a"), name(&rt, "b"), key(&rt, "x"));
+    assert!(rt; sessions.len() == 2);
+    assert!(rt; is_label(&rt, &sessions, 0, "s") && is_label(&rt, &sessions, 1, "q"));
+    assert!(rt; is_line(&sessions, 0, 1024, Event::Access(a, x, Op::Get), "get a x"));
+    assert!(rt; is_line(&sessions, 1, 1, Event::Access(b, x, Op::Get), "get b x"));
+    assert!(rt; is_line(&sessions, 1, 2, Event::After(a, When::Done), "after a done"));
+    assert!(rt; sessions.line(1, 3).is_none() && sessions.line(2, 1).is_none());
 }
 
 // A session of so many lines, and what stands behind them.
@@ -157,7 +184,8 @@ fn one_line_too_many(rt: HostRuntime) {
         ("after a done\n", Some((1026, LineKind::Limit))),
         ("after a\n", Some((1026, LineKind::Shape))),
         ("set a x 01\n", Some((1026, LineKind::Number))),
-        ("session q\n", Some((1026, LineKind::Header))),
+        ("session q\n", None),
+        ("session s\n", Some((1026, LineKind::Header))),
         ("get a x\nget a x\n", Some((1026, LineKind::Limit))),
     ] {
         let text = long_session(&rt, rt.alloc(), 1024, last);
