@@ -1,10 +1,7 @@
 -- An attempt of a session's next line is a step, and what it does to the numbers of the next lines.
-use Rattle.std.proofs.Common.{◌≡◌, ℕ, suc, ◌<◌, ◌⊎◌, inl, inr, ⊎_elim, Bool, true, false, List, [], ◌∷◌, Option, Some, refl, sym, ap, subst, ◌∙◌}
-use Rattle.std.proofs.Common.{None as Nothing}
-use Rattle.std.specs.Prelude.{IsFalse}
-use Rattle.std.proofs.lemmas.Bool.{true≢false, eq-eqb, ne_eqb}
+use Rattle.std.proofs.Common.{◌≡◌, ℕ, suc, inl, inr, ⊎_elim, true, false, List, [], ◌∷◌, Some, refl, sym, ap, subst, ◌∙◌}
+use Rattle.std.proofs.lemmas.Bool.{eq-eqb, ne_eqb}
 use Rattle.serial_spec.specs.declared.event.Event.{Event}
-use Rattle.serial_spec.specs.declared.event.Event.TheVariants.{Begin, Access, Commit, Abort, After}
 use Rattle.serial_spec.specs.declared.entry.By.{By}
 use Rattle.serial_spec.specs.declared.entry.By.TheVariants.{Line}
 use Rattle.serial_spec.specs.declared.entry.Refusal.TheVariants.{Store}
@@ -16,7 +13,6 @@ use Rattle.serial_spec.specs.Waits.{is_waits}
 use Rattle.serial_spec.specs.Allowed.{Allowed}
 use Rattle.serial_spec.specs.Allowed.{answer as due_answer}
 use Rattle.serial_spec.specs.Interleaving.{Session, answered, next_event, next_line, victim, AfterVictims, Answers, StepsOn, Step}
-use Rattle.txn_history.specs.Lines.{IsFree, IsWaitOf}
 use Rattle.durable_top.specs.declared.store.TopStore.{Ghosts}
 use Rattle.manager_core.specs.declared.outcome.Outcome.{Outcome}
 use Rattle.manager_core.specs.declared.outcome.Outcome.TheVariants.{Done, Waits, Refused}

@@ -1,5 +1,5 @@
 -- What each call of the manager is as an attempt.
-use Rattle.std.proofs.Common.{◌≡◌, ℕ, ◌⊎◌, inl, inr, ⊎_elim, Bool, true, false, List, [], ◌∷◌, Option, Some, is_some, Result, Ok, Err, OnOk, IfOk, IsTrue, ◌↔◌, refl, sym, ap, subst, ◌∙◌}
+use Rattle.std.proofs.Common.{◌≡◌, ℕ, ◌⊎◌, inl, inr, ⊎_elim, Bool, true, false, List, [], ◌∷◌, Some, is_some, Result, Ok, Err, OnOk, IfOk, IsTrue, ◌↔◌, sym, ap, subst, ◌∙◌}
 use Rattle.std.proofs.Common.{None as Nothing}
 use Rattle.serial_spec.specs.declared.operation.Op.{Op}
 use Rattle.serial_spec.specs.declared.entry.By.{By}
@@ -8,9 +8,8 @@ use Rattle.serial_spec.specs.declared.event.Event.{Event}
 use Rattle.serial_spec.specs.declared.event.Event.TheVariants.{Begin, Access, Commit, Abort, After}
 use Rattle.serial_spec.specs.declared.event.When.{When}
 use Rattle.serial_spec.specs.History.{Name, History}
-use Rattle.serial_spec.specs.Waits.{Quiet, wait_of, same_line}
+use Rattle.serial_spec.specs.Waits.{Quiet, wait_of}
 use Rattle.serial_spec.specs.Allowed.{answer}
-use Rattle.serial_spec.specs.Interleaving.{AfterVictims}
 use Rattle.txn_history.specs.Lines.{IsFree, IsWaitOf}
 use Rattle.txn_history.proofs.Tests.{clash}
 use Rattle.durable_top.specs.declared.store.TopStore.{Ghosts}
@@ -22,7 +21,7 @@ use Rattle.manager_core.specs.Sound.{IsSound}
 use Rattle.manager_core.specs.Calls.{Added, Answered, Committed, Retried, WaitsOn}
 use Rattle.manager_core.specs.Parking.{Awaited, Awaits}
 use Rattle.manager_core.proofs.Waits.{same_by}
-use Rattle.interleavings.specs.Attempts.{Attempts, GoesOn, Enters, StaysOut}
+use Rattle.interleavings.specs.Attempts.{Attempts, GoesOn}
 use Rattle.interleavings.proofs.Schedules.{on_same}
 
 module _ {S : Type 0} (g : Ghosts S) (old new : State S) (by : By) (e : Event) (o : Outcome) where

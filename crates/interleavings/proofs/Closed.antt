@@ -1,21 +1,22 @@
 -- The close, and what a whole run comes to.
-use Rattle.std.proofs.Common.{◌≡◌, ℕ, ◌+◌, ◌≤◌, List, [], ◌∷◌, ◌++◌, length, map, None, Result, Ok, Err, OnOk, IfOk, IfErr, refl, sym, ap, subst, ◌∙◌, arith}
+use Rattle.std.proofs.Common.{◌≡◌, ℕ, ◌+◌, List, [], ◌∷◌, ◌++◌, length, map, None, Result, Ok, Err, OnOk, IfOk, IfErr, sym, ap, subst, ◌∙◌, arith}
 use Rattle.serial_spec.specs.History.{Name, History, begun}
 use Rattle.serial_spec.specs.Legal.{first_live, Legal}
 use Rattle.serial_spec.specs.Rows.{Rows, value_in}
 use Rattle.serial_spec.specs.Interleaving.{Session, AllAnswered, IsInterleaving, IsFinished}
-use Rattle.serial_spec.specs.Follows.{Steps, Rounds, AfterClose, Follows}
+use Rattle.serial_spec.specs.Follows.{Steps, Rounds, AfterClose}
 use Rattle.txn_history.specs.Turns.{IsUnderWay}
 use Rattle.txn_history.proofs.Following.{close_finishes}
 use Rattle.durable_top.specs.declared.store.TopStore.{Ghosts}
 use Rattle.durable_top.specs.Store.{counted}
 use Rattle.manager_core.specs.State.{State}
-use Rattle.manager_core.specs.Sound.{IsSound, IsTrusted, store_refusals}
+use Rattle.manager_core.specs.Sound.{IsSound, store_refusals}
 use Rattle.manager_core.specs.Closing.{closings}
 use Rattle.manager_core.specs.Calls.{Closed}
 use Rattle.interleavings.specs.Told.{Told}
 use Rattle.interleavings.specs.Turning.{Turning, AreTurns, IsStart, IsClosed}
-use Rattle.interleavings.specs.Scheduled.{Goes, RunsList, RunsAll, RunsWhole, RunsOut, AllThere, IsRun}
+use Rattle.interleavings.specs.Scheduled.{RunsList, RunsAll, RunsWhole}
+use Rattle.interleavings.specs.Runs.{AllThere, IsRun}
 
 -- ---- the close
 
@@ -25,36 +26,52 @@ after_closings : (rows : Rows) (h : History) (names later : List Name) (h2 : His
 after_closings rows h [] later h2 legal after = (later, after)
 after_closings rows h (t ∷ names) later h2 legal after = after_closings rows h names (t ∷ later) h2 legal.0 (legal.1.0, after)
 
-module _ {S : Type 0} (g : Ghosts S) where
-  pub is_closed : (old : Turning S) (numbers : List ℕ) (new : State S) (labels : List (List ℕ)) → AreTurns old numbers → AllAnswered old.sessions old.core.history
-      → Closed old.core new → IsSound g new → labels ≡ map (λ s. s.label) old.sessions
+module _ {S : Type 0} (g : Ghosts S) (old : Turning S) (numbers : List ℕ) (new : State S) (turns : AreTurns old numbers) (all : AllAnswered old.sessions old.core.history)
+    (closed : Closed old.core new) (sound : IsSound g new) where
+  rows : new.rows ≡ old.core.rows
+  rows = ap (λ (m : State S). m.rows) closed.added
+
+  history : new.history ≡ closings closed.names ++ old.core.history
+  history = ap (λ (m : State S). m.history) closed.added
+
+  after : (ts : List Name) × AfterClose old.core.history ts new.history
+  after = after_closings new.rows old.core.history closed.names [] new.history (subst (Legal new.rows) history sound.legal)
+      (subst (λ h. first_live h (begun h) ≡ None) history closed.none_left, history)
+
+  finishes : IsUnderWay old.core.rows old.sessions new.history × IsFinished old.sessions new.history
+  finishes = close_finishes old.core.rows old.sessions old.core.history after.0 new.history turns.way all after.1
+
+  pub closed_in_turn : IsInterleaving new.rows old.sessions new.history
+  closed_in_turn = subst (λ r. IsInterleaving r old.sessions new.history) (sym rows) finishes.0.in_turn
+
+  pub closed_finished : IsFinished old.sessions new.history
+  closed_finished = finishes.1
+
+  pub is_closed : (labels : List (List ℕ)) → labels ≡ map (λ s. s.label) old.sessions
       → IsClosed g old (record { opening = new.rows; labels = labels; history = new.history; table = new.table }) new.store
-  is_closed old numbers new labels turns all closed sound named = record {
+  is_closed labels named = record {
     answered = all;
     opening = rows;
     labels = named;
     names = after.0;
     close = after.1;
-    interleaving = subst (λ r. IsInterleaving r old.sessions new.history) (sym rows) finishes.0.in_turn;
+    interleaving = closed_in_turn;
     finished = finishes.1;
     store = ap (λ (m : State S). m.store) closed.added;
     stored = sound.backed.same;
     refusals = subst (λ n. g.faults new.store ≡ counted (n + store_refusals new.history)) (ap (λ (m : State S). m.opened) closed.added) sound.backed.refusals;
   }
-    where
-      rows : new.rows ≡ old.core.rows
-      rows = ap (λ (m : State S). m.rows) closed.added
 
-      history : new.history ≡ closings closed.names ++ old.core.history
-      history = ap (λ (m : State S). m.history) closed.added
+-- what follows from an answer without a fault
+pub if_ok_more : {A E : Type 0} {P Q : A → Type 0} (r : Result A E) → IfOk r P → ((a : A) → P a → Q a) → IfOk r Q
+if_ok_more (Ok a) p more = more a p
+if_ok_more (Err e) p more = tt
 
-      after : (ts : List Name) × AfterClose old.core.history ts new.history
-      after = after_closings new.rows old.core.history closed.names [] new.history (subst (Legal new.rows) history sound.legal)
-          (subst (λ h. first_live h (begun h) ≡ None) history closed.none_left, history)
+pub if_err_more : {A E : Type 0} {P Q : E → Type 0} (r : Result A E) → IfErr r P → ((e : E) → P e → Q e) → IfErr r Q
+if_err_more (Ok a) p more = tt
+if_err_more (Err e) p more = more e p
 
-      finishes : IsUnderWay old.core.rows old.sessions new.history × IsFinished old.sessions new.history
-      finishes = close_finishes old.core.rows old.sessions old.core.history after.0 new.history turns.way all after.1
-
+module _ {S : Type 0} (g : Ghosts S) where
   -- ---- a run
 
   pub runs_whole : {T E : Type 0} (schedule : List ℕ) (first mid last : Turning S) (r : Result T E) → RunsList g schedule first mid → OnOk r (RunsAll g mid last)
@@ -62,7 +79,7 @@ module _ {S : Type 0} (g : Ghosts S) where
   runs_whole schedule first mid last (Ok x) list all = record { between = mid; list = list; all = all }
   runs_whole schedule first mid last (Err x) list all = tt
 
-  pub is_run : (ss : List Session) (schedule : List ℕ) (store left : S) (first last : Turning S) (r : Told) → AllThere ss schedule → IsStart g ss store first
+  pub is_run : (ss : List Session) (schedule : List ℕ) (store left : S) (first last : Turning S) (r : Told) → AllThere (length ss) schedule → IsStart g ss store first
       → RunsWhole g schedule first last → IsClosed g last r left → IsRun g ss schedule store r left
   is_run ss schedule store left first last r there start whole closed = record {
     there = there;

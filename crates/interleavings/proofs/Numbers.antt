@@ -1,5 +1,5 @@
 -- The numbers of the sessions' next lines: what they tell, and how they are kept.
-use Rattle.std.proofs.Common.{◌≡◌, ℕ, zero, suc, ◌+◌, ◌-◌, ◌<◌, ◌≤◌, ◌⊎◌, inl, inr, ⊎_elim, Bool, true, false, cond, eqb, List, [], ◌∷◌, length, Option, Some, None, is_some, option_map, set, get_or, replicate, slice_get, refl, sym, ap, subst, ◌∙◌, arith}
+use Rattle.std.proofs.Common.{◌≡◌, ℕ, zero, suc, ◌+◌, ◌-◌, ◌<◌, ◌≤◌, ◌⊎◌, inl, inr, ⊎_elim, true, false, eqb, List, [], ◌∷◌, length, Option, Some, None, is_some, option_map, set, replicate, slice_get, refl, sym, ap, subst, ◌∙◌, arith}
 use Rattle.std.proofs.lemmas.Bool.{false≢true, cases_lt}
 use Rattle.std.proofs.lemmas.Bool.Decides.{nat_tests, eqb_tells}
 use Rattle.std.proofs.lemmas.Option.{slice_get_within, slice_get_past, slice_get-get_or}
@@ -16,9 +16,9 @@ use Rattle.std.specs.List.{AllByRecursion}
 use Rattle.session_text.specs.Texts.{line_at}
 use Rattle.session_text.specs.Grammar.{IsSession, IsText}
 use Rattle.txn_history.specs.Turns.{IsUnderWay}
-use Rattle.txn_history.specs.Lines.{IsFree, IsWaitOf, CanGiveUp}
+use Rattle.txn_history.specs.Lines.{IsFree, IsWaitOf}
 use Rattle.txn_history.proofs.Theorems.{legal_allowed}
-use Rattle.txn_history.proofs.NextLines.{next_is_free, next_can_give_up}
+use Rattle.txn_history.proofs.NextLines.{next_is_free}
 use Rattle.txn_history.proofs.Following.{step_keeps, stuck_keeps}
 use Rattle.durable_top.specs.declared.store.TopStore.{Ghosts}
 use Rattle.manager_core.specs.declared.outcome.Outcome.{Outcome}
@@ -26,7 +26,7 @@ use Rattle.manager_core.specs.declared.outcome.Outcome.TheVariants.{Waits}
 use Rattle.manager_core.specs.State.{State, entry}
 use Rattle.interleavings.specs.Attempts.{Attempts}
 use Rattle.interleavings.specs.declared.turns.Turn.TheVariants.{Answered, Parked}
-use Rattle.interleavings.specs.Turning.{Turning, AreNext, AreTurns, Stepped, next_number}
+use Rattle.interleavings.specs.Turning.{AreNext, AreTurns, Stepped, next_number}
 use Rattle.interleavings.proofs.Attempts.{attempt_steps, others_count, count_waits, count_answered, own_answered, other_answered}
 
 none_some : {X : Type 0} (x : X) → None ≡ Some x → ⊥

@@ -1,26 +1,25 @@
 -- What a sound manager whose top-level transactions have ended has to report.
-use Rattle.std.proofs.Common.{◌≡◌, ℕ, List, [], ◌∷◌, None, sym}
+use Rattle.std.proofs.Common.{ℕ, List, [], ◌∷◌, sym}
 use Rattle.std.specs.Prelude.{IsFalse}
-use Rattle.serial_spec.specs.History.{begun, is_live}
-use Rattle.serial_spec.specs.Legal.{first_live}
+use Rattle.serial_spec.specs.History.{is_live}
 use Rattle.serial_spec.specs.Rows.{IsRising}
 use Rattle.txn_history.proofs.Theorems.{finished_correctness, table_correctness, legal_allowed}
 use Rattle.durable_top.specs.declared.store.TopStore.{Ghosts}
 use Rattle.manager_core.specs.State.{State}
 use Rattle.manager_core.specs.Sound.{IsSound}
-use Rattle.interleavings.specs.Reports.{IsReport}
+use Rattle.interleavings.specs.Reports.{IsOfSessions, IsReport}
 
 pub reported : {S : Type 0} (g : Ghosts S) (m : State S) (labels : List (List ℕ)) → IsSound g m → IsRising m.table
-    → first_live m.history (begun m.history) ≡ None → ((l : List ℕ) → IsFalse (is_live m.history (l ∷ [])))
+    → IsOfSessions (record { opening = m.rows; labels = labels; history = m.history; table = m.table }) → ((l : List ℕ) → IsFalse (is_live m.history (l ∷ [])))
     → IsReport (record { opening = m.rows; labels = labels; history = m.history; table = m.table })
-reported g m labels sound in_order closed ended =
+reported g m labels sound in_order of_sessions ended =
     let allowed = legal_allowed m.rows m.history sound.legal in
     record {
+      of_sessions = of_sessions;
       rising = sound.rising;
       in_order = in_order;
       legal = sound.legal;
       quiet = sound.quiet;
-      closed = closed;
       right = sound.right;
       served = λ t b n. let all = finished_correctness m.rows m.history allowed ended t b n in (all.0, all.1);
       runs = ((table_correctness m.rows m.history allowed).0, λ i k. sym (sound.stored k) i);

@@ -1,10 +1,9 @@
 -- A run, one call after another.
-use Rattle.std.proofs.Common.{◌≡◌, ℕ, zero, suc, ◌+◌, ◌<◌, ◌≤◌, ◌⊎◌, inl, inr, Bool, List, [], ◌∷◌, ◌++◌, length, Option, Some, None, refl, sym, ap, subst, ◌∙◌, arith}
-use Rattle.serial_spec.specs.declared.event.Event.{Event}
+use Rattle.std.proofs.Common.{ℕ, suc, inl, inr, List, [], ◌∷◌, ◌++◌, length, Option, Some, None, refl, ap, subst, ◌∙◌, arith}
 use Rattle.serial_spec.specs.History.{History}
 use Rattle.serial_spec.specs.Rows.{Rows}
-use Rattle.serial_spec.specs.Interleaving.{Session, AllAnswered, Step, MustGiveUp}
-use Rattle.serial_spec.specs.Follows.{Steps, StepOfEach, Unsticks, NoneGivesUp, Round, Rounds}
+use Rattle.serial_spec.specs.Interleaving.{Session, AllAnswered, Step}
+use Rattle.serial_spec.specs.Follows.{Steps, Unsticks, Round}
 use Rattle.durable_top.specs.declared.store.TopStore.{Ghosts}
 use Rattle.manager_core.specs.State.{State}
 use Rattle.manager_core.specs.Asked.{IsLater}

@@ -1,5 +1,5 @@
 -- The stuck rule, session by session.
-use Rattle.std.proofs.Common.{◌≡◌, ℕ, zero, suc, ◌<◌, ◌≤◌, ◌⊎◌, inl, inr, Bool, true, false, not, List, [], ◌∷◌, length, Option, Some, None, is_some, option_map, slice_get, IsTrue, ◌↔◌, refl, sym, ap, subst, ◌∙◌, arith}
+use Rattle.std.proofs.Common.{◌≡◌, ℕ, suc, ◌<◌, ◌≤◌, ◌⊎◌, inl, inr, Bool, true, false, not, List, length, Option, Some, None, is_some, option_map, slice_get, IsTrue, ◌↔◌, refl, sym, ap, subst, ◌∙◌, arith}
 use Rattle.std.proofs.lemmas.Bool.{false≢true, cases_lt}
 use Rattle.std.proofs.lemmas.Option.{slice_get_past}
 use Rattle.serial_spec.specs.declared.event.Event.{Event}
@@ -16,7 +16,7 @@ use Rattle.txn_history.proofs.Tests.{clash}
 use Rattle.txn_history.proofs.Theorems.{legal_allowed}
 use Rattle.txn_history.proofs.NextLines.{next_can_give_up}
 use Rattle.manager_core.specs.Parking.{IsKeptOut}
-use Rattle.interleavings.specs.Turning.{IsFirstOpen, TellsStuck, has_answer, can_go_on, next_number}
+use Rattle.interleavings.specs.Turning.{IsFirstOpen, has_answer, can_go_on, next_number}
 
 module _ (ss : List Session) (h : History) where
   -- where there is no session there is no line

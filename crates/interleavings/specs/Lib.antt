@@ -1,8 +1,6 @@
 pub mod Told
 pub mod Reports
-pub mod Serving
-pub mod Lines
-pub mod Runs
 pub mod Attempts
 pub mod Turning
 pub mod Scheduled
+pub mod Runs

@@ -1,23 +1,33 @@
 -- What every report says.
-use Rattle.std.specs.Prelude.{◌≡◌, IsTrue, IsFalse, [], None}
-use Rattle.serial_spec.specs.History.{Name, has_begun, is_orphan, is_committed, status, begun}
+use Rattle.std.specs.Prelude.{◌≡◌, IsTrue, IsFalse, List, [], map}
+use Rattle.serial_spec.specs.History.{Name, has_begun, is_orphan, is_committed, status}
 use Rattle.serial_spec.specs.Items.{items}
 use Rattle.serial_spec.specs.Serial.{Right, Runs}
 use Rattle.serial_spec.specs.Rows.{IsRising, value_in}
 use Rattle.serial_spec.specs.Waits.{Quiet}
-use Rattle.serial_spec.specs.Legal.{first_live, Legal}
+use Rattle.serial_spec.specs.Legal.{Legal}
+use Rattle.serial_spec.specs.Interleaving.{Session, IsInterleaving, IsFinished}
 use Rattle.txn_history.specs.Laws.{Stands}
+use Rattle.session_text.specs.Grammar.{IsText}
 use Rattle.interleavings.specs.Told.{Told}
 
+-- the history takes the lines of a text's sessions in turn, and all of them; the labels are theirs
+pub record IsOfSessions (r : Told) : Type 0 where
+  pub sessions : List Session
+  -- few of them, with labels that are apart
+  pub text : IsText sessions
+  pub labels : r.labels ≡ map (λ s. s.label) sessions
+  pub in_turn : IsInterleaving r.opening sessions r.history
+  pub finished : IsFinished sessions r.history
+
 pub record IsReport (r : Told) : Type 0 where
+  pub of_sessions : IsOfSessions r
   -- both tables stand in byte order
   pub rising : IsRising r.opening
   pub in_order : IsRising r.table
   -- each entry was allowed where it stands, and no cycle of waits is left
   pub legal : Legal r.opening r.history
   pub quiet : Quiet r.history
-  -- no top-level transaction is live
-  pub closed : first_live r.history (begun r.history) ≡ None
   -- each transaction without an aborted ancestor was replied what a serial run replies
   pub right : (t : Name) → IsTrue (has_begun r.history t) → IsFalse (is_orphan r.history t) → Right (value_in r.opening) r.history t
   -- and one run serves them all: each has committed, and stands in it as a block

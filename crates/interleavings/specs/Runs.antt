@@ -1,6 +1,7 @@
 -- What a run of sessions comes to.
-use Rattle.std.specs.Prelude.{◌≡◌, ◌+◌, List, map}
+use Rattle.std.specs.Prelude.{◌≡◌, ◌+◌, ◌<◌, ◌≤◌, ℕ, suc, List, length, map, slice_get, Option, Some, None}
 use Rattle.serial_spec.specs.Interleaving.{Session, IsInterleaving, IsFinished}
+use Rattle.serial_spec.specs.Follows.{Follows}
 use Rattle.serial_spec.specs.Rows.{value_in}
 use Rattle.durable_top.specs.declared.store.TopStore.{Ghosts}
 use Rattle.durable_top.specs.Store.{counted}
@@ -8,22 +9,46 @@ use Rattle.manager_core.specs.Sound.{IsTrusted, store_refusals}
 use Rattle.manager_core.specs.Opening.{HasCause}
 use Rattle.interleavings.specs.Told.{Told}
 use Rattle.interleavings.specs.declared.run.RunFault.{RunFault}
-use Rattle.interleavings.specs.declared.run.RunFault.TheVariants.{NoMemory, Open}
+use Rattle.interleavings.specs.declared.run.RunFault.TheVariants.{NoMemory, Open, Schedule}
 
--- The report of these sessions over the store as it was given, and the store that comes back with it. What every
--- report says is in `IsReport`.
-pub record IsRun {S : Type 0} (g : Ghosts S) (ss : List Session) (store : S) (r : Told) (left : S) : Type 0 where
+-- each of the first so many items is the number of one of so many sessions
+abbrev pub AreThere : ℕ → List ℕ → ℕ → Type 0
+AreThere count schedule n = (i s : ℕ) → i < n → slice_get schedule i ≡ Some s → s < count
+
+-- each item of the schedule is a session's number
+abbrev pub AllThere : ℕ → List ℕ → Type 0
+AllThere count schedule = AreThere count schedule (length schedule)
+
+-- the item at this place, counted from 1, is the first that is no session's number
+pub record IsStray (count : ℕ) (schedule : List ℕ) (n : ℕ) : Type 0 where
+  pub before : ℕ
+  pub counted : n ≡ suc before
+  pub item : ℕ
+  pub stands : slice_get schedule before ≡ Some item
+  pub strays : count ≤ item
+  pub first : AreThere count schedule before
+
+abbrev pub TellsStray : ℕ → List ℕ → Option ℕ → Type 0
+TellsStray count schedule None = AllThere count schedule
+TellsStray count schedule (Some n) = IsStray count schedule n
+
+-- The report of these sessions, run by this schedule over the store as it was given, and the store that comes back with
+-- it. What every report says is in `IsReport`
+pub record IsRun {S : Type 0} (g : Ghosts S) (ss : List Session) (schedule : List ℕ) (store : S) (r : Told) (left : S) : Type 0 where
+  pub there : AllThere (length ss) schedule
   -- the opening rows are the store's
   pub opening : g.doubt left ≡ 0 → value_in r.opening ≡ g.table store
   pub labels : r.labels ≡ map (λ s. s.label) ss
-  -- the history takes the sessions' lines in turn, and all of them
+  -- the history follows the schedule, takes the sessions' lines in turn, and all of them
+  pub follows : Follows r.opening ss schedule r.history
   pub interleaving : IsInterleaving r.opening ss r.history
   pub finished : IsFinished ss r.history
   -- the store has the final table until its device fails, and counted the commits that it refused
   pub stored : IsTrusted g left → g.table left ≡ value_in r.table
   pub refusals : g.faults left ≡ counted (g.faults store + store_refusals r.history)
 
--- why a run gave no report
-abbrev pub HasRunCause : {S : Type 0} → Ghosts S → S → RunFault → Type 0
-HasRunCause g store NoMemory = Unit {0}
-HasRunCause g store (Open fault) = HasCause g store fault
+-- Why a run gave no report. A schedule that names no session is told before anything else can fail
+abbrev pub HasRunCause : {S : Type 0} → Ghosts S → List Session → List ℕ → S → RunFault → Type 0
+HasRunCause g ss schedule store NoMemory = AllThere (length ss) schedule
+HasRunCause g ss schedule store (Open fault) = AllThere (length ss) schedule × HasCause g store fault
+HasRunCause g ss schedule store (Schedule n) = IsStray (length ss) schedule n

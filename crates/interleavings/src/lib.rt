@@ -1,7 +1,7 @@
 //! Sessions run over a manager, and the report of a finished run.
 //!
-//! `run_schedule` runs one session at most, and is what the program calls. `Turns` and `run_all` run many sessions in any order
-//! of steps; the program does not call them yet.
+//! `Turns` are sessions under way: any session's next line may be attempted at any time. `run_schedule` runs sessions from
+//! the store to the report: by a list of attempts first, and then in rounds until no line is left.
 #![tactic(auto)]
 
 mod attempt;

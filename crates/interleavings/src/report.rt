@@ -1,7 +1,7 @@
 //! The report of a finished run.
-ghost use Rattle.std.specs.Prelude.{◌≡◌, ℕ, List, [], ◌∷◌, map, reverse, IfOk, IsFalse, None};
-ghost use Rattle.serial_spec.specs.History.{begun, is_live};
-ghost use Rattle.serial_spec.specs.Legal.{first_live};
+ghost use Rattle.std.specs.Prelude.{◌≡◌, ℕ, List, [], ◌∷◌, map, reverse, IfOk, IsFalse};
+ghost use Rattle.serial_spec.specs.History.{is_live};
+ghost use Rattle.serial_spec.specs.Interleaving.{IsFinished, IsInterleaving};
 ghost use Rattle.durable_top.specs.Store.{plain};
 ghost use Rattle.manager_core.specs.Sound.{IsSound};
 
@@ -95,14 +95,22 @@ pub(crate) fn labels_of(alloc: Global, sessions: &Sessions) -> Result<Vec<Label>
     Ok(labels)
 }
 
-/// The report of a manager whose top-level transactions have ended, and its store.
-pub(crate) fn report_of<S: TopStore>(manager: Manager<S>, labels: Vec<Label>) -> (Report, S)
+/// The report of a manager that answered all lines of these sessions and whose top-level transactions have ended, and its store.
+pub(crate) fn report_of<S: TopStore>(
+    manager: Manager<S>,
+    sessions: &Sessions,
+    labels: Vec<Label>,
+) -> (Report, S)
     requires sound { IsSound S.TopStore manager }
-    requires closed { first_live manager.history (begun manager.history) ≡ None }
+    requires labels { labels.items ≡ map (λ s. s.label) sessions.now }
+    requires in_turn { IsInterleaving manager.rows sessions.now manager.history }
+    requires finished { IsFinished sessions.now manager.history }
     requires ended { (l : List ℕ) → IsFalse (is_live manager.history (l ∷ [])) }
     ensures report { result.0 ≡ record { opening = manager.rows; labels = labels.items; history = manager.history; table = manager.table } }
     ensures store { result.1 ≡ manager.store }
 {
+    // As in `labels_of`: what is known of the sessions.
+    let _count = sessions.len();
     let parts = manager.into_parts();
     // What is known of a table comes with its length: that its keys rise.
     let _rows = parts.table.len();

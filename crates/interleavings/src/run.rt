@@ -1,122 +1,98 @@
-//! Sessions, line by line.
-ghost use Rattle.std.specs.Prelude.{◌≡◌, ℕ, List, [], ◌∷◌, map, IfErr, IfOk, IsFalse, OnOk, None};
-ghost use Rattle.serial_spec.specs.History.{begun, is_live};
-ghost use Rattle.serial_spec.specs.Legal.{first_live};
-ghost use Rattle.serial_spec.specs.Waits.{open_waits};
-ghost use Rattle.serial_spec.specs.declared.entry.By.TheVariants.{Line};
-ghost use Rattle.manager_core.specs.Lines.{IsFree};
-ghost use Rattle.manager_core.specs.Sound.{IsSound};
-ghost use Rattle.serial_spec.specs.declared.event.Event.TheVariants.{Access};
-ghost use Rattle.session_text.specs.Stage.{IsServedLine};
-ghost use Rattle.interleavings.specs.Serving.{Serves};
-ghost use Rattle.interleavings.specs.Lines.{AreAnswered, AreDone};
-ghost use Rattle.interleavings.specs.Runs.{HasRunCause, IsRun};
+//! Sessions by a schedule, from a store to the report.
+ghost use Rattle.std.specs.Prelude.{◌≡◌, length, IfErr, IfOk};
+ghost use Rattle.interleavings.specs.Runs.{HasRunCause, IsRun, TellsStray};
+ghost use Rattle.interleavings.specs.Scheduled.{RunsOut};
+ghost use Rattle.interleavings.specs.Turning.{IsClosed};
 
-use crate::report::{Report, labels_of, report_of};
+use crate::report::Report;
+use crate::schedule::run_all;
+use crate::turns::Turns;
 use durable_top::TopStore;
-use manager_core::{Manager, OpenFault, Outcome};
-use serial_spec::{By, Event, NoMemory, Op};
+use manager_core::OpenFault;
+use serial_spec::NoMemory;
 use session_text::Sessions;
 use std::alloc::Global;
-use txn_names::{Key, Label, Name};
 
 /// Why a run gave no report. Its store is dropped, and nothing is said of what it holds.
 #[derive(Clone, Copy, Debug, PartialEq, Eq)]
 pub enum RunFault {
     NoMemory,
     Open(OpenFault),
+    /// This item of the schedule, counted from 1, is the first that is no session's number. Nothing was run.
+    Schedule(usize),
 }
 
-// Answers an access. One that has to wait is given up: with one session nobody else can go on.
-fn serve_access<S: TopStore>(
-    manager: &mut Manager<S>,
-    line: u32,
-    name: &Name,
-    key: &Key,
-    op: Op,
-) -> Result<(), NoMemory>
-    requires free { IsFree manager.old.history (Line 0 line) (Access name.now key.now op) }
-    requires nobody { open_waits manager.old.history ≡ [] }
-    ensures { OnOk result (Serves S.TopStore manager.old manager.new line (Access name.now key.now op)) }
+fn count_of(sessions: &Sessions) -> u32
+    ensures { result ≡ length sessions.now }
 {
-    let by = By::Line { session: 0, line };
-    match manager.access(by, name, key, op)? {
-        Outcome::Waits => manager.cancel(by, &Event::Access(*name, *key, op)),
-        _ => Ok(()),
+    sessions.len() as u32
+}
+
+// The first item, counted from 1, that is not below the number of sessions.
+fn stray(count: u32, schedule: &[u32]) -> Option<usize>
+    ensures { TellsStray count schedule.now result }
+{
+    for place in 0..schedule.len() {
+        if schedule[place] >= count {
+            return Some(place + 1);
+        }
+    }
+    None
+}
+
+// Drops what was under way.
+fn give_up<S: TopStore>(turns: Turns<'_, S>) -> RunFault
+    ensures { result ≡ RunFault.NoMemory }
+{
+    let _turns = turns;
+    RunFault::NoMemory
+}
+
+// The report of sessions all of whose lines are answered.
+fn close<S: TopStore>(turns: Turns<'_, S>) -> Result<(Report, S), RunFault>
+    ensures ok { IfOk result (λ run. IsClosed S.TopStore turns.entry run.0 run.1) }
+    ensures err { IfErr result (λ fault. fault ≡ RunFault.NoMemory) }
+{
+    match turns.into_report() {
+        Ok(run) => Ok(run),
+        Err(turns) => Err(give_up(turns)),
     }
 }
 
-// Answers a line of the one session.
-fn serve<S: TopStore>(manager: &mut Manager<S>, line: u32, event: &Event) -> Result<(), NoMemory>
-    requires free { IsFree manager.old.history (Line 0 line) event.now }
-    requires nobody { open_waits manager.old.history ≡ [] }
-    requires served { IsServedLine event.now }
-    ensures { OnOk result (Serves S.TopStore manager.old manager.new line event.now) }
+// The schedule, the rounds and the close.
+fn run_opened<S: TopStore>(
+    turns: Turns<'_, S>,
+    schedule: &[u32],
+) -> Result<(Report, S), RunFault>
+    ensures ok { IfOk result (λ run. RunsOut S.TopStore schedule.now turns.entry run.0 run.1) }
+    ensures err { IfErr result (λ fault. fault ≡ RunFault.NoMemory) }
 {
-    let by = By::Line { session: 0, line };
-    match event {
-        Event::Begin(name) => {
-            manager.begin(by, name)?;
-        }
-        Event::Access(name, key, op) => serve_access(manager, line, name, key, *op)?,
-        Event::Commit(name) => {
-            manager.commit(by, name)?;
-        }
-        Event::Abort(name) => {
-            manager.abort(by, name)?;
-        }
-        Event::After(_, _) => unreachable!(),
+    let mut turns = turns;
+    match run_all(&mut turns, schedule) {
+        Ok(()) => close(turns),
+        Err(_) => Err(give_up(turns)),
     }
-    Ok(())
 }
 
-// Answers the lines of the one session, in order.
-fn serve_all<S: TopStore>(manager: &mut Manager<S>, sessions: &Sessions) -> Result<(), NoMemory>
-    requires { manager.old.history ≡ [] }
-    ensures { OnOk result (AreAnswered S.TopStore sessions.now manager.old manager.new) }
-{
-    // As in `labels_of`: what the lines of a text are like.
-    let _count = sessions.len();
-    let mut line = 1;
-    while let Some(text) = sessions.line(0, line) {
-        serve(manager, line, text.event())?;
-        line += 1;
-    }
-    Ok(())
-}
-
-// Answers all lines, and closes what is live then.
-fn run_opened<S: TopStore>(manager: &mut Manager<S>, sessions: &Sessions) -> Result<(), NoMemory>
-    requires { manager.old.history ≡ [] }
-    ensures done { OnOk result (AreDone S.TopStore sessions.now manager.old manager.new) }
-    ensures sound { OnOk result (IsSound S.TopStore manager.new) }
-{
-    serve_all(manager, sessions)?;
-    manager.close()
-}
-
-/// Runs the sessions over the store, and gives it back with the report. At present there is one session at most,
-/// so that no schedule says whose line comes next.
+/// Runs the sessions over the store by the schedule, and gives the store back with the report. A session's number counts
+/// from 0 in order of the headers. Each item of the schedule is one attempt of that session's next line, and none where
+/// its lines are all answered. Then come rounds until no line is left: each attempts every session with lines left once, in
+/// order, and applies the stuck rule once. Then the live top-level transactions are aborted in the order in which they
+/// began. A schedule that names no session is told before the store is opened; the store is dropped on every fault.
 pub fn run_schedule<S: TopStore>(
     alloc: Global,
     sessions: &Sessions,
     schedule: &[u32],
     store: S,
 ) -> Result<(Report, S), RunFault>
-    requires { schedule.now ≡ [] }
-    ensures ok { IfOk result (λ run. IsRun S.TopStore sessions.now store run.0 run.1) }
-    ensures err { IfErr result (λ fault. HasRunCause S.TopStore store fault) }
+    ensures ok { IfOk result (λ run. IsRun S.TopStore sessions.now schedule.now store run.0 run.1) }
+    ensures err { IfErr result (λ fault. HasRunCause S.TopStore sessions.now schedule.now store fault) }
 {
-    let _schedule = schedule;
-    let Ok(labels) = labels_of(alloc, sessions) else {
-        return Err(RunFault::NoMemory);
-    };
-    let mut manager = match Manager::open(alloc, store) {
-        Ok(manager) => manager,
-        Err(fault) => return Err(RunFault::Open(fault)),
-    };
-    match run_opened(&mut manager, sessions) {
-        Ok(()) => Ok(report_of(manager, labels)),
-        Err(_) => Err(RunFault::NoMemory),
+    if let Some(place) = stray(count_of(sessions), schedule) {
+        return Err(RunFault::Schedule(place));
+    }
+    match Turns::open(alloc, sessions, store) {
+        Ok(turns) => run_opened(turns, schedule),
+        Err(fault) => Err(RunFault::Open(fault)),
     }
 }

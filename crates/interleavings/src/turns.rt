@@ -197,8 +197,10 @@ impl<'a, S: TopStore> Turns<'a, S> {
         };
         match turns.manager.close() {
             Ok(()) => {
-                let Turns { manager, .. } = turns;
-                Ok(report_of(manager, labels))
+                let Turns {
+                    manager, sessions, ..
+                } = turns;
+                Ok(report_of(manager, sessions, labels))
             }
             Err(_) => Err(turns),
         }

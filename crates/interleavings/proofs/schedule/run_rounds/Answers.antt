@@ -1,5 +1,3 @@
-use Rattle.std.proofs.Common.{◌<◌, length, subst}
-use Rattle.txn_history.specs.Turns.{pending_in}
 use Rattle.txn_history.proofs.Rounds.{round_adds}
 use Rattle.txn_history.proofs.Tests.{clash}
 use Rattle.interleavings.proofs.Schedules.{rounds_all, rounds_more, rounds_none}

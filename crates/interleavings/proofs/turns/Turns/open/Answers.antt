@@ -1,5 +1,3 @@
-use Rattle.std.proofs.Common.{replicate}
-use Rattle.interleavings.specs.Turning.{AreTurns}
 use Rattle.interleavings.proofs.Numbers.{first_turns}
 use Rattle.interleavings.proofs.turns.Turns.open.Goals as goal
 

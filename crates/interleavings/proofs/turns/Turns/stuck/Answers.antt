@@ -1,4 +1,4 @@
-use Rattle.std.proofs.Common.{◌≡◌, ◌+◌, Some, option_copied, length-set, refl, sym, subst, ap, ◌∙◌, arith}
+use Rattle.std.proofs.Common.{◌+◌, Some, option_copied, length-set, sym, subst, ap, ◌∙◌, arith}
 use Rattle.serial_spec.specs.declared.event.Event.{Event}
 use Rattle.serial_spec.specs.declared.entry.By.TheVariants.{Line}
 use Rattle.serial_spec.specs.Interleaving.{MustGiveUp}

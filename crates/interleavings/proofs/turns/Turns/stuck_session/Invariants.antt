@@ -1,5 +1,5 @@
 use Rattle.std.proofs.Common.{◌≡◌, ℕ, ◌<◌, false}
-use Rattle.interleavings.specs.Turning.{IsFirstOpen, can_go_on}
+use Rattle.interleavings.specs.Turning.{can_go_on}
 use Rattle.interleavings.proofs.turns.Turns.stuck_session.Given as goal
 
 -- none before can go on
