@@ -11,6 +11,7 @@ pub use Rattle.txn_history.proofs.Statuses.{status_after, active_after, wait_aft
 pub use Rattle.txn_history.proofs.Tables.{foot_is_greater, locks_after, left_after, writes_somewhere}
 pub use Rattle.txn_history.proofs.Parents.{chain_by_parent, seen_by_parent, seen_after_commit}
 pub use Rattle.txn_history.proofs.Table.{table_after, changes_made}
+pub use Rattle.txn_history.proofs.KnownKeys.{table_few}
 pub use Rattle.txn_history.proofs.CommitOrder.{commit_order}
 pub use Rattle.txn_history.proofs.Lone.{lone_quiet}
 pub use Rattle.txn_history.proofs.Quietness.{quiet_legal, legal_next, legal_allowed}

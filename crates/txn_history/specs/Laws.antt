@@ -1,6 +1,6 @@
 -- The laws of histories, as statements. Most ask that each entry is allowed where it stands; that no cycle of waits stood
 -- they do not ask.
-use Rattle.std.specs.Prelude.{◌≡◌, ◌⊎◌, Bool, true, false, IsTrue, IsFalse, List, [], ◌∷◌, ℕ, ℤ, Option, Some, is_some, if◌then◌else◌}
+use Rattle.std.specs.Prelude.{◌≡◌, ◌≤◌, ◌⊎◌, Bool, true, false, IsTrue, IsFalse, List, [], ◌∷◌, length, ℕ, ℤ, Option, Some, is_some, if◌then◌else◌}
 use Rattle.std.specs.Prelude.{None as Nothing}
 use Rattle.txn_names.specs.Path.{is_front, parent}
 use Rattle.serial_spec.specs.declared.operation.Op.{Op}
@@ -19,8 +19,8 @@ use Rattle.serial_spec.specs.Locks.{foot, is_blocker, is_exclusive}
 use Rattle.serial_spec.specs.Changes.{overlay, IsChanges}
 use Rattle.txn_names.specs.declared.change.Change.{Change}
 use Rattle.serial_spec.specs.Values.{seen}
-use Rattle.serial_spec.specs.Rows.{Rows, value_in}
-use Rattle.serial_spec.specs.Allowed.{answer}
+use Rattle.serial_spec.specs.Rows.{Rows, IsRising, value_in}
+use Rattle.serial_spec.specs.Allowed.{answer, most_keys}
 use Rattle.serial_spec.specs.Legal.{AreAllowed, Legal}
 use Rattle.serial_spec.specs.Waits.{accesses, is_waits, wait_of, waits_for, Quiet}
 use Rattle.txn_history.specs.Apart.{Apart}
@@ -115,6 +115,12 @@ abbrev pub TableAfter : Type 0
 TableAfter =
     (rows : Rows) (e : Entry) (h : History) → AreAllowed rows (e ∷ h)
     → (k : List ℕ) → stored (value_in rows) (e ∷ h) k ≡ table_next (value_in rows) h (effect e) k
+
+-- a table in byte order that holds what is due has no more rows than keys may be known, where the opening has not
+abbrev pub TableFew : Type 0
+TableFew =
+    (rows : Rows) (h : History) → AreAllowed rows h → length rows ≤ most_keys
+    → (table : Rows) → IsRising table → ((k : List ℕ) → value_in table k ≡ stored (value_in rows) h k) → length table ≤ most_keys
 
 -- so the table after a top-level commit is the one before, with that transaction's changes made
 abbrev pub ChangesMade : Type 0
