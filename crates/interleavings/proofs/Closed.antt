@@ -1,5 +1,5 @@
 -- The close, and what a whole run comes to.
-use Rattle.std.proofs.Common.{◌≡◌, ℕ, ◌+◌, List, [], ◌∷◌, ◌++◌, length, map, None, Result, Ok, Err, OnOk, IfOk, IfErr, sym, ap, subst, ◌∙◌, arith}
+use Rattle.std.proofs.Common.{◌≡◌, ℕ, ◌+◌, ◌≤◌, List, [], ◌∷◌, ◌++◌, length, map, None, Result, Ok, Err, OnOk, IfOk, IfErr, sym, ap, subst, ◌∙◌, arith}
 use Rattle.serial_spec.specs.History.{Name, History, begun}
 use Rattle.serial_spec.specs.Legal.{first_live, Legal}
 use Rattle.serial_spec.specs.Rows.{Rows, value_in}
@@ -10,6 +10,7 @@ use Rattle.txn_history.proofs.Following.{close_finishes}
 use Rattle.durable_top.specs.declared.store.TopStore.{Ghosts}
 use Rattle.durable_top.specs.Store.{counted}
 use Rattle.manager_core.specs.State.{State}
+use Rattle.manager_core.specs.Opening.{most_rows}
 use Rattle.manager_core.specs.Sound.{IsSound, store_refusals}
 use Rattle.manager_core.specs.Closing.{closings}
 use Rattle.manager_core.specs.Calls.{Closed}
@@ -40,6 +41,9 @@ module _ {S : Type 0} (g : Ghosts S) (old : Turning S) (numbers : List ℕ) (new
 
   finishes : IsUnderWay old.core.rows old.sessions new.history × IsFinished old.sessions new.history
   finishes = close_finishes old.core.rows old.sessions old.core.history after.0 new.history turns.way all after.1
+
+  pub closed_few : length new.rows ≤ most_rows
+  closed_few = subst (λ (r : Rows). length r ≤ most_rows) (sym rows) turns.few
 
   pub closed_in_turn : IsInterleaving new.rows old.sessions new.history
   closed_in_turn = subst (λ r. IsInterleaving r old.sessions new.history) (sym rows) finishes.0.in_turn

@@ -24,6 +24,8 @@ use Rattle.durable_top.specs.declared.store.TopStore.{Ghosts}
 use Rattle.manager_core.specs.declared.outcome.Outcome.{Outcome}
 use Rattle.manager_core.specs.declared.outcome.Outcome.TheVariants.{Waits}
 use Rattle.manager_core.specs.State.{State, entry}
+use Rattle.manager_core.specs.Opening.{most_rows}
+use Rattle.serial_spec.specs.Rows.{Rows}
 use Rattle.interleavings.specs.Attempts.{Attempts}
 use Rattle.interleavings.specs.declared.turns.Turn.TheVariants.{Answered, Parked}
 use Rattle.interleavings.specs.Turning.{AreNext, AreTurns, Stepped, next_number}
@@ -124,8 +126,9 @@ first_numbers ss numbers count each = record { count = count; each = λ s within
 abbrev pub ones : ℕ → List ℕ
 ones n = replicate n 1
 
-pub first_turns : {S : Type 0} (ss : List Session) (m : State S) → m.history ≡ [] → Quiet m.history → AreTurns (record { sessions = ss; core = m }) (ones (length ss))
-first_turns ss m none quiet = record {
+pub first_turns : {S : Type 0} (ss : List Session) (m : State S) → m.history ≡ [] → Quiet m.history → length m.rows ≤ most_rows → AreTurns (record { sessions = ss; core = m }) (ones (length ss))
+first_turns ss m none quiet few = record {
+  few = few;
   way = record { legal = subst (Legal m.rows) (sym none) tt; quiet = quiet; in_turn = subst (IsInterleaving m.rows ss) (sym none) tt };
   next = subst (λ h. AreNext ss h (ones (length ss))) (sym none) (first_numbers ss (ones (length ss)) (length-replicate {A = ℕ} (length ss) 1) each);
 }
@@ -180,9 +183,13 @@ module _ {S : Type 0} (g : Ghosts S) (ss : List Session) (old new : State S) (nu
         (step_keeps old.rows ss old.history new.history s turns.way (attempt_steps g old new ss s e due o attempt))
 
     -- the line waits
+    few_on : length new.rows ≤ most_rows
+    few_on = subst (λ (r : Rows). length r ≤ most_rows) (sym attempt.on.rows) turns.few
+
     pub turns_parked : o ≡ Waits → AreTurns (record { sessions = ss; core = new }) numbers
     turns_parked waits = record {
       way = way_on;
+      few = few_on;
       next = next_same ss old.history new.history numbers all turns.next;
     }
       where
@@ -197,6 +204,7 @@ module _ {S : Type 0} (g : Ghosts S) (ss : List Session) (old new : State S) (nu
         → AreTurns (record { sessions = ss; core = new }) (set numbers s (l + 1))
     turns_answered ends l is there count = record {
       way = way_on;
+      few = few_on;
       next = next_more ss old.history new.history numbers s l is (count_answered g old new s (suc (answered old.history s)) e o attempt ends)
           (others_count g old new s (suc (answered old.history s)) e o attempt) there turns.next count;
     }
@@ -232,6 +240,7 @@ module _ {S : Type 0} (ss : List Session) (old new : State S) (numbers : List �
 
   pub turns_stuck : length (set numbers s (l + 1)) ≡ length numbers → AreTurns (record { sessions = ss; core = new }) (set numbers s (l + 1))
   turns_stuck count = record {
+    few = subst (λ (r : Rows). length r ≤ most_rows) (sym stuck_rows) turns.few;
     way = subst (λ r. IsUnderWay r ss new.history) (sym stuck_rows) (stuck_keeps old.rows ss old.history new.history turns.way (s, e, must, stuck_history));
     next = next_more ss old.history new.history numbers s l is own others (session_there ss old.history s e must.left) turns.next count;
   }

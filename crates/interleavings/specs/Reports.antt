@@ -1,5 +1,5 @@
 -- What every report says.
-use Rattle.std.specs.Prelude.{◌≡◌, IsTrue, IsFalse, List, [], map}
+use Rattle.std.specs.Prelude.{◌≡◌, IsTrue, IsFalse, List, [], map, ◌≤◌, length}
 use Rattle.serial_spec.specs.History.{Name, has_begun, is_orphan, is_committed, status}
 use Rattle.serial_spec.specs.Items.{items}
 use Rattle.serial_spec.specs.Serial.{Right, Runs}
@@ -8,6 +8,8 @@ use Rattle.serial_spec.specs.Waits.{Quiet}
 use Rattle.serial_spec.specs.Legal.{Legal}
 use Rattle.serial_spec.specs.Interleaving.{Session, IsInterleaving, IsFinished}
 use Rattle.txn_history.specs.Laws.{Stands}
+use Rattle.serial_spec.specs.Allowed.{most_keys}
+use Rattle.manager_core.specs.Opening.{most_rows}
 use Rattle.session_text.specs.Grammar.{IsText}
 use Rattle.interleavings.specs.Told.{Told}
 
@@ -22,7 +24,9 @@ pub record IsOfSessions (r : Told) : Type 0 where
 
 pub record IsReport (r : Told) : Type 0 where
   pub of_sessions : IsOfSessions r
-  -- both tables stand in byte order
+  -- both tables are small, and stand in byte order
+  pub few : length r.opening ≤ most_rows
+  pub few_left : length r.table ≤ most_keys
   pub rising : IsRising r.opening
   pub in_order : IsRising r.table
   -- each entry was allowed where it stands, and no cycle of waits is left

@@ -1,5 +1,5 @@
 -- Sessions under way over a manager, as contracts see them, and what each call does to them.
-use Rattle.std.specs.Prelude.{◌≡◌, ◌<◌, ◌+◌, ℕ, suc, Bool, false, IsTrue, is_some, List, ◌∷◌, length, map, slice_get, Option, Some, None, option_map}
+use Rattle.std.specs.Prelude.{◌≡◌, ◌<◌, ◌≤◌, ◌+◌, ℕ, suc, Bool, false, IsTrue, is_some, List, ◌∷◌, length, map, slice_get, Option, Some, None, option_map}
 use Rattle.serial_spec.specs.declared.event.Event.{Event}
 use Rattle.serial_spec.specs.History.{Name, History}
 use Rattle.serial_spec.specs.Rows.{Rows, value_in}
@@ -11,7 +11,7 @@ use Rattle.durable_top.specs.declared.store.TopStore.{Ghosts}
 use Rattle.durable_top.specs.Store.{counted}
 use Rattle.manager_core.specs.State.{State}
 use Rattle.manager_core.specs.Sound.{IsTrusted, store_refusals}
-use Rattle.manager_core.specs.Opening.{IsOpened}
+use Rattle.manager_core.specs.Opening.{most_rows, IsOpened}
 use Rattle.interleavings.specs.declared.turns.Turn.{Turn}
 use Rattle.interleavings.specs.declared.turns.Turn.TheVariants.{Answered, Parked, OutOfTurn}
 use Rattle.interleavings.specs.Attempts.{GoesOn}
@@ -48,9 +48,10 @@ pub record AreNext (ss : List Session) (h : History) (numbers : List ℕ) : Type
   pub count : length numbers ≡ length ss
   pub each : (s : ℕ) → s < length ss → slice_get numbers s ≡ Some (suc (answered h s))
 
--- what the type keeps: the history is legal and quiet, and takes the sessions' lines in turn
+-- what the type keeps: the history is legal and quiet, and takes the sessions' lines in turn; the opening rows are few
 pub record AreTurns {S : Type 0} (t : Turning S) (numbers : List ℕ) : Type 0 where
   pub way : IsUnderWay t.core.rows t.sessions t.core.history
+  pub few : length t.core.rows ≤ most_rows
   pub next : AreNext t.sessions t.core.history numbers
 
 pub record IsStart {S : Type 0} (g : Ghosts S) (ss : List Session) (store : S) (t : Turning S) : Type 0 where

@@ -12,5 +12,4 @@ mod turns;
 
 pub use report::Report;
 pub use run::{RunFault, run_schedule};
-pub use schedule::run_all;
 pub use turns::{Turn, Turns};

@@ -1,8 +1,9 @@
 //! The report of a finished run.
-ghost use Rattle.std.specs.Prelude.{◌≡◌, ℕ, List, [], ◌∷◌, map, reverse, IfOk, IsFalse};
+ghost use Rattle.std.specs.Prelude.{◌≡◌, ◌≤◌, ℕ, length, List, [], ◌∷◌, map, reverse, IfOk, IsFalse};
 ghost use Rattle.serial_spec.specs.History.{is_live};
 ghost use Rattle.serial_spec.specs.Interleaving.{IsFinished, IsInterleaving};
 ghost use Rattle.durable_top.specs.Store.{plain};
+ghost use Rattle.manager_core.specs.Opening.{most_rows};
 ghost use Rattle.manager_core.specs.Sound.{IsSound};
 
 use durable_top::{Row, TopStore};
@@ -102,6 +103,7 @@ pub(crate) fn report_of<S: TopStore>(
     labels: Vec<Label>,
 ) -> (Report, S)
     requires sound { IsSound S.TopStore manager }
+    requires few { length manager.rows ≤ most_rows }
     requires labels { labels.items ≡ map (λ s. s.label) sessions.now }
     requires in_turn { IsInterleaving manager.rows sessions.now manager.history }
     requires finished { IsFinished sessions.now manager.history }

@@ -48,7 +48,7 @@ fn run_rounds<S: TopStore>(turns: &mut Turns<S>) -> Result<(), NoMemory>
 /// session, or of none, changes nothing; then rounds, in each of which every session with lines left is attempted once
 /// and after which the stuck rule is applied once. The only error is that memory runs out; what was done until then stands.
 #[tactic(auto, using(crate::proofs::Closed::runs_whole))]
-pub fn run_all<S: TopStore>(turns: &mut Turns<S>, schedule: &[u32]) -> Result<(), NoMemory>
+pub(crate) fn run_all<S: TopStore>(turns: &mut Turns<S>, schedule: &[u32]) -> Result<(), NoMemory>
     ensures { OnOk result (RunsWhole S.TopStore schedule.now turns.old turns.new) }
 {
     run_list(turns, schedule)?;

@@ -1,5 +1,11 @@
-use Rattle.interleavings.proofs.Closed.{closed_in_turn, closed_finished, is_closed}
+use Rattle.interleavings.proofs.Closed.{closed_few, closed_in_turn, closed_finished, is_closed}
 use Rattle.interleavings.proofs.turns.Turns.into_report.Goals as goal
+
+pub report_of-requires-clause-few : goal.report_of-requires-clause-few
+report_of-requires-clause-few g c =
+    let finished = rw (← c.turns.view_is) at c.finished.ensures in
+    closed_few g.S.TopStore (record { sessions = c.turns.inside.sessions.now; core = c.turns.inside.manager }) c.turns.inside.next.items c.close.new.self c.turns.invariant
+    (finished.0 c.if-not-finished.false) c.in-Ok-close.ensures.ok c.in-Ok-close.ensures.sound
 
 pub report_of-requires-clause-in_turn : goal.report_of-requires-clause-in_turn
 report_of-requires-clause-in_turn g c =
