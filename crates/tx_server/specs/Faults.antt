@@ -5,7 +5,7 @@ use Rattle.interleavings.specs.declared.run.RunFault.TheVariants as ran
 use Rattle.tx_server.specs.declared.replay.ReplayFault.{ReplayFault}
 use Rattle.tx_server.specs.declared.replay.ReplayFault.TheVariants.{Text, Run, Write}
 use Rattle.tx_server.specs.declared.fault.Fault.{Fault}
-use Rattle.tx_server.specs.declared.fault.Fault.TheVariants.{Line, CannotOpen, TooManyRows, NoMemory, CannotWrite}
+use Rattle.tx_server.specs.declared.fault.Fault.TheVariants.{Line, Schedule, CannotOpen, TooManyRows, NoMemory, CannotWrite}
 
 abbrev pub told : ReplayFault → Fault
 told (Text (read.Bad line kind)) = Line line kind
@@ -14,4 +14,5 @@ told (Run ran.NoMemory) = NoMemory
 told (Run (ran.Open opening.NoMemory)) = NoMemory
 told (Run (ran.Open (opening.Store fault))) = CannotOpen
 told (Run (ran.Open opening.TooManyRows)) = TooManyRows
+told (Run (ran.Schedule place)) = Schedule place
 told (Write fault) = CannotWrite

@@ -17,39 +17,39 @@ use Rattle.tx_server.specs.declared.replay.ReplayFault.TheVariants.{Text, Run, W
 abbrev pub spelled_report : Told → List ℕ
 spelled_report r = report r.opening r.labels r.history r.table
 
--- The text spells sessions, and this is the report of a run of them over the store, which comes back as `left`
-pub record IsTold {S : Type 0} (g : Ghosts S) (text : List ℕ) (store left : S) (r : Told) : Type 0 where
+-- The text spells sessions, and this is the report of their run by the schedule over the store, which comes back as `left`
+pub record IsTold {S : Type 0} (g : Ghosts S) (text schedule : List ℕ) (store left : S) (r : Told) : Type 0 where
   pub sessions : List Session
   pub read : sessions_of text ≡ Ok sessions
   -- legal, serially correct, finished, with the table that is due
   pub report : IsReport r
-  -- of these sessions' lines, in turn, over the store's rows
-  pub run : IsRun g sessions store r left
+  -- of these sessions' lines, in the order that the schedule says, over the store's rows
+  pub run : IsRun g sessions schedule store r left
 
 -- the writer took the bytes of that report
-pub record IsReplayed {S : Type 0} (g : Ghosts S) (old new : Option (List ℕ)) (text : List ℕ) (store left : S) : Type 0 where
+pub record IsReplayed {S : Type 0} (g : Ghosts S) (old new : Option (List ℕ)) (text schedule : List ℕ) (store left : S) : Type 0 where
   pub told : Told
-  pub holds : IsTold g text store left told
+  pub holds : IsTold g text schedule store left told
   pub written : Appends old new (spelled_report told)
 
 -- the writer failed, after a beginning of that report
-pub record IsCutShort {S : Type 0} (g : Ghosts S) (old new : Option (List ℕ)) (text : List ℕ) (store : S) : Type 0 where
+pub record IsCutShort {S : Type 0} (g : Ghosts S) (old new : Option (List ℕ)) (text schedule : List ℕ) (store : S) : Type 0 where
   pub left : S
   pub told : Told
-  pub holds : IsTold g text store left told
+  pub holds : IsTold g text schedule store left told
   pub written : AppendsFront old new (spelled_report told)
 
 -- the text spells sessions, and their run gave no report
-pub record IsUnrun {S : Type 0} (g : Ghosts S) (text : List ℕ) (store : S) (fault : RunFault) : Type 0 where
+pub record IsUnrun {S : Type 0} (g : Ghosts S) (text schedule : List ℕ) (store : S) (fault : RunFault) : Type 0 where
   pub sessions : List Session
   pub read : sessions_of text ≡ Ok sessions
-  pub cause : HasRunCause g store fault
+  pub cause : HasRunCause g sessions schedule store fault
 
 -- why a text was not replayed
-abbrev pub HasReplayCause : {S : Type 0} → Ghosts S → Option (List ℕ) → Option (List ℕ) → List ℕ → S → ReplayFault → Type 0
-HasReplayCause g old new text store (Text fault) = Tells fault (sessions_of text)
-HasReplayCause g old new text store (Run fault) = IsUnrun g text store fault
-HasReplayCause g old new text store (Write fault) = IsCutShort g old new text store
+abbrev pub HasReplayCause : {S : Type 0} → Ghosts S → Option (List ℕ) → Option (List ℕ) → List ℕ → List ℕ → S → ReplayFault → Type 0
+HasReplayCause g old new text schedule store (Text fault) = Tells fault (sessions_of text)
+HasReplayCause g old new text schedule store (Run fault) = IsUnrun g text schedule store fault
+HasReplayCause g old new text schedule store (Write fault) = IsCutShort g old new text schedule store
 
 -- a fault that came before anything was written
 abbrev pub IsUnwritten : ReplayFault → Type 0

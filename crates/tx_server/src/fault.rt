@@ -15,6 +15,8 @@ pub enum Fault<'a> {
     CannotRead(&'a str),
     #[error("tx: line {line}: {}", word_of(.kind))]
     Line { line: usize, kind: LineKind },
+    #[error("tx: schedule: item {0}")]
+    Schedule(usize),
     #[error("tx: cannot open database")]
     CannotOpen,
     #[error("tx: too many rows")]
@@ -51,6 +53,7 @@ pub fn fault_of<'a>(fault: ReplayFault) -> Fault<'a>
         ReplayFault::Run(RunFault::Open(OpenFault::NoMemory)) => Fault::NoMemory,
         ReplayFault::Run(RunFault::Open(OpenFault::Store(_))) => Fault::CannotOpen,
         ReplayFault::Run(RunFault::Open(OpenFault::TooManyRows)) => Fault::TooManyRows,
+        ReplayFault::Run(RunFault::Schedule(place)) => Fault::Schedule(place),
         ReplayFault::Write(_) => Fault::CannotWrite,
     }
 }

@@ -6,6 +6,7 @@ ghost use Rattle.tx_server.specs.Programs.{IsMissed, IsPrinted, Misses, MissesFr
 use crate::command::{Task, task_of};
 use crate::fault::{Fault, fault_of};
 use crate::replay::replay_text;
+use crate::schedule::attempts_of;
 use durable_top::{MemStore, TopStore};
 use sql_store::SqlStore;
 use sqlite::{File, FileStore};
@@ -43,19 +44,52 @@ pub fn tx_main<W: Write, E: Write>(
         return tell(err, Fault::NoMemory);
     };
     match task_of(alloc, all.as_slice()) {
-        Ok(Some(Task::Replay { file, database })) => match database {
-            Some(path) => replay_into(rt, alloc, file, path, out, err),
-            None => replay_file(rt, alloc, file, out, err),
-        },
-        Ok(None) => misuse(err, &"usage: tx_server replay FILE [--db PATH]"),
+        Ok(
+            Some(
+                Task::Replay {
+                    file,
+                    schedule,
+                    database,
+                },
+            ),
+        ) => replay(rt, alloc, file, schedule, database, out, err),
+        Ok(None) => misuse(
+            err,
+            &"usage: tx replay FILE [--schedule LIST] [--db PATH], or tx replay --help",
+        ),
         Err(text) => misuse(err, &text),
+    }
+}
+
+// The list is read first: what of it is no session's number is told once the text is read.
+fn replay<W: Write, E: Write>(
+    rt: &HostRuntime,
+    alloc: Global,
+    file: &str,
+    list: Option<&str>,
+    database: Option<&str>,
+    out: &mut W,
+    err: &mut E,
+) -> u8
+    ensures done { result ≡ DONE → Prints ⟦<MemStore as TopStore>⟧ (W.contents out.old) (W.contents out.new)
+        ⊎ PrintsFrom ⟦<SqlStore<FileStore<File>> as TopStore>⟧ (W.contents out.old) (W.contents out.new) }
+    ensures undone { result ≢ DONE → Misses ⟦<MemStore as TopStore>⟧ (W.contents out.old) (W.contents out.new)
+        ⊎ MissesFrom ⟦<SqlStore<FileStore<File>> as TopStore>⟧ (W.contents out.old) (W.contents out.new) }
+    ensures status { result ≤ FAILED }
+{
+    let Ok(schedule) = attempts_of(alloc, list) else {
+        return tell(err, Fault::NoMemory);
+    };
+    match database {
+        Some(path) => replay_into(rt, alloc, file, schedule.as_slice(), path, out, err),
+        None => replay_file(rt, alloc, file, schedule.as_slice(), out, err),
     }
 }
 
 // The words behind the program's name, and that name before them.
 fn command_line<'a>(alloc: Global, words: &'a [String]) -> Result<Vec<&'a str>, AllocError> {
     let mut all = Vec::new(alloc);
-    all.push("tx_server")?;
+    all.push("tx")?;
     for word in words {
         all.push(word.as_str())?;
     }
@@ -83,6 +117,7 @@ fn replay_file<R: Files + AllocGlobal, W: Write, E: Write>(
     rt: &R,
     alloc: Global,
     file: &str,
+    schedule: &[u32],
     out: &mut W,
     err: &mut E,
 ) -> u8
@@ -96,7 +131,7 @@ fn replay_file<R: Files + AllocGlobal, W: Write, E: Write>(
     let Ok(store) = MemStore::new(alloc, &[]) else {
         return tell(err, Fault::NoMemory);
     };
-    replay_over(alloc, text.as_slice(), store, out, err)
+    replay_over(alloc, text.as_slice(), schedule, store, out, err)
 }
 
 // The same over the database at this path, which is made where there is none.
@@ -104,6 +139,7 @@ fn replay_into<W: Write, E: Write>(
     rt: &HostRuntime,
     alloc: Global,
     file: &str,
+    schedule: &[u32],
     path: &str,
     out: &mut W,
     err: &mut E,
@@ -118,23 +154,24 @@ fn replay_into<W: Write, E: Write>(
     let Ok(store) = SqlStore::open(rt, path) else {
         return tell(err, Fault::CannotOpen);
     };
-    replay_over(alloc, text.as_slice(), store, out, err)
+    replay_over(alloc, text.as_slice(), schedule, store, out, err)
 }
 
-/// Replays this text over this store, and answers the exit status. The report goes to `out`, and only where the
+/// Replays this text over this store by this schedule, and answers the exit status. The report goes to `out`, and only where the
 /// whole run was done; a fault goes to `err`, in one line. The store is dropped.
 pub fn replay_over<S: TopStore, W: Write, E: Write>(
     alloc: Global,
     text: &[u8],
+    schedule: &[u32],
     store: S,
     out: &mut W,
     err: &mut E,
 ) -> u8
-    ensures done { result ≡ DONE → IsPrinted S.TopStore (W.contents out.old) (W.contents out.new) text.now store }
-    ensures undone { result ≢ DONE → IsMissed S.TopStore (W.contents out.old) (W.contents out.new) text.now store }
+    ensures done { result ≡ DONE → IsPrinted S.TopStore (W.contents out.old) (W.contents out.new) text.now schedule.now store }
+    ensures undone { result ≢ DONE → IsMissed S.TopStore (W.contents out.old) (W.contents out.new) text.now schedule.now store }
     ensures status { result ≤ FAILED }
 {
-    match replay_text(alloc, text, &[], store, out) {
+    match replay_text(alloc, text, schedule, store, out) {
         Ok(_left) => finish(out, err),
         Err(fault) => tell(err, fault_of(fault)),
     }

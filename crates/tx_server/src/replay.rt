@@ -1,5 +1,5 @@
 //! A session text, from its bytes to the bytes of its report.
-ghost use Rattle.std.specs.Prelude.{◌≡◌, [], IfErr, IfOk};
+ghost use Rattle.std.specs.Prelude.{◌≡◌, IfErr, IfOk};
 ghost use Rattle.tx_server.specs.Replays.{HasReplayCause, IsReplayed, IsUnwritten};
 
 use durable_top::TopStore;
@@ -17,9 +17,9 @@ pub enum ReplayFault {
     Write(WriteFault),
 }
 
-/// Reads a session text, runs it over the store, writes the report, and gives the store back. The first fault is
-/// told: of the text, of the run, or of the writer. Only after one of the writer has `out` taken bytes, which are
-/// a beginning of the report. At present no schedule says whose line comes next.
+/// Reads a session text, runs it over the store by the schedule, writes the report, and gives the store back. The first
+/// fault is told: of the text, of the run, or of the writer. Only after one of the writer has `out` taken bytes, which
+/// are a beginning of the report.
 pub fn replay_text<S: TopStore, W: Write>(
     alloc: Global,
     text: &[u8],
@@ -27,9 +27,8 @@ pub fn replay_text<S: TopStore, W: Write>(
     store: S,
     out: &mut W,
 ) -> Result<S, ReplayFault>
-    requires { schedule.now ≡ [] }
-    ensures ok { IfOk result (λ left. IsReplayed S.TopStore (W.contents out.old) (W.contents out.new) text.now store left) }
-    ensures err { IfErr result (λ fault. HasReplayCause S.TopStore (W.contents out.old) (W.contents out.new) text.now store fault) }
+    ensures ok { IfOk result (λ left. IsReplayed S.TopStore (W.contents out.old) (W.contents out.new) text.now schedule.now store left) }
+    ensures err { IfErr result (λ fault. HasReplayCause S.TopStore (W.contents out.old) (W.contents out.new) text.now schedule.now store fault) }
     ensures unwritten { IfErr result (λ fault. IsUnwritten fault → out.new ≡ out.old) }
 {
     let sessions = match Sessions::parse(alloc, text) {

@@ -1,6 +1,8 @@
 //! Texts with their reports, by the program's words and over stores of all kinds.
 mod faults;
 mod runs;
+mod serial;
+mod sessions;
 
 use crate::program::{replay_over, tx_main};
 use crate::replay::{ReplayFault, replay_text};
@@ -60,7 +62,7 @@ impl Told {
 fn replayed<S: TopStore>(alloc: Global, text: &[u8], store: S) -> Told {
     let mut out = Vec::new(alloc);
     let mut err = Vec::new(alloc);
-    let status = replay_over(alloc, text, store, &mut out, &mut err);
+    let status = replay_over(alloc, text, &[], store, &mut out, &mut err);
     Told { status, out, err }
 }
 
@@ -137,7 +139,7 @@ fn is_narrow(rt: &impl Abort, alloc: Global, left: usize, flushes: bool) -> bool
         flushes,
     };
     let mut err = Vec::new(alloc);
-    let status = replay_over(alloc, FIRST, empty(rt, alloc), &mut out, &mut err);
+    let status = replay_over(alloc, FIRST, &[], empty(rt, alloc), &mut out, &mut err);
     let taken = out.taken.as_slice();
     status == 1
         && err.as_slice() == b"tx: cannot write\n".as_slice()
@@ -224,6 +226,7 @@ fn words_that_are_no_command_line(rt: HostRuntime) {
         "replay a b",
         "replay a --workers 2",
         "replay a --db",
+        "replay a --schedule",
     ] {
         assert!(rt; run(&rt, &rt, words).is_misuse(), "{words}");
     }

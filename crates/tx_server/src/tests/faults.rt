@@ -53,6 +53,10 @@ fn lines_of_faults(rt: HostRuntime) {
             ReplayFault::Run(RunFault::Open(OpenFault::TooManyRows)),
             "tx: too many rows\n",
         ),
+        (
+            ReplayFault::Run(RunFault::Schedule(7)),
+            "tx: schedule: item 7\n",
+        ),
         (ReplayFault::Write(WriteFault), "tx: cannot write\n"),
     ] {
         assert!(rt; is_told(rt.alloc(), fault, line), "{line}");

@@ -1,0 +1,78 @@
+//! A judge of reports apart from the proofs: what the committed transactions were replied is run again over one table,
+//! one transaction after another, and has to lead to the report's table.
+use durable_top::Row;
+use interleavings::Report;
+use serial_spec::{Answer, Entry, Event, Item, PlainTable, run_items};
+use std::alloc::Global;
+use std::process::Abort;
+use txn_names::Name;
+
+// A transaction under way, and its items so far.
+#[derive(Drop)]
+struct Under {
+    name: Option<Name>,
+    items: Vec<Item>,
+}
+
+// The place of a transaction, or of the root.
+fn place_of(under: &[Under], name: Option<Name>) -> Option<usize> {
+    under.iter().position(|one| one.name == name)
+}
+
+fn begin(rt: &impl Abort, alloc: Global, under: &mut Vec<Under>, name: Option<Name>) {
+    let items = Vec::new(alloc);
+    under.push(Under { name, items }).expect(rt, "memory");
+}
+
+fn add(rt: &impl Abort, under: &mut Vec<Under>, name: Option<Name>, item: Item) {
+    if let Some(place) = place_of(under.as_slice(), name) {
+        if let Some(one) = under.get_mut(place) {
+            one.items.push(item).expect(rt, "memory");
+        }
+    }
+}
+
+// The items of one that commits become a block of its parent's.
+fn commit(rt: &impl Abort, under: &mut Vec<Under>, name: Name) {
+    if let Some(place) = place_of(under.as_slice(), Some(name)) {
+        let one = under.remove(place);
+        add(rt, under, name.parent(), Item::Block(one.items));
+    }
+}
+
+fn enter(rt: &impl Abort, alloc: Global, under: &mut Vec<Under>, entry: &Entry) {
+    match (entry.event, entry.answer) {
+        (Event::Begin(name), Answer::Done(_)) => begin(rt, alloc, under, Some(name)),
+        (Event::Access(name, key, op), Answer::Done(reply)) => {
+            add(rt, under, Some(name), Item::Access { key, op, reply })
+        }
+        (Event::Commit(name), Answer::Done(_)) => commit(rt, under, name),
+        _ => {}
+    }
+}
+
+// The table of these rows.
+fn table_of(rt: &impl Abort, alloc: Global, rows: &[Row]) -> PlainTable {
+    let mut table = PlainTable::new(alloc);
+    for row in rows {
+        table.put(&row.key, Some(row.value)).expect(rt, "memory");
+    }
+    table
+}
+
+fn is_same(left: &PlainTable, right: &PlainTable) -> bool {
+    left.len() == right.len() && (0..left.len()).all(|place| left.at(place) == right.at(place))
+}
+
+/// Whether the committed top-level transactions, one after another, have these replies and leave this table.
+pub fn is_serial(rt: &impl Abort, alloc: Global, report: &Report) -> bool {
+    let mut under = Vec::new(alloc);
+    begin(rt, alloc, &mut under, None);
+    for entry in report.history() {
+        enter(rt, alloc, &mut under, entry);
+    }
+    let root = under.remove(0);
+    let mut table = table_of(rt, alloc, report.opening());
+    let wrong = run_items(&mut table, root.items.as_slice()).expect(rt, "memory");
+    wrong.is_none() && is_same(&table, report.table())
+}
