@@ -3,7 +3,6 @@ use crate::{Cycle, Wait, Waits, Work, find_cycle, victim};
 use serial_spec::{By, NoMemory, Op};
 use std::alloc::Global;
 use std::process::Abort;
-use std::test::Fail;
 use txn_names::Key;
 use txn_tree::TxnNo;
 
@@ -91,13 +90,13 @@ fn chains_of_64(rt: HostRuntime) {
     chains(&rt, rt.alloc());
 }
 
-fn wait(txn: u32, line: u32) -> Result<Wait, Fail> {
-    Ok(Wait {
+fn wait(rt: &impl Abort, txn: u32, line: u32) -> Wait {
+    Wait {
         txn: TxnNo::new(txn),
-        key: Key::parse(b"x")?,
+        key: Key::parse(b"x").expect(rt, "a key"),
         op: Op::Get,
         by: By::Line { session: 0, line },
-    })
+    }
 }
 
 fn add_once(waits: &mut Waits, wait: &Wait) -> Result<(), NoMemory> {
@@ -105,45 +104,28 @@ fn add_once(waits: &mut Waits, wait: &Wait) -> Result<(), NoMemory> {
     waits.add(wait.txn, &wait.key, wait.op, wait.by)
 }
 
-fn add(waits: &mut Waits, wait: &Wait) -> Result<(), NoMemory> {
-    match add_once(waits, wait) {
-        Ok(()) => Ok(()),
-        Err(_) => add_once(waits, wait),
+fn add(rt: &impl Abort, waits: &mut Waits, wait: &Wait) {
+    if add_once(waits, wait).is_err() {
+        add_once(waits, wait).expect(rt, "memory");
     }
 }
 
-// Whether it is found until it is cancelled, and may wait again.
-fn comes_and_goes(waits: &mut Waits) -> Result<bool, Fail> {
-    let (first, second, again) = (wait(4, 1)?, wait(9, 2)?, wait(4, 3)?);
-    add(waits, &first)?;
-    add(waits, &second)?;
-    let both = waits.of(first.txn).copied() == Some(first)
-        && waits.of(second.txn).copied() == Some(second);
-    waits.cancel(first.txn);
-    let gone = waits.of(first.txn).is_none();
-    add(waits, &again)?;
-    let stand = waits.of(first.txn).copied() == Some(again)
-        && waits.of(second.txn).copied() == Some(second);
-    Ok(both && gone && stand)
+fn stands(waits: &Waits, wait: &Wait) -> bool {
+    waits.of(wait.txn).copied() == Some(*wait)
 }
 
+// A wait is found until it is cancelled, and its transaction may wait again.
 #[test]
-fn waits_come_and_go(rt: HostRuntime) -> Result<(), Fail> {
+fn waits_come_and_go(rt: HostRuntime) {
     let mut waits = Waits::new(rt.alloc());
-    let done = comes_and_goes(&mut waits)?;
-    assert!(rt; done);
-    Ok(())
-}
-
-// A hundred wait, then those of odd numbers are cancelled.
-fn half_cancelled(waits: &mut Waits) -> Result<(), Fail> {
-    for txn in 0..100 {
-        add(waits, &wait(txn, txn)?)?;
-    }
-    for half in 0..50 {
-        waits.cancel(TxnNo::new(2 * half + 1));
-    }
-    Ok(())
+    let (first, second, again) = (wait(&rt, 4, 1), wait(&rt, 9, 2), wait(&rt, 4, 3));
+    add(&rt, &mut waits, &first);
+    add(&rt, &mut waits, &second);
+    assert!(rt; stands(&waits, &first) && stands(&waits, &second));
+    waits.cancel(first.txn);
+    assert!(rt; waits.of(first.txn).is_none());
+    add(&rt, &mut waits, &again);
+    assert!(rt; stands(&waits, &again) && stands(&waits, &second));
 }
 
 // Whether those of even numbers wait and no others, each met at a place.
@@ -161,11 +143,15 @@ fn evens_wait(waits: &Waits) -> bool {
     waits.len() == 50 && waits.at(50).is_none()
 }
 
+// A hundred wait, then those of odd numbers are cancelled.
 #[test]
-fn half_of_a_hundred(rt: HostRuntime) -> Result<(), Fail> {
+fn half_of_a_hundred(rt: HostRuntime) {
     let mut waits = Waits::new(rt.alloc());
-    half_cancelled(&mut waits)?;
-    let stand = evens_wait(&waits);
-    assert!(rt; stand);
-    Ok(())
+    for txn in 0..100 {
+        add(&rt, &mut waits, &wait(&rt, txn, txn));
+    }
+    for half in 0..50 {
+        waits.cancel(TxnNo::new(2 * half + 1));
+    }
+    assert!(rt; evens_wait(&waits));
 }
