@@ -3,9 +3,10 @@ ghost use Rattle.std.specs.Prelude.{◌≡◌, ◌&&◌, nat_eq, not, length, Is
 ghost use Rattle.std.specs.List.{IsDistinct, list_any};
 ghost use Rattle.std.specs.List.Sorted.{IsStrictlyIncreasing};
 ghost use Rattle.txn_names.specs.Path.{label_eq};
-ghost use Rattle.txn_cells.specs.Cells.{IsTowards, handed_up, is_under, with_childs, with_place};
-ghost use Rattle.txn_cells.specs.Kept.{cells_in, content, has_place, is_holder, is_marked, keys_in, stands};
+ghost use Rattle.txn_cells.specs.Cells.{IsTowards, handed_up, is_under, merged, with_childs, with_place};
+ghost use Rattle.txn_cells.specs.Kept.{cells_in, content, content_at, has_cell_at, has_place, is_holder, is_marked, keys_in, stands};
 
+use crate::cells::Cells;
 use crate::index::KeyIndex;
 use crate::inherit::Inherit;
 use crate::rows::Rows;
@@ -170,13 +171,35 @@ impl<V: Inherit> CellTable<V> {
         }
     }
 
-    // Drops the cells of the transaction.
-    fn drop_one(&mut self, txn: TxnNo)
+    // Takes the transaction's cells out. It has no place any more.
+    fn take_out(&mut self, txn: TxnNo) -> Cells<V>
+        ensures taken { (q : List ℕ) → content_at result q ≡ content self.old txn q }
+        ensures taken_cells { (q : List ℕ) → has_cell_at result q ≡ has_place self.old txn q }
         ensures contents { (u : ℕ) → (q : List ℕ) → content self.new u q ≡ (if nat_eq txn u then None else content self.old u q) }
         ensures places { (u : ℕ) → (q : List ℕ) → has_place self.new u q ≡ (not (nat_eq txn u) && has_place self.old u q) }
     {
         let cells = self.rows.take_out(txn);
         self.index.remove_at(txn, cells.keys());
+        cells
+    }
+
+    // The transaction inherits what stands in these cells.
+    fn inherit(&mut self, txn: TxnNo, child: &Cells<V>)
+        requires cells { (q : List ℕ) → IsTrue (has_cell_at child.now q) → IsTrue (has_place self.old txn q) }
+        ensures contents { (u : ℕ) → (q : List ℕ) →
+            content self.new u q ≡ (if nat_eq txn u then merged V.inherited (content_at child.now q) (content self.old u q) else content self.old u q) }
+        ensures places { (u : ℕ) → (q : List ℕ) → has_place self.new u q ≡ has_place self.old u q }
+    {
+        self.rows.inherit(txn, child);
+        mark_at(&self.rows, &mut self.index, txn, child.keys());
+    }
+
+    // Drops the cells of the transaction.
+    fn drop_one(&mut self, txn: TxnNo)
+        ensures contents { (u : ℕ) → (q : List ℕ) → content self.new u q ≡ (if nat_eq txn u then None else content self.old u q) }
+        ensures places { (u : ℕ) → (q : List ℕ) → has_place self.new u q ≡ (not (nat_eq txn u) && has_place self.old u q) }
+    {
+        let _ = self.take_out(txn);
     }
 
     /// Drops the cells of the transaction and of all below it. It goes to no other transaction, and takes no memory.
@@ -202,12 +225,10 @@ impl<V: Inherit> CellTable<V> {
         ensures contents { (u : ℕ) → (q : List ℕ) → content self.new u q ≡ handed_up V.inherited (content self.old) child parent u q }
         ensures places { (u : ℕ) → (q : List ℕ) → has_place self.new u q ≡ (not (nat_eq child u) && has_place self.old u q) }
     {
-        let cells = self.rows.take_out(child);
-        self.index.remove_at(child, cells.keys());
+        let cells = self.take_out(child);
         if let Some(parent) = parent {
             if parent != child {
-                self.rows.inherit(parent, &cells);
-                mark_at(&self.rows, &mut self.index, parent, cells.keys());
+                self.inherit(parent, &cells);
             }
         }
     }
