@@ -1,7 +1,7 @@
 //! A manager that is asked line after line.
 use durable_top::MemStore;
 use manager_core::{Manager, Outcome};
-use serial_spec::{By, Event, NoMemory, Op};
+use serial_spec::{By, Event, NoMemory, Op, Refusal};
 use std::alloc::Global;
 use txn_names::{Key, Name};
 
@@ -15,6 +15,16 @@ pub struct Driver {
 // Whether the line was done.
 fn is_done(answered: Result<Outcome, NoMemory>) -> bool {
     matches!(answered, Ok(Outcome::Done(_)))
+}
+
+// Whether the line waits.
+fn is_waiting(answered: Result<Outcome, NoMemory>) -> bool {
+    matches!(answered, Ok(Outcome::Waits))
+}
+
+// Whether the line was refused since its transaction, or one above it, has aborted.
+fn is_orphan(answered: Result<Outcome, NoMemory>) -> bool {
+    matches!(answered, Ok(Outcome::Refused(Refusal::Orphan(_))))
 }
 
 impl Driver {
@@ -74,6 +84,39 @@ impl Driver {
     pub fn abort(&mut self, name: &Name) -> Option<()> {
         let by = self.next_line();
         if self.manager.free(by, &Event::Abort(*name)) && is_done(self.manager.abort(by, name)) {
+            Some(())
+        } else {
+            None
+        }
+    }
+
+    /// Asks for an access that has to wait. Its transaction may be a victim at once.
+    pub fn wait(&mut self, name: &Name, key: &Key, op: Op) -> Option<()> {
+        let by = self.next_line();
+        if self.manager.free(by, &Event::Access(*name, *key, op))
+            && is_waiting(self.manager.access(by, name, key, op))
+        {
+            Some(())
+        } else {
+            None
+        }
+    }
+
+    /// Asks again for the access by which the transaction waits, which is done now. That is no further line.
+    pub fn retry(&mut self, name: &Name) -> Option<()> {
+        if self.manager.waiting(name) && is_done(self.manager.retry(name)) {
+            Some(())
+        } else {
+            None
+        }
+    }
+
+    /// Asks for the commit of a transaction that was a victim.
+    pub fn commit_victim(&mut self, name: &Name) -> Option<()> {
+        let by = self.next_line();
+        if self.manager.free(by, &Event::Commit(*name))
+            && is_orphan(self.manager.commit(by, name))
+        {
             Some(())
         } else {
             None

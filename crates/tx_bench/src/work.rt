@@ -22,6 +22,9 @@ pub enum Workload {
     Deep,
     /// Top-level transactions that read the same 16 keys, all begun before the first commits.
     Readers,
+    /// Groups of 64 top-level transactions that wait behind each other in a chain, which is closed to a cycle again and again:
+    /// the last of them is a victim each time, until one is left.
+    Waits,
 }
 
 /// The accesses of one transaction.
@@ -33,6 +36,12 @@ const LINES: u32 = ACCESSES + 2;
 /// The depth of a tree.
 const DEPTH: usize = 8;
 
+/// How many wait behind each other.
+const GROUP: u32 = 64;
+
+/// The accesses of each of them to keys that nobody else asks for.
+const OWN: u32 = 11;
+
 impl Workload {
     /// The workload of this name.
     pub fn named(name: &str) -> Option<Workload> {
@@ -42,6 +51,7 @@ impl Workload {
             "children" => Some(Workload::Children),
             "deep" => Some(Workload::Deep),
             "readers" => Some(Workload::Readers),
+            "waits" => Some(Workload::Waits),
             _ => None,
         }
     }
@@ -68,6 +78,7 @@ fn serve(driver: &mut Driver, workload: Workload, size: u32, seed: u64) -> Optio
         Workload::Children => children(driver, &mut random, size / 1024 * 63),
         Workload::Deep => deep(driver, &mut random, size / (LINES * 8)),
         Workload::Readers => readers(driver, size / 1024 * 62),
+        Workload::Waits => waits(driver, size / (GROUP * LINES)),
     }
 }
 
@@ -150,6 +161,58 @@ fn readers(driver: &mut Driver, count: u32) -> Option<()> {
     }
     for number in 0..count {
         driver.commit(&name_of(&[number])?)?;
+    }
+    Some(())
+}
+
+// The name of a member of a group.
+fn member_of(group: u32, member: u32) -> Option<Name> {
+    name_of(&[group.wrapping_mul(GROUP).wrapping_add(member)])
+}
+
+// Waits for the member that holds this key.
+fn wait_for(driver: &mut Driver, group: u32, member: u32, key: u32) -> Option<()> {
+    driver.wait(&member_of(group, member)?, &key_of(key)?, Op::Add(1))
+}
+
+// Each begins, goes over keys of its own, and writes the key that the one before it will wait for.
+fn begin_group(driver: &mut Driver, group: u32) -> Option<()> {
+    for member in 0..GROUP {
+        let name = member_of(group, member)?;
+        driver.begin(&name)?;
+        for turn in 0..OWN {
+            access(driver, &name, GROUP + member * OWN + turn, turn)?;
+        }
+        driver.access(&name, &key_of(member)?, Op::Add(1))?;
+    }
+    Some(())
+}
+
+// Each waits for the next one, which waits already unless it is the last.
+fn chain_group(driver: &mut Driver, group: u32) -> Option<()> {
+    for turn in 2..GROUP + 1 {
+        let member = GROUP - turn;
+        wait_for(driver, group, member, member + 1)?;
+    }
+    Some(())
+}
+
+// The last one waits for the first, and is the victim. The one before it goes on, and is the last one then.
+fn break_group(driver: &mut Driver, group: u32) -> Option<()> {
+    for turn in 1..GROUP {
+        let last = GROUP - turn;
+        wait_for(driver, group, last, 0)?;
+        driver.retry(&member_of(group, last - 1)?)?;
+        driver.commit_victim(&member_of(group, last)?)?;
+    }
+    driver.commit(&member_of(group, 0)?)
+}
+
+fn waits(driver: &mut Driver, groups: u32) -> Option<()> {
+    for group in 0..groups {
+        begin_group(driver, group)?;
+        chain_group(driver, group)?;
+        break_group(driver, group)?;
     }
     Some(())
 }
