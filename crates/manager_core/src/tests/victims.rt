@@ -19,7 +19,8 @@ fn two_in_opposite_order(rt: HostRuntime) {
     play(&rt, rt.alloc(), "", script, "x=1 y=2");
 }
 
-// An answered access closes the cycle: u's read keeps t from writing, and t is what u's child waits for.
+// An answered access closes the cycle: u's read keeps t from writing, and t is what u's child waits for. A growth of it that is
+// refused leaves nine entries and both waits.
 #[test]
 fn an_answered_access_closes_a_cycle(rt: HostRuntime) {
     let script = "
@@ -31,9 +32,13 @@ fn an_answered_access_closes_a_cycle(rt: HostRuntime) {
         22 begin u/c -> ok
         3 set t k 2 -> waits
         23 get u/c y -> waits
+        31 after u begun -> ok
+        stand 9 t u/c
         32 get u k -> none * u/c
+        stand 11 t
         13 commit r -> ok
         23 get u/c y -> orphan u/c
+        33 after u/c done -> ok
         24 commit u/c -> orphan u/c
         34 commit u -> ok
         3 set t k 2 -> ok

@@ -505,12 +505,32 @@ fn check_table<S: TopStore>(rt: &impl Abort, watched: &Watched<S>, text: &str) {
     assert!(rt; has_rows(watched.manager.table(), &rows), "table {text}");
 }
 
-// A line of a script: a call with its answer, `close` with what has to be aborted, or `table` with its rows.
+fn is_among(rt: &impl Abort, who: &Name, names: &str) -> bool {
+    names.split_whitespace().any(|word| name(rt, word) == *who)
+}
+
+// So many entries stand, and of those that they name these wait and no others.
+fn check_standing<S: TopStore>(rt: &impl Abort, watched: &Watched<S>, text: &str) {
+    let (count, waiting) = text.split_once(' ').unwrap_or((text, ""));
+    let entries = watched.manager.history();
+    assert!(rt; entries.len() as i64 == number(rt, count), "stand {text}");
+    for entry in entries {
+        let who = name_of(&entry.event);
+        assert!(rt;
+            watched.manager.waiting(who) == is_among(rt, who, waiting),
+            "stand {text}"
+        );
+    }
+}
+
+// A line of a script: a call with its answer, `close` with what has to be aborted, `table` with its rows, or `stand` with how
+// many entries there are and who waits.
 fn step<S: TopStore>(rt: &impl Abort, watched: &mut Watched<S>, text: &str) {
     let (word, rest) = text.split_once(' ').unwrap_or((text, ""));
     match word {
         "close" => close(rt, watched, rest),
         "table" => check_table(rt, watched, rest),
+        "stand" => check_standing(rt, watched, rest),
         _ => tell(rt, watched, text),
     }
 }
