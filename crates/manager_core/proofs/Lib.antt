@@ -19,6 +19,7 @@ pub mod Stored
 pub mod TopCommits
 pub mod Opening
 pub mod Tops
+pub mod TopsInTurn
 pub mod Waits
 pub mod Lasting
 pub mod WaitTables

@@ -17,15 +17,12 @@ use txn_names::Name;
 use txn_tree::{Status, TxnNo};
 
 impl Tables {
-    // The top-level transaction at this place in the order of beginning, if it is live.
-    fn live_top_at(&self, place: usize) -> Option<Name>
-        requires { place < length self.now.tree }
-        ensures some { IfSome result (λ t. (slice_get (names self.now.tree) place ≡ Some t) × IsTrue (is_live_top_in self.now.tree t)) }
-        ensures none { IfNone result ((t : Name) → slice_get (names self.now.tree) place ≡ Some t → IsFalse (is_live_top_in self.now.tree t)) }
+    // The transaction's name, if it is top-level and live.
+    fn live_top_at(&self, txn: TxnNo) -> Option<Name>
+        ensures some { IfSome result (λ t. (slice_get (names self.now.tree) txn ≡ Some t) × IsTrue (is_live_top_in self.now.tree t)) }
+        ensures none { IfNone result ((t : Name) → slice_get (names self.now.tree) txn ≡ Some t → IsFalse (is_live_top_in self.now.tree t)) }
     {
-        // Asked for what it tells: how many there are at most.
-        let _ = self.tree.len();
-        let name = self.tree.name_of(TxnNo::new(place as u32))?;
+        let name = self.tree.name_of(txn)?;
         if name.depth() == 1 && self.tree.status(name) == Status::Live {
             Some(*name)
         } else {
@@ -34,16 +31,13 @@ impl Tables {
     }
 
     /// How many top-level transactions are live.
+    #[tactic(auto, using(crate::proofs::TopsInTurn::tops_counted))]
     pub(crate) fn count_live_tops(&self) -> usize
         ensures { result ≡ count_by (is_live_top_in self.now.tree) (names self.now.tree) }
     {
-        let mut count = 0;
-        for place in 0..self.tree.len() {
-            if let Some(_) = self.live_top_at(place) {
-                count += 1;
-            }
-        }
-        count
+        // Asked for what it tells: that names have a label.
+        let _ = self.tree.len();
+        self.tree.live_tops() as usize
     }
 
     // Aborts one of them.
@@ -72,10 +66,12 @@ impl Tables {
         ensures closes { Closes log.old.rows log.old.entries log.new.entries self.new }
         ensures table { rows_in self.new ≡ rows_in self.old }
     {
-        for place in 0..self.tree.len() {
-            if let Some(name) = self.live_top_at(place) {
+        let mut top = self.tree.first_top();
+        while let Some(txn) = top {
+            if let Some(name) = self.live_top_at(txn) {
                 self.close_top(log, &name);
             }
+            top = self.tree.next_sibling(txn);
         }
     }
 }
