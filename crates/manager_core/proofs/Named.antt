@@ -1,11 +1,11 @@
 -- Tests of the names in order of beginning, a place at a time.
-use Rattle.std.proofs.Common.{◌≡◌, ℕ, ◌+◌, ◌<◌, zero, suc, Bool, true, false, cond, ◌||◌, List, [], ◌∷◌, ◌++◌, length, take, drop, count_by, get_or, Some, refl, ap, ◌∙◌, arith}
+use Rattle.std.proofs.Common.{◌≡◌, ℕ, ◌+◌, ◌<◌, zero, suc, Bool, true, false, cond, ◌||◌, List, [], ◌∷◌, length, take, drop, count_by, get_or, Some, refl, ap, ◌∙◌, arith}
 use Rattle.std.specs.Prelude.{slice_get}
 use Rattle.std.specs.List.{list_any}
 use Rattle.std.proofs.lemmas.Bool.{or_left, or_right}
-use Rattle.std.proofs.lemmas.List.{take_more, drop_more}
+use Rattle.std.proofs.lemmas.List.{drop_more}
 use Rattle.std.proofs.lemmas.List.Folds.{list_any_more}
-use Rattle.std.proofs.lemmas.List.Sums.{sum_by-cons, sum_by-append}
+use Rattle.std.proofs.lemmas.List.Sums.{sum_by-cons}
 use Rattle.std.proofs.lemmas.Option.{get_or_from_slice_get, slice_get_within}
 
 -- where the one at a place passes some do
@@ -29,14 +29,6 @@ drop_at_place xs i x at =
 pub counted_at : {X : Type 0} (p : X → Bool) (xs : List X) (i : ℕ) (x : X) → slice_get xs i ≡ Some x
     → count_by p (drop i xs) ≡ cond (p x) 1 0 + count_by p (drop (i + 1) xs)
 counted_at p xs i x at = ap (count_by p) (drop_at_place xs i x at) ∙ sum_by-cons (λ y. cond (p y) 1 0) x (drop (i + 1) xs)
-
--- how many pass, a place further
-pub counted_next : {X : Type 0} (p : X → Bool) (xs : List X) (i : ℕ) (x : X) → slice_get xs i ≡ Some x
-    → count_by p (take (i + 1) xs) ≡ count_by p (take i xs) + cond (p x) 1 0
-counted_next p xs i x at =
-    let more : take (i + 1) xs ≡ take i xs ++ x ∷ [] =
-    take_more xs i x (slice_get_within xs i x at) ∙ ap (λ y. take i xs ++ y ∷ []) (get_or_from_slice_get xs i x x at) in
-    omega (arith, ap (count_by p) more, sum_by-append (λ y. cond (p y) 1 0) (take i xs) (x ∷ []), sum_by-cons (λ y. cond (p y) 1 0) x [])
 
 -- there is something at each place
 pub got : {X : Type 0} (xs : List X) (i : ℕ) → i < length xs → (x : X) × (slice_get xs i ≡ Some x)

@@ -1,4 +1,4 @@
-use Rattle.std.proofs.Common.{◌≡◌, ◌≤◌, length, refl, ◌∙◌, ap, subst, arith}
+use Rattle.std.proofs.Common.{◌≤◌, length, refl, ◌∙◌, ap, subst, arith}
 use Rattle.std.proofs.lemmas.Map.Entries.{length-keys_of}
 use Rattle.txn_tree.specs.States.{names}
 use Rattle.txn_tree.specs.Siblings.{IsFirst, IsNext, is_sibling_at, is_top_at}
