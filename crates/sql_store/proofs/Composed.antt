@@ -1,5 +1,5 @@
 -- Changes one after another.
-use Rattle.std.proofs.Common.{◌≡◌, ℕ, ℤ, Bool, true, false, cond, List, [], ◌∷◌, ◌++◌, Option, None, refl, sym, ap, subst, ◌∙◌}
+use Rattle.std.proofs.Common.{◌≡◌, ℕ, ℤ, Bool, true, false, cond, List, [], ◌∷◌, ◌++◌, Option, refl, sym, ap, subst, ◌∙◌}
 use Rattle.std.specs.Prelude.{IsTrue}
 use Rattle.sqlite.specs.Effect.{Database}
 use Rattle.sqlite.specs.Tree.{Trees}
@@ -14,7 +14,7 @@ use Rattle.durable_top.proofs.Tables.{overlay_push}
 use Rattle.sql_store.specs.Table.{map_of, table_of, IsReady, Makes}
 use Rattle.sql_store.specs.Writes.{MakesAll, Stores, IsStored}
 
-put_again : (m : Map) (k : List ℕ) (v w : Option ℤ) → put (put m k v) k w ≡ put m k w
+pub put_again : (m : Map) (k : List ℕ) (v w : Option ℤ) → put (put m k v) k w ≡ put m k w
 put_again m k v w =
     let each : (q : List ℕ) → put (put m k v) k w q ≡ put m k w q = λ q. twice (label_eq k q) v w (m q) in λ i q. each q i
   where
@@ -27,15 +27,6 @@ keeps_then a b c p q = record { was_open = λ h. p.was_open (q.was_open h); comm
 
 pub keeps_all : (a : State) → KeepsCommit a a
 keeps_all a = record { was_open = λ h. h; committed = λ h. refl }
-
-pub makes_both : (k : List ℕ) (v : Option ℤ) (a b c : State) → Makes k None a b → Makes k v b c → Makes k v a c
-makes_both k v a b c p q = record {
-  was_open = p.was_open;
-  inside = q.inside;
-  kept = keeps_then a b c p.kept q.kept;
-  ready = λ h. q.ready (p.ready h);
-  table = λ h. q.table (p.ready h) ∙ ap (λ m. put m k v) (p.table h) ∙ put_again (table_of a.now) k None v;
-}
 
 pub makes_none : (a : State) → IsReady a.now → MakesAll [] a a
 makes_none a h = record { ready = h; table = refl }

@@ -2,7 +2,7 @@
 use Rattle.std.proofs.Common.{◌≡◌, ◌&&◌, if◌then◌else◌, ℕ, Bool, true, false, cond, List, [], ◌∷◌, ◌++◌, map, flat_map, None, Some, Ok, sym, ap, subst, ◌∙◌, refl, is_eq}
 use Rattle.std.specs.List.Sorted.{IsPermutation}
 use Rattle.std.proofs.lemmas.List.Sorted.{IsPermutation-map}
-use Rattle.std.specs.List.{list_all, AllByRecursion}
+use Rattle.std.specs.List.{list_all}
 use Rattle.sqlite.specs.declared.types.Value.{Value}
 use Rattle.sqlite.specs.declared.types.Value.TheVariants.{Null, Int, Real, Text, Blob}
 use Rattle.sqlite.specs.Order.{Row, column}
@@ -27,13 +27,13 @@ use Rattle.sqlite_value.specs.Order.{value_cmp}
 use Rattle.sqlite_rules.specs.Calls.{ids_of}
 use Rattle.serial_spec.specs.Serial.{put}
 use Rattle.sql_store.specs.Results.{results, results_schema}
-use Rattle.sql_store.specs.Table.{is_key, map_of, table_of, AreApart, IsReady, IsFree, Makes}
+use Rattle.sql_store.specs.Table.{is_key, map_of, table_of, AreApart, IsReady, Makes}
 use Rattle.sql_store.proofs.Texts.{delete_text, delete_is, delete_plain, delete_query}
 use Rattle.sql_store.proofs.Creates.{went, same_value}
 use Rattle.sql_store.proofs.Steps.{kept_by}
-use Rattle.sql_store.proofs.Tables.{key_test, rows_with, rows_without, shown_ids, removed, apart_kept, map_removed, none_left}
+use Rattle.sql_store.proofs.Tables.{key_test, rows_with, rows_without, shown_ids, removed, apart_kept, map_removed}
 
-told : (b : Bool) → is_true (from_truth (Some b)) ≡ b
+pub told : (b : Bool) → is_true (from_truth (Some b)) ≡ b
 told true = refl
 told false = refl
 
@@ -90,9 +90,6 @@ deleted old new key ready it =
     let rows = it.rows ready.apart in
     (record { schema = it.schema; apart = subst AreApart (sym rows) (apart_kept _ (old.trees 0) ready.apart) }, ap map_of rows ∙ map_removed key (old.trees 0))
 
-pub freed : (old new : Database) (key : List ℕ) → IsReady old → Deletes key old new → IsFree key new
-freed old new key ready it = subst (AllByRecursion (λ r. is_key key (column r 1) ≡ false)) (sym (it.rows ready.apart)) (none_left key (old.trees 0))
-
 pub removes : (old new : State) (key : List ℕ) (count : ℕ) → ExecutesInside 0 delete_text (Text key ∷ []) old new (Ok count) → Makes key None old new
 removes old new key count h = record {
   was_open = h.1.was_open;
@@ -101,6 +98,3 @@ removes old new key count h = record {
   ready = λ ready. (deleted old.now new.now key ready (deletes old new key count ready.schema h.0)).0;
   table = λ ready. (deleted old.now new.now key ready (deletes old new key count ready.schema h.0)).1;
 }
-
-pub frees : (old new : State) (key : List ℕ) (count : ℕ) → ExecutesInside 0 delete_text (Text key ∷ []) old new (Ok count) → IsReady old.now → IsFree key new.now
-frees old new key count h ready = freed old.now new.now key ready (deletes old new key count ready.schema h.0)

@@ -3,9 +3,9 @@ pub mod Creates
 pub mod Loads
 pub mod Tables
 pub mod Deletes
-pub mod Inserts
 pub mod Steps
 pub mod Composed
+pub mod Upserts
 pub mod Loaded
 pub mod Doubts
 pub mod Apart

@@ -6,7 +6,7 @@ use Rattle.std.proofs.lemmas.Map.Lookups.{exact_signed}
 use Rattle.std.proofs.lemmas.List.Sorted.{Contains-permutation, IsPermutation-sym}
 use Rattle.std.specs.Cmp.{both_ways}
 use Rattle.std.specs.Cmp.Lexicographic.{texts_ties}
-use Rattle.std.specs.List.{list_any, AllByRecursion}
+use Rattle.std.specs.List.{list_any}
 use Rattle.std.specs.List.Sorted.{IsPermutation}
 use Rattle.std.specs.Ordering.{match_ordering}
 use Rattle.sqlite.specs.declared.types.Value.{Value}
@@ -56,20 +56,20 @@ own_id (x ∷ rows) r h (inl e) = subst (λ (y : Row). column y 0 ≡ Int (id_of
 own_id (x ∷ rows) r h (inr has) = own_id rows r h.2 has
 
 -- rows with one rowid are one row
-same_row : (rows : List Row) (a b : Row) → AreApart rows → Has rows a → Has rows b → id_of a ≡ id_of b → a ≡ b
+pub same_row : (rows : List Row) (a b : Row) → AreApart rows → Has rows a → Has rows b → id_of a ≡ id_of b → a ≡ b
 same_row [] a b h has_a has_b e = absurd has_a
 same_row (x ∷ rows) a b h (inl p) (inl q) e = p ∙ sym q
 same_row (x ∷ rows) a b h (inl p) (inr q) e = absurd (all_has (λ y. id_of y ≢ id_of x) rows b h.1 q (sym e ∙ ap id_of p))
 same_row (x ∷ rows) a b h (inr p) (inl q) e = absurd (all_has (λ y. id_of y ≢ id_of x) rows a h.1 p (e ∙ ap id_of q))
 same_row (x ∷ rows) a b h (inr p) (inr q) e = same_row rows a b h.2 p q e
 
-has_own : (r : Row) → column r 0 ≡ Int (id_of r) → has_rowid (id_of r) r ≡ true
+pub has_own : (r : Row) → column r 0 ≡ Int (id_of r) → has_rowid (id_of r) r ≡ true
 has_own r e = subst (λ (v : Value). is_eq (value_cmp v (Int (id_of r))) ≡ true) (sym e) (ap is_eq (tied_itself value_cmp_total (Int (id_of r))))
 
 pub ids_tied : (a b : ℤ) → is_eq (value_cmp (Int a) (Int b)) ≡ true → a ≡ b
 ids_tied a b h = exact_signed a b (sym (value_cmp-Int a b) ∙ tied _ h)
 
-id_found : (r : Row) (id : ℤ) → column r 0 ≡ Int (id_of r) → has_rowid id r ≡ true → id_of r ≡ id
+pub id_found : (r : Row) (id : ℤ) → column r 0 ≡ Int (id_of r) → has_rowid id r ≡ true → id_of r ≡ id
 id_found r id e h = ids_tied (id_of r) id (subst (λ (v : Value). is_eq (value_cmp v (Int id)) ≡ true) e h)
 
 -- ---- lists
@@ -87,7 +87,7 @@ mapped_has f [] x has = absurd has
 mapped_has f (z ∷ xs) x (inl e) = inl (ap f e)
 mapped_has f (z ∷ xs) x (inr has) = inr (mapped_has f xs x has)
 
-filter_same : (p q : Row → Bool) (rows : List Row) → ((r : Row) → Has rows r → p r ≡ q r) → filter p rows ≡ filter q rows
+pub filter_same : (p q : Row → Bool) (rows : List Row) → ((r : Row) → Has rows r → p r ≡ q r) → filter p rows ≡ filter q rows
 filter_same p q [] same = refl
 filter_same p q (r ∷ rows) same =
     ap (λ b. cond b (r ∷ filter p rows) (filter p rows)) (same r (inl refl))
@@ -150,13 +150,6 @@ apart_kept p (r ∷ rows) h = go (apart_kept p rows h.2) (p r)
     go : AreApart (filter p rows) → (b : Bool) → AreApart (cond b (r ∷ filter p rows) (filter p rows))
     go more true = (h.0, all_from (λ q. id_of q ≢ id_of r) (filter p rows) (λ q has. all_has (λ q. id_of q ≢ id_of r) rows q h.1 (has_filtered p rows q has).0), more)
     go more false = more
-
-pub none_left : (k : List ℕ) (rows : List Row) → AllByRecursion (λ r. is_key k (column r 1) ≡ false) (rows_without k rows)
-none_left k rows = all_from (λ r. is_key k (column r 1) ≡ false) (rows_without k rows) (λ r has. denied (is_key k (column r 1)) (has_filtered (λ (x : Row). not (is_key k (column x 1))) rows r has).1)
-  where
-    denied : (b : Bool) → not b ≡ true → b ≡ false
-    denied true e = absurd (false≢true e)
-    denied false e = refl
 
 past : (b c : Bool) (v x y : Option ℤ) → (b ≡ false → c ≡ false) → cond b v y ≡ cond b v (cond c x y)
 past true c v x y f = refl

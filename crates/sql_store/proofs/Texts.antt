@@ -1,5 +1,5 @@
 -- What the texts mean.
-use Rattle.std.proofs.Common.{◌≡◌, ℕ, List, [], ◌∷◌, ◌++◌, codes, None, Ok, refl, ap, arith, false, pos, negsuc}
+use Rattle.std.proofs.Common.{◌≡◌, ℕ, List, [], ◌∷◌, ◌++◌, codes, None, Some, Ok, refl, ap, arith, false, pos, negsuc}
 use Rattle.std.proofs.lemmas.Fmt.{decimal_digit}
 use Rattle.sqlite.specs.Term.{Term}
 use Rattle.sqlite.specs.Query.{Query}
@@ -7,10 +7,12 @@ use Rattle.sqlite.specs.declared.types.Value.TheVariants.{Null, Int}
 use Rattle.sqlite.specs.Term.{lit, col, op2}
 use Rattle.sqlite.specs.Query.{inner, end}
 use Rattle.sqlite.specs.Source.TheVariants.{Values}
+use Rattle.sqlite_schema.specs.declared.command.Upsert.{Upsert}
+use Rattle.sqlite_schema.specs.declared.command.Conflict.TheVariants.{Abort}
 use Rattle.sqlite.specs.Collation.TheVariants.{Binary}
 use Rattle.sqlite_sql.specs.declared.ops.BinaryOp.TheVariants.{Compare}
 use Rattle.sqlite_sql.specs.declared.ops.CompareOp.TheVariants.{Eq}
-use Rattle.sqlite.specs.Command.TheVariants.{Insert, Select, CreateTable, Nothing, Delete}
+use Rattle.sqlite.specs.Command.TheVariants.{InsertOr, Select, CreateTable, Nothing, Delete}
 use Rattle.sqlite.specs.Compile.{table_defined_by}
 use Rattle.sqlite_tied.specs.Compute.{everything}
 use Rattle.sqlite.specs.Listing.{understood, reads_listing}
@@ -21,8 +23,8 @@ use Rattle.sql_store.specs.Load.{load_text, load_query, ids_text, ids_query}
 abbrev pub create_text : List ℕ
 create_text = codes "CREATE TABLE IF NOT EXISTS results (k TEXT NOT NULL PRIMARY KEY, v INTEGER NOT NULL) STRICT"
 
-abbrev pub insert_text : List ℕ
-insert_text = codes "INSERT INTO results (k, v) VALUES (?1, ?2)"
+abbrev pub upsert_text : List ℕ
+upsert_text = codes "INSERT INTO results (k, v) VALUES (?1, ?2) ON CONFLICT (k) DO UPDATE SET v = excluded.v"
 
 abbrev pub delete_text : List ℕ
 delete_text = codes "DELETE FROM results WHERE k = ?1"
@@ -60,13 +62,21 @@ delete_query = plain_query (op2 (Compare Eq Binary) (col 1 1) (col 0 0) ∷ []) 
 abbrev pub insert_terms : List Term
 insert_terms = lit Null ∷ col 0 0 ∷ col 0 1 ∷ []
 
+-- The row that has the rowid of the one that was met, with the new value. The parameters are followed by that rowid
+-- and by the rowid, the key and the value of the row that was to go in.
+abbrev pub upsert_query : Query
+upsert_query = plain_query (op2 (Compare Eq Binary) (col 1 0) (col 0 2) ∷ []) (col 1 0 ∷ col 1 0 ∷ col 1 1 ∷ col 0 5 ∷ [])
+
+abbrev pub upsert_clause : Upsert
+upsert_clause = record { target = Some (1 ∷ []); update = Some (record { lets = []; body = upsert_query }) }
+
 pub delete_is : command_of (understood results_schema delete_text) ≡ Delete 0 (record { lets = []; body = delete_query })
 unfolding understood everything
 delete_is = refl
 
-pub insert_is : command_of (understood results_schema insert_text) ≡ Insert 0 (Values insert_terms 3)
+pub upsert_is : command_of (understood results_schema upsert_text) ≡ InsertOr 0 Abort (Values insert_terms 3) (upsert_clause ∷ [])
 unfolding understood everything
-insert_is = refl
+upsert_is = refl
 
 pub load_is : command_of (understood results_schema load_text) ≡ Select (record { lets = []; body = load_query }) (codes "k" ∷ codes "v" ∷ [])
 unfolding understood everything
@@ -88,9 +98,9 @@ pub delete_plain : IsPlain (understood results_schema delete_text)
 unfolding understood everything
 delete_plain = (refl, refl)
 
-pub insert_plain : IsPlain (understood results_schema insert_text)
+pub upsert_plain : IsPlain (understood results_schema upsert_text)
 unfolding understood everything
-insert_plain = (refl, refl)
+upsert_plain = (refl, refl)
 
 pub load_plain : IsPlain (understood results_schema load_text) × (reads_listing results_schema load_text ≡ false)
 unfolding understood everything

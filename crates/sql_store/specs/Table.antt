@@ -47,10 +47,6 @@ pub record IsReady (db : Database) : Type 0 where
 abbrev pub table_of : Database → Map
 table_of db = map_of (db.trees 0)
 
--- no row has the key
-abbrev pub IsFree : List ℕ → Database → Type 0
-IsFree key db = AllByRecursion (λ r. is_key key (column r 1) ≡ false) (db.trees 0)
-
 -- a statement in a transaction gives the key this value, or takes it away
 pub record Makes (key : List ℕ) (value : Option ℤ) (old new : State) : Type 0 where
   pub was_open : IsTrue old.is_open

@@ -9,7 +9,7 @@ ghost use Rattle.sqlite.specs.Query.{IsAnswer};
 ghost use Rattle.sqlite.specs.Program.{overlay};
 ghost use Rattle.sql_store.specs.Results.{results_schema, no_schema};
 ghost use Rattle.sql_store.specs.Load.{load_query, ids_query};
-ghost use Rattle.sql_store.specs.Table.{Makes, IsReady, IsFree};
+ghost use Rattle.sql_store.specs.Table.{Makes};
 
 use durable_top::Row;
 use sqlite::types::ValueRef;
@@ -32,7 +32,6 @@ fn of_row(row: &Row) -> [ValueRef<'_>; 2]
 pub(crate) fn remove<S: Alter>(tx: &mut Transaction<'_, S>, key: &Key) -> Result<(), Error>
     ensures same_reference { tx.new.conn.ghost_name ≡ tx.old.conn.ghost_name }
     ensures made { HasCleanDisk (state S.Store tx.new.conn.now) → IsTrue (state S.Store tx.old.conn.now).in_transaction → OnOk result (Makes key.now None (state S.Store tx.old.conn.now) (state S.Store tx.new.conn.now)) }
-    ensures free { HasCleanDisk (state S.Store tx.new.conn.now) → IsTrue (state S.Store tx.old.conn.now).in_transaction → OnOk result (IsReady (state S.Store tx.old.conn.now).now → IsFree key.now (state S.Store tx.new.conn.now).now) }
     ensures kept { HasCleanDisk (state S.Store tx.new.conn.now) → IsTrue (state S.Store tx.old.conn.now).in_transaction → KeepsCommit (state S.Store tx.old.conn.now) (state S.Store tx.new.conn.now) }
     ensures survives { Survives (state S.Store tx.old.conn.now) (state S.Store tx.new.conn.now) (λ _. ⊥) }
 {
@@ -40,15 +39,17 @@ pub(crate) fn remove<S: Alter>(tx: &mut Transaction<'_, S>, key: &Key) -> Result
     Ok(())
 }
 
-/// Adds a row. The database refuses a key that has one.
-pub(crate) fn add<S: Alter>(tx: &mut Transaction<'_, S>, row: &Row) -> Result<(), Error>
+/// Gives the key of the row its value, whether or not it has one.
+pub(crate) fn put<S: Alter>(tx: &mut Transaction<'_, S>, row: &Row) -> Result<(), Error>
     ensures same_reference { tx.new.conn.ghost_name ≡ tx.old.conn.ghost_name }
-    ensures made { HasCleanDisk (state S.Store tx.new.conn.now) → IsTrue (state S.Store tx.old.conn.now).in_transaction → IsFree row.now.key (state S.Store tx.old.conn.now).now → OnOk result (Makes row.now.key (Some row.now.value) (state S.Store tx.old.conn.now) (state S.Store tx.new.conn.now)) }
-    ensures inside { HasCleanDisk (state S.Store tx.new.conn.now) → IsTrue (state S.Store tx.old.conn.now).in_transaction → OnOk result (IsTrue (state S.Store tx.new.conn.now).in_transaction) }
+    ensures made { HasCleanDisk (state S.Store tx.new.conn.now) → IsTrue (state S.Store tx.old.conn.now).in_transaction → OnOk result (Makes row.now.key (Some row.now.value) (state S.Store tx.old.conn.now) (state S.Store tx.new.conn.now)) }
     ensures kept { HasCleanDisk (state S.Store tx.new.conn.now) → IsTrue (state S.Store tx.old.conn.now).in_transaction → KeepsCommit (state S.Store tx.old.conn.now) (state S.Store tx.new.conn.now) }
     ensures survives { Survives (state S.Store tx.old.conn.now) (state S.Store tx.new.conn.now) (λ _. ⊥) }
 {
-    tx.execute("INSERT INTO results (k, v) VALUES (?1, ?2)", &of_row(row))?;
+    tx.execute(
+        "INSERT INTO results (k, v) VALUES (?1, ?2) ON CONFLICT (k) DO UPDATE SET v = excluded.v",
+        &of_row(row),
+    )?;
     Ok(())
 }
 

@@ -1,28 +1,15 @@
 //! Changes of the table in one transaction.
-ghost use Rattle.std.specs.Prelude.{◌≡◌, ◌<◌, length, false, Some, None, [], OnOk, OnErr, IfErr, IsTrue};
+ghost use Rattle.std.specs.Prelude.{◌≡◌, ◌<◌, length, false, Some, None, OnOk, OnErr, IfErr, IsTrue};
 ghost use Rattle.sqlite.specs.Held.{state};
 ghost use Rattle.sqlite.specs.State.{HasCleanDisk, Survives, KeepsCommit};
-ghost use Rattle.sql_store.specs.Table.{Makes, IsReady, table_of};
+ghost use Rattle.sql_store.specs.Table.{Makes, IsReady};
 ghost use Rattle.sql_store.specs.Writes.{MakesAll, Stores, IsStored};
 
 use crate::faults::settle;
-use crate::statements::{add, probe, remove};
+use crate::statements::{probe, put, remove};
 use durable_top::{Row, StoreFault};
 use sqlite::{Alter, Connection, Error, ErrorCode, Transaction};
 use txn_names::Change;
-
-/// Gives the key this value, whether or not it has one.
-fn set<S: Alter>(tx: &mut Transaction<'_, S>, row: &Row) -> Result<(), Error>
-    ensures same_reference { tx.new.conn.ghost_name ≡ tx.old.conn.ghost_name }
-    ensures made { HasCleanDisk (state S.Store tx.new.conn.now) → IsTrue (state S.Store tx.old.conn.now).in_transaction → IsReady (state S.Store tx.old.conn.now).now → OnOk result (Makes row.now.key (Some row.now.value) (state S.Store tx.old.conn.now) (state S.Store tx.new.conn.now)) }
-    ensures opened { HasCleanDisk (state S.Store tx.new.conn.now) → IsTrue (state S.Store tx.old.conn.now).in_transaction → OnOk result (IsTrue (state S.Store tx.old.conn.now).is_open) }
-    ensures inside { HasCleanDisk (state S.Store tx.new.conn.now) → IsTrue (state S.Store tx.old.conn.now).in_transaction → OnOk result (IsTrue (state S.Store tx.new.conn.now).in_transaction) }
-    ensures kept { HasCleanDisk (state S.Store tx.new.conn.now) → IsTrue (state S.Store tx.old.conn.now).in_transaction → KeepsCommit (state S.Store tx.old.conn.now) (state S.Store tx.new.conn.now) }
-    ensures survives { Survives (state S.Store tx.old.conn.now) (state S.Store tx.new.conn.now) (λ _. ⊥) }
-{
-    remove(tx, &row.key)?;
-    add(tx, row)
-}
 
 /// Gives the key the value of the change, or takes its row away.
 fn make<S: Alter>(tx: &mut Transaction<'_, S>, change: &Change) -> Result<(), Error>
@@ -34,7 +21,7 @@ fn make<S: Alter>(tx: &mut Transaction<'_, S>, change: &Change) -> Result<(), Er
     ensures survives { Survives (state S.Store tx.old.conn.now) (state S.Store tx.new.conn.now) (λ _. ⊥) }
 {
     match change.value {
-        Some(value) => set(
+        Some(value) => put(
             tx,
             &Row {
                 key: change.key,

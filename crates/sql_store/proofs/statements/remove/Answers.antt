@@ -2,17 +2,13 @@ use Rattle.std.proofs.Common.{[], ◌∷◌, Ok}
 use Rattle.sqlite.specs.declared.types.Value.TheVariants.{Text}
 use Rattle.sqlite.specs.Held.{state}
 use Rattle.sql_store.proofs.Texts.{delete_text}
-use Rattle.sql_store.proofs.Deletes.{removes, frees}
+use Rattle.sql_store.proofs.Deletes.{removes}
 use Rattle.sql_store.proofs.Steps.{kept_by}
 use Rattle.sql_store.proofs.statements.remove.Goals as goal
 
 pub returns-clause-made : goal.returns-clause-made
 returns-clause-made g c clean inside =
     removes (state g.S.Store c.args.tx.now.conn.now) (state g.S.Store c.execute.new.self.conn.now) c.args.key.now c.in_ok-execute.field-0 (rw c.of_key.ensures at (c.in_ok-execute.ensures.runs clean inside))
-
-pub returns-clause-free : goal.returns-clause-free
-returns-clause-free g c clean inside =
-    frees (state g.S.Store c.args.tx.now.conn.now) (state g.S.Store c.execute.new.self.conn.now) c.args.key.now c.in_ok-execute.field-0 (rw c.of_key.ensures at (c.in_ok-execute.ensures.runs clean inside))
 
 pub returns-clause-kept : goal.returns-clause-kept
 returns-clause-kept g c clean inside =
