@@ -84,6 +84,7 @@ pub(crate) fn prepare<S: Alter>(conn: &mut Connection<S>) -> Result<bool, StoreF
     ensures decided { HasCleanDisk (state S.Store conn.new) → (state S.Store conn.old).now.schema ≡ results_schema → IfOk result (IsDecided (state S.Store conn.old).now) }
     ensures same { HasCleanDisk (state S.Store conn.new) → (state S.Store conn.old).now.schema ≡ results_schema → OnOk result (table S.Store conn.new ≡ table S.Store conn.old) }
     ensures busy { IsTrue (state S.Store conn.old).in_transaction → (result ≡ Err StoreFault.Refused) × (conn.new ≡ conn.old) }
+    ensures open { HasCleanDisk (state S.Store conn.new) → (state S.Store conn.old).in_transaction ≡ false → IfErr result (λ fault. (fault ≡ StoreFault.Failed → ⊥) → IsTrue (state S.Store conn.new).is_open) }
     ensures clean { doubt (state S.Store conn.old).is_clean ≤ doubt (state S.Store conn.new).is_clean }
 {
     if !conn.is_autocommit() {

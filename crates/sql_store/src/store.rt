@@ -1,5 +1,5 @@
 //! A store of results over a connection.
-ghost use Rattle.std.specs.Prelude.{true, false, [], ◌≡◌, ◌≤◌, ◌+◌, ◌⊎◌, ◌↔◌, ℕ, IfOk, IfErr, OnOk, OnErr, IsTrue, IsErrOf, if◌then◌else◌, is_err};
+ghost use Rattle.std.specs.Prelude.{true, false, [], ◌≡◌, ◌≤◌, ◌+◌, ◌⊎◌, ◌↔◌, ℕ, IfOk, IfErr, OnOk, OnErr, IsTrue, IsErrOf, if◌then◌else◌, is_err, codes};
 ghost use Rattle.sqlite_trees.specs.View.{doubt};
 ghost use Rattle.sqlite.specs.Held.{state};
 ghost use Rattle.sqlite.specs.State.{HasCleanDisk, Survives, KeepsCommit};
@@ -51,6 +51,7 @@ impl<S: Alter> Model for SqlStore<S> {
 impl<S: Alter + Drop> SqlStore<S> {
     /// A store over this connection. The table is made where there is none. The connection comes back beside the
     /// fault: Refused in the middle of a transaction, with nothing done, and where the table `results` has other columns.
+    /// One that a failure of the device has shut is answered Failed.
     ///
     /// The table is known where the database was empty, and where it has the table of results as the store makes it,
     /// alone, and the rowids that a query shows of it rise. What other databases hold is not known.
@@ -59,6 +60,7 @@ impl<S: Alter + Drop> SqlStore<S> {
         ensures decided { (state S.Store connection).now.schema ≡ results_schema → IfOk result (λ store. HasCleanDisk (state S.Store store.connection) → IsDecided (state S.Store connection).now store.is_known) }
         ensures same { (state S.Store connection).now.schema ≡ results_schema → IfOk result (λ store. HasCleanDisk (state S.Store store.connection) → table S.Store store.connection ≡ table S.Store connection) }
         ensures busy { IsTrue (state S.Store connection).in_transaction → result ≡ Err (StoreFault.Refused, connection) }
+        ensures open { (state S.Store connection).in_transaction ≡ false → IfErr result (λ left. HasCleanDisk (state S.Store left.1) → (left.0 ≡ StoreFault.Failed → ⊥) → IsTrue (state S.Store left.1).is_open) }
         ensures empty { (state S.Store connection).now.schema ≡ no_schema → IfOk result (λ store. HasCleanDisk (state S.Store store.connection) → table S.Store store.connection ≡ map_of []) }
         ensures faults { IfOk result (λ store. store.faults ≡ 0) }
         ensures sound { IfOk result (λ store. store.has_failed ≡ false) }
@@ -106,8 +108,10 @@ impl SqlStore<MemStore> {
 impl SqlStore<FileStore<File>> {
     /// A store over the file, which is made where there is none. Failed is answered where the device failed,
     /// Memory where memory ran out, and Refused where the file is no database, cannot be opened or is in use, or
-    /// its table `results` has other columns. No clause says what the file holds.
+    /// its table `results` has other columns. No clause says what the file holds, nor which of its errors the connection
+    /// answers for it, but of the name of a database in memory.
     pub fn open(rt: &HostRuntime, path: &str) -> Result<SqlStore<FileStore<File>>, StoreFault>
+        ensures memory { path.now ≡ codes ":memory:" → result ≡ Err StoreFault.Refused }
         ensures faults { IfOk result (λ store. store.faults ≡ 0) }
         ensures sound { IfOk result (λ store. store.has_failed ≡ false) }
     {
