@@ -1,0 +1,222 @@
+//! What lies under the lock of a run.
+ghost use Rattle.std.specs.Prelude.{◌≡◌, ◌↔◌, ℕ, [], IfErr, IfNone, IfOk, IfSome, IsTrue};
+ghost use Rattle.serial_spec.specs.Rows.{Rows};
+ghost use Rattle.serial_spec.specs.Interleaving.{AllAnswered};
+ghost use Rattle.interleavings.specs.Turning.{IsClosed, Unstuck, next_number};
+ghost use Rattle.shared_book.specs.Attempting.{Attempted};
+ghost use Rattle.worker_pool.specs.Jobs.{IsNextJob};
+ghost use Rattle.worker_pool.specs.Openings.{IsOpenedWith};
+ghost use Rattle.worker_pool.specs.Served.{IsAfterOpening, IsServedFrom};
+ghost use Rattle.worker_pool.specs.Trying.{LooksForStuck, Tries};
+
+use crate::serving::ServeFault;
+use durable_top::TopStore;
+use interleavings::{Report, Turn};
+use serial_spec::NoMemory;
+use session_text::{Line, Sessions};
+use shared_book::Book;
+use std::marker::{Brand, Model, PhantomData};
+
+/// What was known at the opening of a run. Each run picks its own.
+pub(crate) trait Opening {
+    /// The opening rows.
+    ghost rows: { Rows };
+
+    /// How doubtful the store was then. It exists in proofs alone, so that no program could compare it.
+    ghost doubt: { ℕ };
+}
+
+impl Opening for Brand {
+    ghost rows = { [] };
+
+    ghost doubt = { 0 };
+}
+
+/// What came of a line that was tried.
+#[derive(Clone, Copy, Debug, PartialEq, Eq)]
+pub(crate) struct Tried {
+    pub turn: Turn,
+    /// The line that was given up, by its session and number.
+    pub given_up: Option<(u32, u32)>,
+    /// The number of the session's next line.
+    pub next: Option<u32>,
+    /// Whether every line of every session is answered.
+    pub finished: bool,
+}
+
+/// The book of a run, which is still over the opening rows that it began with.
+#[derive(Drop)]
+pub(crate) struct Desk<'a, S: TopStore, J: Opening> {
+    book: Book<'a, S>,
+    // Whether memory ran out while someone had the lock.
+    refused: bool,
+    of: PhantomData<J>,
+}
+
+impl<'a, S: TopStore, J: Opening> Model for Desk<'a, S, J> {
+    ghost use Rattle.interleavings.specs.Turning.{Turning};
+    ghost use Rattle.worker_pool.specs.Openings.{IsOpenedWith};
+
+    ghost Value = { Turning S };
+
+    ghost view = { λ d. d.book };
+
+    ghost invariant = { λ d. IsOpenedWith S.TopStore J.rows J.doubt d.book };
+}
+
+impl<'a, S: TopStore, J: Opening> Desk<'a, S, J> {
+    pub(crate) fn new(book: Book<'a, S>) -> Desk<'a, S, J>
+        requires { IsOpenedWith S.TopStore J.rows J.doubt book }
+        ensures { result ≡ book.entry }
+    {
+        Desk {
+            book,
+            refused: false,
+            of: PhantomData,
+        }
+    }
+
+    #[tactic(auto, using(crate::proofs::Kept::if_attempted))]
+    fn attempt(&mut self, session: u32, line: u32, text: &Line) -> Result<Turn, NoMemory>
+        ensures { IfOk result (λ turn. Attempted S.TopStore self.old self.new session line text.now turn) }
+    {
+        self.book.attempt(session, line, text)
+    }
+
+    #[tactic(auto, using(crate::proofs::Kept::if_unstuck))]
+    fn stuck(&mut self) -> Result<Option<(u32, u32)>, NoMemory>
+        ensures { IfOk result (λ line. Unstuck S.TopStore self.old self.new line) }
+    {
+        self.book.stuck()
+    }
+
+    // Looks for a line that must be given up, where one was parked.
+    fn look_for_stuck(&mut self, turn: Turn) -> Result<Option<(u32, u32)>, NoMemory>
+        ensures { IfOk result (λ line. LooksForStuck S.TopStore self.old self.new turn line) }
+    {
+        match turn {
+            Turn::Parked => self.stuck(),
+            Turn::Answered | Turn::OutOfTurn => Ok(None),
+        }
+    }
+
+    fn try_line(&mut self, session: u32, line: u32, text: &Line) -> Result<Tried, NoMemory>
+        ensures ok { IfOk result (λ tried. Tries S.TopStore self.old self.new session line text.now tried) }
+        ensures next { IfOk result (λ tried. IsNextJob session tried.next) }
+    {
+        let turn = self.attempt(session, line, text)?;
+        let given_up = self.look_for_stuck(turn)?;
+        Ok(Tried {
+            turn,
+            given_up,
+            next: self.next_line(session),
+            finished: self.finished(),
+        })
+    }
+
+    /// Attempts a line, and looks for a line that must be given up where this one is parked. The only error is that memory
+    /// runs out, and then no report will be made.
+    pub(crate) fn take_turn(
+        &mut self,
+        session: u32,
+        line: u32,
+        text: &Line,
+    ) -> Result<Tried, NoMemory>
+        ensures ok { IfOk result (λ tried. Tries S.TopStore self.old self.new session line text.now tried) }
+        ensures next { IfOk result (λ tried. IsNextJob session tried.next) }
+    {
+        let tried = self.try_line(session, line, text);
+        if tried.is_err() {
+            self.refused = true;
+        }
+        tried
+    }
+
+    /// The number of the session's next line, where there is such a session and it has a line left.
+    pub(crate) fn next_line(&self, session: u32) -> Option<u32>
+        ensures next { result ≡ next_number self.now.sessions self.now.core.history session }
+        ensures within { IsNextJob session result }
+    {
+        self.book.next_line(session)
+    }
+
+    // Whether every line is answered.
+    fn finished(&self) -> bool
+        ensures { IsTrue result ↔ AllAnswered self.now.sessions self.now.core.history }
+    {
+        self.book.finished()
+    }
+
+    /// Whether nothing is left to do: every line is answered, or memory ran out.
+    pub(crate) fn is_over(&self) -> bool {
+        self.refused || self.finished()
+    }
+
+    // Why there is no report of these sessions, once the work has ended so.
+    fn fault(
+        &self,
+        sessions: &Sessions,
+        faults: u64,
+        worked: Result<(), ServeFault>,
+    ) -> Option<ServeFault>
+        requires { IfErr worked IsAfterOpening }
+        ensures none { IfNone result ((self.now.sessions ≡ sessions.now) × (self.now.core.opened ≡ faults)) }
+        ensures some { IfSome result IsAfterOpening }
+    {
+        if let Err(fault) = worked {
+            return Some(fault);
+        }
+        if self.refused {
+            Some(ServeFault::NoMemory)
+        } else if self.book.is_of(sessions, faults) {
+            None
+        } else {
+            Some(ServeFault::Thread)
+        }
+    }
+
+    // Drops what was under way.
+    fn give_up(self, fault: ServeFault) -> ServeFault
+        ensures { result ≡ fault }
+    {
+        let _desk = self;
+        fault
+    }
+
+    /// The report and the store, where the work has ended so and nothing went wrong.
+    #[tactic(auto, using(crate::proofs::Reported::closed_from))]
+    pub(crate) fn into_report(
+        self,
+        sessions: &Sessions,
+        faults: u64,
+        worked: Result<(), ServeFault>,
+    ) -> Result<(Report, S), ServeFault>
+        requires { IfErr worked IsAfterOpening }
+        ensures ok { IfOk result (λ run. IsServedFrom S.TopStore J.rows J.doubt sessions.now faults run.0 run.1) }
+        ensures err { IfErr result IsAfterOpening }
+    {
+        match self.fault(sessions, faults, worked) {
+            Some(fault) => Err(self.give_up(fault)),
+            None => close(self.book),
+        }
+    }
+}
+
+// Drops what was under way.
+fn give_up<S: TopStore>(book: Book<'_, S>) -> ServeFault
+    ensures { result ≡ ServeFault.NoMemory }
+{
+    let _book = book;
+    ServeFault::NoMemory
+}
+
+// The report of sessions all of whose lines are answered.
+fn close<S: TopStore>(book: Book<'_, S>) -> Result<(Report, S), ServeFault>
+    ensures ok { IfOk result (λ run. IsClosed S.TopStore book.entry run.0 run.1) }
+    ensures err { IfErr result (λ fault. fault ≡ ServeFault.NoMemory) }
+{
+    match book.into_report() {
+        Ok(run) => Ok(run),
+        Err(book) => Err(give_up(book)),
+    }
+}

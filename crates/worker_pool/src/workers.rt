@@ -1,0 +1,285 @@
+//! Workers over one lock.
+ghost use Rattle.std.specs.Prelude.{◌≡◌, ◌<◌, ◌≤◌, IfErr, IfOk, IfSome};
+ghost use Rattle.crossbeam_channel.specs.Claims.{IsSeatAt};
+ghost use Rattle.crossbeam_channel.specs.Ends.{receives_on, sends_on};
+ghost use Rattle.worker_pool.specs.Jobs.{IsJob, IsNextJob};
+ghost use Rattle.worker_pool.specs.Served.{IsAfterOpening};
+
+use crate::desk::{Desk, Opening, Tried};
+use crate::jobs::{Cut, Job, Limits, Receiver, Sender, Sends, Takes};
+use crate::serving::ServeFault;
+use crossbeam_channel::{Pass, bounded_with};
+use durable_top::TopStore;
+use interleavings::Turn;
+use serial_spec::NoMemory;
+use session_text::{Line, Sessions};
+use std::alloc::Global;
+use std::sync::{Mutex, Wait};
+use std::thread;
+use std::thread::Threads;
+use std::time::{Clock, Duration};
+
+/// What is called around a line, by whoever tries it and outside the lock.
+pub trait Gate {
+    /// Before each attempt of a line.
+    fn pass(&self, session: u32, line: u32);
+
+    /// Once for each line that was answered.
+    fn answered(&self, session: u32, line: u32);
+}
+
+/// How many lines in a row a worker finds parked before it rests.
+const PATIENCE: u32 = 4;
+
+/// For how long it rests, in microseconds.
+const REST: u64 = 50;
+
+// Tries a line under the lock.
+fn try_line<R: Wait, S: TopStore, J: Opening>(
+    rt: &R,
+    desk: &Mutex<Desk<'_, S, J>>,
+    session: u32,
+    line: u32,
+    text: &Line,
+) -> Result<Tried, NoMemory>
+    ensures { IfOk result (λ tried. IsNextJob session tried.next) }
+{
+    let mut held = desk.lock(rt);
+    held.take_turn(session, line, text)
+}
+
+// Tries a line, if there is one, and calls the gate around it.
+fn turn<R: Wait, S: TopStore, J: Opening, G: Gate>(
+    rt: &R,
+    sessions: &Sessions,
+    desk: &Mutex<Desk<'_, S, J>>,
+    gate: &G,
+    session: u32,
+    line: u32,
+) -> Result<Option<Tried>, NoMemory>
+    ensures { IfOk result (λ turn. IfSome turn (λ tried. IsNextJob session tried.next)) }
+{
+    let Some(text) = sessions.line(session, line) else {
+        return Ok(None);
+    };
+    gate.pass(session, line);
+    let tried = try_line(rt, desk, session, line, text)?;
+    if tried.turn == Turn::Answered {
+        gate.answered(session, line);
+    }
+    if let Some((other, number)) = tried.given_up {
+        gate.answered(other, number);
+    }
+    Ok(Some(tried))
+}
+
+// The job that follows a line of the session.
+fn next_job(session: u32, tried: &Tried) -> Option<Job>
+    requires { IsNextJob session tried.now.next }
+    ensures { IfSome result IsJob }
+{
+    match tried.next {
+        Some(line) => Some(Job::Line { session, line }),
+        None => {
+            if tried.finished {
+                Some(Job::Stop)
+            } else {
+                None
+            }
+        }
+    }
+}
+
+// Rests behind a line that is parked, the longer the more in a row were, and answers how many they are by now. Meanwhile
+// nobody has the line's job, and the other workers wait for theirs.
+fn rest<R: Clock>(rt: &R, parked: u32, tried: &Tried) -> u32 {
+    if tried.turn == Turn::Answered || tried.given_up.is_some() {
+        return 0;
+    }
+    if parked < PATIENCE {
+        thread::yield_now();
+        return parked + 1;
+    }
+    thread::sleep(rt, Duration::from_micros(REST));
+    parked
+}
+
+// Does a job, and gives the one that follows: the session's next line, which may be the same again, or a stop.
+fn follow<R: Wait + Clock, S: TopStore, J: Opening, G: Gate>(
+    rt: &R,
+    sessions: &Sessions,
+    desk: &Mutex<Desk<'_, S, J>>,
+    gate: &G,
+    job: Job,
+    parked: &mut u32,
+) -> Option<Job>
+    ensures { IfSome result IsJob }
+{
+    let Job::Line { session, line } = job else {
+        return Some(Job::Stop);
+    };
+    match turn(rt, sessions, desk, gate, session, line) {
+        Ok(Some(tried)) => {
+            *parked = rest(rt, *parked, &tried);
+            next_job(session, &tried)
+        }
+        Ok(None) => None,
+        Err(_) => Some(Job::Stop),
+    }
+}
+
+// Does jobs until there is a stop, which is sent on.
+fn work<R: Wait + Clock, S: TopStore, J: Opening, G: Gate>(
+    rt: &R,
+    sender: &Sender,
+    receiver: &Receiver,
+    mut pass: Pass<Job, ()>,
+    sessions: &Sessions,
+    desk: &Mutex<Desk<'_, S, J>>,
+    gate: &G,
+)
+    requires seat { IsSeatAt (sends_on sender.now) pass }
+    requires ends { receives_on receiver.now ≡ sends_on sender.now }
+{
+    let mut parked = 0;
+    for _ in rt.forever() {
+        let Ok(job) = receiver.recv_as::<Takes, R>(rt, &mut pass) else {
+            return;
+        };
+        if let Some(next) = follow(rt, sessions, desk, gate, job, &mut parked) {
+            let _ = sender.send_as::<Sends, R>(rt, &mut pass, next);
+            if matches!(next, Job::Stop) {
+                return;
+            }
+        }
+    }
+}
+
+// How many sessions there are.
+fn count_of(sessions: &Sessions) -> u32
+    ensures { result ≤ 64 }
+{
+    sessions.len() as u32
+}
+
+// Sends the first line of each session that has lines, or a stop where none has.
+fn first_jobs<R: Wait>(rt: &R, sender: &Sender, pass: &mut Pass<Job, ()>, sessions: &Sessions)
+    requires { IsSeatAt (sends_on sender.now) pass.old }
+    ensures { IsSeatAt (sends_on sender.now) pass.new }
+{
+    let mut none = true;
+    for session in 0..count_of(sessions) {
+        if sessions.line(session, 1).is_some() {
+            none = false;
+            let _ = sender.send_as::<Sends, R>(rt, pass, Job::Line { session, line: 1 });
+        }
+    }
+    if none {
+        let _ = sender.send_as::<Sends, R>(rt, pass, Job::Stop);
+    }
+}
+
+// Starts the workers and waits for them. It answers whether each could be started.
+fn start_all<
+    R: Threads + Wait + Clock + Sync,
+    S: TopStore + Send,
+    J: Opening + Send,
+    G: Gate + Sync,
+>(
+    rt: &R,
+    sender: &Sender,
+    receiver: &Receiver,
+    mut pass: Pass<Job, ()>,
+    sessions: &Sessions,
+    desk: &Mutex<Desk<'_, S, J>>,
+    workers: u32,
+    gate: &G,
+) -> bool
+    requires seat { IsSeatAt (sends_on sender.now) pass }
+    requires ends { receives_on receiver.now ≡ sends_on sender.now }
+{
+    thread::scope(
+        thread::scope_env(),
+        rt,
+        |scope| -> bool
+            requires { IsSeatAt (sends_on sender.now) pass × (receives_on receiver.now ≡ sends_on sender.now) }
+        {
+            for _ in 0..workers {
+                let mine = sender.another::<Cut>(&mut pass);
+                let worker = move || work(rt, sender, receiver, mine, sessions, desk, gate);
+                if scope.spawn(worker).is_err() {
+                    let _ = sender.send_as::<Sends, R>(rt, &mut pass, Job::Stop);
+                    return false;
+                }
+            }
+            true
+        },
+    )
+}
+
+// The number of the session's next line.
+fn next_line<R: Wait, S: TopStore, J: Opening>(
+    rt: &R,
+    desk: &Mutex<Desk<'_, S, J>>,
+    session: u32,
+) -> Option<u32> {
+    desk.lock(rt).next_line(session)
+}
+
+// Whether nothing is left to do.
+fn is_over<R: Wait, S: TopStore, J: Opening>(rt: &R, desk: &Mutex<Desk<'_, S, J>>) -> bool {
+    desk.lock(rt).is_over()
+}
+
+// Tries the lines that are left, in rounds, until none is: those whose jobs were lost. Most runs leave none.
+fn finish<R: Wait, S: TopStore, J: Opening, G: Gate>(
+    rt: &R,
+    sessions: &Sessions,
+    desk: &Mutex<Desk<'_, S, J>>,
+    gate: &G,
+) -> Result<(), NoMemory> {
+    for _ in rt.forever() {
+        if is_over(rt, desk) {
+            break;
+        }
+        for session in 0..count_of(sessions) {
+            if let Some(line) = next_line(rt, desk, session) {
+                turn(rt, sessions, desk, gate, session, line)?;
+            }
+        }
+    }
+    Ok(())
+}
+
+/// Has the lines tried by so many workers, waits for them, and tries what they left.
+pub(crate) fn work_through<
+    R: Threads + Wait + Clock + Sync,
+    S: TopStore + Send,
+    J: Opening + Send,
+    G: Gate + Sync,
+>(
+    rt: &R,
+    alloc: Global,
+    sessions: &Sessions,
+    desk: &Mutex<Desk<'_, S, J>>,
+    workers: u32,
+    gate: &G,
+) -> Result<(), ServeFault>
+    requires { workers ≤ 16 }
+    ensures { IfErr result IsAfterOpening }
+{
+    // A job of each session, and a stop of each worker and of the driver.
+    let room = (count_of(sessions) + workers + 1) as usize;
+    let Ok((sender, receiver, mut pass)) = bounded_with::<Job, (), Limits, Global>(alloc, room)
+    else {
+        return Err(ServeFault::NoMemory);
+    };
+    first_jobs(rt, &sender, &mut pass, sessions);
+    if !start_all(rt, &sender, &receiver, pass, sessions, desk, workers, gate) {
+        return Err(ServeFault::Thread);
+    }
+    match finish(rt, sessions, desk, gate) {
+        Ok(()) => Ok(()),
+        Err(_) => Err(ServeFault::NoMemory),
+    }
+}
