@@ -11,3 +11,6 @@ mod workers;
 
 pub use serving::{ServeFault, serve};
 pub use workers::Gate;
+
+#[cfg(test)]
+mod tests;

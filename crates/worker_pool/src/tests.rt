@@ -1,0 +1,28 @@
+//! Runs by workers: what no clause says, that they take turns as they should.
+mod gates;
+mod rows;
+
+use crate::{Gate, serve};
+use durable_top::MemStore;
+use interleavings::Report;
+use session_text::Sessions;
+use std::alloc::Global;
+use std::process::Abort;
+use std::sync::Wait;
+use std::thread::Threads;
+use std::time::Clock;
+
+/// The report of a text over an empty table.
+fn served<R: Threads + Wait + Clock + Abort + Sync, G: Gate + Sync>(
+    rt: &R,
+    alloc: Global,
+    text: &[u8],
+    workers: u32,
+    gate: &G,
+) -> Report {
+    assert!(rt; 0 < workers && workers <= 16);
+    let sessions = Sessions::parse(alloc, text).expect(rt, "a text");
+    let store = MemStore::new(alloc, &[]).expect(rt, "memory");
+    let (report, _store) = serve(rt, alloc, sessions, store, workers, gate).expect(rt, "a report");
+    report
+}

@@ -1,0 +1,106 @@
+//! Two lines are under way at once, and one is answered while the other is held up at the gate.
+use super::served;
+use crate::Gate;
+use std::rt::HostRuntime;
+use std::sync::atomic::{AtomicBool, Ordering};
+use std::thread;
+
+const TWO: &[u8] = b"session p\nbegin a\ncommit a\nsession q\nbegin b\ncommit b\n";
+
+/// How often a line at the gate looks for what it waits for.
+const MOST_TURNS: u32 = 1_000_000;
+
+/// Which first lines are held up at the gate, and until when.
+#[derive(Clone, Copy, PartialEq, Eq)]
+enum Held {
+    /// Both, until the other comes to the gate.
+    Both,
+    /// The first session's, until the second's is answered.
+    First,
+    /// The second session's, until the first's is answered.
+    Second,
+}
+
+#[derive(Drop)]
+struct Meeting {
+    held: Held,
+    first_came: AtomicBool,
+    second_came: AtomicBool,
+    first_answered: AtomicBool,
+    second_answered: AtomicBool,
+    late: AtomicBool,
+}
+
+impl Meeting {
+    fn new(held: Held) -> Meeting {
+        Meeting {
+            held,
+            first_came: AtomicBool::new(false),
+            second_came: AtomicBool::new(false),
+            first_answered: AtomicBool::new(false),
+            second_answered: AtomicBool::new(false),
+            late: AtomicBool::new(false),
+        }
+    }
+
+    // Waits for a flag, for so many turns at most.
+    fn wait_for(&self, flag: &AtomicBool) {
+        for _ in 0..MOST_TURNS {
+            if flag.load(Ordering::SeqCst) {
+                return;
+            }
+            thread::yield_now();
+        }
+        self.late.store(true, Ordering::SeqCst);
+    }
+
+    fn first_passes(&self) {
+        self.first_came.store(true, Ordering::SeqCst);
+        match self.held {
+            Held::Both => self.wait_for(&self.second_came),
+            Held::First => self.wait_for(&self.second_answered),
+            Held::Second => {}
+        }
+    }
+
+    fn second_passes(&self) {
+        self.second_came.store(true, Ordering::SeqCst);
+        match self.held {
+            Held::Both => self.wait_for(&self.first_came),
+            Held::Second => self.wait_for(&self.first_answered),
+            Held::First => {}
+        }
+    }
+}
+
+impl Gate for Meeting {
+    fn pass(&self, session: u32, line: u32) {
+        if line == 1 {
+            if session == 0 {
+                self.first_passes();
+            } else {
+                self.second_passes();
+            }
+        }
+    }
+
+    fn answered(&self, session: u32, line: u32) {
+        if line == 1 {
+            if session == 0 {
+                self.first_answered.store(true, Ordering::SeqCst);
+            } else {
+                self.second_answered.store(true, Ordering::SeqCst);
+            }
+        }
+    }
+}
+
+#[test]
+fn two_at_once(rt: HostRuntime) {
+    for held in [Held::Both, Held::First, Held::Second] {
+        let gate = Meeting::new(held);
+        let report = served(&rt, rt.alloc(), TWO, 2, &gate);
+        assert!(rt; !gate.late.load(Ordering::SeqCst));
+        assert!(rt; report.history().len() == 4);
+    }
+}
