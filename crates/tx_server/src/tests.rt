@@ -3,6 +3,7 @@ mod faults;
 mod runs;
 mod serial;
 mod sessions;
+mod stores;
 
 use crate::program::{replay_over, tx_main};
 use crate::replay::{ReplayFault, replay_text};

@@ -6,7 +6,7 @@ use std::process::Abort;
 use txn_names::Key;
 
 /// A committed child is undone with its parent: over the row x=9.
-const UNDONE_WITH_PARENT: &str = "\
+pub const UNDONE_WITH_PARENT: &str = "\
 open
 x=9
 s 1 begin a -> ok
@@ -206,7 +206,7 @@ fn command_of(entry: &str) -> Option<&str> {
 }
 
 // The session whose lines are the texts of the report's entries. A line that waits has two entries.
-fn text_of(rt: &impl Abort, alloc: Global, report: &str) -> String {
+pub fn text_of(rt: &impl Abort, alloc: Global, report: &str) -> String {
     let mut text = String::from_str(alloc, "session s\n").expect(rt, "memory");
     for entry in report.lines() {
         if let Some(command) = command_of(entry) {
