@@ -35,14 +35,22 @@ fn same_label(a: &Sessions, b: &Sessions, session: u32) -> bool
     a.label(session) == b.label(session)
 }
 
+fn count_of(sessions: &Sessions) -> u32
+    ensures { result ≡ length sessions.now }
+{
+    sessions.len() as u32
+}
+
 /// Whether both have the same sessions: as many, with the same labels and lines, in the same order.
+#[tactic(auto, using(crate::proofs::Equal::all_same))]
 pub(crate) fn same_sessions(a: &Sessions, b: &Sessions) -> bool
     ensures { IsTrue result ↔ a.now ≡ b.now }
 {
-    if a.len() != b.len() {
+    let count = count_of(a);
+    if count != count_of(b) {
         return false;
     }
-    for session in 0..a.len() as u32 {
+    for session in 0..count {
         if !same_label(a, b, session) || !same_lines(a, b, session) {
             return false;
         }
