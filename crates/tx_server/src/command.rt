@@ -33,25 +33,37 @@ fn replay_command<'a>(alloc: Global) -> Result<Command<'a>, Error> {
     let schedule = Arg::new(alloc, "schedule")
         .long("schedule")
         .value_name("LIST")
-        .help("Session numbers, from 0, joined by commas: whose lines are attempted before the rounds [default: none]")
+        .help(
+            "Session numbers, from 0, joined by commas: whose lines are attempted before the rounds [default: none]",
+        )
         .action(ArgAction::Set);
     let database = Arg::new(alloc, "db")
         .long("db")
         .value_name("PATH")
-        .help("The SQLite database that keeps the results, made where there is none [default: an empty table in memory]")
+        .help(
+            "The SQLite database that keeps the results, made where there is none [default: an empty table in memory]",
+        )
         .action(ArgAction::Set);
-    Ok(Command::new(alloc, "replay")
-        .about("Runs a session text and prints the report of every reply and of the final table")
-        .after_help(REPLAY_NOTES)
-        .arg(file)?
-        .arg(schedule)?
-        .arg(database)?)
+    Ok(
+        Command::new(alloc, "replay")
+            .about(
+                "Runs a session text and prints the report of every reply and of the final table",
+            )
+            .after_help(REPLAY_NOTES)
+            .arg(file)?
+            .arg(schedule)?
+            .arg(database)?,
+    )
 }
 
 fn command<'a>(alloc: Global) -> Result<Command<'a>, Error> {
-    Ok(Command::new(alloc, "tx")
-        .about("Runs jobs in parts: nested transactions whose failed parts are undone alone and tried again")
-        .subcommand(replay_command(alloc)?)?)
+    Ok(
+        Command::new(alloc, "tx")
+            .about(
+                "Runs jobs in parts: nested transactions whose failed parts are undone alone and tried again",
+            )
+            .subcommand(replay_command(alloc)?)?,
+    )
 }
 
 fn read_task<'a>(name: &str, of: &ArgMatches<'a>) -> Option<Task<'a>> {

@@ -35,18 +35,23 @@ fn add(rt: &impl Abort, under: &mut Vec<Under>, name: Option<Name>, item: Item) 
 // The items of one that commits become a block of its parent's.
 fn commit(rt: &impl Abort, under: &mut Vec<Under>, name: Name) {
     if let Some(place) = place_of(under.as_slice(), Some(name)) {
-        let one = under.remove(place);
-        add(rt, under, name.parent(), Item::Block(one.items));
+        if place < under.len() {
+            let one = under.remove(place);
+            add(rt, under, name.parent(), Item::Block(one.items));
+        }
     }
 }
 
 fn enter(rt: &impl Abort, alloc: Global, under: &mut Vec<Under>, entry: &Entry) {
-    match (entry.event, entry.answer) {
-        (Event::Begin(name), Answer::Done(_)) => begin(rt, alloc, under, Some(name)),
-        (Event::Access(name, key, op), Answer::Done(reply)) => {
-            add(rt, under, Some(name), Item::Access { key, op, reply })
+    let Answer::Done(reply) = entry.answer else {
+        return;
+    };
+    match entry.event {
+        Event::Begin(name) => begin(rt, alloc, under, Some(name)),
+        Event::Access(name, key, op) => {
+            add(rt, under, Some(name), Item::Access { key, op, reply });
         }
-        (Event::Commit(name), Answer::Done(_)) => commit(rt, under, name),
+        Event::Commit(name) => commit(rt, under, name),
         _ => {}
     }
 }
@@ -71,7 +76,9 @@ pub fn is_serial(rt: &impl Abort, alloc: Global, report: &Report) -> bool {
     for entry in report.history() {
         enter(rt, alloc, &mut under, entry);
     }
-    let root = under.remove(0);
+    let Some(root) = under.first() else {
+        return false;
+    };
     let mut table = table_of(rt, alloc, report.opening());
     let wrong = run_items(&mut table, root.items.as_slice()).expect(rt, "memory");
     wrong.is_none() && is_same(&table, report.table())

@@ -237,10 +237,11 @@ end
 ";
 
 // The command of an entry that is this session's, and of another line than the one before.
-fn command_of<'a>(entry: &'a str, label: &str, before: &str) -> Option<(&'a str, &'a str)> {
+fn command_of<'a>(entry: &'a str, label: &str, before: u32) -> Option<(u32, &'a str)> {
     let (line, _) = entry.split_once(" -> ")?;
     let (found, numbered) = line.split_once(' ')?;
     let (number, command) = numbered.split_once(' ')?;
+    let number = number.parse().ok()?;
     if found == label && number != before {
         Some((number, command))
     } else {
@@ -253,7 +254,7 @@ fn add_session(rt: &impl Abort, text: &mut String, report: &str, label: &str) {
     text.push_str("session ").expect(rt, "memory");
     text.push_str(label).expect(rt, "memory");
     text.push_str("\n").expect(rt, "memory");
-    let mut before = "0";
+    let mut before = 0;
     for entry in report.lines() {
         if let Some((number, command)) = command_of(entry, label, before) {
             text.push_str(command).expect(rt, "memory");
