@@ -1,12 +1,12 @@
 -- What each holder of the lock keeps of the opening.
-use Rattle.std.proofs.Common.{◌≡◌, ℕ, ◌≤◌, Option, Some, None, Result, Ok, Err, IfOk, OnErr, refl, sym, subst, ◌∙◌, arith}
+use Rattle.std.proofs.Common.{◌≡◌, ℕ, Option, Result, Ok, Err, IfOk, OnErr, refl, sym, subst, ◌∙◌, arith}
 use Rattle.serial_spec.specs.declared.event.Event.{Event}
 use Rattle.serial_spec.specs.Rows.{Rows}
 use Rattle.durable_top.specs.declared.store.TopStore.{Ghosts}
 use Rattle.interleavings.specs.declared.turns.Turn.{Turn}
 use Rattle.interleavings.specs.declared.turns.Turn.TheVariants.{Answered, Parked, OutOfTurn}
 use Rattle.interleavings.specs.Attempts.{GoesOn}
-use Rattle.interleavings.specs.Turning.{Turning, Stepped, Unstuck}
+use Rattle.interleavings.specs.Turning.{Turning, Unstuck}
 use Rattle.shared_book.specs.Attempting.{Attempted}
 use Rattle.worker_pool.specs.Openings.{IsOpenedWith}
 
