@@ -60,10 +60,7 @@ fn close<S: TopStore>(turns: Turns<'_, S>) -> Result<(Report, S), RunFault>
 }
 
 // The schedule, the rounds and the close.
-fn run_opened<S: TopStore>(
-    turns: Turns<'_, S>,
-    schedule: &[u32],
-) -> Result<(Report, S), RunFault>
+fn run_opened<S: TopStore>(turns: Turns<'_, S>, schedule: &[u32]) -> Result<(Report, S), RunFault>
     ensures ok { IfOk result (λ run. RunsOut S.TopStore schedule.now turns.entry run.0 run.1) }
     ensures err { IfErr result (λ fault. fault ≡ RunFault.NoMemory) }
 {

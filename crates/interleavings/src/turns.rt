@@ -198,7 +198,9 @@ impl<'a, S: TopStore> Turns<'a, S> {
         match turns.manager.close() {
             Ok(()) => {
                 let Turns {
-                    manager, sessions, ..
+                    manager,
+                    sessions,
+                    ..
                 } = turns;
                 Ok(report_of(manager, sessions, labels))
             }
