@@ -66,15 +66,6 @@ module _ {S : Type 0} (g : Ghosts S) (old : Turning S) (numbers : List ℕ) (new
     refusals = subst (λ n. g.faults new.store ≡ counted (n + store_refusals new.history)) (ap (λ (m : State S). m.opened) closed.added) sound.backed.refusals;
   }
 
--- what follows from an answer without a fault
-pub if_ok_more : {A E : Type 0} {P Q : A → Type 0} (r : Result A E) → IfOk r P → ((a : A) → P a → Q a) → IfOk r Q
-if_ok_more (Ok a) p more = more a p
-if_ok_more (Err e) p more = tt
-
-pub if_err_more : {A E : Type 0} {P Q : E → Type 0} (r : Result A E) → IfErr r P → ((e : E) → P e → Q e) → IfErr r Q
-if_err_more (Ok a) p more = tt
-if_err_more (Err e) p more = more e p
-
 module _ {S : Type 0} (g : Ghosts S) where
   -- ---- a run
 

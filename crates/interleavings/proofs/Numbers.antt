@@ -2,7 +2,7 @@
 use Rattle.std.proofs.Common.{◌≡◌, ℕ, zero, suc, ◌+◌, ◌-◌, ◌<◌, ◌≤◌, ◌⊎◌, inl, inr, ⊎_elim, true, false, eqb, List, [], ◌∷◌, length, Option, Some, None, is_some, option_map, set, replicate, slice_get, refl, sym, ap, subst, ◌∙◌, arith}
 use Rattle.std.proofs.lemmas.Bool.{false≢true, cases_lt}
 use Rattle.std.proofs.lemmas.Bool.Decides.{nat_tests, eqb_tells}
-use Rattle.std.proofs.lemmas.Option.{slice_get_within, slice_get_past, slice_get-get_or}
+use Rattle.std.proofs.lemmas.Option.{none-some, slice_get_within, slice_get_past, slice_get-get_or}
 use Rattle.std.proofs.lemmas.List.{get_or-set_same, get_or-set_other, length-replicate, get_or-replicate}
 use Rattle.serial_spec.specs.declared.event.Event.{Event}
 use Rattle.serial_spec.specs.declared.entry.By.TheVariants.{Line}
@@ -31,10 +31,7 @@ use Rattle.interleavings.specs.declared.turns.Turn.TheVariants.{Answered, Parked
 use Rattle.interleavings.specs.Turning.{AreNext, AreTurns, Stepped, next_number}
 use Rattle.interleavings.proofs.Attempts.{attempt_steps, others_count, count_waits, count_answered, own_answered, other_answered}
 
-none_some : {X : Type 0} (x : X) → None ≡ Some x → ⊥
-none_some x e = false≢true (ap is_some e)
-
-unsome : {X : Type 0} (a b : X) → Some a ≡ Some b → a ≡ b
+pub unsome : {X : Type 0} (a b : X) → Some a ≡ Some b → a ≡ b
 unsome a b e = cc
 
 -- ---- what they tell
@@ -52,7 +49,7 @@ module _ (ss : List Session) (h : History) (numbers : List ℕ) (next : AreNext 
   none_kept at = missing (slice_get_past ss s (by (cases_lt s (length ss))))
     where
       by : (s < length ss) ⊎ (length ss ≤ s) → length ss ≤ s
-      by (inl within) = absurd (none_some (suc (answered h s)) (sym at ∙ next.each s within))
+      by (inl within) = absurd (none-some (suc (answered h s)) (sym at ∙ next.each s within))
       by (inr past) = past
 
       missing : slice_get ss s ≡ None → next_event ss h s ≡ None
@@ -64,11 +61,11 @@ session_there ss h s e due = by (cases_lt s (length ss))
   where
     by : (s < length ss) ⊎ (length ss ≤ s) → s < length ss
     by (inl within) = within
-    by (inr past) = absurd (none_some e (sym (ap (λ x. slice_get (lines_of x) (answered h s)) (slice_get_past ss s past)) ∙ due))
+    by (inr past) = absurd (none-some e (sym (ap (λ x. slice_get (lines_of x) (answered h s)) (slice_get_past ss s past)) ∙ due))
 
 -- of a text each session has few lines
-short : (ss : List Session) (s : ℕ) (x : Session) → AllByRecursion IsSession ss → slice_get ss s ≡ Some x → length x.lines ≤ 1024
-short [] s x all at = absurd (none_some x at)
+pub short : (ss : List Session) (s : ℕ) (x : Session) → AllByRecursion IsSession ss → slice_get ss s ≡ Some x → length x.lines ≤ 1024
+short [] s x all at = absurd (none-some x at)
 short (y ∷ ss) zero x all at = subst (λ (z : Session). length z.lines ≤ 1024) (unsome y x at) all.0.short
 short (y ∷ ss) (suc s) x all at = short ss s x all.1 at
 
@@ -76,7 +73,7 @@ pub few_lines : (ss : List Session) (h : History) (s : ℕ) (e : Event) → IsTe
 few_lines ss h s e text due = by (slice_get ss s) refl
   where
     by : (x : Option Session) → slice_get ss s ≡ x → suc (answered h s) ≤ 1024
-    by None is = absurd (none_some e (sym (ap (λ x. slice_get (lines_of x) (answered h s)) is) ∙ due))
+    by None is = absurd (none-some e (sym (ap (λ x. slice_get (lines_of x) (answered h s)) is) ∙ due))
     by (Some x) is =
         let at : slice_get x.lines (answered h s) ≡ Some e = sym (ap (λ x. slice_get (lines_of x) (answered h s)) is) ∙ due in
         omega (arith, slice_get_within x.lines (answered h s) e at, short ss s x text.sessions is)
@@ -86,7 +83,7 @@ pub next_some : (ss : List Session) (h : History) (s l : ℕ) → next_number ss
 next_some ss h s l at = by (next_event ss h s) refl
   where
     by : (x : Option Event) → next_event ss h s ≡ x → (e : Event) × (next_event ss h s ≡ Some e) × (l ≡ suc (answered h s))
-    by None is = absurd (none_some l (sym (ap (λ z. option_map (λ (d : Event). suc (answered h s)) z) is) ∙ at))
+    by None is = absurd (none-some l (sym (ap (λ z. option_map (λ (d : Event). suc (answered h s)) z) is) ∙ at))
     by (Some e) is =
         let both : Some (suc (answered h s)) ≡ Some l = sym (ap (λ z. option_map (λ (d : Event). suc (answered h s)) z) is) ∙ at in
         (e, is, sym (unsome (suc (answered h s)) l both))

@@ -3,9 +3,7 @@ use Rattle.std.proofs.Common.{◌≡◌, ℕ, suc, ◌<◌, ◌≤◌, ◌⊎◌
 use Rattle.std.proofs.lemmas.Bool.{cases_lt}
 use Rattle.std.proofs.lemmas.Option.{slice_get-get_or}
 use Rattle.interleavings.specs.Runs.{AreThere, AllThere, IsStray}
-
-unsome : {X : Type 0} (a b : X) → Some a ≡ Some b → a ≡ b
-unsome a b e = cc
+use Rattle.interleavings.proofs.Numbers.{unsome}
 
 module _ (count : ℕ) (xs : List ℕ) (n : ℕ) (there : AreThere count xs n) where
   pub there_more : n < length xs → get_or xs n 0 < count → (i s : ℕ) → i < suc n → slice_get xs i ≡ Some s → s < count

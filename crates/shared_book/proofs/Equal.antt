@@ -2,27 +2,21 @@
 use Rattle.std.proofs.Common.{◌≡◌, ℕ, zero, suc, ◌+◌, ◌<◌, ◌≤◌, ◌⊎◌, ◌↔◌, inl, inr, Bool, true, false, not, IsTrue, Bor, List, [], ◌∷◌, length, Option, Some, None, is_some, option_copied, option_map, refl, sym, ap, subst, ◌∙◌, arith}
 use Rattle.std.specs.Prelude.{slice_get}
 use Rattle.std.proofs.lemmas.Bool.{cases_lt, false≢true}
-use Rattle.std.proofs.lemmas.Option.{slice_get_past, slice_get_within}
+use Rattle.std.proofs.lemmas.Option.{none-some, slice_get_past, slice_get_within}
 use Rattle.serial_spec.specs.declared.event.Event.{Event}
 use Rattle.serial_spec.specs.Interleaving.{Session, lines_of}
 use Rattle.std.specs.List.{AllByRecursion}
 use Rattle.session_text.specs.Grammar.{IsSession, IsText}
 use Rattle.session_text.specs.Texts.{label_at, line_at}
-use Rattle.interleavings.proofs.Numbers.{line_of_number}
-use Rattle.shared_book.proofs.Lists.{none_some, unsome, same_lists}
-
--- of a text each session has few lines
-short : (ss : List Session) (s : ℕ) (x : Session) → AllByRecursion IsSession ss → slice_get ss s ≡ Some x → length x.lines ≤ 1024
-short [] s x all at = absurd (none_some x at)
-short (y ∷ ss) zero x all at = subst (λ (z : Session). length z.lines ≤ 1024) (unsome y x at) all.0.short
-short (y ∷ ss) (suc s) x all at = short ss s x all.1 at
+use Rattle.interleavings.proofs.Numbers.{line_of_number, short, unsome}
+use Rattle.shared_book.proofs.Lists.{same_lists}
 
 pub line_within : (ss : List Session) (s l : ℕ) (e : Event) → IsText ss → 1 ≤ l → Some e ≡ line_at ss s l → l ≤ 1024
 line_within ss s zero e text some at = absurd (omega (arith, some))
 line_within ss s (suc n) e text some at = by (slice_get ss s) refl
   where
     by : (x : Option Session) → slice_get ss s ≡ x → suc n ≤ 1024
-    by None is = absurd (none_some e (sym (at ∙ line_of_number ss s n ∙ ap (λ z. slice_get (lines_of z) n) is)))
+    by None is = absurd (none-some e (sym (at ∙ line_of_number ss s n ∙ ap (λ z. slice_get (lines_of z) n) is)))
     by (Some x) is =
         let there : slice_get x.lines n ≡ Some e = sym (at ∙ line_of_number ss s n ∙ ap (λ z. slice_get (lines_of z) n) is) in
         omega (arith, slice_get_within x.lines n e there, short ss s x text.sessions is)
@@ -50,8 +44,8 @@ same_session a b s label lines = by (slice_get a s) (slice_get b s) label lines
   where
     by : (x y : Option Session) → option_map (λ t. t.label) x ≡ option_map (λ t. t.label) y → lines_of x ≡ lines_of y → x ≡ y
     by None None l ls = refl
-    by None (Some y) l ls = absurd (none_some y.label l)
-    by (Some x) None l ls = absurd (none_some x.label (sym l))
+    by None (Some y) l ls = absurd (none-some y.label l)
+    by (Some x) None l ls = absurd (none-some x.label (sym l))
     by (Some x) (Some y) l ls = ap (λ z. Some z) (session_of x y (unsome x.label y.label l) ls)
 
 -- as many sessions, each the same
@@ -82,4 +76,4 @@ ended a b s l some same a_ends x r at told = by (line_at b s l) refl r (ap is_so
     by None b_ends true t = (λ h. same_to_the_end a b s l some same a_ends b_ends, λ e. refl)
     by None b_ends false t = absurd (false≢true t)
     by (Some e) there true t = absurd (false≢true (sym t))
-    by (Some e) there false t = (λ h. absurd (false≢true h), λ equal. absurd (none_some e (sym a_ends ∙ lines_same a b s l equal ∙ there)))
+    by (Some e) there false t = (λ h. absurd (false≢true h), λ equal. absurd (none-some e (sym a_ends ∙ lines_same a b s l equal ∙ there)))

@@ -6,7 +6,7 @@ use Rattle.std.specs.Cmp.{IsEquivalence}
 use Rattle.std.specs.Cmp.Lexicographic.{slice_cmp, texts_ties}
 use Rattle.std.specs.Ordering.{nat_cmp, is_eq}
 use Rattle.std.specs.declared.cmp.Ordering.TheVariants.{Less}
-use Rattle.std.proofs.lemmas.Bool.{false≢true, leb-false}
+use Rattle.std.proofs.lemmas.Bool.{false≢true, leb-false, or_right}
 use Rattle.std.proofs.lemmas.List.{length-map}
 use Rattle.std.proofs.lemmas.Map.Made.{length-le_from_is_member}
 use Rattle.txn_names.specs.Path.{path_eq, label_eq, parent}
@@ -37,10 +37,6 @@ Keys = List (List ℕ)
 abbrev is_in : List ℕ → Keys → Bool
 is_in k ks = list_any (label_eq k) ks
 
-either : (b c : Bool) → c ≡ true → (b || c) ≡ true
-either true c h = refl
-either false c h = h
-
 eq_back : (a b : List ℕ) → label_eq a b ≡ true → label_eq b a ≡ true
 eq_back a b e = subst (λ (x : List ℕ). label_eq x a ≡ true) (same_label a b e) (label_eq_self a)
 
@@ -51,7 +47,7 @@ in_more (Accesses t k o r) ks q h = by (list_any (label_eq k) ks) refl
   where
     by : (b : Bool) → list_any (label_eq k) ks ≡ b → is_in q (cond b ks (k ∷ ks)) ≡ true
     by true e = h
-    by false e = either (label_eq q k) (is_in q ks) h
+    by false e = or_right (label_eq q k) (is_in q ks) h
 in_more (Begins t) ks q h = h
 in_more (Commits t) ks q h = h
 in_more (Aborts t) ks q h = h

@@ -1,14 +1,11 @@
 use Rattle.std.proofs.Common.{◌≡◌, ◌-◌, List, length, rules, None, Result, Ok, Err, OnErr, sym, ap, subst, ◌∙◌}
 use Rattle.std.proofs.Math.ListN.{set}
+use Rattle.txn_bytes.proofs.Appending.{on_err}
 use Rattle.serial_spec.specs.Interleaving.{Session}
 use Rattle.session_text.specs.Grammar.{IsText}
 use Rattle.session_text.specs.Texts.{grown, misplaced}
 use Rattle.session_text.proofs.Adding.{kept_header, pushed, unpushed, kept}
 use Rattle.session_text.proofs.sessions.Sessions.add.Goals as goal
-
-on_err : {A E X : Type 0} (r : Result A E) → X → OnErr r X
-on_err (Ok a) x = tt
-on_err (Err e) x = x
 
 pub invariant_of-self-in-Header : goal.invariant_of-self-in-Header
 invariant_of-self-in-Header c =
