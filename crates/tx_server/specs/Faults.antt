@@ -1,11 +1,12 @@
--- By which line the program tells why a text was not replayed.
+-- By which line the program tells why there is no report.
 use Rattle.session_text.specs.declared.fault.TextFault.TheVariants as read
 use Rattle.manager_core.specs.declared.outcome.OpenFault.TheVariants as opening
 use Rattle.interleavings.specs.declared.run.RunFault.TheVariants as ran
+use Rattle.worker_pool.specs.declared.serving.ServeFault.TheVariants as served
 use Rattle.tx_server.specs.declared.replay.ReplayFault.{ReplayFault}
-use Rattle.tx_server.specs.declared.replay.ReplayFault.TheVariants.{Text, Run, Write}
+use Rattle.tx_server.specs.declared.replay.ReplayFault.TheVariants.{Text, Run, Serve, Write}
 use Rattle.tx_server.specs.declared.fault.Fault.{Fault}
-use Rattle.tx_server.specs.declared.fault.Fault.TheVariants.{Line, Schedule, CannotOpen, TooManyRows, NoMemory, CannotWrite}
+use Rattle.tx_server.specs.declared.fault.Fault.TheVariants.{Line, Schedule, CannotOpen, TooManyRows, NoMemory, CannotStart, CannotWrite}
 
 abbrev pub told : ReplayFault → Fault
 told (Text (read.Bad line kind)) = Line line kind
@@ -15,4 +16,9 @@ told (Run (ran.Open opening.NoMemory)) = NoMemory
 told (Run (ran.Open (opening.Store fault))) = CannotOpen
 told (Run (ran.Open opening.TooManyRows)) = TooManyRows
 told (Run (ran.Schedule place)) = Schedule place
+told (Serve served.NoMemory) = NoMemory
+told (Serve (served.Open opening.NoMemory)) = NoMemory
+told (Serve (served.Open (opening.Store fault))) = CannotOpen
+told (Serve (served.Open opening.TooManyRows)) = TooManyRows
+told (Serve served.Thread) = CannotStart
 told (Write fault) = CannotWrite

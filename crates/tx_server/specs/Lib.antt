@@ -1,3 +1,4 @@
+pub mod Ways
 pub mod Replays
 pub mod Programs
 pub mod Faults

@@ -1,4 +1,4 @@
--- What the replay of a text comes to.
+-- What the run of a text comes to.
 use Rattle.std.specs.Prelude.{◌≡◌, ℕ, List, Option, Ok}
 use Rattle.std.specs.Io.KnownBytes.{Appends}
 use Rattle.txn_bytes.specs.Written.{AppendsFront}
@@ -8,51 +8,64 @@ use Rattle.session_text.specs.Texts.{sessions_of, Tells}
 use Rattle.durable_top.specs.declared.store.TopStore.{Ghosts}
 use Rattle.interleavings.specs.Told.{Told}
 use Rattle.interleavings.specs.Reports.{IsReport}
-use Rattle.interleavings.specs.Runs.{IsRun, HasRunCause}
+use Rattle.interleavings.specs.Runs.{HasRunCause}
 use Rattle.interleavings.specs.declared.run.RunFault.{RunFault}
+use Rattle.worker_pool.specs.Served.{HasServeCause}
+use Rattle.worker_pool.specs.declared.serving.ServeFault.{ServeFault}
+use Rattle.tx_server.specs.Ways.{Way, Scheduled, ByWorkers, IsRunBy}
 use Rattle.tx_server.specs.declared.replay.ReplayFault.{ReplayFault}
-use Rattle.tx_server.specs.declared.replay.ReplayFault.TheVariants.{Text, Run, Write}
+use Rattle.tx_server.specs.declared.replay.ReplayFault.TheVariants.{Text, Run, Serve, Write}
 
 -- the bytes of a report
 abbrev pub spelled_report : Told → List ℕ
 spelled_report r = report r.opening r.labels r.history r.table
 
--- The text spells sessions, and this is the report of their run by the schedule over the store, which comes back as `left`
-pub record IsTold {S : Type 0} (g : Ghosts S) (text schedule : List ℕ) (store left : S) (r : Told) : Type 0 where
+-- The text spells sessions, and this is the report of their run in this way over the store, which comes back as `left`
+pub record IsTold {S : Type 0} (g : Ghosts S) (text : List ℕ) (way : Way) (store left : S) (r : Told) : Type 0 where
   pub sessions : List Session
   pub read : sessions_of text ≡ Ok sessions
   -- legal, serially correct, finished, with the table that is due
   pub report : IsReport r
-  -- of these sessions' lines, in the order that the schedule says, over the store's rows
-  pub run : IsRun g sessions schedule store r left
+  -- of these sessions' lines, in the order that a schedule says, over the store's rows
+  pub run : IsRunBy g sessions way store r left
 
 -- the writer took the bytes of that report
-pub record IsReplayed {S : Type 0} (g : Ghosts S) (old new : Option (List ℕ)) (text schedule : List ℕ) (store left : S) : Type 0 where
+pub record IsReplayed {S : Type 0} (g : Ghosts S) (old new : Option (List ℕ)) (text : List ℕ) (way : Way) (store left : S) : Type 0 where
   pub told : Told
-  pub holds : IsTold g text schedule store left told
+  pub holds : IsTold g text way store left told
   pub written : Appends old new (spelled_report told)
 
 -- the writer failed, after a beginning of that report
-pub record IsCutShort {S : Type 0} (g : Ghosts S) (old new : Option (List ℕ)) (text schedule : List ℕ) (store : S) : Type 0 where
+pub record IsCutShort {S : Type 0} (g : Ghosts S) (old new : Option (List ℕ)) (text : List ℕ) (way : Way) (store : S) : Type 0 where
   pub left : S
   pub told : Told
-  pub holds : IsTold g text schedule store left told
+  pub holds : IsTold g text way store left told
   pub written : AppendsFront old new (spelled_report told)
 
--- the text spells sessions, and their run gave no report
+-- the text spells sessions, and their run by the schedule gave no report
 pub record IsUnrun {S : Type 0} (g : Ghosts S) (text schedule : List ℕ) (store : S) (fault : RunFault) : Type 0 where
   pub sessions : List Session
   pub read : sessions_of text ≡ Ok sessions
   pub cause : HasRunCause g sessions schedule store fault
 
--- why a text was not replayed
-abbrev pub HasReplayCause : {S : Type 0} → Ghosts S → Option (List ℕ) → Option (List ℕ) → List ℕ → List ℕ → S → ReplayFault → Type 0
-HasReplayCause g old new text schedule store (Text fault) = Tells fault (sessions_of text)
-HasReplayCause g old new text schedule store (Run fault) = IsUnrun g text schedule store fault
-HasReplayCause g old new text schedule store (Write fault) = IsCutShort g old new text schedule store
+-- the same by workers
+pub record IsUnserved {S : Type 0} (g : Ghosts S) (text : List ℕ) (store : S) (fault : ServeFault) : Type 0 where
+  pub sessions : List Session
+  pub read : sessions_of text ≡ Ok sessions
+  pub cause : HasServeCause g store fault
+
+-- Why a text was not run. Which way it was to be run tells which kinds of fault there are
+abbrev pub HasReplayCause : {S : Type 0} → Ghosts S → Option (List ℕ) → Option (List ℕ) → List ℕ → Way → S → ReplayFault → Type 0
+HasReplayCause g old new text way store (Text fault) = Tells fault (sessions_of text)
+HasReplayCause g old new text (Scheduled schedule) store (Run fault) = IsUnrun g text schedule store fault
+HasReplayCause g old new text ByWorkers store (Run fault) = ⊥
+HasReplayCause g old new text (Scheduled schedule) store (Serve fault) = ⊥
+HasReplayCause g old new text ByWorkers store (Serve fault) = IsUnserved g text store fault
+HasReplayCause g old new text way store (Write fault) = IsCutShort g old new text way store
 
 -- a fault that came before anything was written
 abbrev pub IsUnwritten : ReplayFault → Type 0
 IsUnwritten (Text fault) = Unit {0}
 IsUnwritten (Run fault) = Unit {0}
+IsUnwritten (Serve fault) = Unit {0}
 IsUnwritten (Write fault) = ⊥

@@ -12,6 +12,12 @@ pub enum Task<'a> {
         schedule: Option<&'a str>,
         database: Option<&'a str>,
     },
+    /// To run this session text by worker threads, as many as the word says, and to print the report.
+    Run {
+        file: &'a str,
+        workers: Option<&'a str>,
+        database: Option<&'a str>,
+    },
 }
 
 /// What stands behind the arguments of `replay --help`.
@@ -24,24 +30,59 @@ command line.
 
 Example: tx replay examples/retry.tx --db jobs.db";
 
-fn replay_command<'a>(alloc: Global) -> Result<Command<'a>, Error> {
-    let file = Arg::new(alloc, "file")
+/// What stands behind the arguments of `run --help`.
+const RUN_NOTES: &str = "\
+The workers share the sessions: each takes the next line of some session, attempts it, and passes the session on. Two
+runs of one text may answer its lines in other orders; whatever is said of a report holds of each of them. Run the text
+with `replay` for one order that is always the same.
+
+Exit status: 0 if the report was printed, 1 if one line on standard error says why there is none, 2 if the words are no
+command line.
+
+Example: tx run examples/retry.tx --workers 8 --db jobs.db";
+
+fn file_argument<'a>(alloc: Global) -> Arg<'a> {
+    Arg::new(alloc, "file")
         .value_name("FILE")
         .help("The session text to run")
         .required(true)
+        .action(ArgAction::Set)
+}
+
+fn database_argument<'a>(alloc: Global) -> Arg<'a> {
+    Arg::new(alloc, "db")
+        .long("db")
+        .value_name("PATH")
+        .help(
+            "The SQLite database that keeps the results, made where there is none [default: an empty table in memory]",
+        )
+        .action(ArgAction::Set)
+}
+
+fn run_command<'a>(alloc: Global) -> Result<Command<'a>, Error> {
+    let workers = Arg::new(alloc, "workers")
+        .long("workers")
+        .value_name("N")
+        .help("How many worker threads take the lines, from 1 to 16 [default: 4]")
         .action(ArgAction::Set);
+    Ok(
+        Command::new(alloc, "run")
+            .about(
+                "Runs a session text by worker threads and prints the report of every reply and of the final table",
+            )
+            .after_help(RUN_NOTES)
+            .arg(file_argument(alloc))?
+            .arg(workers)?
+            .arg(database_argument(alloc))?,
+    )
+}
+
+fn replay_command<'a>(alloc: Global) -> Result<Command<'a>, Error> {
     let schedule = Arg::new(alloc, "schedule")
         .long("schedule")
         .value_name("LIST")
         .help(
             "Session numbers, from 0, joined by commas: whose lines are attempted before the rounds [default: none]",
-        )
-        .action(ArgAction::Set);
-    let database = Arg::new(alloc, "db")
-        .long("db")
-        .value_name("PATH")
-        .help(
-            "The SQLite database that keeps the results, made where there is none [default: an empty table in memory]",
         )
         .action(ArgAction::Set);
     Ok(
@@ -50,9 +91,9 @@ fn replay_command<'a>(alloc: Global) -> Result<Command<'a>, Error> {
                 "Runs a session text and prints the report of every reply and of the final table",
             )
             .after_help(REPLAY_NOTES)
-            .arg(file)?
+            .arg(file_argument(alloc))?
             .arg(schedule)?
-            .arg(database)?,
+            .arg(database_argument(alloc))?,
     )
 }
 
@@ -62,7 +103,8 @@ fn command<'a>(alloc: Global) -> Result<Command<'a>, Error> {
             .about(
                 "Runs jobs in parts: nested transactions whose failed parts are undone alone and tried again",
             )
-            .subcommand(replay_command(alloc)?)?,
+            .subcommand(replay_command(alloc)?)?
+            .subcommand(run_command(alloc)?)?,
     )
 }
 
@@ -71,6 +113,11 @@ fn read_task<'a>(name: &str, of: &ArgMatches<'a>) -> Option<Task<'a>> {
         "replay" => Some(Task::Replay {
             file: of.get_str("file")?,
             schedule: of.get_str("schedule"),
+            database: of.get_str("db"),
+        }),
+        "run" => Some(Task::Run {
+            file: of.get_str("file")?,
+            workers: of.get_str("workers"),
             database: of.get_str("db"),
         }),
         _ => None,

@@ -7,6 +7,7 @@ use interleavings::RunFault;
 use manager_core::OpenFault;
 use session_text::{LineKind, TextFault};
 use thiserror::Error;
+use worker_pool::ServeFault;
 
 /// Why the program gave no report, as it says on standard error.
 #[derive(Debug, Drop, Error)]
@@ -23,6 +24,8 @@ pub enum Fault<'a> {
     TooManyRows,
     #[error("tx: no memory")]
     NoMemory,
+    #[error("tx: cannot start worker")]
+    CannotStart,
     #[error("tx: cannot write")]
     CannotWrite,
 }
@@ -42,7 +45,7 @@ fn word_of(kind: &LineKind) -> &'static str {
     }
 }
 
-/// What the program says of a text that was not replayed.
+/// What the program says where there is no report of a text.
 pub fn fault_of<'a>(fault: ReplayFault) -> Fault<'a>
     ensures { result ≡ told fault }
 {
@@ -54,6 +57,11 @@ pub fn fault_of<'a>(fault: ReplayFault) -> Fault<'a>
         ReplayFault::Run(RunFault::Open(OpenFault::Store(_))) => Fault::CannotOpen,
         ReplayFault::Run(RunFault::Open(OpenFault::TooManyRows)) => Fault::TooManyRows,
         ReplayFault::Run(RunFault::Schedule(place)) => Fault::Schedule(place),
+        ReplayFault::Serve(ServeFault::NoMemory) => Fault::NoMemory,
+        ReplayFault::Serve(ServeFault::Open(OpenFault::NoMemory)) => Fault::NoMemory,
+        ReplayFault::Serve(ServeFault::Open(OpenFault::Store(_))) => Fault::CannotOpen,
+        ReplayFault::Serve(ServeFault::Open(OpenFault::TooManyRows)) => Fault::TooManyRows,
+        ReplayFault::Serve(ServeFault::Thread) => Fault::CannotStart,
         ReplayFault::Write(_) => Fault::CannotWrite,
     }
 }

@@ -2,19 +2,25 @@
 ghost use Rattle.std.specs.Prelude.{◌≡◌, ◌≢◌, ◌≤◌, ◌⊎◌};
 ghost use Rattle.std.specs.Io.KnownBytes.{Keeps};
 ghost use Rattle.tx_server.specs.Programs.{IsMissed, IsPrinted, Misses, MissesFrom, Prints, PrintsFrom};
+ghost use Rattle.tx_server.specs.Ways.{AreFew, IsServable, way_of, Scheduled, ByWorkers};
 
 use crate::command::{Task, task_of};
 use crate::fault::{Fault, fault_of};
 use crate::replay::replay_text;
 use crate::schedule::attempts_of;
-use durable_top::{MemStore, TopStore};
+use crate::serve::{OpenGate, run_text};
+use crate::way::{Way, workers_of};
+use durable_top::{MemStore, StoreFault, TopStore};
 use sql_store::SqlStore;
-use sqlite::{File, FileStore};
+use sqlite::{Alter, File, FileStore};
 use std::alloc::{AllocError, Global};
 use std::fmt::Display;
 use std::fs;
 use std::io::Write;
 use std::rt::{Files, HostRuntime};
+use std::sync::Wait;
+use std::thread::Threads;
+use std::time::Clock;
 
 /// The exit status where all was done.
 const DONE: u8 = 0;
@@ -26,9 +32,11 @@ const FAILED: u8 = 1;
 pub const MISUSED: u8 = 2;
 
 /// Does what the words after the program's name ask for, and answers the exit status. A report goes to `out`, and
-/// only where the whole run was done; a fault goes to `err`, in one line.
-pub fn tx_main<W: Write, E: Write>(
+/// only where the whole run was done; a fault goes to `err`, in one line. Words that are no command line are told there too.
+/// Workers run on `threads`.
+pub fn tx_main<R: Threads + Wait + Clock + Sync, W: Write, E: Write>(
     rt: &HostRuntime,
+    threads: &R,
     alloc: Global,
     words: &[String],
     out: &mut W,
@@ -38,6 +46,7 @@ pub fn tx_main<W: Write, E: Write>(
         ⊎ PrintsFrom ⟦<SqlStore<FileStore<File>> as TopStore>⟧ (W.contents out.old) (W.contents out.new) }
     ensures undone { result ≢ DONE → Misses ⟦<MemStore as TopStore>⟧ (W.contents out.old) (W.contents out.new)
         ⊎ MissesFrom ⟦<SqlStore<FileStore<File>> as TopStore>⟧ (W.contents out.old) (W.contents out.new) }
+    ensures misused { result ≡ MISUSED → Keeps (W.contents out.old) (W.contents out.new) }
     ensures status { result ≤ MISUSED }
 {
     let Ok(all) = command_line(alloc, words) else {
@@ -52,18 +61,28 @@ pub fn tx_main<W: Write, E: Write>(
                     database,
                 },
             ),
-        ) => replay(rt, alloc, file, schedule, database, out, err),
+        ) => replay(rt, threads, alloc, file, schedule, database, out, err),
+        Ok(
+            Some(
+                Task::Run {
+                    file,
+                    workers,
+                    database,
+                },
+            ),
+        ) => run(rt, threads, alloc, file, workers, database, out, err),
         Ok(None) => misuse(
             err,
-            &"usage: tx replay FILE [--schedule LIST] [--db PATH], or tx replay --help",
+            &"usage: tx replay FILE [--schedule LIST] [--db PATH], or tx run FILE [--workers N] [--db PATH], or tx --help",
         ),
         Err(text) => misuse(err, &text),
     }
 }
 
 // The list is read first: what of it is no session's number is told once the text is read.
-fn replay<W: Write, E: Write>(
+fn replay<R: Threads + Wait + Clock + Sync, W: Write, E: Write>(
     rt: &HostRuntime,
+    threads: &R,
     alloc: Global,
     file: &str,
     list: Option<&str>,
@@ -77,12 +96,74 @@ fn replay<W: Write, E: Write>(
         ⊎ MissesFrom ⟦<SqlStore<FileStore<File>> as TopStore>⟧ (W.contents out.old) (W.contents out.new) }
     ensures status { result ≤ FAILED }
 {
-    let Ok(schedule) = attempts_of(alloc, list) else {
-        return tell(err, Fault::NoMemory);
-    };
+    match attempts_of(alloc, list) {
+        Ok(schedule) => report(
+            rt,
+            threads,
+            alloc,
+            file,
+            &Way::Schedule(schedule),
+            database,
+            out,
+            err,
+        ),
+        Err(_) => tell(err, Fault::NoMemory),
+    }
+}
+
+// The number of workers is read first.
+fn run<R: Threads + Wait + Clock + Sync, W: Write, E: Write>(
+    rt: &HostRuntime,
+    threads: &R,
+    alloc: Global,
+    file: &str,
+    workers: Option<&str>,
+    database: Option<&str>,
+    out: &mut W,
+    err: &mut E,
+) -> u8
+    ensures done { result ≡ DONE → Prints ⟦<MemStore as TopStore>⟧ (W.contents out.old) (W.contents out.new)
+        ⊎ PrintsFrom ⟦<SqlStore<FileStore<File>> as TopStore>⟧ (W.contents out.old) (W.contents out.new) }
+    ensures undone { result ≢ DONE → Misses ⟦<MemStore as TopStore>⟧ (W.contents out.old) (W.contents out.new)
+        ⊎ MissesFrom ⟦<SqlStore<FileStore<File>> as TopStore>⟧ (W.contents out.old) (W.contents out.new) }
+    ensures misused { result ≡ MISUSED → Keeps (W.contents out.old) (W.contents out.new) }
+    ensures status { result ≤ MISUSED }
+{
+    match workers_of(workers) {
+        Some(count) => report(
+            rt,
+            threads,
+            alloc,
+            file,
+            &Way::Workers(count),
+            database,
+            out,
+            err,
+        ),
+        None => misuse(err, &"tx: --workers: a number from 1 to 16 is wanted"),
+    }
+}
+
+fn report<R: Threads + Wait + Clock + Sync, W: Write, E: Write>(
+    rt: &HostRuntime,
+    threads: &R,
+    alloc: Global,
+    file: &str,
+    way: &Way,
+    database: Option<&str>,
+    out: &mut W,
+    err: &mut E,
+) -> u8
+    requires { IsServable way.now }
+    ensures done { result ≡ DONE → Prints ⟦<MemStore as TopStore>⟧ (W.contents out.old) (W.contents out.new)
+        ⊎ PrintsFrom ⟦<SqlStore<FileStore<File>> as TopStore>⟧ (W.contents out.old) (W.contents out.new) }
+    ensures undone { result ≢ DONE → Misses ⟦<MemStore as TopStore>⟧ (W.contents out.old) (W.contents out.new)
+        ⊎ MissesFrom ⟦<SqlStore<FileStore<File>> as TopStore>⟧ (W.contents out.old) (W.contents out.new) }
+    ensures status { result ≤ FAILED }
+{
     match database {
-        Some(path) => replay_into(rt, alloc, file, schedule.as_slice(), path, out, err),
-        None => replay_file(rt, alloc, file, schedule.as_slice(), out, err),
+        Some(path) => report_into(rt, threads, alloc, file, way, path, out, err),
+        None => report_file(rt, threads, alloc, file, way, out, err),
     }
 }
 
@@ -113,14 +194,16 @@ pub fn tell<E: Write>(err: &mut E, fault: Fault<'_>) -> u8
 }
 
 // The file is read first, then the store is made, and then come the text and the run.
-fn replay_file<R: Files + AllocGlobal, W: Write, E: Write>(
-    rt: &R,
+fn report_file<F: Files + AllocGlobal, R: Threads + Wait + Clock + Sync, W: Write, E: Write>(
+    rt: &F,
+    threads: &R,
     alloc: Global,
     file: &str,
-    schedule: &[u32],
+    way: &Way,
     out: &mut W,
     err: &mut E,
 ) -> u8
+    requires { IsServable way.now }
     ensures done { result ≡ DONE → Prints ⟦<MemStore as TopStore>⟧ (W.contents out.old) (W.contents out.new) }
     ensures undone { result ≢ DONE → Misses ⟦<MemStore as TopStore>⟧ (W.contents out.old) (W.contents out.new) }
     ensures status { result ≤ FAILED }
@@ -131,19 +214,21 @@ fn replay_file<R: Files + AllocGlobal, W: Write, E: Write>(
     let Ok(store) = MemStore::new(alloc, &[]) else {
         return tell(err, Fault::NoMemory);
     };
-    replay_over(alloc, text.as_slice(), schedule, store, out, err)
+    report_over(threads, alloc, text.as_slice(), way, store, out, err)
 }
 
 // The same over the database at this path, which is made where there is none.
-fn replay_into<W: Write, E: Write>(
+fn report_into<R: Threads + Wait + Clock + Sync, W: Write, E: Write>(
     rt: &HostRuntime,
+    threads: &R,
     alloc: Global,
     file: &str,
-    schedule: &[u32],
+    way: &Way,
     path: &str,
     out: &mut W,
     err: &mut E,
 ) -> u8
+    requires { IsServable way.now }
     ensures done { result ≡ DONE → PrintsFrom ⟦<SqlStore<FileStore<File>> as TopStore>⟧ (W.contents out.old) (W.contents out.new) }
     ensures undone { result ≢ DONE → MissesFrom ⟦<SqlStore<FileStore<File>> as TopStore>⟧ (W.contents out.old) (W.contents out.new) }
     ensures status { result ≤ FAILED }
@@ -151,10 +236,57 @@ fn replay_into<W: Write, E: Write>(
     let Ok(text) = fs::read(rt, file) else {
         return tell(err, Fault::CannotRead(file));
     };
-    let Ok(store) = SqlStore::open(rt, path) else {
+    report_opened(
+        threads,
+        alloc,
+        text.as_slice(),
+        way,
+        SqlStore::open(rt, path),
+        out,
+        err,
+    )
+}
+
+// The same over a store that was opened, whatever its pages stand in.
+fn report_opened<F: Alter + Drop + Send, R: Threads + Wait + Clock + Sync, W: Write, E: Write>(
+    threads: &R,
+    alloc: Global,
+    text: &[u8],
+    way: &Way,
+    opened: Result<SqlStore<F>, StoreFault>,
+    out: &mut W,
+    err: &mut E,
+) -> u8
+    requires { IsServable way.now }
+    ensures done { result ≡ DONE → PrintsFrom ⟦<SqlStore<F> as TopStore>⟧ (W.contents out.old) (W.contents out.new) }
+    ensures undone { result ≢ DONE → MissesFrom ⟦<SqlStore<F> as TopStore>⟧ (W.contents out.old) (W.contents out.new) }
+    ensures status { result ≤ FAILED }
+{
+    let Ok(store) = opened else {
         return tell(err, Fault::CannotOpen);
     };
-    replay_over(alloc, text.as_slice(), schedule, store, out, err)
+    report_over(threads, alloc, text, way, store, out, err)
+}
+
+// By a schedule or by workers.
+fn report_over<R: Threads + Wait + Clock + Sync, S: TopStore + Send, W: Write, E: Write>(
+    threads: &R,
+    alloc: Global,
+    text: &[u8],
+    way: &Way,
+    store: S,
+    out: &mut W,
+    err: &mut E,
+) -> u8
+    requires { IsServable way.now }
+    ensures done { result ≡ DONE → IsPrinted S.TopStore (W.contents out.old) (W.contents out.new) text.now (way_of way.now) store }
+    ensures undone { result ≢ DONE → IsMissed S.TopStore (W.contents out.old) (W.contents out.new) text.now (way_of way.now) store }
+    ensures status { result ≤ FAILED }
+{
+    match way {
+        Way::Schedule(list) => replay_over(alloc, text, list.as_slice(), store, out, err),
+        Way::Workers(count) => serve_over(threads, alloc, text, *count, store, out, err),
+    }
 }
 
 /// Replays this text over this store by this schedule, and answers the exit status. The report goes to `out`, and only where the
@@ -167,11 +299,32 @@ pub fn replay_over<S: TopStore, W: Write, E: Write>(
     out: &mut W,
     err: &mut E,
 ) -> u8
-    ensures done { result ≡ DONE → IsPrinted S.TopStore (W.contents out.old) (W.contents out.new) text.now schedule.now store }
-    ensures undone { result ≢ DONE → IsMissed S.TopStore (W.contents out.old) (W.contents out.new) text.now schedule.now store }
+    ensures done { result ≡ DONE → IsPrinted S.TopStore (W.contents out.old) (W.contents out.new) text.now (Scheduled schedule.now) store }
+    ensures undone { result ≢ DONE → IsMissed S.TopStore (W.contents out.old) (W.contents out.new) text.now (Scheduled schedule.now) store }
     ensures status { result ≤ FAILED }
 {
     match replay_text(alloc, text, schedule, store, out) {
+        Ok(_left) => finish(out, err),
+        Err(fault) => tell(err, fault_of(fault)),
+    }
+}
+
+// The same by so many workers.
+fn serve_over<R: Threads + Wait + Clock + Sync, S: TopStore + Send, W: Write, E: Write>(
+    threads: &R,
+    alloc: Global,
+    text: &[u8],
+    workers: u32,
+    store: S,
+    out: &mut W,
+    err: &mut E,
+) -> u8
+    requires { AreFew workers }
+    ensures done { result ≡ DONE → IsPrinted S.TopStore (W.contents out.old) (W.contents out.new) text.now ByWorkers store }
+    ensures undone { result ≢ DONE → IsMissed S.TopStore (W.contents out.old) (W.contents out.new) text.now ByWorkers store }
+    ensures status { result ≤ FAILED }
+{
+    match run_text(threads, alloc, text, store, workers, &OpenGate, out) {
         Ok(_left) => finish(out, err),
         Err(fault) => tell(err, fault_of(fault)),
     }

@@ -1,6 +1,7 @@
 //! A session text, from its bytes to the bytes of its report.
 ghost use Rattle.std.specs.Prelude.{◌≡◌, IfErr, IfOk};
 ghost use Rattle.tx_server.specs.Replays.{HasReplayCause, IsReplayed, IsUnwritten};
+ghost use Rattle.tx_server.specs.Ways.{Scheduled};
 
 use durable_top::TopStore;
 use interleavings::{RunFault, run_schedule};
@@ -8,12 +9,16 @@ use report_text::{WriteFault, write_report};
 use session_text::{Sessions, TextFault};
 use std::alloc::Global;
 use std::io::Write;
+use worker_pool::ServeFault;
 
-/// Why a text was not replayed.
+/// Why there is no report of a text.
 #[derive(Clone, Copy, Debug, PartialEq, Eq)]
 pub enum ReplayFault {
     Text(TextFault),
+    /// Of a run by a schedule.
     Run(RunFault),
+    /// Of a run by workers.
+    Serve(ServeFault),
     Write(WriteFault),
 }
 
@@ -27,8 +32,8 @@ pub fn replay_text<S: TopStore, W: Write>(
     store: S,
     out: &mut W,
 ) -> Result<S, ReplayFault>
-    ensures ok { IfOk result (λ left. IsReplayed S.TopStore (W.contents out.old) (W.contents out.new) text.now schedule.now store left) }
-    ensures err { IfErr result (λ fault. HasReplayCause S.TopStore (W.contents out.old) (W.contents out.new) text.now schedule.now store fault) }
+    ensures ok { IfOk result (λ left. IsReplayed S.TopStore (W.contents out.old) (W.contents out.new) text.now (Scheduled schedule.now) store left) }
+    ensures err { IfErr result (λ fault. HasReplayCause S.TopStore (W.contents out.old) (W.contents out.new) text.now (Scheduled schedule.now) store fault) }
     ensures unwritten { IfErr result (λ fault. IsUnwritten fault → out.new ≡ out.old) }
 {
     let sessions = match Sessions::parse(alloc, text) {

@@ -4,6 +4,7 @@ mod runs;
 mod serial;
 mod sessions;
 mod stores;
+mod workers;
 
 use crate::program::{replay_over, tx_main};
 use crate::replay::{ReplayFault, replay_text};
@@ -14,6 +15,9 @@ use std::fs;
 use std::io::{self, ErrorKind, Write};
 use std::process::Abort;
 use std::rt::HostRuntime;
+use std::sync::Wait;
+use std::thread::Threads;
+use std::time::Clock;
 
 /// One transaction that reads its own write: a text and its report.
 const FIRST: &[u8] = b"session s\nbegin a\nset a x 5\nget a x\ncommit a\n";
@@ -157,12 +161,17 @@ fn writer_that_fails_at_each_place(rt: HostRuntime) {
 }
 
 /// What the program does with these words.
-fn run(rt: &impl Abort, host: &HostRuntime, words: &str) -> Told {
+fn run<R: Abort + Threads + Wait + Clock + Sync>(rt: &R, host: &HostRuntime, words: &str) -> Told {
     run_on(rt, host, words, "")
 }
 
 // The same with the words of a path behind them.
-fn run_on(rt: &impl Abort, host: &HostRuntime, words: &str, path: &str) -> Told {
+fn run_on<R: Abort + Threads + Wait + Clock + Sync>(
+    rt: &R,
+    host: &HostRuntime,
+    words: &str,
+    path: &str,
+) -> Told {
     let mut all = Vec::new(host.alloc());
     for word in words.split_whitespace().chain(path.split_whitespace()) {
         let word = String::from_str(host.alloc(), word).expect(rt, "memory");
@@ -170,7 +179,7 @@ fn run_on(rt: &impl Abort, host: &HostRuntime, words: &str, path: &str) -> Told 
     }
     let mut out = Vec::new(host.alloc());
     let mut err = Vec::new(host.alloc());
-    let status = tx_main(host, host.alloc(), all.as_slice(), &mut out, &mut err);
+    let status = tx_main(host, rt, host.alloc(), all.as_slice(), &mut out, &mut err);
     Told { status, out, err }
 }
 
@@ -222,7 +231,16 @@ fn words_that_are_no_command_line(rt: HostRuntime) {
     for words in [
         "",
         "--help",
-        "run first.tx",
+        "start first.tx",
+        "run",
+        "run a b",
+        "run a --workers",
+        "run a --workers 0",
+        "run a --workers 17",
+        "run a --workers 04",
+        "run a --workers -1",
+        "run a --workers two",
+        "run a --schedule 0",
         "replay",
         "replay a b",
         "replay a --workers 2",

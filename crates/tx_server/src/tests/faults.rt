@@ -13,6 +13,7 @@ use session_text::{LineKind, TextFault};
 use std::alloc::Global;
 use std::process::Abort;
 use txn_names::{Change, Key};
+use worker_pool::ServeFault;
 
 // Whether this fault is told in this line, and with exit status 1.
 fn is_told(alloc: Global, fault: ReplayFault, line: &str) -> bool {
@@ -56,6 +57,23 @@ fn lines_of_faults(rt: HostRuntime) {
         (
             ReplayFault::Run(RunFault::Schedule(7)),
             "tx: schedule: item 7\n",
+        ),
+        (ReplayFault::Serve(ServeFault::NoMemory), "tx: no memory\n"),
+        (
+            ReplayFault::Serve(ServeFault::Open(OpenFault::NoMemory)),
+            "tx: no memory\n",
+        ),
+        (
+            ReplayFault::Serve(ServeFault::Open(OpenFault::Store(StoreFault::Refused))),
+            "tx: cannot open database\n",
+        ),
+        (
+            ReplayFault::Serve(ServeFault::Open(OpenFault::TooManyRows)),
+            "tx: too many rows\n",
+        ),
+        (
+            ReplayFault::Serve(ServeFault::Thread),
+            "tx: cannot start worker\n",
         ),
         (ReplayFault::Write(WriteFault), "tx: cannot write\n"),
     ] {

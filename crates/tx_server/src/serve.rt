@@ -1,0 +1,58 @@
+//! A session text by worker threads, from its bytes to the bytes of its report.
+ghost use Rattle.std.specs.Prelude.{◌≡◌, IfErr, IfOk};
+ghost use Rattle.tx_server.specs.Replays.{HasReplayCause, IsReplayed, IsUnwritten};
+ghost use Rattle.tx_server.specs.Ways.{AreFew};
+ghost use Rattle.tx_server.specs.Ways.{ByWorkers};
+
+use crate::replay::ReplayFault;
+use durable_top::TopStore;
+use report_text::write_report;
+use session_text::Sessions;
+use std::alloc::Global;
+use std::io::Write;
+use std::sync::Wait;
+use std::thread::Threads;
+use std::time::Clock;
+use worker_pool::{Gate, serve};
+
+/// Lets every line pass.
+#[derive(Drop)]
+pub struct OpenGate;
+
+impl Gate for OpenGate {
+    fn pass(&self, _session: u32, _line: u32) {}
+
+    fn answered(&self, _session: u32, _line: u32) {}
+}
+
+/// Reads a session text, has so many workers attempt its lines over the store, writes the report, and gives the store back.
+/// In which order the lines are attempted is the threads' choice; whichever it is, the report says of it what every
+/// report says. The first fault is told: of the text, of the run, or of the writer. Only after one of the writer has `out`
+/// taken bytes, which are a beginning of the report.
+pub fn run_text<R: Threads + Wait + Clock + Sync, S: TopStore + Send, G: Gate + Sync, W: Write>(
+    rt: &R,
+    alloc: Global,
+    text: &[u8],
+    store: S,
+    workers: u32,
+    gate: &G,
+    out: &mut W,
+) -> Result<S, ReplayFault>
+    requires { AreFew workers }
+    ensures ok { IfOk result (λ left. IsReplayed S.TopStore (W.contents out.old) (W.contents out.new) text.now ByWorkers store left) }
+    ensures err { IfErr result (λ fault. HasReplayCause S.TopStore (W.contents out.old) (W.contents out.new) text.now ByWorkers store fault) }
+    ensures unwritten { IfErr result (λ fault. IsUnwritten fault → out.new ≡ out.old) }
+{
+    let sessions = match Sessions::parse(alloc, text) {
+        Ok(sessions) => sessions,
+        Err(fault) => return Err(ReplayFault::Text(fault)),
+    };
+    let (report, left) = match serve(rt, alloc, sessions, store, workers, gate) {
+        Ok(run) => run,
+        Err(fault) => return Err(ReplayFault::Serve(fault)),
+    };
+    match write_report(&report, out) {
+        Ok(()) => Ok(left),
+        Err(fault) => Err(ReplayFault::Write(fault)),
+    }
+}
