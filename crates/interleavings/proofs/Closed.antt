@@ -78,6 +78,7 @@ module _ {S : Type 0} (g : Ghosts S) where
       → RunsWhole g schedule first last → IsClosed g last r left → IsRun g ss schedule store r left
   is_run ss schedule store left first last r there start whole closed = record {
     there = there;
+    loaded = record { left = first.core.store; given = start.opened.given; loaded = start.opened.loaded; are = rows_first ∙ start.opened.are };
     opening = λ none. ap value_in rows_first ∙ start.opened.rows (undoubted none);
     labels = subst (λ x. r.labels ≡ map (λ s. s.label) x) same_sessions closed.labels;
     follows = record {

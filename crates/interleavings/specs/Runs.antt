@@ -1,10 +1,11 @@
 -- What a run of sessions comes to.
-use Rattle.std.specs.Prelude.{◌≡◌, ◌+◌, ◌<◌, ◌≤◌, ℕ, suc, List, length, map, slice_get, Option, Some, None}
+use Rattle.std.specs.Prelude.{◌≡◌, ◌+◌, ◌<◌, ◌≤◌, ℕ, suc, List, length, map, slice_get, Option, Some, None, Ok}
 use Rattle.serial_spec.specs.Interleaving.{Session, IsInterleaving, IsFinished}
 use Rattle.serial_spec.specs.Follows.{Follows}
-use Rattle.serial_spec.specs.Rows.{value_in}
+use Rattle.serial_spec.specs.Rows.{Rows, value_in}
+use Rattle.durable_top.specs.declared.store.Row.{Row}
 use Rattle.durable_top.specs.declared.store.TopStore.{Ghosts}
-use Rattle.durable_top.specs.Store.{counted}
+use Rattle.durable_top.specs.Store.{counted, plain}
 use Rattle.manager_core.specs.Sound.{IsTrusted, store_refusals}
 use Rattle.manager_core.specs.Opening.{HasCause}
 use Rattle.interleavings.specs.Told.{Told}
@@ -32,11 +33,19 @@ abbrev pub TellsStray : ℕ → List ℕ → Option ℕ → Type 0
 TellsStray count schedule None = AllThere count schedule
 TellsStray count schedule (Some n) = IsStray count schedule n
 
+-- the store was asked for its rows as it was given, and answered these
+pub record Answers {S : Type 0} (g : Ghosts S) (store : S) (rows : Rows) : Type 0 where
+  pub left : S
+  pub given : List Row
+  pub loaded : g.loads store left (Ok given)
+  pub are : rows ≡ plain given
+
 -- The report of these sessions, run by this schedule over the store as it was given, and the store that comes back with
 -- it. What every report says is in `IsReport`
 pub record IsRun {S : Type 0} (g : Ghosts S) (ss : List Session) (schedule : List ℕ) (store : S) (r : Told) (left : S) : Type 0 where
   pub there : AllThere (length ss) schedule
-  -- the opening rows are the store's
+  -- the opening rows are what the store answered, and so its table
+  pub loaded : Answers g store r.opening
   pub opening : g.doubt left ≡ 0 → value_in r.opening ≡ g.table store
   pub labels : r.labels ≡ map (λ s. s.label) ss
   -- the history follows the schedule, takes the sessions' lines in turn, and all of them

@@ -31,6 +31,7 @@ module _ {S : Type 0} (g : Ghosts S) where
   is_served : (ss : List Session) (store : S) (faults : ℕ) (t : Turning S) (r : Told) (left : S) → IsStart g ss store t → faults ≡ g.faults store
       → IsServedFrom g t.core.rows (g.doubt t.core.store) ss faults r left → IsServed g ss store r left
   is_served ss store faults t r left start counts from = record {
+    loaded = record { left = t.core.store; given = start.opened.given; loaded = start.opened.loaded; are = from.opening ∙ start.opened.are };
     opening = λ none. ap value_in from.opening ∙ start.opened.rows (from.undoubted none);
     labels = from.labels;
     interleaving = from.interleaving;

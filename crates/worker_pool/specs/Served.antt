@@ -7,13 +7,15 @@ use Rattle.durable_top.specs.Store.{counted}
 use Rattle.manager_core.specs.Sound.{IsTrusted, store_refusals}
 use Rattle.manager_core.specs.Opening.{HasCause}
 use Rattle.interleavings.specs.Told.{Told}
+use Rattle.interleavings.specs.Runs.{Answers}
 use Rattle.worker_pool.specs.declared.serving.ServeFault.{ServeFault}
 use Rattle.worker_pool.specs.declared.serving.ServeFault.TheVariants.{NoMemory, Open, Thread}
 
 -- The report of these sessions over the store as it was given, and the store that comes back with it. What every
 -- report says is in `IsReport`; which of the legal histories it has is not said
 pub record IsServed {S : Type 0} (g : Ghosts S) (ss : List Session) (store : S) (r : Told) (left : S) : Type 0 where
-  -- the opening rows are the store's
+  -- the opening rows are what the store answered, and so its table
+  pub loaded : Answers g store r.opening
   pub opening : g.doubt left ≡ 0 → value_in r.opening ≡ g.table store
   pub labels : r.labels ≡ map (λ s. s.label) ss
   -- the history takes the sessions' lines in turn, and all of them
