@@ -10,7 +10,7 @@ mod serving;
 mod workers;
 
 pub use serving::{ServeFault, serve};
-pub use workers::Gate;
+pub use workers::{Gate, MOST_WORKERS};
 
 #[cfg(test)]
 mod tests;

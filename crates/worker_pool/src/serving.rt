@@ -4,7 +4,7 @@ ghost use Rattle.worker_pool.specs.Openings.{IsOpenedWith};
 ghost use Rattle.worker_pool.specs.Served.{HasServeCause, IsAfterOpening, IsServed, IsServedFrom};
 
 use crate::desk::{Desk, Opening};
-use crate::workers::{Gate, work_through};
+use crate::workers::{Gate, MOST_WORKERS, work_through};
 use durable_top::TopStore;
 use interleavings::Report;
 use manager_core::OpenFault;
@@ -41,7 +41,7 @@ fn serve_book<
     gate: &G,
 ) -> Result<(Report, S), ServeFault>
     requires opened { IsOpenedWith S.TopStore J.rows J.doubt book }
-    requires few { workers ≤ 16 }
+    requires few { workers ≤ MOST_WORKERS }
     ensures ok { IfOk result (λ run. IsServedFrom S.TopStore J.rows J.doubt sessions.now faults run.0 run.1) }
     ensures err { IfErr result IsAfterOpening }
 {
@@ -61,7 +61,7 @@ pub fn serve<R: Threads + Wait + Clock + Sync, S: TopStore + Send, G: Gate + Syn
     workers: u32,
     gate: &G,
 ) -> Result<(Report, S), ServeFault>
-    requires { (0 < workers) × (workers ≤ 16) }
+    requires { (0 < workers) × (workers ≤ MOST_WORKERS) }
     ensures ok { IfOk result (λ run. IsServed S.TopStore sessions store run.0 run.1) }
     ensures err { IfErr result (λ fault. HasServeCause S.TopStore store fault) }
 {

@@ -2,7 +2,7 @@
 mod gates;
 mod rows;
 
-use crate::{Gate, serve};
+use crate::{Gate, MOST_WORKERS, serve};
 use durable_top::MemStore;
 use interleavings::Report;
 use session_text::Sessions;
@@ -20,7 +20,7 @@ fn served<R: Threads + Wait + Clock + Abort + Sync, G: Gate + Sync>(
     workers: u32,
     gate: &G,
 ) -> Report {
-    assert!(rt; 0 < workers && workers <= 16);
+    assert!(rt; 0 < workers && workers <= MOST_WORKERS);
     let sessions = Sessions::parse(alloc, text).expect(rt, "a text");
     let store = MemStore::new(alloc, &[]).expect(rt, "memory");
     let (report, _store) = serve(rt, alloc, sessions, store, workers, gate).expect(rt, "a report");

@@ -28,6 +28,9 @@ pub trait Gate {
     fn answered(&self, session: u32, line: u32);
 }
 
+/// The most workers of a run.
+pub const MOST_WORKERS: u32 = 16;
+
 /// How many lines in a row a worker finds parked before it rests.
 const PATIENCE: u32 = 4;
 
@@ -265,7 +268,7 @@ pub(crate) fn work_through<
     workers: u32,
     gate: &G,
 ) -> Result<(), ServeFault>
-    requires { workers ≤ 16 }
+    requires { workers ≤ MOST_WORKERS }
     ensures { IfErr result IsAfterOpening }
 {
     // A job of each session, and a stop of each worker and of the driver.
