@@ -31,10 +31,10 @@ pub trait Gate {
 /// The most workers of a run.
 pub const MOST_WORKERS: u32 = 16;
 
-/// How many lines in a row a worker finds parked before it rests.
+/// Behind how many lines in a row that it finds parked a worker only yields.
 const PATIENCE: u32 = 4;
 
-/// For how long it rests, in microseconds.
+/// For how long it sleeps behind each further one, in microseconds.
 const REST: u64 = 50;
 
 // Tries a line under the lock.
@@ -93,8 +93,9 @@ fn next_job(session: u32, tried: &Tried) -> Option<Job>
     }
 }
 
-// Rests behind a line that is parked, the longer the more in a row were, and answers how many they are by now. Meanwhile
-// nobody has the line's job, and the other workers wait for theirs.
+// Rests behind a line that is parked: it yields behind the first few in a row, and sleeps behind each further one. Answers
+// how many they are by now, as far as that is asked. Meanwhile nobody has the line's job, and the other workers wait for
+// theirs.
 fn rest<R: Clock>(rt: &R, parked: u32, tried: &Tried) -> u32 {
     if tried.turn == Turn::Answered || tried.given_up.is_some() {
         return 0;
