@@ -25,8 +25,9 @@ pub enum ServeFault {
     Thread,
 }
 
-// Serves the sessions of a book on which nothing was done yet.
-fn serve_book<
+/// Serves the sessions of a book on which nothing was done yet. Lines that are left by the workers, of whom there may be
+/// none, are tried by the calling thread.
+pub(crate) fn serve_book<
     J: Opening + Send,
     R: Threads + Wait + Clock + Sync,
     S: TopStore + Send,

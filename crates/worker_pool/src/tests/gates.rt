@@ -1,6 +1,8 @@
 //! Two lines are under way at once, and one is answered while the other is held up at the gate.
 use super::served;
 use crate::Gate;
+use interleavings::Report;
+use serial_spec::By;
 use std::rt::HostRuntime;
 use std::sync::atomic::{AtomicBool, Ordering};
 use std::thread;
@@ -19,6 +21,8 @@ enum Held {
     First,
     /// The second session's, until the first's is answered.
     Second,
+    /// None before its attempt; both once they are answered, until the other is answered too.
+    Answered,
 }
 
 #[derive(Drop)]
@@ -59,7 +63,7 @@ impl Meeting {
         match self.held {
             Held::Both => self.wait_for(&self.second_came),
             Held::First => self.wait_for(&self.second_answered),
-            Held::Second => {}
+            Held::Second | Held::Answered => {}
         }
     }
 
@@ -68,8 +72,33 @@ impl Meeting {
         match self.held {
             Held::Both => self.wait_for(&self.first_came),
             Held::Second => self.wait_for(&self.first_answered),
-            Held::First => {}
+            Held::First | Held::Answered => {}
         }
+    }
+
+    // Tells that a first line is answered, and waits for the other's answer where both are held up so.
+    fn told(&self, mine: &AtomicBool, other: &AtomicBool) {
+        mine.store(true, Ordering::SeqCst);
+        if self.held == Held::Answered {
+            self.wait_for(other);
+        }
+    }
+
+    // Whether the first entry is of the session that was not held up before its attempt.
+    fn begins(&self, report: &Report) -> bool {
+        match self.held {
+            Held::First => first_session(report) == Some(1),
+            Held::Second => first_session(report) == Some(0),
+            Held::Both | Held::Answered => true,
+        }
+    }
+}
+
+// The session whose line was answered first.
+fn first_session(report: &Report) -> Option<u32> {
+    match report.history().first()?.by {
+        By::Line { session, .. } => Some(session),
+        By::Victim | By::Close => None,
     }
 }
 
@@ -87,9 +116,9 @@ impl Gate for Meeting {
     fn answered(&self, session: u32, line: u32) {
         if line == 1 {
             if session == 0 {
-                self.first_answered.store(true, Ordering::SeqCst);
+                self.told(&self.first_answered, &self.second_answered);
             } else {
-                self.second_answered.store(true, Ordering::SeqCst);
+                self.told(&self.second_answered, &self.first_answered);
             }
         }
     }
@@ -97,10 +126,11 @@ impl Gate for Meeting {
 
 #[test]
 fn two_at_once(rt: HostRuntime) {
-    for held in [Held::Both, Held::First, Held::Second] {
+    for held in [Held::Both, Held::First, Held::Second, Held::Answered] {
         let gate = Meeting::new(held);
         let report = served(&rt, rt.alloc(), TWO, 2, &gate);
         assert!(rt; !gate.late.load(Ordering::SeqCst));
         assert!(rt; report.history().len() == 4);
+        assert!(rt; gate.begins(&report));
     }
 }

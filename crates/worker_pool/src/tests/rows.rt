@@ -1,11 +1,20 @@
 //! Texts with their tables, by one worker, by two and by many.
 use super::served;
 use crate::Gate;
+use crate::serving::serve_book;
+use durable_top::{MemStore, TopStore};
 use interleavings::Report;
 use serial_spec::{Answer, By, Entry, Event, Reply};
+use session_text::Sessions;
+use shared_book::Book;
+use std::alloc::Global;
+use std::marker::Brand;
 use std::process::Abort;
 use std::rt::HostRuntime;
+use std::sync::Wait;
 use std::sync::atomic::{AtomicU64, Ordering};
+use std::thread::Threads;
+use std::time::Clock;
 use txn_names::{Key, Name};
 
 const ONE: &[u8] = b"session s\nbegin a\nset a x 5\nget a x\ncommit a\n";
@@ -18,6 +27,15 @@ session q\nafter a begun\nbegin a/r\nset a/r y 2\ncommit a/r\n";
 /// A parent that retains its child's lock.
 const RETAINED: &[u8] =
     b"session p\nbegin a\nbegin a/l\nset a/l x 7\ncommit a/l\nafter b begun\ncommit a\n\
+session q\nafter a/l done\nbegin b\nget b x\ncommit b\n";
+
+/// A line that waits for what will not be, and that is given up where the other session's read waits behind it.
+const GIVEN_UP: &[u8] =
+    b"session p\nbegin a\nset a x 1\nafter b done\ncommit a\nsession q\nbegin b\nget b x\ncommit b\n";
+
+/// The same, where the read always comes behind the write: so that the line is given up by any number of workers.
+const ALWAYS_GIVEN_UP: &[u8] =
+    b"session p\nbegin a\nbegin a/l\nset a/l x 1\ncommit a/l\nafter b done\ncommit a\n\
 session q\nafter a/l done\nbegin b\nget b x\ncommit b\n";
 
 /// Eight sessions that each add 1 to one key.
@@ -35,6 +53,13 @@ const WORKERS: [u32; 3] = [1, 2, 16];
 struct Counts {
     passed: AtomicU64,
     answered: AtomicU64,
+    // A bit of each answered line of eight sessions of up to eight lines.
+    lines: AtomicU64,
+}
+
+// The bit of a line.
+fn bit(session: u32, line: u32) -> u64 {
+    1u64.wrapping_shl(session.wrapping_mul(8).wrapping_add(line))
 }
 
 impl Counts {
@@ -42,12 +67,15 @@ impl Counts {
         Counts {
             passed: AtomicU64::new(0),
             answered: AtomicU64::new(0),
+            lines: AtomicU64::new(0),
         }
     }
 
-    // Whether it was told of so many answers, and of no fewer attempts.
-    fn heard(&self, lines: u64) -> bool {
-        self.answered.load(Ordering::SeqCst) == lines && self.passed.load(Ordering::SeqCst) >= lines
+    // Whether it was told of each of so many lines once that it was answered, and of no fewer attempts.
+    fn heard(&self, lines: u32) -> bool {
+        self.answered.load(Ordering::SeqCst) == lines as u64
+            && self.lines.load(Ordering::SeqCst).count_ones() == lines
+            && self.passed.load(Ordering::SeqCst) >= lines as u64
     }
 }
 
@@ -56,8 +84,9 @@ impl Gate for Counts {
         self.passed.fetch_add(1, Ordering::SeqCst);
     }
 
-    fn answered(&self, _session: u32, _line: u32) {
+    fn answered(&self, session: u32, line: u32) {
         self.answered.fetch_add(1, Ordering::SeqCst);
+        self.lines.fetch_or(bit(session, line), Ordering::SeqCst);
     }
 }
 
@@ -72,6 +101,7 @@ fn tables(rt: HostRuntime) {
             (ONE, 4, Some(5), None, 1),
             (SIBLINGS, 11, Some(1), Some(3), 2),
             (RETAINED, 10, Some(7), None, 1),
+            (GIVEN_UP, 7, Some(1), None, 1),
             (b"".as_slice(), 0, None, None, 0),
         ] {
             let gate = Counts::new();
@@ -82,6 +112,53 @@ fn tables(rt: HostRuntime) {
             assert!(rt; report.table().len() == rows);
         }
     }
+}
+
+// How many lines were given up.
+fn given_up(report: &Report) -> usize {
+    report
+        .history()
+        .iter()
+        .filter(|e| e.answer == Answer::Stuck)
+        .count()
+}
+
+#[test]
+fn one_given_up(rt: HostRuntime) {
+    for workers in WORKERS {
+        let gate = Counts::new();
+        let report = served(&rt, rt.alloc(), ALWAYS_GIVEN_UP, workers, &gate);
+        assert!(rt; gate.heard(10));
+        assert!(rt; given_up(&report) == 1);
+        assert!(rt; value_of(&rt, &report, b"x") == Some(1));
+    }
+}
+
+// The answers of a run without workers, whose lines are all left to the calling thread.
+#[tactic(auto, using(crate::proofs::Kept::as_opened))]
+fn served_by_none<R: Threads + Wait + Clock + Abort + Sync, S: TopStore + Send>(
+    rt: &R,
+    alloc: Global,
+    text: &[u8],
+    store: S,
+    gate: &Counts,
+) -> Report {
+    let sessions = Sessions::parse(alloc, text).expect(rt, "a text");
+    let faults = store.faults();
+    let book = Book::open(alloc, &sessions, store).expect(rt, "a book");
+    let run = serve_book::<Brand, R, S, Counts>(rt, alloc, &sessions, book, faults, 0, gate);
+    let (report, _store) = run.expect(rt, "a report");
+    report
+}
+
+#[test]
+fn left_by_workers(rt: HostRuntime) {
+    let gate = Counts::new();
+    let store = MemStore::new(rt.alloc(), &[]).expect(&rt, "memory");
+    let report = served_by_none(&rt, rt.alloc(), ALWAYS_GIVEN_UP, store, &gate);
+    assert!(rt; gate.heard(10));
+    assert!(rt; given_up(&report) == 1);
+    assert!(rt; value_of(&rt, &report, b"x") == Some(1));
 }
 
 // Whether some access of the transaction was answered that the key has this value now.
