@@ -24,7 +24,7 @@ pub fn are_rising(rows: &[Row]) -> bool
     true
 }
 
-/// The table of these rows. Of several rows with one key the first counts. The only error is want of memory.
+/// The table of these rows. Of several rows with one key the first counts. The only error is that memory runs out.
 pub fn table_of(alloc: Global, rows: &[Row]) -> Result<PlainTable, NoMemory>
     ensures { IfOk result (λ table. value_in table.rows ≡ value_in (plain rows.now)) }
 {
@@ -47,7 +47,7 @@ fn put_reserved(table: &mut PlainTable, change: &Change)
     table.put(&change.key, change.value).unwrap();
 }
 
-/// Makes the changes in the table, the first of them first. It wants memory only where the changes may outgrow the table's
+/// Makes the changes in the table, the first of them first. It takes memory only where the changes may outgrow the table's
 /// room; if memory runs out, the only error, the rows are as before.
 pub(crate) fn change(table: &mut PlainTable, changes: &[Change]) -> Result<(), NoMemory>
     ensures ok { OnOk result (value_in table.new.rows ≡ overlay changes.now (value_in table.old.rows)) }

@@ -13,7 +13,7 @@ use txn_names::{Key, Name};
 use txn_tree::{Tree, TxnNo};
 use version_stack::Versions;
 
-/// What live transactions lock and what they left, over one table. Each step does both at once, whole or not at all, and
+/// What live transactions lock and what they left, over one table. Each step changes both atomically, and
 /// takes no memory after `reserve_for` of its event.
 #[derive(Drop)]
 pub struct Estate {

@@ -24,7 +24,7 @@ fn next_victim(_log: &Log, tables: &Tables, breaker: &mut Breaker) -> Option<Nam
     ensures none { IfNone result (Quiet _log.now.entries) }
     ensures room { breaker.old ≤ breaker.new }
 {
-    // Asked for what they tell: that names are distinct, and that each transaction waits once.
+    // Called for their postconditions: that names are distinct, and that each transaction waits once.
     let _ = tables.tree.len();
     let _ = tables.waits.len();
     let txn = breaker.victim(&tables.tree, tables.estate.locks(), &tables.waits)?;
@@ -46,7 +46,7 @@ fn abort_victim(log: &mut Log, tables: &mut Tables, name: &Name)
     ensures room { log.old.room ≤ log.new.room + 1 }
     ensures marks_room { tables.old.marks.room ≤ tables.new.marks.room + 1 }
 {
-    // Asked for what it tells: that a name has a label.
+    // Called for its postcondition: that a name has a label.
     let _ = name.depth();
     let outcome = Outcome::of(tables.abort(name));
     log.add(By::Victim, Event::Abort(*name), &outcome);

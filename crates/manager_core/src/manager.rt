@@ -292,7 +292,7 @@ impl<S: TopStore> Manager<S> {
     {
         self.log.reserve(1)?;
         self.tables.reserve_aborts(1)?;
-        // Asked for what it tells: that a name has a label.
+        // Called for its postcondition: that a name has a label.
         let _ = name.depth();
         let outcome = Outcome::of(self.tables.abort(name));
         self.log.add(by, Event::Abort(*name), &outcome);

@@ -63,7 +63,7 @@ impl Run {
 
 /// Runs nested items in their order over one table, blocks whole in their place. Each operation is applied,
 /// whatever its reply. The answer is the first place, counted over the accesses from 0, with another reply
-/// than `act` gives there, or None where there is none. Want of memory is the only error, and leaves the
+/// than `act` gives there, or None where there is none. The only error is that memory runs out; it leaves the
 /// table as before; more accesses than a usize counts are taken for it.
 pub fn run_items(table: &mut PlainTable, items: &[Item]) -> Result<Option<usize>, NoMemory>
     ensures table { OnOk result (value_in table.new.rows ≡ map_after (value_in table.old.rows) (nested items.now)) }

@@ -18,7 +18,7 @@ pub use mode::Mode;
 pub use operation::{Kind, Op, Reply, act};
 pub use table::PlainTable;
 
-/// Want of memory: a growth was refused.
+/// Memory ran out: a growth was refused.
 pub type NoMemory = std::alloc::AllocError;
 
 #[cfg(test)]

@@ -38,7 +38,7 @@ fn place_for(numbers: &[TxnNo], txn: TxnNo) -> usize
     numbers.partition_point(|number| number.place() < txn.place())
 }
 
-// Puts a number where it belongs. On an error, want of memory, all is as before.
+// Puts a number where it belongs. If memory runs out, nothing changes.
 fn put_in(numbers: &mut Vec<TxnNo>, txn: TxnNo) -> Result<(), NoMemory>
     requires rising { IsStrictlyIncreasing numbers.old.items }
     requires fresh { IsFalse (list_any (nat_eq txn) numbers.old.items) }

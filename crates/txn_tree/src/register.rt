@@ -62,7 +62,7 @@ impl Register {
         ensures status { result ≡ status_in self.now name.now }
         ensures name { IsName name.now }
     {
-        // Asked for what it tells: a name has a label, so it is not the root's.
+        // Called for its postcondition: a name has a label, so it is not the root's.
         let _ = name.depth();
         match self.states.get(name) {
             Some(status) => *status,
@@ -77,7 +77,7 @@ impl Register {
         ensures begun { is_some result ≡ not (is_absent_in self.now name.now) }
         ensures rootless { IsRootless self.now }
     {
-        // Asked for what it tells: a name has a label.
+        // Called for its postcondition: a name has a label.
         let _ = name.depth();
         let place = self.states.get_index_of(name)?;
         Some(TxnNo::new(place as u32))
@@ -91,7 +91,7 @@ impl Register {
         Some(name)
     }
 
-    /// The state of the transaction with this number, Absent if nobody has it.
+    /// The state of the transaction with this number, Absent if it is unassigned.
     pub(crate) fn status_at(&self, txn: TxnNo) -> Status
         ensures { result ≡ status_at self.now txn }
     {

@@ -190,7 +190,7 @@ impl Tree {
         self.register.name_of(number)
     }
 
-    /// The state of the transaction with this number, Absent if nobody has it.
+    /// The state of the transaction with this number, Absent if it is unassigned.
     pub fn status_at(&self, txn: TxnNo) -> Status
         ensures { result ≡ status_at self.now txn }
     {
@@ -202,7 +202,7 @@ impl Tree {
         ensures { result ≡ live_children_of self.now name.now }
     {
         let _ = &self.nodes;
-        // Asked for what it tells: a name has a label.
+        // Called for its postcondition: a name has a label.
         let _ = name.depth();
         match self.no_of(name) {
             Some(txn) => self.live_children_at(txn),
@@ -210,7 +210,7 @@ impl Tree {
         }
     }
 
-    /// The number of the transaction's parent. It is `None` exactly if nobody has this number or the transaction
+    /// The number of the transaction's parent. It is `None` exactly if the number is unassigned or the transaction
     /// is top-level.
     pub fn parent_of(&self, txn: TxnNo) -> Option<TxnNo>
         ensures some { is_some result ≡ has_parent (slice_get (names self.now) txn) }
@@ -221,7 +221,7 @@ impl Tree {
         parent_in(&self.nodes, txn)
     }
 
-    /// The number of the transaction's child that began first. It is `None` exactly if nobody has this number or
+    /// The number of the transaction's child that began first. It is `None` exactly if the number is unassigned or
     /// the transaction has no child.
     pub fn first_child(&self, txn: TxnNo) -> Option<TxnNo>
         ensures first { IsFirst (is_child_at self.now txn) result }
@@ -232,7 +232,7 @@ impl Tree {
     }
 
     /// The number of the next begun child of the same parent, or of the next top-level transaction. It is `None`
-    /// exactly if nobody has this number or none of the siblings began later.
+    /// exactly if the number is unassigned or none of the siblings began later.
     pub fn next_sibling(&self, txn: TxnNo) -> Option<TxnNo>
         ensures { IsNext (is_sibling_at self.now txn) txn result }
     {
@@ -256,7 +256,7 @@ impl Tree {
         self.register.is_under(txn, inferior)
     }
 
-    /// How many children of the transaction with this number are live; none if nobody has it.
+    /// How many children of the transaction with this number are live; none if it is unassigned.
     pub fn live_children_at(&self, txn: TxnNo) -> u32
         ensures { result ≡ live_children_at self.now txn }
     {
@@ -287,7 +287,7 @@ impl Tree {
     /// Begins the transaction and gives its number. A begin is refused by the first cause that holds: Used (the
     /// name began before), NoParent (the parent never began), Orphan (the parent is one; with the topmost
     /// aborted one), NoParent (the parent has committed), Full (`MOST_TRANSACTIONS` have begun). With no such
-    /// cause it may still fail by want of memory.
+    /// cause it may still fail because memory runs out.
     pub fn begin(&mut self, name: &Name) -> Result<TxnNo, TreeFault>
         ensures refused { refusal_of result ≡ cause_at_begin self.old name.now }
         ensures number { IfOk result (λ no. no ≡ length self.old) }

@@ -48,7 +48,7 @@ fn put_at(base: &mut PlainTable, written: &CellTable<Version>, txn: TxnNo, keys:
     ensures put { (q : List ℕ) → value_in base.new.rows q ≡ with_keys (left_at written.now txn) keys.now (value_in base.old.rows) q }
     ensures rising { IsRising base.old.rows × IsRising base.new.rows }
 {
-    // Asked for what it tells, here and below: that the rows rise.
+    // Called for its postcondition, here and below: that the rows rise.
     let _ = base.len();
     for key in keys {
         if let Some(version) = written.get(txn, key) {

@@ -145,7 +145,7 @@ fn last_on(space: &mut Space, pairs: &[(TxnNo, TxnNo)]) -> Option<TxnNo>
 }
 
 /// A cycle of those that wait, the first of each pair for the second: one through the last begun that lies on any, and
-/// nothing exactly where there is none. The only error is want of memory, and of no pairs there is none.
+/// `None` exactly if there is none. The only error is that memory runs out, and of no pairs there is none.
 pub fn find_cycle(alloc: Global, pairs: &[(TxnNo, TxnNo)]) -> Result<Option<Cycle>, NoMemory>
     ensures some { IfOk result (λ found. IfSome found (λ c. IsLastCycle pairs.now c)) }
     ensures none { IfOk result (λ found. IfNone found ((xs : List ℕ) → IsCycle pairs.now xs → ⊥)) }
@@ -187,7 +187,7 @@ impl Work {
         }
     }
 
-    /// Makes room for lists of so many pairs. The only error is want of memory, after which there is no less room than
+    /// Makes room for lists of so many pairs. The only error is that memory runs out. Then there is no less room than
     /// before. Where there is room for so many already it succeeds.
     pub fn reserve(&mut self, pairs: usize) -> Result<(), NoMemory>
         ensures ok { OnOk result (pairs ≤ self.new) }
@@ -198,7 +198,7 @@ impl Work {
     }
 
     /// Of those that wait, the first of each pair for the second, the last begun that lies on any cycle: the greatest number, and
-    /// nothing exactly where there is no cycle. It takes no memory.
+    /// `None` exactly if there is no cycle. It takes no memory.
     pub fn victim(&mut self, pairs: &[(TxnNo, TxnNo)]) -> Option<TxnNo>
         requires { length pairs.now ≤ self.old }
         ensures some { IfSome result (λ txn. IsLastOn pairs.now txn) }

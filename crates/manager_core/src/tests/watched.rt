@@ -444,7 +444,7 @@ fn tell<S: TopStore>(rt: &impl Abort, watched: &mut Watched<S>, text: &str) {
     let (told, victims) = text.split_once(" * ").unwrap_or((text, ""));
     let line = entry(rt, told);
     let mut answer = answer_to(rt, watched, &line, victims);
-    // A store in memory has refused for want of memory.
+    // A store in memory has refused since memory ran out.
     if answer == NOT_STORED && line.answer == Answer::Done(Reply::Ok) {
         answer = ask(rt, watched, again(line.by), &line.event, victims).answer();
     }
