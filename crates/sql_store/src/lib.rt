@@ -3,6 +3,7 @@
 
 mod faults;
 mod load;
+mod memory;
 mod open;
 mod reading;
 mod schema;
@@ -10,6 +11,7 @@ mod statements;
 mod store;
 mod writes;
 
+pub use memory::MemoryStore;
 pub use store::SqlStore;
 
 #[cfg(test)]

@@ -1,7 +1,7 @@
 //! Stores over databases in memory and over files that stop. Real files are for the tests of the program.
 mod stops;
 
-use crate::SqlStore;
+use crate::{MemoryStore, SqlStore};
 use durable_top::{Row, StoreFault, TopStore};
 use sqlite::{Connection, Error, MemStore};
 use std::alloc::Global;
@@ -106,6 +106,21 @@ fn rows_stay_for_the_next_store(rt: HostRuntime) {
     let rows = "a=9223372036854775807 b=3 e.f_g-0=0";
     let first = leaves(&rt, rt.alloc(), script, rows);
     let second = leaves(&rt, rt.alloc(), script, rows);
+    assert!(rt; first || second);
+}
+
+// Whether a store in memory begins without rows, takes the commits and gives the rows that they leave.
+fn keeps(rt: &impl Abort, alloc: Global, script: &str, rows: &str) -> bool {
+    let Ok(mut store) = MemoryStore::new(alloc) else {
+        return false;
+    };
+    serves(rt, alloc, &mut store, "", script) && gives(rt, alloc, &mut store, rows)
+}
+
+#[test]
+fn rows_stay_in_memory(rt: HostRuntime) {
+    let first = keeps(&rt, rt.alloc(), "b=2 a=1 c=3 b", "a=1 c=3");
+    let second = keeps(&rt, rt.alloc(), "b=2 a=1 c=3 b", "a=1 c=3");
     assert!(rt; first || second);
 }
 
