@@ -124,6 +124,33 @@ fn rows_stay_in_memory(rt: HostRuntime) {
     assert!(rt; first || second);
 }
 
+// The same at the second asking, where the first found no memory.
+fn gives_at_last<S: TopStore>(rt: &impl Abort, alloc: Global, store: &mut S, text: &str) -> bool {
+    gives(rt, alloc, store, text) || gives(rt, alloc, store, text)
+}
+
+// A commit that finds no memory is a fault, and leaves what the store gives. Made again, it is made.
+fn commits_again<S: TopStore>(rt: &impl Abort, alloc: Global, store: &mut S) -> bool {
+    let (before, faults) = match word(&store.commit(&[change(rt, "b=2")])) {
+        "ok" => ("b=2", 0),
+        "memory" => ("", 1),
+        _ => return false,
+    };
+    gives_at_last(rt, alloc, store, before)
+        && (faults == 0 || commits(rt, store, "b=2"))
+        && gives_at_last(rt, alloc, store, "b=2")
+        && store.faults() == faults
+}
+
+#[test]
+fn a_commit_that_finds_no_memory(rt: HostRuntime) {
+    let mut store = match MemoryStore::new(rt.alloc()) {
+        Ok(store) => store,
+        Err(_) => MemoryStore::new(rt.alloc()).expect(&rt, "memory"),
+    };
+    assert!(rt; commits_again(&rt, rt.alloc(), &mut store));
+}
+
 // A database in memory on which these statements were run.
 fn database(alloc: Global, sql: &str) -> Result<Connection<MemStore>, Error> {
     let mut connection = Connection::open_in_memory(alloc)?;

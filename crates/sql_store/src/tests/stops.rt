@@ -69,6 +69,13 @@ fn done<S: TopStore>(rt: &impl Abort, alloc: Global, store: &mut S, job: &Job) -
     }
 }
 
+// Each opening makes all pages of the cache, so that there are few.
+fn options() -> Options {
+    let mut options = Options::new(7);
+    options.cache_pages = 8;
+    options
+}
+
 // The files of a connection, with what is in the log copied into the database as far as it goes.
 fn closed<D: Disk + Drop>(connection: Connection<FileStore<D>>) -> Files<D> {
     match connection.close_files() {
@@ -105,7 +112,7 @@ fn opened<D: Disk + Drop>(
     if !files.may_be_used() {
         return Err(files);
     }
-    match Connection::open_files(alloc, files, Options::new(7)) {
+    match Connection::open_files(alloc, files, options()) {
         Ok(connection) => adopted(connection),
         Err((_, left)) => Err(left.into_files()),
     }
