@@ -3,6 +3,7 @@ mod faults;
 mod runs;
 mod serial;
 mod sessions;
+mod stops;
 mod stores;
 mod workers;
 
