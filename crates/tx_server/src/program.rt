@@ -10,8 +10,8 @@ use crate::replay::replay_text;
 use crate::schedule::attempts_of;
 use crate::serve::{OpenGate, run_text};
 use crate::way::{Way, workers_of};
-use durable_top::{MemStore, StoreFault, TopStore};
-use sql_store::SqlStore;
+use durable_top::{StoreFault, TopStore};
+use sql_store::{MemoryStore, SqlStore};
 use sqlite::{Alter, File, FileStore};
 use std::alloc::{AllocError, Global};
 use std::fmt::Display;
@@ -42,9 +42,9 @@ pub fn tx_main<R: Threads + Wait + Clock + Sync, W: Write, E: Write>(
     out: &mut W,
     err: &mut E,
 ) -> u8
-    ensures done { result ≡ DONE → Prints ⟦<MemStore as TopStore>⟧ (W.contents out.old) (W.contents out.new)
+    ensures done { result ≡ DONE → Prints ⟦<MemoryStore as TopStore>⟧ (W.contents out.old) (W.contents out.new)
         ⊎ PrintsFrom ⟦<SqlStore<FileStore<File>> as TopStore>⟧ (W.contents out.old) (W.contents out.new) }
-    ensures undone { result ≢ DONE → Misses ⟦<MemStore as TopStore>⟧ (W.contents out.old) (W.contents out.new)
+    ensures undone { result ≢ DONE → Misses ⟦<MemoryStore as TopStore>⟧ (W.contents out.old) (W.contents out.new)
         ⊎ MissesFrom ⟦<SqlStore<FileStore<File>> as TopStore>⟧ (W.contents out.old) (W.contents out.new) }
     ensures misused { result ≡ MISUSED → Keeps (W.contents out.old) (W.contents out.new) }
     ensures status { result ≤ MISUSED }
@@ -90,9 +90,9 @@ fn replay<R: Threads + Wait + Clock + Sync, W: Write, E: Write>(
     out: &mut W,
     err: &mut E,
 ) -> u8
-    ensures done { result ≡ DONE → Prints ⟦<MemStore as TopStore>⟧ (W.contents out.old) (W.contents out.new)
+    ensures done { result ≡ DONE → Prints ⟦<MemoryStore as TopStore>⟧ (W.contents out.old) (W.contents out.new)
         ⊎ PrintsFrom ⟦<SqlStore<FileStore<File>> as TopStore>⟧ (W.contents out.old) (W.contents out.new) }
-    ensures undone { result ≢ DONE → Misses ⟦<MemStore as TopStore>⟧ (W.contents out.old) (W.contents out.new)
+    ensures undone { result ≢ DONE → Misses ⟦<MemoryStore as TopStore>⟧ (W.contents out.old) (W.contents out.new)
         ⊎ MissesFrom ⟦<SqlStore<FileStore<File>> as TopStore>⟧ (W.contents out.old) (W.contents out.new) }
     ensures status { result ≤ FAILED }
 {
@@ -122,9 +122,9 @@ fn run<R: Threads + Wait + Clock + Sync, W: Write, E: Write>(
     out: &mut W,
     err: &mut E,
 ) -> u8
-    ensures done { result ≡ DONE → Prints ⟦<MemStore as TopStore>⟧ (W.contents out.old) (W.contents out.new)
+    ensures done { result ≡ DONE → Prints ⟦<MemoryStore as TopStore>⟧ (W.contents out.old) (W.contents out.new)
         ⊎ PrintsFrom ⟦<SqlStore<FileStore<File>> as TopStore>⟧ (W.contents out.old) (W.contents out.new) }
-    ensures undone { result ≢ DONE → Misses ⟦<MemStore as TopStore>⟧ (W.contents out.old) (W.contents out.new)
+    ensures undone { result ≢ DONE → Misses ⟦<MemoryStore as TopStore>⟧ (W.contents out.old) (W.contents out.new)
         ⊎ MissesFrom ⟦<SqlStore<FileStore<File>> as TopStore>⟧ (W.contents out.old) (W.contents out.new) }
     ensures misused { result ≡ MISUSED → Keeps (W.contents out.old) (W.contents out.new) }
     ensures status { result ≤ MISUSED }
@@ -155,9 +155,9 @@ fn report<R: Threads + Wait + Clock + Sync, W: Write, E: Write>(
     err: &mut E,
 ) -> u8
     requires { IsServable way.now }
-    ensures done { result ≡ DONE → Prints ⟦<MemStore as TopStore>⟧ (W.contents out.old) (W.contents out.new)
+    ensures done { result ≡ DONE → Prints ⟦<MemoryStore as TopStore>⟧ (W.contents out.old) (W.contents out.new)
         ⊎ PrintsFrom ⟦<SqlStore<FileStore<File>> as TopStore>⟧ (W.contents out.old) (W.contents out.new) }
-    ensures undone { result ≢ DONE → Misses ⟦<MemStore as TopStore>⟧ (W.contents out.old) (W.contents out.new)
+    ensures undone { result ≢ DONE → Misses ⟦<MemoryStore as TopStore>⟧ (W.contents out.old) (W.contents out.new)
         ⊎ MissesFrom ⟦<SqlStore<FileStore<File>> as TopStore>⟧ (W.contents out.old) (W.contents out.new) }
     ensures status { result ≤ FAILED }
 {
@@ -204,14 +204,14 @@ fn report_file<F: Files + AllocGlobal, R: Threads + Wait + Clock + Sync, W: Writ
     err: &mut E,
 ) -> u8
     requires { IsServable way.now }
-    ensures done { result ≡ DONE → Prints ⟦<MemStore as TopStore>⟧ (W.contents out.old) (W.contents out.new) }
-    ensures undone { result ≢ DONE → Misses ⟦<MemStore as TopStore>⟧ (W.contents out.old) (W.contents out.new) }
+    ensures done { result ≡ DONE → Prints ⟦<MemoryStore as TopStore>⟧ (W.contents out.old) (W.contents out.new) }
+    ensures undone { result ≢ DONE → Misses ⟦<MemoryStore as TopStore>⟧ (W.contents out.old) (W.contents out.new) }
     ensures status { result ≤ FAILED }
 {
     let Ok(text) = fs::read(rt, file) else {
         return tell(err, Fault::CannotRead(file));
     };
-    let Ok(store) = MemStore::new(alloc, &[]) else {
+    let Ok(store) = MemoryStore::new(alloc) else {
         return tell(err, Fault::NoMemory);
     };
     report_over(threads, alloc, text.as_slice(), way, store, out, err)

@@ -1,12 +1,11 @@
-use Rattle.std.proofs.Common.{refl}
 use Rattle.tx_server.specs.Ways.{way_of}
 use Rattle.tx_server.proofs.Printed.{misses, prints}
 use Rattle.tx_server.proofs.program.report_file.Goals as goal
 
 pub returns-clause-done : goal.returns-clause-done
 returns-clause-done g c =
-    prints _ _ _ c.as_slice.result.now (way_of c.args.way.now) c.in-Ok-new.store c.report_over.result (λ k. rw c.in-Ok-new.ensures refl) c.report_over.ensures.done
+    prints _ _ _ c.as_slice.result.now (way_of c.args.way.now) c.in-Ok-new.store c.report_over.result c.in-Ok-new.ensures.empty c.report_over.ensures.done
 
 pub returns-clause-undone : goal.returns-clause-undone
 returns-clause-undone g c = λ undone.
-    misses _ _ _ c.as_slice.result.now (way_of c.args.way.now) c.in-Ok-new.store (λ k. rw c.in-Ok-new.ensures refl) (c.report_over.ensures.undone undone)
+    misses _ _ _ c.as_slice.result.now (way_of c.args.way.now) c.in-Ok-new.store c.in-Ok-new.ensures.empty (c.report_over.ensures.undone undone)
