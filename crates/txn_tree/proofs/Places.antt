@@ -1,12 +1,13 @@
 -- Items of lists by their places, and names that stand at one place each.
-use Rattle.std.proofs.Common.{◌≡◌, ℕ, zero, suc, ◌<◌, nat_eq, true, cond, List, [], ◌∷◌, ◌++◌, length, get_or, set, Option, Some, is_some, unwrap_or, ◌⊎◌, inl, inr, refl, sym, ap, subst, ◌∙◌, true≢false, arith}
+use Rattle.std.proofs.Common.{◌≡◌, ℕ, zero, suc, ◌<◌, nat_eq, nat_lt, true, false, cond, List, [], ◌∷◌, ◌++◌, length, get_or, set, Option, Some, None, is_some, unwrap_or, ◌⊎◌, inl, inr, refl, sym, ap, subst, ◌∙◌, true≢false, arith}
 use Rattle.std.specs.Prelude.{slice_get, IfSome}
-use Rattle.std.specs.List.{IsDistinct}
-use Rattle.std.proofs.lemmas.Bool.{false≢true, eqb-true, eq-eqb, ne_eqb, cases_lt}
-use Rattle.std.proofs.lemmas.Option.{slice_get_within, get_or_from_slice_get}
+use Rattle.std.specs.List.{IsDistinct, position, position_or_len}
+use Rattle.std.proofs.lemmas.Bool.{false≢true, false_from_ne_true, eqb-true, eq-eqb, ne_eqb, lt-ltb, cases_lt}
+use Rattle.std.proofs.lemmas.Option.{slice_get_within, slice_get-get_or, get_or_from_slice_get}
+use Rattle.std.proofs.lemmas.List.Sums.{position_or_len_is}
 use Rattle.std.proofs.lemmas.Map.Keys.{apart_from_distinct}
 use Rattle.txn_names.specs.Path.{Path, path_eq}
-use Rattle.txn_names.proofs.Names.{path_eq-from}
+use Rattle.txn_names.proofs.Names.{same_path, path_eq-from}
 use Rattle.txn_tree.proofs.Children.{same_tests}
 use Rattle.txn_tree.specs.declared.node.Node.{Node}
 use Rattle.txn_tree.specs.declared.node.Children.{Children}
@@ -72,6 +73,22 @@ module _ (ns : List Path) (distinct : IsDistinct path_eq ns) (t : Path) where
           | inr level ↦ omega (arith, past, level)
         ]
       ]
+
+  -- and are found there
+  pub found_at : (n : ℕ) → slice_get ns n ≡ Some t → position (path_eq t) ns ≡ Some n
+  found_at n at =
+      ap (λ i. cond (nat_lt i (length ns)) (Some i) None) first ∙ ap (λ b. cond b (Some n) None) (lt-ltb n (length ns) within)
+    where
+      within : n < length ns
+      within = slice_get_within ns n t at
+
+      before : (k : ℕ) → k < n → path_eq t (get_or ns k t) ≡ false
+      before k less =
+          false_from_ne_true (path_eq t (get_or ns k t)) (λ e.
+          clash k n (slice_get-get_or ns k t (omega (arith, less, within)) ∙ ap Some (sym (same_path t (get_or ns k t) e))) at less)
+
+      first : position_or_len (path_eq t) ns ≡ n
+      first = position_or_len_is (path_eq t) ns n t (omega (arith, within)) before (λ _. path_eq-from t (get_or ns n t) (sym (get_or_from_slice_get ns n t t at)))
 
 -- ---- a node written to, as the code does it
 

@@ -1,17 +1,17 @@
 //! The versions over a base.
-ghost use Rattle.std.specs.Prelude.{◌≡◌, ◌≤◌, ◌<◌, ◌&&◌, length, take, ◌+◌, not, nat_eq, false, IsOk, IsTrue, IfSome, IfNone, OnErr, OnOk, List, ℕ, None, Some, if◌then◌else◌};
+ghost use Rattle.std.specs.Prelude.{◌≡◌, ◌≤◌, ◌<◌, ◌&&◌, length, ◌+◌, not, nat_eq, false, IsOk, IsTrue, IfSome, IfNone, OnErr, OnOk, List, ℕ, None, Some, if◌then◌else◌};
 ghost use Rattle.txn_cells.specs.Cells.{is_under};
 ghost use Rattle.serial_spec.specs.Rows.{IsRising, value_in};
 ghost use Rattle.serial_spec.specs.Serial.{put};
 ghost use Rattle.version_stack.specs.Versioned.{FitsBase, IsTowards, base_after, base_in, handed_up, has_place, left_at, left_in, put_by, with_childs, with_keys, with_place};
-ghost use Rattle.version_stack.specs.Seen.{left_by, seen_by, seen_in};
+ghost use Rattle.version_stack.specs.Seen.{seen_in};
 
 use crate::version::Version;
 use serial_spec::{NoMemory, PlainTable};
 use std::alloc::Global;
 use std::marker::Model;
 use txn_cells::CellTable;
-use txn_names::{Key, Name};
+use txn_names::Key;
 use txn_tree::{Tree, TxnNo};
 
 /// What each live transaction, by its number, left at each key, over a base: the table that the committed top-level
@@ -94,43 +94,20 @@ impl Versions {
         Some(version.value)
     }
 
-    // What the transaction with this name left at the key.
-    fn left_by(&self, tree: &Tree, name: &Name, key: &Key) -> Option<Option<i64>>
-        requires { 0 < length name.now }
-        ensures { result ≡ left_by tree.now self.now key.now name.now }
-    {
-        self.left(tree.no_of(name)?, key)
-    }
-
     /// The value that the transaction sees at the key: what the deepest of itself and its ancestors left, else the
     /// base's. One that has not begun sees the base's.
     pub fn value_for(&self, tree: &Tree, txn: TxnNo, key: &Key) -> Option<i64>
         ensures { result ≡ seen_in tree.now self.now txn key.now }
     {
-        match tree.name_of(txn) {
-            Some(name) => self.value_by(tree, name, key),
-            None => self.base.get(key),
+        if txn.place() as usize >= tree.len() {
+            return self.base.get(key);
         }
-    }
-
-    // What the transaction with the first labels of the name, this many, left at the key.
-    fn left_above(&self, tree: &Tree, name: &Name, depth: usize, key: &Key) -> Option<Option<i64>>
-        requires { (0 < depth) × (depth ≤ length name.now) }
-        ensures { result ≡ left_by tree.now self.now key.now (take depth name.now) }
-    {
-        self.left_by(tree, &name.front(depth), key)
-    }
-
-    // The same for a name.
-    fn value_by(&self, tree: &Tree, name: &Name, key: &Key) -> Option<i64>
-        ensures { result ≡ seen_by tree.now self.now key.now (Some name.now) }
-    {
-        let mut depth = name.depth();
-        while depth > 0 {
-            if let Some(value) = self.left_above(tree, name, depth, key) {
+        let mut at = Some(txn);
+        while let Some(above) = at {
+            if let Some(value) = self.left(above, key) {
                 return value;
             }
-            depth -= 1;
+            at = tree.parent_of(above);
         }
         self.base.get(key)
     }
