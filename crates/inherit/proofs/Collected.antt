@@ -1,5 +1,6 @@
 -- Keys collected in byte order, and the changes that are made of them.
-use Rattle.std.proofs.Common.{◌≡◌, ℕ, ℤ, Bool, true, false, cond, ◌&&◌, ◌||◌, List, [], ◌∷◌, ◌++◌, append_assoc, reverse, map, Option, Some, None, refl, sym, ap, subst, ◌∙◌}
+use Rattle.std.proofs.Common.{◌≡◌, ℕ, ℤ, Bool, true, false, cond, ◌&&◌, ◌||◌, List, [], ◌∷◌, ◌++◌, append_assoc, map, Option, Some, None, refl, sym, ap, subst, ◌∙◌}
+use Rattle.std.proofs.Math.Bool.{or-false}
 use Rattle.std.proofs.lemmas.Bool.{false≢true}
 use Rattle.std.proofs.lemmas.List.Folds.{list_any-append}
 use Rattle.std.specs.BTreeSet.{insert_key}
@@ -84,13 +85,9 @@ both true b h = refl
 both false true h = absurd (false≢true (h refl))
 both false false h = refl
 
-or_false : (b : Bool) → b || false ≡ b
-or_false true = refl
-or_false false = refl
-
 -- whether a key is among some keys and one more
 any_push : (k q : List ℕ) (keys : List (List ℕ)) → list_any (label_eq k) (keys ++ q ∷ []) ≡ list_any (label_eq k) keys || label_eq k q
-any_push k q keys = list_any-append (label_eq k) keys (q ∷ []) ∙ ap (λ b. list_any (label_eq k) keys || b) (or_false (label_eq k q))
+any_push k q keys = list_any-append (label_eq k) keys (q ∷ []) ∙ ap (λ b. list_any (label_eq k) keys || b) (or-false (label_eq k q))
 
 -- collected are those of the keys that were written, in byte order
 pub record AreWritten (wrote : List ℕ → Bool) (keys collected : List (List ℕ)) : Type 0 where

@@ -1,6 +1,6 @@
 -- Whoever is to go up may, whatever its number and its parent's are called.
-use Rattle.std.proofs.Common.{◌≡◌, ◌<◌, ℕ, Bool, true, false, ◌&&◌, ◌||◌, nat_eq, List, Option, Some, None, refl, sym, ap, subst, ◌∙◌, arith}
-use Rattle.std.specs.Prelude.{length, OnOk, Result, Ok, Err}
+use Rattle.std.proofs.Common.{◌≡◌, ℕ, Bool, true, false, ◌&&◌, ◌||◌, nat_eq, List, Option, Some, None, refl, sym, ap, subst, ◌∙◌, arith}
+use Rattle.std.specs.Prelude.{length}
 use Rattle.std.specs.List.{position}
 use Rattle.std.proofs.lemmas.Bool.{eq-eqb, false≢true}
 use Rattle.txn_names.proofs.Names.{label_eq_self}
@@ -31,11 +31,6 @@ module _ (tree : States) (a : Assets) (t : Path) (child : ℕ) (number : IsNumbe
       → (n : ℕ) → IsNumberOf tree t n → (o : Option ℕ) → IsParent tree t o → MayGoUp a n o
   ready_top top may n too None of = subst (λ (v : ℕ). MayGoUp a v None) (sym (one_number tree t child number n too)) may
   ready_top top may n too (Some m) of = absurd (omega (arith, top, of.0))
-
--- what follows from a promise, where the call succeeds
-pub on_ok : {A E : Type 0} (r : Result A E) {P Q : Type 0} → (P → Q) → OnOk r P → OnOk r Q
-on_ok (Ok x) f p = f p
-on_ok (Err e) f p = p
 
 -- a place that has been made is there
 pub place_made : (old new : ℕ → List ℕ → Bool) (t : ℕ) (k : List ℕ) → ((u : ℕ) (q : List ℕ) → new u q ≡ with_place old t k u q) → new t k ≡ true

@@ -1,11 +1,12 @@
 -- Those who have places and those who have begun, gone through for one who keeps another out.
-use Rattle.std.proofs.Common.{◌≡◌, ℕ, zero, suc, ◌+◌, ◌<◌, ◌≤◌, nat_eq, Bool, true, false, not, ◌&&◌, ◌||◌, cond, filter, List, [], ◌∷◌, ◌++◌, length, Option, Some, None, is_some, unwrap_or, inl, inr, refl, sym, ap, subst, ◌∙◌, add-one, true≢false, arith}
+use Rattle.std.proofs.Common.{◌≡◌, ℕ, ◌+◌, ◌<◌, nat_eq, Bool, true, false, not, ◌&&◌, cond, filter, List, [], ◌∷◌, length, Option, Some, None, is_some, unwrap_or, inl, inr, refl, sym, ap, subst, ◌∙◌, true≢false, arith}
+use Rattle.std.specs.Cmp.{both_ways}
 use Rattle.std.specs.Prelude.{slice_get, nat_lt}
 use Rattle.std.specs.List.{list_any, range_with_len, AllByRecursion}
 use Rattle.std.specs.List.Sorted.{IsStrictlyIncreasing, IsStrictlySortedBy}
 use Rattle.std.specs.Ordering.{nat_cmp}
 use Rattle.std.specs.declared.cmp.Ordering.TheVariants.{Less, Equal, Greater}
-use Rattle.std.proofs.lemmas.Bool.{and_parts, false≢true, or_left, or_right, or_cases, cases_lt, eqb-true, eq-eqb, ltb-true}
+use Rattle.std.proofs.lemmas.Bool.{and_parts, false≢true, or_left, or_right, or_cases, eqb-true, eq-eqb, ltb-true}
 use Rattle.std.proofs.lemmas.List.FromFn.{length-range_with_len, get_or-range_with_len}
 use Rattle.std.proofs.lemmas.List.Kept.{IsStrictlyIncreasing-filter}
 use Rattle.std.proofs.lemmas.Map.Keys.{sorted_from_strictly_increasing}
@@ -17,7 +18,7 @@ use Rattle.serial_spec.specs.Locks.{conflicts}
 use Rattle.txn_cells.specs.Cells as cells
 use Rattle.lock_table.specs.declared.modes.Modes.{Modes}
 use Rattle.lock_table.specs.Locked.{Table, modes_in, whole, free}
-use Rattle.lock_table.proofs.Lists.{any_in_range, any_of_those, same_tests, witness}
+use Rattle.lock_table.proofs.Lists.{any_in_range, any_of_those, witness}
 use Rattle.lock_table.specs.Blocking.{is_under, has_number, is_blocker_in, numbers, is_blocked_in, blockers_in}
 
 -- ---- rising numbers
@@ -60,7 +61,7 @@ same_heads x xs y ys above_x above_y same =
 -- and so are the others
 same_tails : (x : ℕ) (xs ys : List ℕ) → AllByRecursion (λ z. nat_cmp x z ≡ Less) xs → AllByRecursion (λ z. nat_cmp x z ≡ Less) ys
     → ((u : ℕ) → list_any (nat_eq u) (x ∷ xs) ≡ list_any (nat_eq u) (x ∷ ys)) → (u : ℕ) → list_any (nat_eq u) xs ≡ list_any (nat_eq u) ys
-same_tails x xs ys above above' same u = same_tests _ _ (one xs ys above same) (one ys xs above' (λ v. sym (same v)))
+same_tails x xs ys above above' same u = both_ways _ _ (one xs ys above same) (one ys xs above' (λ v. sym (same v)))
   where
     one : (zs ws : List ℕ) → AllByRecursion (λ z. nat_cmp x z ≡ Less) zs → ((v : ℕ) → list_any (nat_eq v) (x ∷ zs) ≡ list_any (nat_eq v) (x ∷ ws)) → list_any (nat_eq u) zs ≡ true → list_any (nat_eq u) ws ≡ true
     one zs ws up alike there =
@@ -141,7 +142,7 @@ module _ (tree : States) (table : Table) (t : ℕ) (k : List ℕ) (x : Kind) whe
       → list_any (is_blocker_in tree table t k x) rivals ≡ is_blocked_in tree table t k x
   among_rivals rivals all =
       let blocks = is_blocker_in tree table t k x in
-      same_tests (list_any blocks rivals) (is_blocked_in tree table t k x)
+      both_ways (list_any blocks rivals) (is_blocked_in tree table t k x)
       (λ e.
       let w = witness blocks rivals e in
       let begun = number_of w.0 w.1 in

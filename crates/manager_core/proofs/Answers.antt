@@ -1,6 +1,6 @@
 -- Which answers are allowed: the first cause that holds, else the reply or the wait.
-use Rattle.std.proofs.Common.{◌≡◌, ◌==◌, ℕ, Bool, true, false, nat_le, length, List, ◌∷◌, Option, Some, None, option_map, refl, sym, ap, subst, ◌∙◌}
-use Rattle.std.proofs.lemmas.Bool.{false≢true, and_from, eq-eqb}
+use Rattle.std.proofs.Common.{◌≡◌, ℕ, Bool, true, false, nat_le, length, List, ◌∷◌, Option, Some, None, option_map, refl, sym, ap, subst, ◌∙◌}
+use Rattle.std.proofs.lemmas.Bool.{false≢true}
 use Rattle.txn_names.specs.Path.{parent}
 use Rattle.serial_spec.specs.declared.entry.By.{By}
 use Rattle.serial_spec.specs.declared.entry.By.TheVariants.{Line, Victim, Close}
@@ -19,6 +19,7 @@ use Rattle.serial_spec.specs.Rows.{Rows, value_in}
 use Rattle.serial_spec.specs.Legal.{AreAllowed}
 use Rattle.serial_spec.specs.Allowed.{Allowed, most_transactions, answer, has_waited, when, cause_at_begin, cause_at_end, cause_at_access, cause_at_commit}
 use Rattle.txn_history.proofs.Activity.{acts_active}
+use Rattle.txn_history.proofs.OwnLines.{line_self}
 use Rattle.txn_history.proofs.Causes.{neither, acts_at_end}
 use Rattle.txn_history.proofs.Theorems.{wait_holds}
 use Rattle.serial_spec.specs.Waits.{same_line}
@@ -197,9 +198,6 @@ stuck_allowed rows h by (Access t k o) waits = rw (waits.1, waits.2) refl
 stuck_allowed rows h by event waits = absurd waits
 
 -- ---- lines that begin to wait
-
-line_self : (s l : ℕ) → same_line (Line s l) (Line s l) ≡ true
-line_self s l = and_from (s == s) (l == l) (eq-eqb s s refl) (eq-eqb l l refl)
 
 pub waits_by_line : (rows : Rows) (h : History) (by : By) (t : Name) (k : List ℕ) (o : Op) → IsLine by → Allowed rows h by (Access t k o) Waits
     → IsWaitOf (entry by (Access t k o) Waits ∷ h) by (Access t k o)

@@ -1,11 +1,11 @@
 -- The branch by which one name parts from another, found by how many labels names share.
 use Rattle.std.proofs.Common.{◌≡◌, ℕ, zero, suc, ◌+◌, ◌<◌, ◌≤◌, nat_lt, true, false, ◌&&◌, [], ◌∷◌, length, take, inl, inr, refl, sym, ap, subst, ◌∙◌, arith}
+use Rattle.std.specs.Cmp.{both_ways}
 use Rattle.std.proofs.lemmas.Bool.{cases_lt, false≢true, ltb-true, lt-ltb}
 use Rattle.std.proofs.lemmas.List.{length-take-le}
 use Rattle.txn_names.specs.Path.{Path, is_front, meet}
 use Rattle.txn_names.proofs.Names.{is_front-take, is_front-trans, label_eq_self, length-front, meet-greatest, meet-le, take-front, take-meet}
 use Rattle.serial_spec.specs.Waits.{branch_of}
-use Rattle.lock_table.proofs.Lists.{same_tests}
 
 fronts_of : (j k : ℕ) (b : Path) → j ≤ k → is_front (take j b) (take k b) ≡ true
 fronts_of zero k b h = refl
@@ -31,7 +31,7 @@ meets_before t b apart =
 
 -- u is in the branch of b exactly where it shares more labels with b than t does
 pub in_branch : (t b u : Path) → is_front b t ≡ false → nat_lt (meet t b) (meet u b) ≡ is_front (branch_of t b) u
-in_branch t b u apart = same_tests (nat_lt (meet t b) (meet u b)) (is_front (branch_of t b) u) there back
+in_branch t b u apart = both_ways (nat_lt (meet t b) (meet u b)) (is_front (branch_of t b) u) there back
   where
     there : nat_lt (meet t b) (meet u b) ≡ true → is_front (branch_of t b) u ≡ true
     there e =

@@ -1,5 +1,6 @@
 -- Who waits for whom, found among those who lock a key.
 use Rattle.std.proofs.Common.{◌≡◌, ℕ, ◌+◌, ◌<◌, nat_eq, Bool, true, false, not, ◌&&◌, cond, filter, map, List, [], ◌∷◌, ◌++◌, length, take, Option, Some, None, is_some, refl, sym, ap, subst, ◌∙◌, IsFalse, arith}
+use Rattle.std.specs.Cmp.{both_ways}
 use Rattle.std.specs.Prelude.{slice_get}
 use Rattle.std.proofs.lemmas.List.{append-nil, append_assoc, map-append}
 use Rattle.std.proofs.lemmas.List.Elements.{filter-append}
@@ -10,7 +11,7 @@ use Rattle.txn_tree.specs.States.{States, names}
 use Rattle.lock_table.specs.declared.modes.Modes.{Modes}
 use Rattle.lock_table.specs.Locked.{Table, modes_in, whole, free}
 use Rattle.lock_table.specs.Blocking.{has_number, is_blocker_in, is_under, numbers}
-use Rattle.lock_table.proofs.Lists.{any_in_range, any_of_those, same_tests, witness}
+use Rattle.lock_table.proofs.Lists.{any_in_range, any_of_those, witness}
 use Rattle.serial_spec.proofs.Taking.{take_next}
 use Rattle.serial_spec.specs.Operations.{kind}
 use Rattle.serial_spec.specs.Locks.{conflicts}
@@ -37,7 +38,7 @@ module _ (tree : States) (locks : Table) (w : Wait) (u : ℕ) where
   -- it is the same to look among those who lock the key
   pub found_among : (holders : List ℕ) → ((v : ℕ) → IsFalse (list_any (nat_eq v) holders) → modes_in locks v w.key ≡ free)
       → list_any (is_held_up tree locks w u) holders ≡ waits_for_in tree locks w u
-  found_among holders out = same_tests (list_any holds holders) (list_any holds (numbers tree)) there here
+  found_among holders out = both_ways (list_any holds holders) (list_any holds (numbers tree)) there here
     where
       holds : ℕ → Bool
       holds = is_held_up tree locks w u

@@ -13,7 +13,7 @@ use Rattle.serial_spec.specs.declared.event.When.TheVariants.{Begun, Done as End
 use Rattle.serial_spec.specs.declared.event.Event.{Event}
 use Rattle.serial_spec.specs.declared.event.Event.TheVariants.{Access, After}
 use Rattle.serial_spec.specs.declared.entry.Answer.{Answer}
-use Rattle.serial_spec.specs.declared.entry.Answer.TheVariants.{Done, Waits, Refused}
+use Rattle.serial_spec.specs.declared.entry.Answer.TheVariants.{Done, Waits}
 use Rattle.serial_spec.specs.declared.entry.Entry.{Entry}
 use Rattle.serial_spec.specs.Operations.{kind, reply_of}
 use Rattle.serial_spec.specs.History.{Name, History, or_else, has_begun, top_aborted, status, is_committed}
@@ -24,7 +24,7 @@ use Rattle.serial_spec.specs.Waits.{same_line, wait_of}
 use Rattle.serial_spec.specs.Allowed.{when, refused_or, cause_at_end, cause_at_access, has_come, has_waited, answer}
 use Rattle.serial_spec.specs.Legal.{AreAllowed}
 use Rattle.manager_core.specs.Kept.{AreTablesOf}
-use Rattle.manager_core.specs.Lines.{IsWaitOf, waiting_access, access_by}
+use Rattle.manager_core.specs.Lines.{IsWaitOf, waiting_access}
 use Rattle.manager_core.specs.Parking.{IsKeptOut, come_by}
 use Rattle.manager_core.specs.Tables.{Tabled, cause_in}
 use Rattle.manager_core.proofs.Trees.{same_at_end}
@@ -55,10 +55,7 @@ pub has_come_as : (rows : Rows) (h : History) (tables : Tabled) → AreAllowed r
     → come_by (cause_in tables t) w ≡ has_come h t w
 has_come_as rows h tables allowed are t some w = ap (λ c. come_by c w) (same_at_end rows h tables allowed are t some) ∙ come_as h t w
 
--- an `after` line has no answer exactly where its condition does not hold
-pub after_none : (rows : Rows) (h : History) (by : By) (t : Name) (w : When) → has_come h t w ≡ false → answer rows h by (After t w) ≡ None
-after_none rows h by t w e = ap (λ b. cond b (Some (Done Ok)) None) e
-
+-- an `after` line has its answer where its condition holds
 pub after_due : (rows : Rows) (h : History) (by : By) (t : Name) (w : When) → has_come h t w ≡ true → answer rows h by (After t w) ≡ Some (Done Ok)
 after_due rows h by t w e = ap (λ b. cond b (Some (Done Ok)) None) e
 
@@ -67,12 +64,6 @@ after_due rows h by t w e = ap (λ b. cond b (Some (Done Ok)) None) e
 -- the wait as it is kept
 pub waiting_of : (h : History) (by : By) (t : Name) (k : List ℕ) (o : Op) → IsWaitOf h by (Access t k o) → waiting_access (wait_of h t) ≡ Some (by, k, o)
 waiting_of h by t k o (w, waits, own, is) = rw (waits, is, same_by w.by by own) refl
-
-pub is_wait_of : (rows : Rows) (h : History) (allowed : AreAllowed rows h) (by : By) (t : Name) (k : List ℕ) (o : Op) → waiting_access (wait_of h t) ≡ Some (by, k, o)
-    → IsWaitOf h by (Access t k o)
-is_wait_of rows h allowed by t k o e =
-    let is = waiting_is rows h allowed t by k o e in
-    (is.wait, is.waits, is.of_line, is.event_is)
 
 refused_some : (c : Option Refusal) (a : Option Answer) → is_some c ≡ true → refused_or c a ≡ None → ⊥
 refused_some None a s e = cc

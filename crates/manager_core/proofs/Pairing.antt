@@ -27,7 +27,7 @@ use Rattle.wait_cycles.proofs.Agreement.{cycles_agree}
 use Rattle.wait_cycles.specs.Cycles.{Pairs, waits_in}
 use Rattle.wait_cycles.specs.Waiting.{AreOnce, Waiting, wait_of}
 use Rattle.wait_cycles.specs.declared.waits.Wait.{Wait}
-use Rattle.wait_cycles.proofs.Lists.{get_front, get_pushed}
+use Rattle.txn_tree.proofs.Places.{get_front, get_pushed}
 use Rattle.manager_core.specs.Kept.{AreTablesOf, wait_of_any}
 use Rattle.manager_core.specs.Pairs.{is_beside, is_held_up, is_in_branch, pairs_of, pairs_with, waits_for_in}
 use Rattle.manager_core.specs.Tables.{Tabled, wait_by as kept_by, wait_for}

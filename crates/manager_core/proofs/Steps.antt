@@ -9,7 +9,7 @@ use Rattle.txn_tree.specs.declared.status.Status.TheVariants as state
 use Rattle.orphans.specs.Marked.{Marked, is_marked}
 use Rattle.serial_spec.specs.declared.entry.Entry.{Entry}
 use Rattle.serial_spec.specs.History.{Name, History, Status, Effect, Begins, Accesses, Commits, Aborts, Nothing, effect, begun, begun_by, has_aborted, is_abort, status}
-use Rattle.serial_spec.specs.Serial.{Map, stored}
+use Rattle.serial_spec.specs.Serial.{stored}
 use Rattle.serial_spec.specs.Rows.{Rows, value_in}
 use Rattle.serial_spec.specs.Legal.{AreAllowed}
 use Rattle.txn_history.specs.Steps.{sets_status}
@@ -41,20 +41,6 @@ plain_status (Accesses t k o r) u s p = refl
 plain_status (Commits t) u s p = absurd (false≢true p)
 plain_status (Aborts t) u s p = absurd (false≢true p)
 plain_status Nothing u s p = refl
-
-plain_abort : (x : Effect) (u : Name) → is_plain x ≡ true → is_abort u x ≡ false
-plain_abort (Begins t) u p = refl
-plain_abort (Accesses t k o r) u p = refl
-plain_abort (Commits t) u p = refl
-plain_abort (Aborts t) u p = absurd (false≢true p)
-plain_abort Nothing u p = refl
-
-plain_table : (opening : Map) (h : History) (x : Effect) (k : List ℕ) → is_plain x ≡ true → table_next opening h x k ≡ stored opening h k
-plain_table opening h (Begins t) k p = absurd (false≢true p)
-plain_table opening h (Accesses t q o r) k p = refl
-plain_table opening h (Commits t) k p = absurd (false≢true p)
-plain_table opening h (Aborts t) k p = absurd (false≢true p)
-plain_table opening h Nothing k p = refl
 
 module _ (rows : Rows) (e : Entry) (h : History) (allowed : AreAllowed rows (e ∷ h)) where
   -- the tree afterwards, by the effect

@@ -1,5 +1,6 @@
 -- Waits and lines, entry by entry.
 use Rattle.std.proofs.Common.{◌≡◌, ℕ, ap₂, Bool, true, false, not, cond, ◌&&◌, ◌||◌, ◌==◌, List, [], ◌∷◌, filter, find, Some, None, is_some, ⊎_elim, refl, sym, ap, subst, ◌∙◌}
+use Rattle.std.specs.Cmp.{both_ways}
 use Rattle.std.proofs.lemmas.Bool.{false≢true, and_parts, and_from, and_left, or_parts, or_from, or_left, or_right, not-true, not_from_false, eqb-true, eq-eqb}
 use Rattle.std.proofs.lemmas.Map.Views.{any-filter_same}
 use Rattle.std.specs.List.{list_any}
@@ -13,7 +14,7 @@ use Rattle.serial_spec.specs.declared.entry.Entry.{Entry}
 use Rattle.serial_spec.specs.History.{Name, History, is_active}
 use Rattle.serial_spec.specs.Waits.{same_line, is_waits, open_waits, accesses, wait_of}
 use Rattle.serial_spec.specs.Allowed.{has_waited}
-use Rattle.txn_history.proofs.Tests.{clash, same_tests}
+use Rattle.txn_history.proofs.Tests.{clash}
 use Rattle.txn_history.proofs.Lists.{any_cases}
 use Rattle.manager_core.specs.Lines.{entries_of, OnlyWaits, IsRetried, IsFree}
 use Rattle.manager_core.proofs.Lines.{filtered_none}
@@ -35,7 +36,7 @@ line-swap Victim b e = absurd (false≢true e)
 line-swap Close b e = absurd (false≢true e)
 
 same_line-swap : (a b : By) → same_line a b ≡ same_line b a
-same_line-swap a b = same_tests (same_line a b) (same_line b a) (line-swap a b) (line-swap b a)
+same_line-swap a b = both_ways (same_line a b) (same_line b a) (line-swap a b) (line-swap b a)
 
 -- and then they are one
 pub same_by : (a b : By) → same_line a b ≡ true → a ≡ b

@@ -6,7 +6,7 @@ use Rattle.std.specs.List.Sorted.{IsBinarySearchResult, IsStrictlyIncreasing}
 use Rattle.std.specs.Map.{lookup}
 use Rattle.std.specs.Ordering.{nat_cmp}
 use Rattle.std.specs.Result.{MatchResult}
-use Rattle.std.proofs.lemmas.Bool.{and_from, and_parts, cases_lt, eq-eqb, eqb-true, ne_eqb, or_cases, or_parts, or_right}
+use Rattle.std.proofs.lemmas.Bool.{and_from, and_parts, cases_lt, eq-eqb, eqb-true, ne_eqb, or_cases, or_parts}
 use Rattle.std.proofs.lemmas.Cmp.{nat_eq_equiv}
 use Rattle.std.proofs.lemmas.List.Kept.{IsStrictlyIncreasing-filter}
 use Rattle.std.proofs.lemmas.List.Sorted.{IsPermutation-insert, IsNonDecreasingBy-insert, list_any-IsPermutation, searched}
@@ -16,7 +16,7 @@ use Rattle.std.proofs.lemmas.Map.Keys.{IsDistinct-IsPermutation, IsDistinct-cons
 use Rattle.txn_names.specs.Path.{label_eq}
 use Rattle.txn_names.proofs.Names.{on_label}
 use Rattle.txn_cells.specs.Kept.{AreAmong, Holding, Index, holding_at, is_holder, nobody}
-use Rattle.txn_cells.proofs.Puts.{none_from, on_number, unwrap_cond}
+use Rattle.txn_cells.proofs.Puts.{none_from, unwrap_cond}
 
 eqb_comm : (a b : ℕ) → nat_eq a b ≡ nat_eq b a
 eqb_comm = nat_eq_equiv.symm
@@ -103,25 +103,6 @@ module _ (xs : List ℕ) (t : ℕ) (rising : IsStrictlyIncreasing xs) where
 
 -- ---- some numbers among others
 
-pub among_none : AreAmong [] []
-among_none = record { rising = λ k within. absurd (omega (arith, within)); within = λ u e. e }
-
--- where more are there
-pub among_more_there : (some all more : List ℕ) (t : ℕ) → AreAmong some all → ((u : ℕ) → list_any (nat_eq u) more ≡ (nat_eq t u || list_any (nat_eq u) all)) → AreAmong some more
-among_more_there some all more t are put = record { rising = are.rising; within = λ u e. put u ∙ or_right (nat_eq t u) (list_any (nat_eq u) all) (are.within u e) }
-
--- where one that is there is put among them
-pub among_put : (some put all : List ℕ) (t : ℕ) → AreAmong some all → list_any (nat_eq t) all ≡ true → IsStrictlyIncreasing put
-    → ((u : ℕ) → list_any (nat_eq u) put ≡ (nat_eq t u || list_any (nat_eq u) some)) → AreAmong put all
-among_put some put all t are there rising is = record {
-  rising = rising;
-  within = λ u e.
-      elim (or_cases (nat_eq t u) (list_any (nat_eq u) some) (sym (is u) ∙ e)) [
-        | inl same ↦ subst (λ (v : ℕ). list_any (nat_eq v) all ≡ true) (eqb-true t u same) there
-        | inr before ↦ are.within u before
-      ];
-}
-
 -- where one leaves both
 pub among_left : (some all : List ℕ) (t : ℕ) → AreAmong some all → AreAmong (filter (λ v. not (nat_eq v t)) some) (filter (λ v. not (nat_eq v t)) all)
 among_left some all t are = record {
@@ -148,10 +129,6 @@ fewer_left (x ∷ xs) t = by (nat_eq x t) (fewer_left xs t)
     by : (b : Bool) → length (filter (λ v. not (nat_eq v t)) xs) ≤ length xs → length (cond (not b) (x ∷ filter (λ v. not (nat_eq v t)) xs) (filter (λ v. not (nat_eq v t)) xs)) ≤ length (x ∷ xs)
     by true le = omega (arith, le)
     by false le = omega (arith, le)
-
-pub one_already : (t u : ℕ) (some : List ℕ) → list_any (nat_eq t) some ≡ true → list_any (nat_eq u) some ≡ (nat_eq t u || list_any (nat_eq u) some)
-one_already t u some there =
-    on_number t u (λ b. list_any (nat_eq u) some ≡ (b || list_any (nat_eq u) some)) (λ e. subst (λ (v : ℕ). list_any (nat_eq v) some ≡ true) e there) (λ _. refl)
 
 -- membership, asked the other way round
 pub contained : (xs : List ℕ) (t : ℕ) → list_any (λ y. nat_eq y t) xs ≡ list_any (nat_eq t) xs

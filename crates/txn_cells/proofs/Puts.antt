@@ -1,6 +1,6 @@
 -- What a look-up finds after one entry has been put.
 use Rattle.std.proofs.Common.{◌≡◌, ℕ, Bool, true, false, cond, not, nat_eq, ◌&&◌, ◌||◌, List, [], Option, Some, None, unwrap_or, is_some, refl, sym, ap, subst, ◌∙◌, true≢false}
-use Rattle.std.specs.Prelude.{Result, Ok, Err, OnOk, OnErr}
+use Rattle.std.specs.Prelude.{Result, Ok, Err, OnErr}
 use Rattle.std.specs.Map.{lookup}
 use Rattle.std.proofs.lemmas.Bool.{eqb-true, false≢true}
 use Rattle.txn_names.specs.Path.{label_eq}
@@ -158,16 +158,6 @@ module _ {V : Type 0} (inherited : V → Option V → V) where
       by : (b : Bool) → content table u q ≡ cond b (merged inherited (content_at child q) (content table u q)) (content table u q)
       by true = ap (λ m. merged inherited m (content table u q)) (sym (nowhere (lookup (label_eq q) child) refl))
       by false = refl
-
--- ---- what follows from a promise
-
-pub on_ok : {A E : Type 0} (r : Result A E) {P Q : Type 0} → (P → Q) → OnOk r P → OnOk r Q
-on_ok (Ok x) f p = f p
-on_ok (Err e) f p = p
-
-pub on_err : {A E : Type 0} (r : Result A E) {P Q : Type 0} → (P → Q) → OnErr r P → OnErr r Q
-on_err (Ok x) f p = p
-on_err (Err e) f p = f p
 
 -- at the exit of a `?`
 pub at_err : {A E : Type 0} (r : Result A E) {Q : Type 0} → Q → OnErr r Q

@@ -1,5 +1,6 @@
 -- The child's keys that the parent has a place for, one more after each step.
 use Rattle.std.proofs.Common.{◌≡◌, ℕ, zero, suc, Bool, true, false, cond, ◌||◌, ◌&&◌, nat_eq, List, [], ◌∷◌, ◌++◌, take, Option, Some, None, is_some, unwrap_or, inl, inr, refl, sym, ap, ◌∙◌, true≢false}
+use Rattle.std.proofs.Math.Bool.{or-false}
 use Rattle.std.specs.Prelude.{slice_get}
 use Rattle.std.specs.List.{list_any}
 use Rattle.std.specs.Map.{lookup, keys_of}
@@ -23,10 +24,6 @@ found_by_key test (e ∷ es) = by (test e.0) (found_by_key test es)
 pub nothing_there : {V : Type 0} (o : Option (Option V)) → is_some o ≡ false → unwrap_or o None ≡ None
 nothing_there None e = refl
 nothing_there (Some v) e = absurd (true≢false e)
-
-or-false : (b : Bool) → (b || false) ≡ b
-or-false true = refl
-or-false false = refl
 
 -- a key is among those gone through, or is the next
 pub among_more : (q k : List ℕ) (keys : List (List ℕ)) → list_any (label_eq q) (keys ++ k ∷ []) ≡ (list_any (label_eq q) keys || label_eq k q)

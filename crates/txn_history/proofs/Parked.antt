@@ -1,7 +1,6 @@
 -- A line that has to wait: its wait is its transaction's, and it has no answer as long as nothing else happens.
-use Rattle.std.proofs.Common.{◌≡◌, ℕ, Bool, true, false, not, cond, ◌==◌, List, ◌∷◌, Option, Some, refl, sym, ap, subst, ◌∙◌}
+use Rattle.std.proofs.Common.{◌≡◌, ℕ, Bool, true, false, not, cond, List, ◌∷◌, Option, Some, refl, sym, ap, subst, ◌∙◌}
 use Rattle.std.proofs.Common.{None as Nothing}
-use Rattle.std.proofs.lemmas.Bool.{and_from, eq-eqb}
 use Rattle.txn_names.proofs.Names.{path_eq_self}
 use Rattle.serial_spec.specs.declared.operation.Op.{Op}
 use Rattle.serial_spec.specs.declared.operation.Reply.{Reply}
@@ -16,11 +15,12 @@ use Rattle.serial_spec.specs.History.{Name, History, or_else, is_active}
 use Rattle.serial_spec.specs.Locks.{is_blocked}
 use Rattle.serial_spec.specs.Values.{seen}
 use Rattle.serial_spec.specs.Rows.{Rows, value_in}
-use Rattle.serial_spec.specs.Waits.{same_line, wait_of}
+use Rattle.serial_spec.specs.Waits.{wait_of}
 use Rattle.serial_spec.specs.Allowed.{when, refused_or, is_other_line, waits_elsewhere, is_full_for, has_waited, cause_at_end, cause_at_access, answer}
 use Rattle.txn_history.specs.Laws.{WaitHolds}
 use Rattle.txn_history.proofs.Activity.{acts_active}
 use Rattle.txn_history.proofs.Causes.{neither, not_refused, acts_at_end}
+use Rattle.txn_history.proofs.OwnLines.{line_self}
 
 not_a_refusal : (r : Refusal) → Waits ≡ Refused r → ⊥
 not_a_refusal r e = cc
@@ -29,9 +29,6 @@ not_a_refusal r e = cc
 blocked_given : (b w : Bool) (s : Reply) → cond b (cond w Nothing (Some Waits)) (Some (Done s)) ≡ Some Waits → b ≡ true
 blocked_given true w s h = refl
 blocked_given false w s h = cc
-
-line_self : (s l : ℕ) → same_line (Line s l) (Line s l) ≡ true
-line_self s l = and_from (s == s) (l == l) (eq-eqb s s refl) (eq-eqb l l refl)
 
 -- with its cause, its block and its wait known
 nothing_more : (c x y : Option Refusal) (b w : Bool) (s : Reply) → c ≡ Nothing → x ≡ Nothing → y ≡ Nothing → b ≡ true → w ≡ true

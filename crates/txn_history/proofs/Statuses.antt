@@ -1,5 +1,6 @@
 -- What each entry does to statuses, to who acts and to who waits.
 use Rattle.std.proofs.Common.{◌≡◌, ℕ, true, false, not, cond, ◌&&◌, ◌||◌, List, [], ◌∷◌, Some, find, filter, refl, sym, ap, ◌∙◌, ⊎_elim}
+use Rattle.std.specs.Cmp.{both_ways}
 use Rattle.std.proofs.Common.{None as Nothing}
 use Rattle.std.proofs.lemmas.Bool.{false≢true, or_left, false_from_ne_true}
 use Rattle.txn_names.specs.Path.{path_eq, is_front, parent}
@@ -12,7 +13,7 @@ use Rattle.serial_spec.specs.Waits.{is_waits, accesses, open_waits, wait_of}
 use Rattle.serial_spec.specs.Rows.{Rows}
 use Rattle.serial_spec.specs.Legal.{AreAllowed}
 use Rattle.txn_history.specs.Steps.{sets_status, StatusAfter, acts_next, ActiveAfter, unless_by, WaitAfter}
-use Rattle.txn_history.proofs.Tests.{clash, same_tests}
+use Rattle.txn_history.proofs.Tests.{clash}
 use Rattle.txn_history.proofs.Tops.{NonePasses}
 use Rattle.txn_history.proofs.Activity.{acts, acts_after, acting, acts_from, acts-is_active, active_acts, acts_active, or_this, begins-others, commits-others, commits-itself, aborts-fewer, aborts-under, aborts-others}
 use Rattle.txn_history.proofs.StatusTests.{status_by, absent_not_begun}
@@ -124,7 +125,7 @@ active_after_effect rows h (Aborts (c ∷ cs)) k u =
     let t = c ∷ cs in
     on_test (is_front t u) (λ v. acts_after h (Aborts t) u ≡ (not v && acts h u))
     (λ e. false_from_ne_true _ (aborts-under (has_begun h) (has_committed h) (has_aborted h) t c cs u refl e))
-    (λ e. same_tests _ _ (aborts-fewer (has_begun h) (has_committed h) (has_aborted h) t u) (aborts-others (has_begun h) (has_committed h) (has_aborted h) t u e))
+    (λ e. both_ways _ _ (aborts-fewer (has_begun h) (has_committed h) (has_aborted h) t u) (aborts-others (has_begun h) (has_committed h) (has_aborted h) t u e))
 active_after_effect rows h NoEffect k u = refl
 
 -- in the words of a history

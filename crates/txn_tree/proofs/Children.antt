@@ -1,5 +1,6 @@
 -- Children, and how many of them are live.
 use Rattle.std.proofs.Common.{◌≡◌, ◌+◌, ◌-◌, ◌<◌, ◌≤◌, ◌||◌, Bool, true, false, cond, nat_lt, count_by, List, [], ◌∷◌, length, take, Some, None, refl, sym, ap, subst, ◌∙◌, arith}
+use Rattle.std.specs.Cmp.{both_ways}
 use Rattle.std.specs.List.{list_any}
 use Rattle.std.proofs.lemmas.Bool.{lt-ltb, le-ltb}
 use Rattle.std.proofs.lemmas.Bool.Decides.{nat_tests}
@@ -13,15 +14,9 @@ use Rattle.txn_tree.specs.States.{States, names}
 use Rattle.txn_tree.specs.Asked.{is_live_child_in, live_children_of}
 use Rattle.txn_tree.specs.Causes.{cause_at_abort, cause_at_commit}
 
--- two tests that give each other agree
-pub same_tests : (a b : Bool) → (a ≡ true → b ≡ true) → (b ≡ true → a ≡ true) → a ≡ b
-same_tests true b f g = sym (f refl)
-same_tests false true f g = g refl
-same_tests false false f g = refl
-
 -- of a path with one label more, t is the parent exactly where it is a front
 pub front-parent : (t u : Path) → length u ≡ length t + 1 → is_front t u ≡ path_eq (parent u) t
-front-parent t u deeper = same_tests (is_front t u) (path_eq (parent u) t)
+front-parent t u deeper = both_ways (is_front t u) (path_eq (parent u) t)
     (λ f.
     let n : length u - 1 ≡ length t = omega arith in
     path_eq-from (parent u) t (ap (λ n. take n u) n ∙ take-front t u f))

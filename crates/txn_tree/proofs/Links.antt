@@ -1,5 +1,6 @@
 -- What is kept beside the states: parents, and who is live below a parent when a child begins or ends.
 use Rattle.std.proofs.Common.{◌≡◌, ℕ, ◌+◌, ◌<◌, ◌≤◌, nat_eq, Bool, true, false, not, ◌&&◌, cond, count_by, List, [], ◌∷◌, ◌++◌, length, get_or, Option, Some, None, unwrap_or, ◌⊎◌, inl, inr, refl, sym, ap, subst, ◌∙◌, true≢false, All, arith}
+use Rattle.std.specs.Cmp.{both_ways}
 use Rattle.std.specs.Prelude.{slice_get, Result, Ok, Err, OnOk, OnErr}
 use Rattle.std.specs.Result.{is_err}
 use Rattle.std.proofs.lemmas.List.{nil_from_length}
@@ -19,7 +20,6 @@ use Rattle.txn_tree.specs.States.{States, names, status_in, is_live}
 use Rattle.txn_tree.specs.Asked.{live_children_of}
 use Rattle.txn_tree.specs.Numbered.{is_parent_of}
 use Rattle.txn_tree.specs.Linked.{IsLinked, IsParentAt, is_at, is_child_in}
-use Rattle.txn_tree.proofs.Children.{same_tests}
 use Rattle.txn_tree.proofs.Places.{get_front, one_place}
 use Rattle.txn_tree.proofs.Counts.{count_push, count_same, count_none, count_split, count_one}
 
@@ -37,7 +37,7 @@ pub place_is : (ns : List Path) (n : ℕ) (t : Path) (o : Option ℕ) → All Is
     → (m : ℕ) (u : Path) → slice_get ns m ≡ Some u → is_at o m ≡ path_eq (parent t) u
 place_is ns n t None named distinct is m u at = sym (ap (λ (p : Path). path_eq p u) is ∙ some_label ns m u named at)
 place_is ns n t (Some p) named distinct is m u at =
-    same_tests (nat_eq p m) (path_eq (parent t) u)
+    both_ways (nat_eq p m) (path_eq (parent t) u)
     (λ e. path_eq-from (parent t) u (ap (λ o. unwrap_or o u) (sym is.1 ∙ ap (λ k. slice_get ns k) (eqb-true p m e) ∙ at)))
     (λ e. eq-eqb p m (one_place ns distinct u p m (is.1 ∙ ap Some (same_path (parent t) u e)) at))
 

@@ -1,5 +1,6 @@
 -- The number of a name, found among distinct names.
 use Rattle.std.proofs.Common.{◌≡◌, ℕ, ◌<◌, Bool, true, false, not, List, [], ◌∷◌, length, get_or, Option, Some, None, is_some, unwrap_or, inl, inr, refl, sym, ap, subst, ◌∙◌, arith}
+use Rattle.std.specs.Cmp.{both_ways}
 use Rattle.std.specs.Prelude.{◌==◌, ◌≢◌, slice_get, position, IfSome}
 use Rattle.std.specs.List.{IsDistinct}
 use Rattle.std.specs.Map.{lookup}
@@ -16,7 +17,6 @@ use Rattle.txn_tree.specs.declared.status.Status.{Status}
 use Rattle.txn_tree.specs.declared.status.Status.TheVariants.{Absent}
 use Rattle.txn_tree.specs.States.{States, IsTree, names, is_absent}
 use Rattle.txn_tree.specs.Asked.{is_name, is_absent_in, IsRootless}
-use Rattle.txn_tree.proofs.Children.{same_tests}
 
 module _ (xs : List Path) (distinct : IsDistinct path_eq xs) (t : Path) (n : ℕ) (at : position (path_eq t) xs ≡ Some n) where
   here : (x : Path) → t ≡ get_or xs n x
@@ -41,7 +41,7 @@ module _ (xs : List Path) (distinct : IsDistinct path_eq xs) (t : Path) (n : ℕ
       elim (slice_get_cases xs m).1 [
         | inl w ↦
             let x = w.0 in
-            ap (λ b. b) (same_tests (n == m) (path_eq t x)
+            ap (λ b. b) (both_ways (n == m) (path_eq t x)
             (λ e. path_eq-from t x (here x ∙ ap (λ i. get_or xs i x) (eqb-true n m e) ∙ w.3))
             (λ e. by_cases m x w.1 (same_path t x e ∙ sym w.3)))
             ∙ ap (λ o. is_name o t) (sym w.2)

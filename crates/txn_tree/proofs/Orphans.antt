@@ -1,8 +1,8 @@
 -- Orphans: whoever has an aborted ancestor. The parent of whoever is live and no orphan is so too, also after a begin and an end.
-use Rattle.std.proofs.Common.{◌≡◌, ℕ, zero, suc, ◌+◌, ◌<◌, ◌≤◌, Bool, true, false, not, ◌&&◌, ◌||◌, cond, nat_le, count_by, List, [], ◌∷◌, length, Option, Some, None, is_some, unwrap_or, option_map, inl, inr, refl, sym, ap, subst, ◌∙◌, true≢false, arith}
-use Rattle.std.specs.Prelude.{slice_get, IfSome}
+use Rattle.std.proofs.Common.{◌≡◌, ℕ, zero, suc, ◌<◌, Bool, true, false, not, ◌&&◌, ◌||◌, cond, nat_le, List, [], ◌∷◌, length, Option, Some, None, is_some, unwrap_or, option_map, inl, inr, refl, sym, ap, subst, ◌∙◌, true≢false, arith}
+use Rattle.std.specs.Prelude.{slice_get}
 use Rattle.std.specs.Map.{lookup}
-use Rattle.std.proofs.lemmas.Bool.{false≢true, and_parts, and_from}
+use Rattle.std.proofs.lemmas.Bool.{false≢true, and_parts, and_from, not-true}
 use Rattle.txn_names.specs.Path.{Path, path_eq, is_front, parent, top_of}
 use Rattle.txn_names.proofs.Names.{same_path, path_eq-from, parent-cons, length-parent, front_cases}
 use Rattle.txn_tree.specs.declared.status.Status.{Status}
@@ -14,13 +14,8 @@ use Rattle.serial_spec.specs.History.{or_else}
 use Rattle.serial_spec.specs.Allowed.{when, most_transactions}
 use Rattle.serial_spec.specs.declared.entry.Refusal.TheVariants.{Unknown, Used, NoParent, Done, Orphan, Full}
 use Rattle.txn_tree.specs.Numbered.{IsUpward, is_active_at, is_active_named, is_below_orphan, is_below_orphan_named}
-use Rattle.txn_tree.proofs.Children.{same_tests}
 use Rattle.txn_tree.proofs.Counts.{count_has, count_none}
 use Rattle.txn_tree.proofs.Told.{row_place}
-
-flip : (b : Bool) → not b ≡ true → b ≡ false
-flip true e = absurd (false≢true e)
-flip false e = refl
 
 -- ---- whether a front of a path passes
 
@@ -69,7 +64,7 @@ front_more p q f (l ∷ ls) e =
 -- ---- who is active
 
 pub active_parts : (tree : States) (u : Path) → is_active_in tree u ≡ true → (is_live_in tree u ≡ true) × (is_orphan_in tree u ≡ false)
-active_parts tree u e = let w = and_parts (is_live_in tree u) (not (is_orphan_in tree u)) e in (w.0, flip (is_orphan_in tree u) w.1)
+active_parts tree u e = let w = and_parts (is_live_in tree u) (not (is_orphan_in tree u)) e in (w.0, not-true (is_orphan_in tree u) w.1)
 
 pub active_from : (tree : States) (u : Path) → is_live_in tree u ≡ true → is_orphan_in tree u ≡ false → is_active_in tree u ≡ true
 active_from tree u e f = and_from (is_live_in tree u) (not (is_orphan_in tree u)) e (ap (λ b. not b) f)

@@ -1,5 +1,6 @@
 -- Items of lists by their places, and names that stand at one place each.
 use Rattle.std.proofs.Common.{◌≡◌, ℕ, zero, suc, ◌<◌, nat_eq, nat_lt, true, false, cond, List, [], ◌∷◌, ◌++◌, length, get_or, set, Option, Some, None, is_some, unwrap_or, ◌⊎◌, inl, inr, refl, sym, ap, subst, ◌∙◌, true≢false, arith}
+use Rattle.std.specs.Cmp.{both_ways}
 use Rattle.std.specs.Prelude.{slice_get, IfSome}
 use Rattle.std.specs.List.{IsDistinct, position, position_or_len}
 use Rattle.std.proofs.lemmas.Bool.{false≢true, false_from_ne_true, eqb-true, eq-eqb, ne_eqb, lt-ltb, cases_lt}
@@ -8,7 +9,6 @@ use Rattle.std.proofs.lemmas.List.Sums.{position_or_len_is}
 use Rattle.std.proofs.lemmas.Map.Keys.{apart_from_distinct}
 use Rattle.txn_names.specs.Path.{Path, path_eq}
 use Rattle.txn_names.proofs.Names.{same_path, path_eq-from}
-use Rattle.txn_tree.proofs.Children.{same_tests}
 use Rattle.txn_tree.specs.declared.node.Node.{Node}
 use Rattle.txn_tree.specs.declared.node.Children.{Children}
 use Rattle.txn_tree.specs.Linked.{below, children_in, followed, update_at, with_below, with_children, with_next}
@@ -48,7 +48,7 @@ get_updated (x ∷ xs) (suc p) f (suc n) y e =
     let w = get_updated xs p f n y e in (
       w.0,
       w.1,
-      w.2 ∙ ap (λ b. cond b (f w.0) w.0) (same_tests (nat_eq p n) (nat_eq (suc p) (suc n))
+      w.2 ∙ ap (λ b. cond b (f w.0) w.0) (both_ways (nat_eq p n) (nat_eq (suc p) (suc n))
           (λ q. eq-eqb (suc p) (suc n) (ap suc (eqb-true p n q))) (λ q. let r = eqb-true (suc p) (suc n) q in eq-eqb p n (omega (arith, r)))),
     )
 

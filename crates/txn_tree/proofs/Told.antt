@@ -2,7 +2,7 @@
 use Rattle.std.proofs.Common.{◌≡◌, ℕ, zero, suc, ◌<◌, nat_lt, Bool, true, false, not, cond, List, [], ◌∷◌, length, Option, Some, None, is_some, unwrap_or, option_map, inl, inr, refl, sym, ap, subst, ◌∙◌, true≢false, arith}
 use Rattle.std.specs.Prelude.{slice_get, IfSome}
 use Rattle.std.specs.Map.{lookup}
-use Rattle.std.proofs.lemmas.Bool.{false≢true, eq-eqb, lt-ltb, le-ltb}
+use Rattle.std.proofs.lemmas.Bool.{false≢true, eq-eqb, lt-ltb, le-ltb, not-true, not-false}
 use Rattle.std.proofs.lemmas.Option.{slice_get_within, slice_get_cases, slice_get_past, get_or_from_slice_get}
 use Rattle.std.proofs.lemmas.List.Elements.{All-get_or}
 use Rattle.std.proofs.lemmas.Map.Entries.{length-keys_of, lookup_tail}
@@ -12,14 +12,14 @@ use Rattle.txn_names.proofs.Names.{same_path, path_eq-from, length-parent}
 use Rattle.serial_spec.specs.History.{or_else}
 use Rattle.serial_spec.specs.Allowed.{when}
 use Rattle.serial_spec.specs.declared.entry.Refusal.{Refusal}
-use Rattle.serial_spec.specs.declared.entry.Refusal.TheVariants.{Unknown, Done, Used, NoParent, Orphan}
+use Rattle.serial_spec.specs.declared.entry.Refusal.TheVariants.{Unknown, Done, Orphan}
 use Rattle.txn_tree.specs.declared.node.Children.{Children}
 use Rattle.txn_tree.specs.declared.node.Node.{Node}
 use Rattle.txn_tree.specs.declared.status.Status.{Status}
 use Rattle.txn_tree.specs.declared.status.Status.TheVariants.{Absent, Live, Committed, Aborted}
 use Rattle.txn_tree.specs.States.{States, IsTree, names, status_in, is_absent, is_committed, is_aborted}
 use Rattle.txn_tree.specs.Asked.{IsNumberOf, is_name, is_absent_in, has_aborted_in, live_children_of, top_aborted_in}
-use Rattle.txn_tree.specs.Causes.{cause_at_abort, cause_at_begin, cause_at_commit, orphaned}
+use Rattle.txn_tree.specs.Causes.{cause_at_abort, cause_at_commit, orphaned}
 use Rattle.txn_tree.specs.Numbered.{IsClosed, has_parent, is_parent_of}
 use Rattle.txn_tree.specs.Linked.{IsLinked, IsParentAt, kept_parent}
 use Rattle.txn_tree.proofs.Numbers.{is_begun}
@@ -73,15 +73,6 @@ live_to_end tree (l ∷ ls) e = by (status_in tree (l ∷ ls)) refl
         no_cause None g f = false≢true g
         no_cause (Some a) g f = true≢false (ap is_some f)
 
--- where a begin has no cause to be refused, the parent has begun
-pub parent_to_begin : (tree : States) (t : Path) → cause_at_begin tree t ≡ None → is_absent_in tree (parent t) ≡ false
-parent_to_begin tree t e = by _ (is_absent_in tree t) (is_absent_in tree (parent t)) refl e
-  where
-    by : (o : Option Refusal) (a b : Bool) → is_absent_in tree (parent t) ≡ b → or_else (when (not a) Used) (or_else (when b NoParent) o) ≡ None → is_absent_in tree (parent t) ≡ false
-    by o true true q f = absurd (true≢false (ap is_some f))
-    by o true false q f = q
-    by o false b q f = absurd (true≢false (ap is_some f))
-
 -- a name with a row stands at a number
 pub row_place : (tree : States) (t : Path) → is_some (lookup (path_eq t) tree) ≡ true → (n : ℕ) × (slice_get (names tree) n ≡ Some t)
 row_place [] t e = absurd (false≢true e)
@@ -98,13 +89,9 @@ module _ (tree : States) (nodes : List Node) (tops : Children) (is : IsTree tree
   begun_at : (n : ℕ) (u : Path) → slice_get (names tree) n ≡ Some u → is_absent_in tree u ≡ false
   begun_at n u at = by (lookup (path_eq u) tree) refl (is_begun tree is u (name_at n u at))
     where
-      flip : (b : Bool) → true ≡ not b → b ≡ false
-      flip true e = absurd (true≢false e)
-      flip false e = refl
-
       by : (o : Option Status) → lookup (path_eq u) tree ≡ o → is_some (lookup (path_eq u) tree) ≡ not (is_absent_in tree u) → is_absent_in tree u ≡ false
       by None e f = absurd (nowhere tree u e n at)
-      by (Some s) e f = flip (is_absent_in tree u) (ap is_some (sym e) ∙ f)
+      by (Some s) e f = not-true (is_absent_in tree u) (sym (ap is_some (sym e) ∙ f))
 
   -- each parent has begun
   pub closed : IsClosed tree
@@ -143,12 +130,8 @@ module _ (tree : States) (nodes : List Node) (tops : Children) (is : IsTree tree
 -- whoever has not begun has no live child
 pub nobody_below : (tree : States) (nodes : List Node) (tops : Children) → IsTree tree → IsLinked tree nodes tops → (t : Path) → IsName t → not (is_absent_in tree t) ≡ false → 0 ≡ live_children_of tree t
 nobody_below tree nodes tops is linked t name absent =
-    sym (no_live_child tree nodes tops linked t (absent_nowhere tree is t name (flip (is_absent_in tree t) absent)) (labelled t name))
+    sym (no_live_child tree nodes tops linked t (absent_nowhere tree is t name (not-false (is_absent_in tree t) absent)) (labelled t name))
   where
-    flip : (b : Bool) → not b ≡ false → b ≡ true
-    flip true e = refl
-    flip false e = absurd (true≢false e)
-
     labelled : (u : Path) → IsName u → path_eq [] u ≡ false
     labelled [] n = absurd (omega (arith, n.some))
     labelled (l ∷ ls) n = refl
@@ -168,6 +151,3 @@ childless tree t e = by (live_children_of tree t) refl
     by : (k : ℕ) → live_children_of tree t ≡ k → k ≡ 0
     by zero f = refl
     by (suc k) f = absurd (true≢false (ap is_some (cause_by_children tree t (sym (commit_ends tree t e)) (omega (arith, f)) ∙ sym e)))
-
-pub begun_to_end : (tree : States) (t : Path) → cause_at_abort tree t ≡ None → is_absent_in tree t ≡ false
-begun_to_end tree t e = ap is_absent (live_to_end tree t e)

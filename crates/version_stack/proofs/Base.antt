@@ -1,6 +1,7 @@
 -- What a transaction left, put into the base key by key.
 use Rattle.std.proofs.Common.{◌≡◌, ℕ, ℤ, ◌≤◌, length, arith, Bool, true, false, cond, ◌||◌, List, [], ◌∷◌, ◌++◌, Option, Some, None, refl, sym, ap, subst, ◌∙◌}
-use Rattle.std.specs.Prelude.{option_map, Result, Ok, Err, OnOk}
+use Rattle.std.proofs.Math.Bool.{or-false}
+use Rattle.std.specs.Prelude.{option_map}
 use Rattle.std.specs.List.{list_any}
 use Rattle.std.proofs.lemmas.List.Folds.{list_any-append}
 use Rattle.std.proofs.lemmas.Map.Made.{length-le_from_is_member}
@@ -12,10 +13,6 @@ use Rattle.serial_spec.specs.Values.{value_or}
 use Rattle.serial_spec.specs.Serial.{Map, put}
 use Rattle.version_stack.specs.declared.version.Version.{Version}
 use Rattle.version_stack.specs.Versioned.{Versioned, FitsBase, has_place, left_at, with_keys}
-
-or-false : (b : Bool) → (b || false) ≡ b
-or-false true = refl
-or-false false = refl
 
 any_append : (q k : List ℕ) (keys : List (List ℕ)) → list_any (label_eq q) (keys ++ k ∷ []) ≡ (list_any (label_eq q) keys || label_eq q k)
 any_append q k keys = list_any-append (label_eq q) keys (k ∷ []) ∙ ap (λ b. list_any (label_eq q) keys || b) (or-false (label_eq q k))
@@ -70,8 +67,3 @@ pub fits_all : (v : Versioned) (t : ℕ) (keys : List (List ℕ)) → ((q : List
 fits_all v t keys each room ks once there =
     let fewer : length ks ≤ length keys = length-le_from_is_member nat_list_eq_equiv ks keys once (λ q e. sym (each q) ∙ there q e) in
     omega (arith, fewer, room)
-
--- what follows from a promise, where the call succeeds
-pub on_ok : {A E : Type 0} (r : Result A E) {P Q : Type 0} → (P → Q) → OnOk r P → OnOk r Q
-on_ok (Ok x) f p = f p
-on_ok (Err e) f p = p

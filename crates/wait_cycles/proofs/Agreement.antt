@@ -2,7 +2,7 @@
 use Rattle.std.proofs.Common.{◌≡◌, ◌≤◌, ℕ, nat_eq, Bool, true, false, not, List, [], ◌∷◌, ◌++◌, append_assoc, map, Option, Some, unwrap_or, inl, inr, refl, sym, ap, subst, ◌∙◌, true≢false}
 use Rattle.std.specs.Prelude.{slice_get}
 use Rattle.std.specs.List.{list_any}
-use Rattle.std.proofs.lemmas.Bool.{false≢true, eqb-true, eq-eqb, or_cases, or_left, or_right, and_parts, and_from}
+use Rattle.std.proofs.lemmas.Bool.{false≢true, eqb-true, eq-eqb, or_cases, or_left, or_right, and_parts, and_from, not-true}
 use Rattle.txn_names.specs.Path.{path_eq}
 use Rattle.txn_names.proofs.Names.{path_eq_self, same_path}
 use Rattle.serial_spec.specs.History.{Name, History}
@@ -11,10 +11,6 @@ use Rattle.serial_spec.specs.Waits as by_name
 use Rattle.wait_cycles.specs.Cycles.{Pairs, IsCycle, WaitInTurn, is_distinct, is_member, waits_in}
 use Rattle.wait_cycles.specs.Agreement.{Agree, AreWaits, CyclesAgree}
 use Rattle.wait_cycles.proofs.Lists.{distinct_push, member_here}
-
-not_true : (b : Bool) → not b ≡ true → b ≡ false
-not_true true e = absurd (false≢true e)
-not_true false e = refl
 
 -- ---- a cycle begun anywhere on it
 
@@ -27,7 +23,7 @@ module _ (pairs : Pairs) where
   turned x [] cycle = cycle
   turned x (y ∷ ys) cycle =
       let parts = and_parts (not (is_member x (y ∷ ys))) (is_distinct (y ∷ ys)) cycle.0 in
-      (distinct_push x (y ∷ ys) parts.1 (not_true (is_member x (y ∷ ys)) parts.0), turn_push y ys x y cycle.1.1 cycle.1.0)
+      (distinct_push x (y ∷ ys) parts.1 (not-true (is_member x (y ∷ ys)) parts.0), turn_push y ys x y cycle.1.1 cycle.1.0)
 
   from_behind : (front : List ℕ) (a : ℕ) (back : List ℕ) → IsCycle pairs (front ++ a ∷ back) → (ys : List ℕ) × IsCycle pairs (a ∷ ys)
   from_behind [] a back cycle = (back, cycle)
@@ -98,7 +94,7 @@ module _ (h : History) (names : List Name) (pairs : Pairs) (are : AreWaits h nam
       let parts = and_parts (not (is_member a xs)) (is_distinct xs) d in
       let later = λ (c : ℕ) (m : is_member c xs ≡ true). have c (or_right (nat_eq c a) (is_member c xs) m) in
       and_from (not (list_any (path_eq (name_at a)) (map name_at xs))) (by_name.is_distinct (map name_at xs))
-      (fresh (list_any (path_eq (name_at a)) (map name_at xs)) refl (not_true (is_member a xs) parts.0) later)
+      (fresh (list_any (path_eq (name_at a)) (map name_at xs)) refl (not-true (is_member a xs) parts.0) later)
       (distinct_named xs later parts.1)
     where
       fresh : (b : Bool) → list_any (path_eq (name_at a)) (map name_at xs) ≡ b → is_member a xs ≡ false → ((c : ℕ) → is_member c xs ≡ true → HasNumber c)
@@ -160,7 +156,7 @@ module _ (h : History) (names : List Name) (pairs : Pairs) (are : AreWaits h nam
       let parts = and_parts (not (is_named t ts)) (by_name.is_distinct ts) d in
       let later = λ (v : Name) (m : is_named v ts ≡ true). have v (or_right (path_eq v t) (is_named v ts) m) in
       and_from (not (is_member (number h t) (map (number h) ts))) (is_distinct (map (number h) ts))
-      (fresh (is_member (number h t) (map (number h) ts)) refl (not_true (is_named t ts) parts.0) later)
+      (fresh (is_member (number h t) (map (number h) ts)) refl (not-true (is_named t ts) parts.0) later)
       (distinct_numbered ts later parts.1)
     where
       fresh : (b : Bool) → is_member (number h t) (map (number h) ts) ≡ b → is_named t ts ≡ false → ((v : Name) → is_named v ts ≡ true → HasName v)

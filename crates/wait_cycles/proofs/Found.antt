@@ -2,12 +2,13 @@
 use Rattle.std.proofs.Common.{◌≡◌, ℕ, zero, suc, ◌+◌, ◌<◌, ◌≤◌, nat_eq, Bool, true, false, not, ◌&&◌, List, [], ◌∷◌, ◌++◌, append_assoc, length, Option, Some, None, is_some, unwrap_or, ◌⊎◌, inl, inr, refl, sym, ap, subst, ◌∙◌, true≢false, arith}
 use Rattle.std.specs.Prelude.{slice_get}
 use Rattle.std.specs.List.{list_any}
-use Rattle.std.proofs.lemmas.Bool.{false≢true, eqb-true, eq-eqb, or_cases, or_left, or_right, and_parts, and_from, cases_lt}
+use Rattle.std.proofs.lemmas.Bool.{false≢true, eqb-true, eq-eqb, or_cases, or_left, or_right, and_parts, and_from, cases_lt, not-true}
 use Rattle.std.proofs.lemmas.List.{length-append}
 use Rattle.wait_cycles.specs.declared.trail.Reached.{Reached}
 use Rattle.wait_cycles.specs.Cycles.{Pairs, waits_in, is_member, is_distinct}
 use Rattle.wait_cycles.specs.Trails.{ComesFrom, IsAt, IsFound, IsLonger, nodes, open_pairs}
-use Rattle.wait_cycles.proofs.Lists.{few_pass, any-map, distinct_push, get_front, get_pushed, map_append, member_append, pushed_member, one_less}
+use Rattle.txn_tree.proofs.Places.{get_front, get_pushed}
+use Rattle.wait_cycles.proofs.Lists.{few_pass, any-map, distinct_push, map_append, member_append, pushed_member, one_less}
 
 -- ---- pairs
 
@@ -73,11 +74,7 @@ module _ (pairs : Pairs) (trail : List Reached) (r : Reached) (new : is_member r
       }
     where
       still : (a b : Bool) → (a ≡ true → b ≡ true) → not b ≡ true → not a ≡ true
-      still true b f e = absurd (true≢false (sym (f refl) ∙ by b e))
-        where
-          by : (c : Bool) → not c ≡ true → c ≡ false
-          by true n = absurd (false≢true n)
-          by false n = refl
+      still true b f e = absurd (true≢false (sym (f refl) ∙ not-true b e))
       still false b f e = refl
 
 pub nobody : (pairs : Pairs) (start : ℕ) → IsFound pairs start []
@@ -100,13 +97,9 @@ longer_none pairs trail = record { more = ([], sym (append_nil trail)); fewer = 
 
 -- ---- a pair gone on by
 
-not_true : (b : Bool) → not b ≡ true → b ≡ false
-not_true true e = absurd (false≢true e)
-not_true false e = refl
-
 -- one that leads on has not been reached
 pub not_yet : (a b : Bool) → (a && not b) ≡ true → b ≡ false
-not_yet a b e = not_true b (and_parts a (not b) e).1
+not_yet a b e = not-true b (and_parts a (not b) e).1
 
 module _ (pairs : Pairs) (old trail : List Reached) (a : ℕ) (from : Option ℕ) (n : ℕ) (p : ℕ × ℕ) (at : slice_get pairs n ≡ Some p) where
   same_pair : (q : ℕ × ℕ) → slice_get pairs n ≡ Some q → p ≡ q
@@ -118,7 +111,7 @@ module _ (pairs : Pairs) (old trail : List Reached) (a : ℕ) (from : Option ℕ
     parts = and_parts (nat_eq a p.0) (not (list_any (λ r. nat_eq p.1 r.txn) trail)) leads
 
     fresh : is_member p.1 (nodes trail) ≡ false
-    fresh = sym (any-map (λ (r : Reached). r.txn) p.1 trail) ∙ not_true _ parts.1
+    fresh = sym (any-map (λ (r : Reached). r.txn) p.1 trail) ∙ not-true _ parts.1
 
     abbrev pub next : Reached
     next = record { txn = p.1; from = from }

@@ -81,22 +81,6 @@ one_place (x ∷ xs) d (suc i) (suc j) a at also = ap suc (one_place xs (and_par
 
 -- ---- places behind others
 
-pub get_front : {X : Type 0} (xs ys : List X) (i : ℕ) (x : X) → slice_get xs i ≡ Some x → slice_get (xs ++ ys) i ≡ Some x
-get_front [] ys i x e = absurd (false≢true (ap is_some e))
-get_front (y ∷ xs) ys zero x e = e
-get_front (y ∷ xs) ys (suc i) x e = get_front xs ys i x e
-
--- what stands in a longer list stands in the front or is the last
-pub get_pushed : {X : Type 0} (xs : List X) (y : X) (i : ℕ) (x : X) → slice_get (xs ++ y ∷ []) i ≡ Some x → (slice_get xs i ≡ Some x) ⊎ ((i ≡ length xs) × (x ≡ y))
-get_pushed [] y zero x e = inr (refl, sym (ap (λ o. unwrap_or o y) e))
-get_pushed [] y (suc i) x e = absurd (false≢true (ap is_some e))
-get_pushed (z ∷ xs) y zero x e = inl e
-get_pushed (z ∷ xs) y (suc i) x e =
-    elim (get_pushed xs y i x e) [
-      | inl front ↦ inl front
-      | inr last ↦ inr (ap suc last.0, last.1)
-    ]
-
 pub get-map : {X Y : Type 0} (f : X → Y) (xs : List X) (i : ℕ) (x : X) → slice_get xs i ≡ Some x → slice_get (map f xs) i ≡ Some (f x)
 get-map f [] i x e = absurd (false≢true (ap is_some e))
 get-map f (y ∷ xs) zero x e = ap (λ o. Some (f (unwrap_or o y))) e
