@@ -10,7 +10,7 @@ use Rattle.serial_spec.specs.History.{or_else}
 use Rattle.serial_spec.specs.Serial.{Map, map_after, Replies}
 use Rattle.serial_spec.specs.Items.{Items}
 use Rattle.serial_spec.specs.Items.{None as NoItems}
-use Rattle.serial_spec.specs.Flat.{with_nested, with_all, nested, Step, steps_in, steps_of, flat, due, after_step, after_steps, IsDueAt, IsFirstWrong, same_reply, first_wrong}
+use Rattle.serial_spec.specs.Flat.{with_nested, with_all, nested, AnsweredAccess, steps_in, steps_of, flat, due, after_step, after_steps, IsDueAt, IsFirstWrong, same_reply, first_wrong}
 use Rattle.serial_spec.proofs.Flat.{after_one}
 
 pub same_reply-Decides : (a b : Reply) → Decides (same_reply a b) (a ≡ b)
@@ -37,13 +37,13 @@ at_test : (b : Bool) (o p q : Option ℕ) (n : ℕ) → o ≡ or_else p (option_
 at_test true o p q n e = ap (option_map suc) e ∙ shifted p q n
 at_test false o p q n e = refl
 
-pub first_wrong-append : (m : Map) (xs ys : List Step) →
+pub first_wrong-append : (m : Map) (xs ys : List AnsweredAccess) →
     first_wrong m (xs ++ ys) ≡ or_else (first_wrong m xs) (option_map (λ i. length xs + i) (first_wrong (after_steps m xs) ys))
 first_wrong-append m [] ys = from_zero (first_wrong m ys)
 first_wrong-append m (s ∷ xs) ys =
     at_test (same_reply s.reply (due m s)) _ _ _ (length xs) (first_wrong-append (after_step m s) xs ys)
 
-first_later : (m : Map) (s : Step) (ss : List Step) (o : Option ℕ) → s.reply ≡ due m s →
+first_later : (m : Map) (s : AnsweredAccess) (ss : List AnsweredAccess) (o : Option ℕ) → s.reply ≡ due m s →
     IfSome o (IsFirstWrong (after_step m s) ss) → IfSome (option_map suc o) (IsFirstWrong m (s ∷ ss))
 first_later m s ss None e h = tt
 first_later m s ss (Some i) e h = record {
@@ -56,7 +56,7 @@ first_later m s ss (Some i) e h = record {
     before zero lt = e
     before (suc j) lt = h.before j (omega arith)
 
-first_here : (m : Map) (s : Step) (ss : List Step) (b : Bool) (o : Option ℕ) → same_reply s.reply (due m s) ≡ b →
+first_here : (m : Map) (s : AnsweredAccess) (ss : List AnsweredAccess) (b : Bool) (o : Option ℕ) → same_reply s.reply (due m s) ≡ b →
     IfSome o (IsFirstWrong (after_step m s) ss) → IfSome (if b then option_map suc o else Some 0) (IsFirstWrong m (s ∷ ss))
 first_here m s ss true o e h = first_later m s ss o ((same_reply-Decides s.reply (due m s)).0 e) h
 first_here m s ss false o e h = record {
@@ -65,17 +65,17 @@ first_here m s ss false o e h = record {
   before = λ j lt. absurd (omega arith);
 }
 
-pub first_wrong_is : (m : Map) (ss : List Step) → IfSome (first_wrong m ss) (IsFirstWrong m ss)
+pub first_wrong_is : (m : Map) (ss : List AnsweredAccess) → IfSome (first_wrong m ss) (IsFirstWrong m ss)
 first_wrong_is m [] = tt
 first_wrong_is m (s ∷ ss) =
     first_here m s ss (same_reply s.reply (due m s)) (first_wrong (after_step m s) ss) refl (first_wrong_is (after_step m s) ss)
 
 -- each access has the reply that is due to it
-abbrev pub AllDue : Map → List Step → Type 0
+abbrev pub AllDue : Map → List AnsweredAccess → Type 0
 AllDue m [] = Unit {0}
 AllDue m (s ∷ ss) = (s.reply ≡ due m s) × AllDue (after_step m s) ss
 
-pub AllDue-append : (m : Map) (xs ys : List Step) → AllDue m (xs ++ ys) ↔ (AllDue m xs × AllDue (after_steps m xs) ys)
+pub AllDue-append : (m : Map) (xs ys : List AnsweredAccess) → AllDue m (xs ++ ys) ↔ (AllDue m xs × AllDue (after_steps m xs) ys)
 AllDue-append m [] ys = (λ h. (tt, h), λ h. h.1)
 AllDue-append m (s ∷ xs) ys =
     let rest = AllDue-append (after_step m s) xs ys in
@@ -87,14 +87,14 @@ none_here true P None Q d h = (λ e. (d.0 refl, h.0 e), λ e. refl)
 none_here true P (Some i) Q d h = (λ e. cc, λ e. h.1 e.1)
 none_here false P o Q d h = (λ e. cc, λ e. cc (d.1 e.0))
 
-pub none_wrong : (m : Map) (ss : List Step) → IsNone (first_wrong m ss) ↔ AllDue m ss
+pub none_wrong : (m : Map) (ss : List AnsweredAccess) → IsNone (first_wrong m ss) ↔ AllDue m ss
 none_wrong m [] = (λ e. tt, λ e. refl)
 none_wrong m (s ∷ ss) =
     none_here (same_reply s.reply (due m s)) (s.reply ≡ due m s) (first_wrong (after_step m s) ss) (AllDue (after_step m s) ss)
     (same_reply-Decides s.reply (due m s)) (none_wrong (after_step m s) ss)
 
 -- an item behind others, and then accesses
-then_steps : (m : Map) (xs : Items) (i : Item) (ss : List Step) (P : Type 0) →
+then_steps : (m : Map) (xs : Items) (i : Item) (ss : List AnsweredAccess) (P : Type 0) →
     Replies m (with_nested xs i) ↔ (Replies m xs × AllDue (map_after m xs) (steps_in i)) →
     P ↔ (Replies m (with_nested xs i) × AllDue (map_after m (with_nested xs i)) ss) →
     P ↔ (Replies m xs × AllDue (map_after m xs) (steps_in i ++ ss))

@@ -7,7 +7,7 @@ use Rattle.serial_spec.specs.declared.item.Item.{Item, Access, Block, Block', Ro
 use Rattle.serial_spec.specs.Serial.{Map, map_after}
 use Rattle.serial_spec.specs.Items.{Items}
 use Rattle.serial_spec.specs.Items.{None as NoItems, Block as Blocked}
-use Rattle.serial_spec.specs.Flat.{with_nested, with_all, nested, Step, steps_in, steps_of, flat, after_step, after_steps}
+use Rattle.serial_spec.specs.Flat.{with_nested, with_all, nested, AnsweredAccess, steps_in, steps_of, flat, after_step, after_steps}
 
 pub flat-append : (xs ys : List Item) → flat (xs ++ ys) ≡ flat xs ++ flat ys
 flat-append [] ys = refl
@@ -32,7 +32,7 @@ steps_in-Block items =
     let row = row_of (Block items) in
     steps_of_row row.0 row.1 ∙ ap flat (items_hidden-the_row-Item-0 items)
 
-pub after_steps-append : (m : Map) (xs ys : List Step) → after_steps m (xs ++ ys) ≡ after_steps (after_steps m xs) ys
+pub after_steps-append : (m : Map) (xs ys : List AnsweredAccess) → after_steps m (xs ++ ys) ≡ after_steps (after_steps m xs) ys
 after_steps-append m [] ys = refl
 after_steps-append m (s ∷ xs) ys = after_steps-append (after_step m s) xs ys
 

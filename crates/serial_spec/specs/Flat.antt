@@ -28,42 +28,42 @@ abbrev pub nested : List Item → Items
 nested items = fold with_nested NoItems items
 
 -- an access and its reply
-pub record Step : Type 0 where
+pub record AnsweredAccess : Type 0 where
   pub key : List ℕ
   pub op : Op
   pub reply : Reply
 
 abbrev mutual
-  pub steps_in : Item → List Step
+  pub steps_in : Item → List AnsweredAccess
   steps_in (Access k o r) = record { key = k; op = o; reply = r } ∷ []
   steps_in (Block' shape all) = steps_of all
 
-  pub steps_of : {m : _} → Row_of-Item m → List Step
+  pub steps_of : {m : _} → Row_of-Item m → List AnsweredAccess
   steps_of end_of-Item = []
   steps_of (more_of-Item i rest) = steps_in i ++ steps_of rest
 
-abbrev pub flat : List Item → List Step
+abbrev pub flat : List Item → List AnsweredAccess
 flat [] = []
 flat (i ∷ items) = steps_in i ++ flat items
 
 -- the reply that is due to an access
-abbrev pub due : Map → Step → Reply
+abbrev pub due : Map → AnsweredAccess → Reply
 due m s = reply_of (m s.key) s.op
 
 -- the map after an access, whatever its reply
-abbrev pub after_step : Map → Step → Map
+abbrev pub after_step : Map → AnsweredAccess → Map
 after_step m s = put m s.key (value_after (m s.key) s.op)
 
-abbrev pub after_steps : Map → List Step → Map
+abbrev pub after_steps : Map → List AnsweredAccess → Map
 after_steps m [] = m
 after_steps m (s ∷ ss) = after_steps (after_step m s) ss
 
 -- the access at this place has the reply that is due there
-abbrev pub IsDueAt : Map → List Step → ℕ → Type 0
+abbrev pub IsDueAt : Map → List AnsweredAccess → ℕ → Type 0
 IsDueAt m ss i = IfSome (slice_get ss i) (λ s. s.reply ≡ due (after_steps m (take i ss)) s)
 
 -- the first place whose access has another reply
-pub record IsFirstWrong (m : Map) (ss : List Step) (i : ℕ) : Type 0 where
+pub record IsFirstWrong (m : Map) (ss : List AnsweredAccess) (i : ℕ) : Type 0 where
   pub within : i < length ss
   pub wrong : IsDueAt m ss i → ⊥
   pub before : (j : ℕ) → j < i → IsDueAt m ss j
@@ -79,13 +79,13 @@ same_reply Overflow Overflow = true
 same_reply a b = false
 
 -- the first place whose access has another reply, if there is one
-abbrev pub first_wrong : Map → List Step → Option ℕ
+abbrev pub first_wrong : Map → List AnsweredAccess → Option ℕ
 first_wrong m [] = None
 first_wrong m (s ∷ ss) =
     if same_reply s.reply (due m s) then option_map suc (first_wrong (after_step m s) ss) else Some 0
 
 -- a run, after these accesses
-pub record HasRun (old new : Run) (ss : List Step) : Type 0 where
+pub record HasRun (old new : Run) (ss : List AnsweredAccess) : Type 0 where
   pub table : value_in new.table.rows ≡ after_steps (value_in old.table.rows) ss
   pub count : new.count ≡ old.count + length ss
   pub wrong : new.wrong ≡ or_else old.wrong (option_map (λ i. old.count + i) (first_wrong (value_in old.table.rows) ss))
