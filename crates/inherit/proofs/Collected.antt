@@ -16,7 +16,7 @@ use Rattle.serial_spec.specs.Rows.{AreRisingKeys}
 use Rattle.serial_spec.specs.Changes.{AreRising, change_at}
 use Rattle.lock_table.specs.Locked.{free, whole}
 use Rattle.serial_spec.specs.Locks.{is_exclusive}
-use Rattle.inherit.specs.Assets.{Assets, modes_of}
+use Rattle.inherit.specs.LocksAndVersions.{LocksAndVersions, modes_of}
 use Rattle.inherit.specs.Changes.{writes}
 use Rattle.serial_spec.proofs.Ordered.{on_ordering, above_all, turned, same_key}
 
@@ -175,7 +175,7 @@ module _ (sees : List ℕ → Option ℤ) where
 -- ---- what is locked to write
 
 -- where all keys that are locked are among these, those that are locked to write are
-pub wrote_among : (a : Assets) (t : ℕ) (keys : List (List ℕ)) → ((q : List ℕ) → list_any (label_eq q) keys ≡ false → modes_of a t q ≡ free)
+pub wrote_among : (a : LocksAndVersions) (t : ℕ) (keys : List (List ℕ)) → ((q : List ℕ) → list_any (label_eq q) keys ≡ false → modes_of a t q ≡ free)
     → (k : List ℕ) → writes a t k ≡ true → list_any (label_eq k) keys ≡ true
 wrote_among a t keys others k w = by (list_any (label_eq k) keys) refl
   where

@@ -8,10 +8,10 @@ use Rattle.lock_table.specs.Locked.{with_place, with_childs}
 use Rattle.txn_names.specs.Path.{Path, label_eq, path_eq, parent}
 use Rattle.txn_tree.specs.States.{States, names}
 use Rattle.txn_tree.specs.Asked.{IsNumberOf}
-use Rattle.inherit.specs.Assets.{Assets, IsParent, MayGoUp}
+use Rattle.inherit.specs.LocksAndVersions.{LocksAndVersions, IsParent, MayGoUp}
 use Rattle.inherit.proofs.Numbers.{one_number, no_number}
 
-module _ (tree : States) (a : Assets) (t : Path) (child : ℕ) (number : IsNumberOf tree t child) where
+module _ (tree : States) (a : LocksAndVersions) (t : Path) (child : ℕ) (number : IsNumberOf tree t child) where
   -- to a parent that has begun
   pub ready_below : (p : ℕ) → IsNumberOf tree (parent t) p → (length t ≡ 1 → ⊥) → MayGoUp a child (Some p)
       → (n : ℕ) → IsNumberOf tree t n → (o : Option ℕ) → IsParent tree t o → MayGoUp a n o

@@ -1,3 +1,3 @@
-pub mod Assets
+pub mod LocksAndVersions
 pub mod Steps
 pub mod Changes

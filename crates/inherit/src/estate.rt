@@ -2,7 +2,7 @@
 ghost use Rattle.std.specs.Prelude.{◌≡◌, ℕ, List, None, Some, IsOk, OnOk, IfNone, IfSome};
 ghost use Rattle.txn_tree.specs.Asked.{IsNumberOf};
 ghost use Rattle.serial_spec.specs.Operations.{kind};
-ghost use Rattle.inherit.specs.Assets.{HasRoom, IsRead, IsReady, IsSame, MayGoUp, free, has_place, left_of, modes_of};
+ghost use Rattle.inherit.specs.LocksAndVersions.{HasRoom, IsRead, IsReady, IsSame, MayGoUp, free, has_place, left_of, modes_of};
 ghost use Rattle.inherit.specs.Steps.{HasAccessed, HasDropped, HasGoneUp, reply_in};
 
 use lock_table::Locks;
@@ -23,9 +23,9 @@ pub struct Estate {
 }
 
 impl Model for Estate {
-    ghost use Rattle.inherit.specs.Assets.{Assets};
+    ghost use Rattle.inherit.specs.LocksAndVersions.{LocksAndVersions};
 
-    ghost Value = { Assets };
+    ghost Value = { LocksAndVersions };
 
     ghost view = { λ e. record {
       locks = e.locks;

@@ -8,7 +8,7 @@ use Rattle.txn_tree.specs.States.{States, names}
 use Rattle.txn_tree.specs.Asked.{IsNumberOf, IsRootless, is_live_child_in, live_children_of}
 use Rattle.txn_tree.specs.Numbered.{is_active_at, is_active_named, live_children_at, live_children_named}
 use Rattle.txn_tree.proofs.Children.{any_counted}
-use Rattle.inherit.specs.Assets.{IsParent}
+use Rattle.inherit.specs.LocksAndVersions.{IsParent}
 use Rattle.serial_spec.specs.declared.entry.By.{By}
 use Rattle.serial_spec.specs.declared.operation.Reply.TheVariants.{Ok}
 use Rattle.serial_spec.specs.declared.entry.Refusal.{Refusal}

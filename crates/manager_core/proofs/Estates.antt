@@ -7,7 +7,7 @@ use Rattle.txn_tree.specs.Asked.{is_name, IsNumberOf}
 use Rattle.txn_cells.specs.Cells.{is_it}
 use Rattle.lock_table.specs.declared.modes.Modes.{Modes}
 use Rattle.lock_table.specs.Inherited.{free, whole, with_held, with_retained}
-use Rattle.inherit.specs.Assets.{Assets, IsSame}
+use Rattle.inherit.specs.LocksAndVersions.{LocksAndVersions, IsSame}
 use Rattle.inherit.specs.Steps.{HasGoneUp}
 use Rattle.serial_spec.specs.declared.mode.Mode.{Mode}
 use Rattle.serial_spec.specs.declared.operation.Op.{Op}
@@ -78,7 +78,7 @@ told_left k = record {
 -- ---- what each entry does
 
 -- with other room it is the same
-pub estate_roomy : (h : History) (tree : States) (old new : Assets) → IsEstateOf h tree old → IsSame old new → IsEstateOf h tree new
+pub estate_roomy : (h : History) (tree : States) (old new : LocksAndVersions) → IsEstateOf h tree old → IsSame old new → IsEstateOf h tree new
 estate_roomy h tree old new is same = record {
   modes = λ n k. same.modes n k ∙ is.modes n k;
   left = λ n k. same.left n k ∙ is.left n k;
@@ -86,7 +86,7 @@ estate_roomy h tree old new is same = record {
 
 module _ (rows : Rows) (e : Entry) (h : History) (allowed : AreAllowed rows (e ∷ h)) where
   -- an entry that does nothing
-  pub estate_nothing : (tree : States) (estate : Assets) → IsEstateOf h tree estate → effect e ≡ Nothing → IsEstateOf (e ∷ h) tree estate
+  pub estate_nothing : (tree : States) (estate : LocksAndVersions) → IsEstateOf h tree estate → effect e ≡ Nothing → IsEstateOf (e ∷ h) tree estate
   estate_nothing tree estate is does = record {
     modes = λ n k. is.modes n k ∙ content_nothing k free (lock_at k) raise retain (told_modes k) rows e h allowed (slice_get (names tree) n) does;
     left = λ n k. is.left n k ∙ content_nothing k None (left_at k) leave or_else (told_left k) rows e h allowed (slice_get (names tree) n) does;
@@ -107,7 +107,7 @@ module _ (rows : Rows) (e : Entry) (h : History) (allowed : AreAllowed rows (e �
   }
 
   -- a commit
-  pub estate_gone_up : (old_tree tree : States) (old new : Assets) (t : Name) (child : ℕ) (above : Option ℕ) → IsEstateOf h old_tree old → effect e ≡ Commits t
+  pub estate_gone_up : (old_tree tree : States) (old new : LocksAndVersions) (t : Name) (child : ℕ) (above : Option ℕ) → IsEstateOf h old_tree old → effect e ≡ Commits t
       → names tree ≡ names old_tree → IsNumberOf old_tree t child → IsParentNumber old_tree t above → HasGoneUp old new child above → IsEstateOf (e ∷ h) tree new
   estate_gone_up old_tree tree old new t child above is does same number above_is up = record {
     modes = λ n k.
@@ -139,7 +139,7 @@ module _ (rows : Rows) (e : Entry) (h : History) (allowed : AreAllowed rows (e �
   }
 
   -- a begin
-  pub estate_begun : (old new : States) (estate : Assets) (t : Name) → IsEstateOf h old estate → effect e ≡ Begins t
+  pub estate_begun : (old new : States) (estate : LocksAndVersions) (t : Name) → IsEstateOf h old estate → effect e ≡ Begins t
       → names new ≡ names old ++ t ∷ [] → IsEstateOf (e ∷ h) new estate
   estate_begun old new estate t is does more = record {
     modes = λ n k.

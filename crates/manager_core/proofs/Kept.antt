@@ -2,7 +2,7 @@
 use Rattle.std.proofs.Common.{◌≡◌, ℕ, ◌<◌, true, false, List, ◌∷◌, Option, Some, None, length, refl, sym, ap, subst, ◌∙◌}
 use Rattle.txn_tree.specs.Causes as tree
 use Rattle.orphans.specs.Marked.{Marked}
-use Rattle.inherit.specs.Assets.{Assets, left_of, modes_of, rows_of}
+use Rattle.inherit.specs.LocksAndVersions.{LocksAndVersions, left_of, modes_of, rows_of}
 use Rattle.serial_spec.specs.declared.entry.By.{By}
 use Rattle.serial_spec.specs.declared.entry.Refusal.{Refusal}
 use Rattle.serial_spec.specs.declared.event.Event.{Event}
@@ -44,9 +44,9 @@ beside_parts old new tree marks estate = record {
   tree = tree;
   marks = ap (λ (v : Marked). v.names) marks;
   estate = record {
-    modes = λ n k. ap (λ (v : Assets). modes_of v n k) estate;
-    left = λ n k. ap (λ (v : Assets). left_of v n k) estate;
-    rows = ap (λ (v : Assets). rows_of v) estate;
+    modes = λ n k. ap (λ (v : LocksAndVersions). modes_of v n k) estate;
+    left = λ n k. ap (λ (v : LocksAndVersions). left_of v n k) estate;
+    rows = ap (λ (v : LocksAndVersions). rows_of v) estate;
   };
 }
 
@@ -120,7 +120,7 @@ module _ {S : Type 0} (g : Ghosts S) (rows : Rows) (h : History) (old new : Tabl
       let allowed = allowed_next rows h by (Begin t) (IsDone Ok) kept.allowed free.line (begin_allowed rows h by t None (begin_cause t None e)) in
       let waiting = waits_begun h (x ∷ h) old new kept.are.waiting t begins (not_begun rows x h allowed t refl)
       (wait_begun rows x h allowed (Begins t) refl refl (unless_free h by (Begin t) free) t refl) in
-      kept_over (Begin t) (IsDone Ok) allowed (tables_begun rows x h allowed old new kept.are waiting t refl begins) (ap (λ (a : Assets). rows_of a) begins.estate) refl
+      kept_over (Begin t) (IsDone Ok) allowed (tables_begun rows x h allowed old new kept.are waiting t refl begins) (ap (λ (a : LocksAndVersions). rows_of a) begins.estate) refl
   kept_begin t (Some r) free e same =
       let cause = begin_cause t (Some r) e in
       kept_same (Begin t) (Refuses r) free (begin_allowed rows h by t (Some r) cause) refl refl (begin_other h t (Some r) cause) same
@@ -203,5 +203,5 @@ same_rows old new t k op (Refused refusal) same = same.estate.rows
 
 -- nor does a begin
 pub begin_rows : (old new : Tabled) (t : Name) (o : Option Refusal) → MadeUnless o old new (BeginsIn old new t) → rows_in new ≡ rows_in old
-begin_rows old new t None has = ap (λ (a : Assets). rows_of a) has.estate
+begin_rows old new t None has = ap (λ (a : LocksAndVersions). rows_of a) has.estate
 begin_rows old new t (Some r) same = ap (λ (v : Tabled). rows_in v) same

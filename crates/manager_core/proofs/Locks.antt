@@ -11,7 +11,7 @@ use Rattle.txn_tree.specs.declared.status.Status.TheVariants as state
 use Rattle.txn_tree.specs.Asked.{is_name, is_absent_in, IsNumberOf}
 use Rattle.lock_table.specs.declared.modes.Modes.{Modes}
 use Rattle.lock_table.specs.Inherited.{free, whole}
-use Rattle.inherit.specs.Assets.{Assets, modes_of, left_of}
+use Rattle.inherit.specs.LocksAndVersions.{LocksAndVersions, modes_of, left_of}
 use Rattle.inherit.specs.Steps.{HasDropped}
 use Rattle.orphans.specs.Marked.{Marked, is_marked}
 use Rattle.wait_cycles.specs.Waiting.{Waiting, wait_of as kept_wait}
@@ -105,7 +105,7 @@ below_named old tree t n same number u =
     ∙ ap (λ xs. is_below (slice_get xs u) t) same
 
 -- what was dropped by number is dropped by name
-pub aborts_by_name : (old : Tabled) (tree : States) (marks : Marked) (estate : Assets) (waits : Waiting) (t : Name) (n : ℕ) → names tree ≡ names old.tree
+pub aborts_by_name : (old : Tabled) (tree : States) (marks : Marked) (estate : LocksAndVersions) (waits : Waiting) (t : Name) (n : ℕ) → names tree ≡ names old.tree
     → ((u : Name) → status_in tree u ≡ cond (path_eq t u) state.Aborted (status_in old.tree u))
     → ((u : Name) → is_marked marks u ≡ (path_eq t u || is_marked old.marks u))
     → IsNumberOf tree t n → HasDropped tree old.estate estate n → ((u : ℕ) → kept_wait waits u ≡ cond (is_under tree n u) None (wait_at old u))

@@ -3,7 +3,7 @@ use Rattle.std.proofs.Common.{◌≡◌, ℕ, ◌<◌, ◌^◌, List, [], ◌∷
 use Rattle.std.specs.List.{list_any}
 use Rattle.txn_names.specs.Path.{path_eq}
 use Rattle.txn_tree.specs.States.{States}
-use Rattle.inherit.specs.Assets.{Assets, free, modes_of, left_of}
+use Rattle.inherit.specs.LocksAndVersions.{LocksAndVersions, free, modes_of, left_of}
 use Rattle.serial_spec.specs.History.{Name, status}
 use Rattle.serial_spec.specs.Serial.{Map}
 use Rattle.serial_spec.specs.Rows.{Rows, value_in}
@@ -35,7 +35,7 @@ empty_tree states e = record {
     absent (l ∷ ls) = refl
 
 -- nor has anybody locked or left anything
-empty_estate : (states : States) (estate : Assets) → states ≡ [] → ((n : ℕ) (k : List ℕ) → modes_of estate n k ≡ free) → ((n : ℕ) (k : List ℕ) → left_of estate n k ≡ None)
+empty_estate : (states : States) (estate : LocksAndVersions) → states ≡ [] → ((n : ℕ) (k : List ℕ) → modes_of estate n k ≡ free) → ((n : ℕ) (k : List ℕ) → left_of estate n k ≡ None)
     → IsEstateOf [] states estate
 empty_estate states estate e unlocked unleft = record {
   modes = λ n k. rw e (unlocked n k);

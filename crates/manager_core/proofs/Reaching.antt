@@ -8,7 +8,7 @@ use Rattle.txn_tree.specs.Asked.{IsNumberOf, is_name}
 use Rattle.lock_table.specs.Inherited.{with_held}
 use Rattle.lock_table.specs.Blocking.{is_blocked_in}
 use Rattle.version_stack.specs.Seen.{seen_in}
-use Rattle.inherit.specs.Assets.{Assets, modes_of, left_of}
+use Rattle.inherit.specs.LocksAndVersions.{LocksAndVersions, modes_of, left_of}
 use Rattle.inherit.specs.Steps.{HasAccessed, reply_in}
 use Rattle.serial_spec.specs.declared.entry.By.{By}
 use Rattle.serial_spec.specs.declared.operation.Op.{Op}
@@ -57,10 +57,10 @@ module _ (rows : Rows) (h : History) (old mid : Tabled) (allowed : AreAllowed ro
     comes_waits e = (none, sym blocked ∙ kept_out (is_blocked_in mid.tree mid.estate.locks n k (kind op)) (reply_of (seen_in mid.tree mid.estate.versions n k) op) e)
 
   -- by name what was done by number
-  pub modes_by_name : (new : Assets) (reply : Reply) → HasAccessed mid.estate new n k op reply → (u : ℕ) (q : List ℕ)
+  pub modes_by_name : (new : LocksAndVersions) (reply : Reply) → HasAccessed mid.estate new n k op reply → (u : ℕ) (q : List ℕ)
       → modes_of new u q ≡ cond (is_name (slice_get (names mid.tree) u) t && label_eq k q) (with_held (modes_of old.estate u q) (mode_of (kind op))) (modes_of old.estate u q)
   modes_by_name new reply has u q = has.modes u q ∙ (λ i. cond (number u i && label_eq k q) (with_held (same.estate.modes u q i) (mode_of (kind op))) (same.estate.modes u q i))
 
-  pub left_by_name : (new : Assets) (reply : Reply) → HasAccessed mid.estate new n k op reply → (u : ℕ) (q : List ℕ)
+  pub left_by_name : (new : LocksAndVersions) (reply : Reply) → HasAccessed mid.estate new n k op reply → (u : ℕ) (q : List ℕ)
       → left_of new u q ≡ cond (is_name (slice_get (names mid.tree) u) t && label_eq k q) (or_else (leaves op reply) (left_of old.estate u q)) (left_of old.estate u q)
   left_by_name new reply has u q = has.left u q ∙ (λ i. cond (number u i && label_eq k q) (or_else (leaves op reply) (same.estate.left u q i)) (same.estate.left u q i))

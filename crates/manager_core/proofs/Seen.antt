@@ -13,7 +13,7 @@ use Rattle.txn_tree.specs.States.{States, names, is_absent}
 use Rattle.txn_tree.specs.Asked.{is_absent_in, IsNumberOf}
 use Rattle.txn_cells.proofs.Reserving.{found_by_key}
 use Rattle.version_stack.specs.Seen.{left_at as left_at_number, left_by, seen_by, seen_in}
-use Rattle.inherit.specs.Assets.{base_of}
+use Rattle.inherit.specs.LocksAndVersions.{base_of}
 use Rattle.serial_spec.specs.History.{Name, History, is_active}
 use Rattle.serial_spec.specs.Items.{items}
 use Rattle.serial_spec.specs.Values.{last_left, seen_of, seen}

@@ -4,7 +4,7 @@ use Rattle.txn_names.specs.declared.change.Change.{Change}
 use Rattle.txn_tree.specs.Asked.{IsNumberOf}
 use Rattle.lock_table.specs.Inherited.{free, whole}
 use Rattle.version_stack.specs.Seen.{seen_in}
-use Rattle.inherit.specs.Assets.{base_of, left_of, modes_of}
+use Rattle.inherit.specs.LocksAndVersions.{base_of, left_of, modes_of}
 use Rattle.inherit.specs.Changes.{AreChangesOf}
 use Rattle.serial_spec.specs.declared.entry.By.{By}
 use Rattle.serial_spec.specs.declared.entry.Entry.{Entry}

@@ -3,7 +3,7 @@ use Rattle.std.proofs.Common.{◌≡◌, ℕ, List, ◌∷◌, Option, refl, sym
 use Rattle.std.specs.List.{list_any}
 use Rattle.txn_names.specs.Path.{path_eq}
 use Rattle.txn_tree.specs.Asked.{IsNumberOf}
-use Rattle.inherit.specs.Assets.{Assets, rows_of}
+use Rattle.inherit.specs.LocksAndVersions.{LocksAndVersions, rows_of}
 use Rattle.txn_tree.specs.States.{States}
 use Rattle.serial_spec.specs.declared.operation.Op.{Op}
 use Rattle.serial_spec.specs.declared.operation.Reply.{Reply}
@@ -66,7 +66,7 @@ module _ (rows : Rows) (e : Entry) (h : History) (allowed : AreAllowed rows (e �
     marked = subst (AreMarksOf (e ∷ h)) (sym has.marks) (marks_same rows e h allowed old.marks are.marked (λ u. ap (is_abort u) does));
     estate = subst (IsEstateOf (e ∷ h) new.tree) (sym has.estate) (estate_begun rows e h allowed old.tree new.tree old.estate t are.estate does has.begun);
     waiting = waiting;
-    current = λ k. same_current (Begins t) does (ap (λ (a : Assets). rows_of a) has.estate) k refl;
+    current = λ k. same_current (Begins t) does (ap (λ (a : LocksAndVersions). rows_of a) has.estate) k refl;
   }
 
   -- an access that was answered

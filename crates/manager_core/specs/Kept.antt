@@ -6,7 +6,7 @@ use Rattle.txn_tree.specs.declared.status.Status.TheVariants as state
 use Rattle.orphans.specs.Marked.{Marked, is_marked}
 use Rattle.lock_table.specs.declared.modes.Modes.{Modes}
 use Rattle.lock_table.specs.Inherited.{free}
-use Rattle.inherit.specs.Assets.{Assets, modes_of, left_of}
+use Rattle.inherit.specs.LocksAndVersions.{LocksAndVersions, modes_of, left_of}
 use Rattle.serial_spec.specs.History.{Name, History, Status, Absent, Live, Committed, Aborted, status, is_active, begun, has_aborted}
 use Rattle.serial_spec.specs.Locks.{held, retained}
 use Rattle.serial_spec.specs.Items.{items}
@@ -49,7 +49,7 @@ abbrev pub left_at : List ℕ → History → Name → Option (Option ℤ)
 left_at k h t = last_left (items h t) k
 
 -- so is what live transactions lock, and what they left
-pub record IsEstateOf (h : History) (tree : States) (estate : Assets) : Type 0 where
+pub record IsEstateOf (h : History) (tree : States) (estate : LocksAndVersions) : Type 0 where
   pub modes : (n : ℕ) (k : List ℕ) → modes_of estate n k ≡ content_of free (lock_at k) h (slice_get (names tree) n)
   pub left : (n : ℕ) (k : List ℕ) → left_of estate n k ≡ content_of None (left_at k) h (slice_get (names tree) n)
 

@@ -6,7 +6,7 @@ use Rattle.txn_tree.specs.Asked.{is_absent_in, is_live_in, has_committed_in, is_
 use Rattle.txn_tree.specs.declared.status.Status.TheVariants.{Live, Committed, Aborted}
 use Rattle.orphans.specs.Marked.{Marked, is_marked}
 use Rattle.lock_table.specs.Inherited.{free, with_held}
-use Rattle.inherit.specs.Assets.{Assets, IsSame, modes_of, left_of, rows_of}
+use Rattle.inherit.specs.LocksAndVersions.{LocksAndVersions, IsSame, modes_of, left_of, rows_of}
 use Rattle.inherit.specs.Steps.{HasGoneUp}
 use Rattle.wait_cycles.specs.declared.waits.Wait.{Wait}
 use Rattle.wait_cycles.specs.Waiting.{Waiting, wait_of as kept_wait}
@@ -35,7 +35,7 @@ use Rattle.serial_spec.specs.declared.entry.Refusal.TheVariants.{Unknown, Done a
 pub record Tabled : Type 0 where
   pub tree : States
   pub marks : Marked
-  pub estate : Assets
+  pub estate : LocksAndVersions
   pub waits : Waiting
 
 -- the rows of the table

@@ -4,7 +4,7 @@ ghost use Rattle.txn_names.specs.Path.{Path};
 ghost use Rattle.txn_tree.specs.Asked.{IsNumberOf};
 ghost use Rattle.txn_tree.specs.Numbered.{is_active_at, live_children_at};
 ghost use Rattle.txn_tree.specs.States.{names};
-ghost use Rattle.inherit.specs.Assets.{IsParent, MayGoUp};
+ghost use Rattle.inherit.specs.LocksAndVersions.{IsParent, MayGoUp};
 ghost use Rattle.inherit.specs.Changes.{AreChangesOf};
 ghost use Rattle.manager_core.specs.Tables.{CommitsIn, HasOtherRoom};
 

@@ -2,7 +2,7 @@
 ghost use Rattle.std.specs.Prelude.{◌≡◌, ◌≤◌, ◌<◌, ℕ, List, [], length, None, IsFalse, OnOk};
 ghost use Rattle.txn_names.specs.Path.{parent};
 ghost use Rattle.txn_tree.specs.Asked.{IsNumberOf, IsRootless, is_absent_in};
-ghost use Rattle.inherit.specs.Assets.{free, left_of, modes_of};
+ghost use Rattle.inherit.specs.LocksAndVersions.{free, left_of, modes_of};
 ghost use Rattle.manager_core.specs.Tables.{HasOtherRoom, rows_in};
 
 use inherit::Estate;

@@ -1,5 +1,5 @@
 use Rattle.std.proofs.Common.{◌≡◌, sym, ◌∙◌}
-use Rattle.inherit.specs.Assets.{IsReady}
+use Rattle.inherit.specs.LocksAndVersions.{IsReady}
 use Rattle.inherit.proofs.Numbers.{no_number}
 use Rattle.inherit.proofs.estate.Estate.reserve_for.Goals as goal
 

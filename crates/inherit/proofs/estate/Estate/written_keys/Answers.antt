@@ -1,6 +1,6 @@
 use Rattle.std.proofs.Common.{◌≡◌, ℕ, ◌+◌, ◌++◌, ◌∷◌, List, [], take, length, true, false, sym, ap, ◌∙◌, arith, rules}
 use Rattle.std.proofs.lemmas.List.{take_more, take_all}
-use Rattle.inherit.specs.Assets.{Assets}
+use Rattle.inherit.specs.LocksAndVersions.{LocksAndVersions}
 use Rattle.inherit.specs.Changes.{writes}
 use Rattle.inherit.proofs.Collected.{written_taken, written_passed, written_all, wrote_among}
 use Rattle.inherit.proofs.estate.Estate.written_keys.Goals as goal
@@ -26,7 +26,7 @@ pub returns-clause-each : goal.returns-clause-each
 returns-clause-each c =
     let wrote = writes c.args.self.now c.args.txn in
     let keys : List (List ℕ) = c.keys-reserved.result.now in
-    let same = ap (λ (a : Assets). a.locks) c.self.view_is in
+    let same = ap (λ (a : LocksAndVersions). a.locks) c.self.view_is in
     let of = rw same at c.keys-reserved.ensures in
     let far = rw (take_all c.loop-key.key-index keys (omega (arith, c.loop-key-test.false))) at c.loop-key.invariant in
     written_all wrote keys _ (wrote_among c.args.self.now c.args.txn keys (λ q e. of.elsewhere q (of.each q ∙ e))) far
