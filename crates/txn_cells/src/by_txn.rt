@@ -17,27 +17,27 @@ use txn_tree::TxnNo;
 
 /// The cells of each transaction that has any.
 #[derive(Drop)]
-pub(crate) struct Rows<V: Copy> {
+pub(crate) struct CellsByTxn<V: Copy> {
     alloc: Global,
-    rows: IndexMap<TxnNo, Cells<V>>,
+    cells: IndexMap<TxnNo, Cells<V>>,
 }
 
-impl<V: Copy> Model for Rows<V> {
+impl<V: Copy> Model for CellsByTxn<V> {
     ghost use Rattle.txn_cells.specs.Kept.{Table};
 
     ghost Value = { Table V };
 
-    ghost view = { λ t. t.rows.entries };
+    ghost view = { λ t. t.cells.entries };
 }
 
-impl<V: Copy> Rows<V> {
+impl<V: Copy> CellsByTxn<V> {
     pub(crate) fn new(alloc: Global) -> Self
         ensures contents { (u : ℕ) → (q : List ℕ) → content result u q ≡ None }
         ensures places { (u : ℕ) → (q : List ℕ) → has_place result u q ≡ false }
     {
-        Rows {
+        CellsByTxn {
             alloc,
-            rows: IndexMap::new(alloc),
+            cells: IndexMap::new(alloc),
         }
     }
 
@@ -45,27 +45,27 @@ impl<V: Copy> Rows<V> {
     pub(crate) fn get(&self, txn: TxnNo, key: &Key) -> Option<V>
         ensures { result ≡ content self.now txn key.now }
     {
-        self.rows.get(&txn)?.get(key)
+        self.cells.get(&txn)?.get(key)
     }
 
     pub(crate) fn has_place(&self, txn: TxnNo, key: &Key) -> bool
         ensures { result ≡ has_place self.now txn key.now }
     {
-        match self.rows.get(&txn) {
+        match self.cells.get(&txn) {
             Some(cells) => cells.has_cell(key),
             None => false,
         }
     }
 
     // Gives the transaction its cells, none as yet, if it is not there.
-    fn add_row(&mut self, txn: TxnNo) -> Result<(), NoMemory>
+    fn add_txn(&mut self, txn: TxnNo) -> Result<(), NoMemory>
         ensures cells { (u : ℕ) → cells_in self.new u ≡ cells_in self.old u }
         ensures ok { OnOk result (IsSome (lookup (nat_eq txn) self.new)) }
     {
-        if self.rows.contains_key(&txn) {
+        if self.cells.contains_key(&txn) {
             return Ok(());
         }
-        match self.rows.insert(txn, Cells::new(self.alloc)) {
+        match self.cells.insert(txn, Cells::new(self.alloc)) {
             Ok(_) => Ok(()),
             Err(_) => Err(AllocError),
         }
@@ -79,14 +79,14 @@ impl<V: Copy> Rows<V> {
         ensures err { OnErr result ((u : ℕ) → (q : List ℕ) → has_place self.new u q ≡ has_place self.old u q) }
         ensures others { (u : ℕ) → (u ≡ txn → ⊥) → cells_in self.new u ≡ cells_in self.old u }
     {
-        self.add_row(txn)?;
-        self.rows.get_mut(&txn).unwrap().add_cell(key)
+        self.add_txn(txn)?;
+        self.cells.get_mut(&txn).unwrap().add_cell(key)
     }
 
     pub(crate) fn count(&self, txn: TxnNo) -> usize
         ensures { result ≡ length (keys_in self.now txn) }
     {
-        match self.rows.get(&txn) {
+        match self.cells.get(&txn) {
             Some(cells) => cells.len(),
             None => 0,
         }
@@ -95,7 +95,7 @@ impl<V: Copy> Rows<V> {
     pub(crate) fn key_at(&self, txn: TxnNo, index: usize) -> Option<Key>
         ensures { result ≡ slice_get (keys_in self.now txn) index }
     {
-        self.rows.get(&txn)?.key_at(index)
+        self.cells.get(&txn)?.key_at(index)
     }
 
     /// The keys at which the transaction has a place, each once. It has nothing at any other key.
@@ -104,7 +104,7 @@ impl<V: Copy> Rows<V> {
         ensures once { IsDistinct label_eq result.now }
         ensures elsewhere { (q : List ℕ) → IsFalse (has_place self.now txn q) → content self.now txn q ≡ None }
     {
-        match self.rows.get(&txn) {
+        match self.cells.get(&txn) {
             Some(cells) => cells.keys(),
             None => &[],
         }
@@ -117,7 +117,7 @@ impl<V: Copy> Rows<V> {
             content self.new u q ≡ (if nat_eq txn u && label_eq key.now q then Some value else content self.old u q) }
         ensures places { (u : ℕ) → (q : List ℕ) → has_place self.new u q ≡ has_place self.old u q }
     {
-        self.rows.get_mut(&txn).unwrap().set(key, value);
+        self.cells.get_mut(&txn).unwrap().set(key, value);
     }
 
     /// Takes the transaction's cells out.
@@ -127,14 +127,14 @@ impl<V: Copy> Rows<V> {
         ensures contents { (u : ℕ) → (q : List ℕ) → content self.new u q ≡ (if nat_eq txn u then None else content self.old u q) }
         ensures cells { (u : ℕ) → (q : List ℕ) → has_place self.new u q ≡ (not (nat_eq txn u) && has_place self.old u q) }
     {
-        match self.rows.swap_remove(&txn) {
+        match self.cells.swap_remove(&txn) {
             Some(cells) => cells,
             None => Cells::new(self.alloc),
         }
     }
 }
 
-impl<V: Inherit> Rows<V> {
+impl<V: Inherit> CellsByTxn<V> {
     /// Whether what the transaction has at the key stands out.
     pub(crate) fn stands_out(&self, txn: TxnNo, key: &Key) -> bool
         ensures { result ≡ stands V.outstanding (content self.now txn key.now) }
@@ -152,7 +152,7 @@ impl<V: Inherit> Rows<V> {
             content self.new u q ≡ (if nat_eq txn u then merged V.inherited (content_at child.now q) (content self.old u q) else content self.old u q) }
         ensures cells { (u : ℕ) → (q : List ℕ) → has_place self.new u q ≡ has_place self.old u q }
     {
-        if let Some(cells) = self.rows.get_mut(&txn) {
+        if let Some(cells) = self.cells.get_mut(&txn) {
             cells.inherit(child);
         }
     }

@@ -9,7 +9,7 @@ ghost use Rattle.txn_cells.specs.Kept.{cells_in, content, content_at, has_cell_a
 use crate::cells::Cells;
 use crate::index::KeyIndex;
 use crate::inherit::Inherit;
-use crate::rows::Rows;
+use crate::by_txn::CellsByTxn;
 use serial_spec::NoMemory;
 use std::alloc::Global;
 use std::marker::Model;
@@ -20,7 +20,7 @@ use txn_tree::{Tree, TxnNo};
 /// is empty.
 #[derive(Drop)]
 pub struct CellTable<V: Inherit> {
-    rows: Rows<V>,
+    cells: CellsByTxn<V>,
     index: KeyIndex,
 }
 
@@ -29,20 +29,20 @@ impl<V: Inherit> Model for CellTable<V> {
 
     ghost Value = { Table V };
 
-    ghost view = { λ t. t.rows };
+    ghost view = { λ t. t.cells };
 
-    ghost invariant = { λ t. AreHoldersOf t.rows t.index × AreMarkedIn V.outstanding t.rows t.index };
+    ghost invariant = { λ t. AreHoldersOf t.cells t.index × AreMarkedIn V.outstanding t.cells t.index };
 }
 
 // Marks the transaction at each of these keys where what it has stands out.
-fn mark_at<V: Inherit>(rows: &Rows<V>, index: &mut KeyIndex, txn: TxnNo, keys: &[Key])
+fn mark_at<V: Inherit>(cells: &CellsByTxn<V>, index: &mut KeyIndex, txn: TxnNo, keys: &[Key])
     requires { (q : List ℕ) → IsTrue (list_any (label_eq q) keys.now) → IsTrue (is_holder index.old txn q) }
     ensures holders { (u : ℕ) → (q : List ℕ) → is_holder index.new u q ≡ is_holder index.old u q }
     ensures kept { (u : ℕ) → (q : List ℕ) → IsTrue (is_marked index.old u q) → IsTrue (is_marked index.new u q) }
-    ensures marked { (q : List ℕ) → IsTrue (list_any (label_eq q) keys.now) → IsTrue (stands V.outstanding (content rows.now txn q)) → IsTrue (is_marked index.new txn q) }
+    ensures marked { (q : List ℕ) → IsTrue (list_any (label_eq q) keys.now) → IsTrue (stands V.outstanding (content cells.now txn q)) → IsTrue (is_marked index.new txn q) }
 {
     for key in keys {
-        if rows.stands_out(txn, key) {
+        if cells.stands_out(txn, key) {
             index.mark(txn, key);
         }
     }
@@ -55,7 +55,7 @@ impl<V: Inherit> CellTable<V> {
         ensures places { (u : ℕ) → (q : List ℕ) → has_place result u q ≡ false }
     {
         CellTable {
-            rows: Rows::new(alloc),
+            cells: CellsByTxn::new(alloc),
             index: KeyIndex::new(alloc),
         }
     }
@@ -64,7 +64,7 @@ impl<V: Inherit> CellTable<V> {
     pub fn get(&self, txn: TxnNo, key: &Key) -> Option<V>
         ensures { result ≡ content self.now txn key.now }
     {
-        self.rows.get(txn, key)
+        self.cells.get(txn, key)
     }
 
     /// The transactions that have a place at the key, each once, in the order in which they began. No other has anything
@@ -95,11 +95,11 @@ impl<V: Inherit> CellTable<V> {
         ensures succeeds { IsTrue (has_place self.old txn key.now) → IsOk result }
         ensures others { (u : ℕ) → (u ≡ txn → ⊥) → cells_in self.new u ≡ cells_in self.old u }
     {
-        if self.rows.has_place(txn, key) {
+        if self.cells.has_place(txn, key) {
             return Ok(());
         }
         self.index.add(txn, key)?;
-        let made = self.rows.add_place(txn, key);
+        let made = self.cells.add_place(txn, key);
         if made.is_err() {
             self.index.remove(txn, key);
         }
@@ -140,13 +140,13 @@ impl<V: Inherit> CellTable<V> {
     fn count(&self, txn: TxnNo) -> usize
         ensures { result ≡ length (keys_in self.now txn) }
     {
-        self.rows.count(txn)
+        self.cells.count(txn)
     }
 
     fn key_at(&self, txn: TxnNo, index: usize) -> Option<Key>
         ensures { result ≡ slice_get (keys_in self.now txn) index }
     {
-        self.rows.key_at(txn, index)
+        self.cells.key_at(txn, index)
     }
 
     /// The keys at which the transaction has a place, each once. It has nothing at any other key.
@@ -155,7 +155,7 @@ impl<V: Inherit> CellTable<V> {
         ensures once { IsDistinct label_eq result.now }
         ensures elsewhere { (q : List ℕ) → IsFalse (has_place self.now txn q) → content self.now txn q ≡ None }
     {
-        self.rows.keys(txn)
+        self.cells.keys(txn)
     }
 
     /// Sets what the transaction has at the key. It takes no memory.
@@ -165,7 +165,7 @@ impl<V: Inherit> CellTable<V> {
             content self.new u q ≡ (if nat_eq txn u && label_eq key.now q then Some value else content self.old u q) }
         ensures places { (u : ℕ) → (q : List ℕ) → has_place self.new u q ≡ has_place self.old u q }
     {
-        self.rows.set(txn, key, value);
+        self.cells.set(txn, key, value);
         if value.stands_out() {
             self.index.mark(txn, key);
         }
@@ -178,7 +178,7 @@ impl<V: Inherit> CellTable<V> {
         ensures contents { (u : ℕ) → (q : List ℕ) → content self.new u q ≡ (if nat_eq txn u then None else content self.old u q) }
         ensures places { (u : ℕ) → (q : List ℕ) → has_place self.new u q ≡ (not (nat_eq txn u) && has_place self.old u q) }
     {
-        let cells = self.rows.take_out(txn);
+        let cells = self.cells.take_out(txn);
         self.index.remove_at(txn, cells.keys());
         cells
     }
@@ -190,8 +190,8 @@ impl<V: Inherit> CellTable<V> {
             content self.new u q ≡ (if nat_eq txn u then merged V.inherited (content_at child.now q) (content self.old u q) else content self.old u q) }
         ensures places { (u : ℕ) → (q : List ℕ) → has_place self.new u q ≡ has_place self.old u q }
     {
-        self.rows.inherit(txn, child);
-        mark_at(&self.rows, &mut self.index, txn, child.keys());
+        self.cells.inherit(txn, child);
+        mark_at(&self.cells, &mut self.index, txn, child.keys());
     }
 
     // Drops the cells of the transaction.

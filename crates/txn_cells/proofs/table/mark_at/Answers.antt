@@ -21,7 +21,7 @@ loop-key-preserved g c =
     let n : ℕ = c.loop-key.key-index in
     let k : List ℕ = c.key-item.result in
     let t = c.args.txn in
-    let table = c.args.rows.now in
+    let table = c.args.cells.now in
     let more : take (n + 1) keys ≡ take n keys ++ k ∷ [] = take_more keys n k (omega arith) ∙ ap (λ x. take n keys ++ x ∷ []) (sym c.key-item.is) in
     elim c.if-stands_out.branch [
       | then-stands_out w ↦

@@ -8,4 +8,4 @@ abbrev pub invariant-loop-key : goal.invariant-loop-key
 invariant-loop-key g l =
     ((u : ℕ) (q : List ℕ) → is_holder l.index u q ≡ is_holder l.initial.index u q)
     × ((u : ℕ) (q : List ℕ) → is_marked l.initial.index u q ≡ true → is_marked l.index u q ≡ true)
-    × ((q : List ℕ) → list_any (label_eq q) (take l.key-index l.keys) ≡ true → stands g.V.Inherit.outstanding (content l.rows l.txn q) ≡ true → is_marked l.index l.txn q ≡ true)
+    × ((q : List ℕ) → list_any (label_eq q) (take l.key-index l.keys) ≡ true → stands g.V.Inherit.outstanding (content l.cells l.txn q) ≡ true → is_marked l.index l.txn q ≡ true)

@@ -4,18 +4,18 @@ use Rattle.std.specs.Map.{lookup}
 use Rattle.txn_cells.specs.Cells.{merged}
 use Rattle.txn_cells.specs.Kept.{content_at, has_cell_at}
 use Rattle.txn_cells.proofs.Puts.{cells_found, content-put, has_place-put, cond_same, none_inherited}
-use Rattle.txn_cells.proofs.rows.Rows.inherit.Goals as goal
-use Rattle.txn_cells.proofs.rows.Rows.inherit.Goals.{in-Some, in_default}
+use Rattle.txn_cells.proofs.by_txn.CellsByTxn.inherit.Goals as goal
+use Rattle.txn_cells.proofs.by_txn.CellsByTxn.inherit.Goals.{in-Some, in_default}
 
 pub inherit-requires : goal.inherit-requires
 inherit-requires g c =
-    let old = c.self.inside.rows.entries in
+    let old = c.self.inside.cells.entries in
     let lent : lookup (nat_eq c.args.txn) old ≡ Some c.in-Some.cells.now = sym (rw c.in-Some.is at c.get_mut.ensures.value) in
     record { cells = λ q there. subst (λ ks. has_cell_at ks q ≡ true) (cells_found old c.args.txn _ lent) (rw c.self.view_is (c.requires.cells q there)) }
 
 pub returns-clause-contents : goal.returns-clause-contents
 returns-clause-contents g c =
-    let old = c.self.inside.rows.entries in
+    let old = c.self.inside.cells.entries in
     let t = c.args.txn in
     elim c.match-get_mut.branch [
       | in-Some w ↦
@@ -31,7 +31,7 @@ returns-clause-contents g c =
 
 pub returns-clause-cells : goal.returns-clause-cells
 returns-clause-cells g c =
-    let old = c.self.inside.rows.entries in
+    let old = c.self.inside.cells.entries in
     let t = c.args.txn in
     elim c.match-get_mut.branch [
       | in-Some w ↦

@@ -4,17 +4,17 @@ use Rattle.std.specs.Map.{lookup}
 use Rattle.txn_names.specs.Path.{label_eq}
 use Rattle.txn_cells.specs.Kept.{has_cell_at}
 use Rattle.txn_cells.proofs.Puts.{cells_found, content-put, has_place-put, cond-and, cond_same}
-use Rattle.txn_cells.proofs.rows.Rows.set.Goals as goal
+use Rattle.txn_cells.proofs.by_txn.CellsByTxn.set.Goals as goal
 
 pub set-requires : goal.set-requires
 set-requires g c =
-    let old = c.self.inside.rows.entries in
+    let old = c.self.inside.cells.entries in
     let lent : lookup (nat_eq c.args.txn) old ≡ Some c.unwrap.result.now = sym (rw c.unwrap.ensures at c.get_mut.ensures.value) in
     record { cell = subst (λ ks. has_cell_at ks c.args.key.now ≡ true) (cells_found old c.args.txn _ lent) (rw c.self.view_is c.requires.place) }
 
 pub returns-clause-contents : goal.returns-clause-contents
 returns-clause-contents g c =
-    let old = c.self.inside.rows.entries in
+    let old = c.self.inside.cells.entries in
     let t = c.args.txn in
     let k = c.args.key.now in
     let lent : lookup (nat_eq t) old ≡ Some c.unwrap.result.now = sym (rw c.unwrap.ensures at c.get_mut.ensures.value) in
@@ -25,7 +25,7 @@ returns-clause-contents g c =
 
 pub returns-clause-places : goal.returns-clause-places
 returns-clause-places g c =
-    let old = c.self.inside.rows.entries in
+    let old = c.self.inside.cells.entries in
     let t = c.args.txn in
     let lent : lookup (nat_eq t) old ≡ Some c.unwrap.result.now = sym (rw c.unwrap.ensures at c.get_mut.ensures.value) in
     let wrote = (c.get_mut.follows.holds c.set.new.self).3 (ap is_some lent) in

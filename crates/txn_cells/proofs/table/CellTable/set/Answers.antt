@@ -13,7 +13,7 @@ invariant_of-self g c =
     let k = c.args.key.now in
     let e = c.mark.ensures in (
       λ u q. e.holders u q ∙ i.0 u q ∙ sym (c.set.ensures.places u q),
-      marked_set g.V.Inherit.outstanding c.self.inside.rows c.set.new.self index c.mark.new.self t k c.args.value i.1 c.set.ensures.contents (marks_more index c.mark.new.self t k e.marked)
+      marked_set g.V.Inherit.outstanding c.self.inside.cells c.set.new.self index c.mark.new.self t k c.args.value i.1 c.set.ensures.contents (marks_more index c.mark.new.self t k e.marked)
           (λ _. marks_one index c.mark.new.self t k e.marked),
     )
 
@@ -22,6 +22,6 @@ invariant_of-self-else-stands_out g c =
     let i = c.self.invariant in
     let index = c.self.inside.index in (
       λ u q. i.0 u q ∙ sym (c.set.ensures.places u q),
-      marked_set g.V.Inherit.outstanding c.self.inside.rows c.set.new.self index index c.args.txn c.args.key.now c.args.value i.1 c.set.ensures.contents (λ u q e. e)
+      marked_set g.V.Inherit.outstanding c.self.inside.cells c.set.new.self index index c.args.txn c.args.key.now c.args.value i.1 c.set.ensures.contents (λ u q e. e)
           (λ on. absurd (true≢false (sym on ∙ sym c.stands_out.ensures ∙ c.if-stands_out.false))),
     )
