@@ -5,7 +5,7 @@ use crate::driver::Driver;
 use crate::paths::{key_of, name_of};
 use rand_core::utils::NextWord;
 use rand_pcg::Pcg32;
-use serial_spec::Op;
+use serial_spec::{MOST_KEYS, Op};
 use std::alloc::Global;
 use txn_names::Name;
 
@@ -14,7 +14,7 @@ use txn_names::Name;
 pub enum Workload {
     /// Top-level transactions of 14 accesses each, one after another.
     Small,
-    /// One transaction that goes over 4,096 keys again and again.
+    /// One transaction that goes over all keys that may be known again and again.
     Wide,
     /// One parent, and its children of 14 accesses each, one after another.
     Children,
@@ -26,6 +26,9 @@ pub enum Workload {
     /// the last of them is a victim each time, until one is left.
     Waits,
 }
+
+// The most keys that may be known.
+const KEYS: u32 = MOST_KEYS as u32;
 
 /// The accesses of one transaction.
 const ACCESSES: u32 = 14;
@@ -112,7 +115,7 @@ fn wide(driver: &mut Driver, size: u32) -> Option<()> {
     let name = name_of(&[0])?;
     driver.begin(&name)?;
     for turn in 0..size {
-        access(driver, &name, turn % 4096, turn)?;
+        access(driver, &name, turn % KEYS, turn)?;
     }
     driver.commit(&name)
 }
@@ -136,7 +139,7 @@ fn deep(driver: &mut Driver, random: &mut Pcg32, trees: u32) -> Option<()> {
         for depth in 1..DEPTH + 1 {
             let name = name_of(&path[..depth])?;
             driver.begin(&name)?;
-            accesses(driver, random, &name, 4096)?;
+            accesses(driver, random, &name, KEYS)?;
         }
         for above in 0..DEPTH {
             let name = name_of(&path[..DEPTH - above])?;

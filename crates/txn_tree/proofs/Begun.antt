@@ -1,13 +1,14 @@
 -- What is kept beside the states is right after a begin.
 use Rattle.std.proofs.Common.{◌≡◌, ℕ, ◌+◌, ◌<◌, ◌≤◌, Bool, true, false, ◌&&◌, cond, count_by, List, [], ◌∷◌, ◌++◌, length, Option, Some, None, ◌⊎◌, inl, inr, refl, sym, ap, subst, ◌∙◌, true≢false, All, length-append, arith}
 use Rattle.std.specs.Prelude.{slice_get, IfSome}
-use Rattle.std.proofs.lemmas.Bool.{cases_lt, eqb-true}
+use Rattle.std.proofs.lemmas.Bool.{cases_lt, eqb-true, leb-true}
 use Rattle.std.proofs.lemmas.Option.{slice_get_within}
 use Rattle.std.proofs.lemmas.List.Sums.{count_by-le-length}
 use Rattle.std.proofs.lemmas.Map.Entries.{length-keys_of}
 use Rattle.txn_names.specs.Path.{Path, path_eq, parent}
 use Rattle.txn_names.specs.Text.{IsName}
 use Rattle.txn_names.proofs.Names.{same_path, path_eq-from}
+use Rattle.serial_spec.specs.Allowed.{most_transactions}
 use Rattle.txn_tree.specs.declared.node.Children.{Children}
 use Rattle.txn_tree.specs.declared.node.Node.{Node}
 use Rattle.txn_tree.specs.declared.status.Status.TheVariants.{Live}
@@ -49,10 +50,11 @@ module _ (tree : States) (nodes : List Node) (tops : Children) (is : IsTree tree
   -- a count is at most the number of transactions
   pub may_go_up : kept.live + 1 < 4294967296
   may_go_up =
-      let few : length tree ≤ 4096 = is.few in
+      let few : length tree ≤ most_transactions = is.few in
+      let fit : most_transactions ≤ 4294967294 = leb-true most_transactions 4294967294 refl in
       let live = parents_children.live in
       let most : live_children_of tree (parent t) ≤ length (names tree) = count_by-le-length (λ u. path_eq (parent u) (parent t) && is_live (status_in tree u)) (names tree) in
-      omega (arith, few, live, most, length-keys_of tree)
+      omega (arith, few, fit, live, most, length-keys_of tree)
 
   pub last_within : (n : ℕ) → length nodes + 1 ≡ n → IfSome kept.last (λ l. l < n)
   last_within n longer = by kept.last parents_children.last

@@ -2,13 +2,14 @@
 use Rattle.std.proofs.Common.{◌≡◌, ℕ, zero, suc, ◌+◌, ◌-◌, ◌<◌, ◌≤◌, Bool, true, false, not, ◌&&◌, cond, count_by, List, [], ◌∷◌, length, take, Option, Some, None, is_some, unwrap_or, ◌⊎◌, inl, inr, refl, sym, ap, subst, ◌∙◌, true≢false, arith}
 use Rattle.std.specs.Prelude.{slice_get}
 use Rattle.std.specs.List.{sum_by}
-use Rattle.std.proofs.lemmas.Bool.{false≢true, and_parts}
+use Rattle.std.proofs.lemmas.Bool.{false≢true, and_parts, leb-true}
 use Rattle.std.proofs.lemmas.List.Sums.{count_by-le-length, sum_by-cons, sum_by-take-le}
 use Rattle.std.proofs.Math.Seq.{take-length}
 use Rattle.std.proofs.lemmas.Map.Entries.{length-keys_of}
 use Rattle.std.proofs.lemmas.Option.{slice_get_within}
 use Rattle.txn_names.specs.Path.{Path, path_eq, is_front, parent}
 use Rattle.txn_names.proofs.Names.{same_path, path_eq-from, is_front_self, is_front-trans, is_front-parent, not_front-parent, child_towards}
+use Rattle.serial_spec.specs.Allowed.{most_transactions}
 use Rattle.txn_tree.specs.declared.node.Children.{Children}
 use Rattle.txn_tree.specs.declared.node.Node.{Node}
 use Rattle.txn_tree.specs.States.{States, IsTree, is_live, names}
@@ -258,9 +259,10 @@ module _ (tree : States) (n : ℕ) where
       let some = one_child c e in
       let some_le : sum_by part (take (suc c) (names tree)) ≤ sum_by part (names tree) = sum_by-take-le part (names tree) (suc c) in
       let whole : so_far tree n None ≡ sum_by part (names tree) = ap (sum_by part) (take-length (names tree)) in
-      let few : length tree ≤ 4096 = is.few in
+      let few : length tree ≤ most_transactions = is.few in
+      let fit : most_transactions ≤ 4294967294 = leb-true most_transactions 4294967294 refl in
       let most = at_most (slice_get (names tree) n) in
-      omega (arith, all, some, some_le, whole, few, most, length-keys_of tree)
+      omega (arith, all, some, some_le, whole, few, fit, most, length-keys_of tree)
     where
       at_most : (o : Option Path) → ended_named tree o ≤ length (names tree)
       at_most None = omega arith
