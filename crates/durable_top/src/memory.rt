@@ -38,8 +38,7 @@ impl MemStore {
         ensures { IfOk result (λ store. store ≡ fresh (plain rows.now) 0 0) }
     {
         let table = table_of(alloc, rows)?;
-        // By this the rows are known to be in order.
-        let _len = table.len();
+        table.has_rising_rows();
         Ok(MemStore {
             table,
             faults: 0,

@@ -24,9 +24,8 @@ fn next_victim(_log: &Log, tables: &Tables, breaker: &mut Breaker) -> Option<Nam
     ensures none { IfNone result (Quiet _log.now.entries) }
     ensures room { breaker.old ≤ breaker.new }
 {
-    // Called for their postconditions: that names are distinct, and that each transaction waits once.
-    let _ = tables.tree.len();
-    let _ = tables.waits.len();
+    tables.tree.has_distinct_names();
+    tables.waits.has_each_once();
     let txn = breaker.victim(&tables.tree, tables.estate.locks(), &tables.waits)?;
     tables.tree.name_of(txn).copied()
 }
@@ -46,8 +45,7 @@ fn abort_victim(log: &mut Log, tables: &mut Tables, name: &Name)
     ensures room { log.old.room ≤ log.new.room + 1 }
     ensures marks_room { tables.old.marks.room ≤ tables.new.marks.room + 1 }
 {
-    // Called for its postcondition: that a name has a label.
-    let _ = name.depth();
+    name.has_labels();
     let outcome = Outcome::of(tables.abort(name));
     log.add(By::Victim, Event::Abort(*name), &outcome);
 }

@@ -35,8 +35,7 @@ impl Tables {
     pub(crate) fn count_live_tops(&self) -> usize
         ensures { result ≡ count_by (is_live_top_in self.now.tree) (names self.now.tree) }
     {
-        // Called for its postcondition: that names have a label.
-        let _ = self.tree.len();
+        self.tree.has_distinct_names();
         self.tree.live_tops() as usize
     }
 

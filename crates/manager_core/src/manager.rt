@@ -107,8 +107,8 @@ impl<S: TopStore> Manager<S> {
         ensures sound { IfOk result (λ m. IsSound S.TopStore m) }
     {
         let table = table_of(alloc, &rows)?;
-        // By this its rows are known to be in order, and so to be these.
-        let _ = table.len();
+        // So they are these.
+        table.has_rising_rows();
         let log = Log::new(alloc, rows, &table)?;
         let opened = store.faults();
         Ok(Manager {
@@ -292,8 +292,7 @@ impl<S: TopStore> Manager<S> {
     {
         self.log.reserve(1)?;
         self.tables.reserve_aborts(1)?;
-        // Called for its postcondition: that a name has a label.
-        let _ = name.depth();
+        name.has_labels();
         let outcome = Outcome::of(self.tables.abort(name));
         self.log.add(by, Event::Abort(*name), &outcome);
         Ok(outcome)

@@ -6,10 +6,10 @@ ghost use Rattle.txn_names.specs.Path.{label_eq};
 ghost use Rattle.txn_cells.specs.Cells.{IsTowards, handed_up, is_under, merged, with_childs, with_place};
 ghost use Rattle.txn_cells.specs.Kept.{cells_in, content, content_at, has_cell_at, has_place, is_holder, is_marked, keys_in, stands};
 
+use crate::by_txn::CellsByTxn;
 use crate::cells::Cells;
 use crate::index::KeyIndex;
 use crate::inherit::Inherit;
-use crate::by_txn::CellsByTxn;
 use serial_spec::NoMemory;
 use std::alloc::Global;
 use std::marker::Model;

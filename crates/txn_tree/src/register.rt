@@ -62,8 +62,8 @@ impl Register {
         ensures status { result ≡ status_in self.now name.now }
         ensures name { IsName name.now }
     {
-        // Called for its postcondition: a name has a label, so it is not the root's.
-        let _ = name.depth();
+        // So it is not the root's.
+        name.has_labels();
         match self.states.get(name) {
             Some(status) => *status,
             None => Status::Absent,
@@ -77,8 +77,7 @@ impl Register {
         ensures begun { is_some result ≡ not (is_absent_in self.now name.now) }
         ensures rootless { IsRootless self.now }
     {
-        // Called for its postcondition: a name has a label.
-        let _ = name.depth();
+        name.has_labels();
         let place = self.states.get_index_of(name)?;
         Some(TxnNo::new(place as u32))
     }

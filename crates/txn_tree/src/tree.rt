@@ -165,6 +165,14 @@ impl Tree {
         self.register.is_empty()
     }
 
+    /// Those that have begun have names, each its own, and are at most `MOST_TRANSACTIONS`. The call does nothing: it tells
+    /// the prover so.
+    pub fn has_distinct_names(&self)
+        ensures { IsTree self.now }
+    {
+        self.register.is_tree();
+    }
+
     /// What became of the transaction by its own begin, commit and abort.
     pub fn status(&self, name: &Name) -> Status
         ensures status { result ≡ status_in self.now name.now }
@@ -202,8 +210,7 @@ impl Tree {
         ensures { result ≡ live_children_of self.now name.now }
     {
         let _ = &self.nodes;
-        // Called for its postcondition: a name has a label.
-        let _ = name.depth();
+        name.has_labels();
         match self.no_of(name) {
             Some(txn) => self.live_children_at(txn),
             None => 0,

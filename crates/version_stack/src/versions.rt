@@ -48,14 +48,13 @@ fn put_at(base: &mut PlainTable, written: &CellTable<Version>, txn: TxnNo, keys:
     ensures put { (q : List ℕ) → value_in base.new.rows q ≡ with_keys (left_at written.now txn) keys.now (value_in base.old.rows) q }
     ensures rising { IsRising base.old.rows × IsRising base.new.rows }
 {
-    // Called for its postcondition, here and below: that the rows rise.
-    let _ = base.len();
+    base.has_rising_rows();
     for key in keys {
         if let Some(version) = written.get(txn, key) {
             put_left(base, key, version);
         }
     }
-    let _ = base.len();
+    base.has_rising_rows();
 }
 
 impl Versions {

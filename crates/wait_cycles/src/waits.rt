@@ -85,6 +85,13 @@ impl Waits {
         Ok(())
     }
 
+    /// Each transaction waits once at most. The call does nothing: it tells the prover so.
+    pub fn has_each_once(&self)
+        ensures { AreOnce self.now }
+    {
+        let _ = &self.records;
+    }
+
     /// How many wait. Each wait stands at one place, from 0 to below this number.
     pub fn len(&self) -> usize
         ensures len { result ≡ length self.now.waits }

@@ -15,7 +15,7 @@ pub invariant_of-self-2 : goal.invariant_of-self-2
 invariant_of-self-2 g c =
     let m = c.self.inside in
     let name = c.args.name.now in
-    let some : 0 < length name = omega (arith, c.depth.ensures.name.some) in
+    let some : 0 < length name = omega (arith, c.has_labels.ensures.some) in
     let roomy = settled_roomy g.S.TopStore m.log.rows m.log.entries m.tables m.opened m.store c.self.invariant c.reserve_aborts.new.self c.reserve_aborts.ensures.same in
     let free = rw (← c.self.view_is) at c.requires.free in
     rw (c.add.ensures.rows, c.add.ensures.entries, c.of-outcome.ensures, c.reserve.ensures.rows, c.reserve.ensures.entries)
@@ -26,7 +26,7 @@ pub returns-clause-ok : goal.returns-clause-ok
 returns-clause-ok g c =
     let m = c.self.inside in
     let name = c.args.name.now in
-    let some : 0 < length name = omega (arith, c.depth.ensures.name.some) in
+    let some : 0 < length name = omega (arith, c.has_labels.ensures.some) in
     let roomy = settled_roomy g.S.TopStore m.log.rows m.log.entries m.tables m.opened m.store c.self.invariant c.reserve_aborts.new.self c.reserve_aborts.ensures.same in
     let found = abort_cause g.S.TopStore m.log.rows m.log.entries c.reserve_aborts.new.self m.tables m.opened m.store roomy.kept c.args.by name _ some c.abort.ensures.cause in
     rw (← c.self.view_is, c.add.ensures.rows, c.add.ensures.entries, c.of-outcome.ensures, c.reserve.ensures.rows, c.reserve.ensures.entries, c.abort.ensures.table, c.reserve_aborts.ensures.same.estate.rows) record {

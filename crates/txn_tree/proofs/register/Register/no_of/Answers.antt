@@ -9,7 +9,7 @@ pub returns-in_err-place-clause-begun : goal.returns-in_err-place-clause-begun
 returns-in_err-place-clause-begun c =
     let states = c.self.inside.states.entries in
     let none : is_some (lookup (path_eq c.args.name.now) states) ≡ false = sym c.get_index_of.ensures.found ∙ ap is_some c.in_err-place.was in
-    rw (c.from_residual.ensures, sym c.self.view_is) (sym none ∙ is_begun states c.self.invariant c.args.name.now c.depth.ensures.name)
+    rw (c.from_residual.ensures, sym c.self.view_is) (sym none ∙ is_begun states c.self.invariant c.args.name.now c.has_labels.ensures)
 
 pub returns-in_err-place-clause-rootless : goal.returns-in_err-place-clause-rootless
 returns-in_err-place-clause-rootless c = rw (sym c.self.view_is) (no_root c.self.inside.states.entries c.self.invariant)
@@ -24,7 +24,7 @@ pub returns-clause-begun : goal.returns-clause-begun
 returns-clause-begun c =
     let states = c.self.inside.states.entries in
     let some : is_some (lookup (path_eq c.args.name.now) states) ≡ true = sym c.get_index_of.ensures.found ∙ ap is_some c.in_ok-place.was in
-    rw (sym c.self.view_is) (sym some ∙ is_begun states c.self.invariant c.args.name.now c.depth.ensures.name)
+    rw (sym c.self.view_is) (sym some ∙ is_begun states c.self.invariant c.args.name.now c.has_labels.ensures)
 
 pub returns-clause-rootless : goal.returns-clause-rootless
 returns-clause-rootless c = rw (sym c.self.view_is) (no_root c.self.inside.states.entries c.self.invariant)

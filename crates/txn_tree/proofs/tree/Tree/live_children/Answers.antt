@@ -17,5 +17,5 @@ returns-in-None c =
     let t = c.args.name.now in
     let absent : not (is_absent_in c.args.self.now t) ≡ false = sym c.no_of.ensures.begun ∙ ap is_some c.in-None.is in
     rw (sym c.self.view_is)
-    (nobody_below c.self.inside.register c.self.inside.nodes.items c.self.inside.tops c.self.invariant.0 c.self.invariant.1 t c.depth.ensures.name
+    (nobody_below c.self.inside.register c.self.inside.nodes.items c.self.inside.tops c.self.invariant.0 c.self.invariant.1 t c.has_labels.ensures
     (subst (λ (s : States). not (is_absent_in s t) ≡ false) (sym c.self.view_is) absent))
