@@ -18,7 +18,9 @@ fn is_in_branch(tree: &Tree, txn: TxnNo, blocker: TxnNo, other: TxnNo) -> bool
         tree.name_of(other),
     ) {
         (Some(name), Some(holder), Some(beside)) => {
-            Name::meet_depth(name, holder) < Name::meet_depth(beside, holder)
+            // Most share no label with the holder, so that this one comparison decides.
+            let shared = Name::meet_depth(beside, holder);
+            shared > 0 && Name::meet_depth(name, holder) < shared
         }
         _ => false,
     }
@@ -28,8 +30,9 @@ fn is_in_branch(tree: &Tree, txn: TxnNo, blocker: TxnNo, other: TxnNo) -> bool
 fn is_held_up(tree: &Tree, locks: &Locks, wait: &Wait, other: TxnNo, holder: TxnNo) -> bool
     ensures { result ≡ is_held_up tree.now locks.now wait.now other holder }
 {
-    locks.blocks(tree, holder, wait.txn, &wait.key, wait.op.kind())
-        && is_in_branch(tree, wait.txn, holder, other)
+    // Few are in the branch, and a look at the locks costs more.
+    is_in_branch(tree, wait.txn, holder, other)
+        && locks.blocks(tree, holder, wait.txn, &wait.key, wait.op.kind())
 }
 
 fn is_held_up_by_any(

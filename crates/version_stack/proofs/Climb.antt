@@ -69,6 +69,6 @@ module _ (tree : States) (is : IsTree tree) (v : Versioned) (k : List ℕ) (n : 
           let same : parent there.0 ≡ w = same_path (parent there.0) w (sym (ap (λ o. is_parent_of o (Some there.0)) at) ∙ q) in (
             (w, at),
             ap (seen_by tree v k) at
-            ∙ ap (λ (t : Path). seen_of (left_by tree v k) t (base_in v k)) (sym same)
-            ∙ sym (by_parent there.0 there.1 ∙ ap (λ o. value_or o (seen_of (left_by tree v k) (parent there.0) (base_in v k))) e),
+                ∙ ap (λ (t : Path). seen_of (left_by tree v k) t (base_in v k)) (sym same)
+                ∙ sym (by_parent there.0 there.1 ∙ ap (λ o. value_or o (seen_of (left_by tree v k) (parent there.0) (base_in v k))) e),
           )
