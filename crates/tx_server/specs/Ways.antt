@@ -4,8 +4,9 @@ use Rattle.serial_spec.specs.Interleaving.{Session}
 use Rattle.session_text.specs.Numbers.{number_of}
 use Rattle.durable_top.specs.declared.store.TopStore.{Ghosts}
 use Rattle.interleavings.specs.Told.{Told}
-use Rattle.interleavings.specs.Runs.{IsRun, HasRunCause}
-use Rattle.worker_pool.specs.Served.{IsServed, HasServeCause}
+use Rattle.interleavings.specs.Runs.{IsRun}
+use Rattle.worker_pool.specs.Served.{IsServed}
+use Rattle.worker_pool.specs.declared.workers.TheConstants.{MOST_WORKERS}
 use Rattle.tx_server.specs.declared.way.Way as chosen
 use Rattle.tx_server.specs.declared.way.Way.TheVariants as choose
 
@@ -24,20 +25,20 @@ abbrev pub way_of : chosen.Way → Way
 way_of (choose.Schedule list) = Scheduled list.items
 way_of (choose.Workers count) = ByWorkers
 
--- at least one worker, and at most 16
+-- at least one worker, and no more than there may be
 abbrev pub AreFew : ℕ → Type 0
-AreFew count = (0 < count) × (count ≤ 16)
+AreFew count = (0 < count) × (count ≤ MOST_WORKERS)
 
 abbrev pub IsServable : chosen.Way → Type 0
 IsServable (choose.Schedule list) = Unit {0}
 IsServable (choose.Workers count) = AreFew count
 
 -- how many workers a word asks for, and 4 where there is no word
-abbrev pub from_one_to_16 : Option ℤ → Option ℕ
-from_one_to_16 None = None
-from_one_to_16 (Some (pos n)) = if nat_lt 0 n && nat_le n 16 then Some n else None
-from_one_to_16 (Some (negsuc n)) = None
+abbrev pub when_few : Option ℤ → Option ℕ
+when_few None = None
+when_few (Some (pos n)) = if nat_lt 0 n && nat_le n MOST_WORKERS then Some n else None
+when_few (Some (negsuc n)) = None
 
 abbrev pub workers_of : Option (List ℕ) → Option ℕ
 workers_of None = Some 4
-workers_of (Some word) = from_one_to_16 (number_of word)
+workers_of (Some word) = when_few (number_of word)

@@ -20,13 +20,22 @@ pub enum Task<'a> {
     },
 }
 
+/// What stands behind the subcommands of `--help`.
+const NOTES: &str = "\
+Exit status: 0 if the report was printed, 1 if one line on standard error says why there is none, 2 if the words are no
+command line or ask for help.
+
+Example: tx replay examples/retry.tx
+
+'tx replay --help' and 'tx run --help' explain the options.";
+
 /// What stands behind the arguments of `replay --help`.
 const REPLAY_NOTES: &str = "\
-A session text has at most 64 sessions of at most 1,024 lines. Without --schedule the sessions run in rounds: each round
+Without --schedule the sessions run in rounds: each round
 attempts one line of every session that has lines left. A line that waits is attempted again.
 
 Exit status: 0 if the report was printed, 1 if one line on standard error says why there is none, 2 if the words are no
-command line.
+command line or ask for help.
 
 Example: tx replay examples/retry.tx --db jobs.db";
 
@@ -37,14 +46,14 @@ runs of one text may answer its lines in other orders; whatever is said of a rep
 with `replay` for one order that is always the same.
 
 Exit status: 0 if the report was printed, 1 if one line on standard error says why there is none, 2 if the words are no
-command line.
+command line or ask for help.
 
 Example: tx run examples/retry.tx --workers 8 --db jobs.db";
 
 fn file_argument<'a>(alloc: Global) -> Arg<'a> {
     Arg::new(alloc, "file")
         .value_name("FILE")
-        .help("The session text to run")
+        .help("The session text to run: at most 64 sessions of at most 1,024 lines each")
         .required(true)
         .action(ArgAction::Set)
 }
@@ -54,7 +63,7 @@ fn database_argument<'a>(alloc: Global) -> Arg<'a> {
         .long("db")
         .value_name("PATH")
         .help(
-            "The SQLite database that keeps the results, made where there is none [default: an empty table in memory]",
+            "The SQLite database that keeps the results; it is made if there is none, and may have at most 4,096 rows [default: an empty table in memory]",
         )
         .action(ArgAction::Set)
 }
@@ -82,7 +91,7 @@ fn replay_command<'a>(alloc: Global) -> Result<Command<'a>, Error> {
         .long("schedule")
         .value_name("LIST")
         .help(
-            "Session numbers, from 0, joined by commas: whose lines are attempted before the rounds [default: none]",
+            "Session numbers joined by commas, counted from 0 in order of the headers. Each attempts that session's next line, before the rounds [default: none]",
         )
         .action(ArgAction::Set);
     Ok(
@@ -103,6 +112,7 @@ fn command<'a>(alloc: Global) -> Result<Command<'a>, Error> {
             .about(
                 "Runs jobs in parts: nested transactions whose failed parts are undone alone and tried again",
             )
+            .after_help(NOTES)
             .subcommand(replay_command(alloc)?)?
             .subcommand(run_command(alloc)?)?,
     )

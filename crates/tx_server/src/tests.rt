@@ -210,6 +210,7 @@ fn program_on_a_database(rt: HostRuntime) {
     for (file, text) in [
         ("db_test/first.tx", FIRST),
         ("db_test/empty.tx", b"".as_slice()),
+        ("db_test/bad.tx", b"session s\nbegin".as_slice()),
         ("db_test/no.db", b"no database, but some text".as_slice()),
     ] {
         fs::write(&rt, file, text).expect(&rt, file);
@@ -221,9 +222,33 @@ fn program_on_a_database(rt: HostRuntime) {
     assert!(rt; run_on(&rt, &rt, first, "db_test/a.db").is_report(FIRST_REPORT));
     assert!(rt; run_on(&rt, &rt, later, "db_test/a.db").is_report(LATER_REPORT));
     assert!(rt; run_on(&rt, &rt, first, "db_test/no.db").is_fault("tx: cannot open database\n"));
-    assert!(rt;
-        run_on(&rt, &rt, "replay no.tx --db", "db_test/a.db").is_fault("tx: cannot read no.tx\n")
-    );
+    // The file is read first, then the database is opened, then come the text and the schedule.
+    for (words, path, line) in [
+        (
+            "replay no.tx --db",
+            "db_test/no.db",
+            "tx: cannot read no.tx\n",
+        ),
+        (
+            "replay db_test/bad.tx --db",
+            "db_test/no.db",
+            "tx: cannot open database\n",
+        ),
+        (
+            "replay db_test/bad.tx --schedule 7 --db",
+            "db_test/b.db",
+            "tx: line 2: end\n",
+        ),
+        (
+            "replay db_test/first.tx --schedule 0,1 --db",
+            "db_test/b.db",
+            "tx: schedule: item 2\n",
+        ),
+    ] {
+        assert!(rt; run_on(&rt, &rt, words, path).is_fault(line), "{line}");
+    }
+    // What was not run stored nothing.
+    assert!(rt; run_on(&rt, &rt, later, "db_test/b.db").is_report(EMPTY_REPORT));
     fs::remove_dir_all(&rt, "db_test").expect(&rt, "folder");
 }
 

@@ -4,12 +4,10 @@ ghost use Rattle.std.specs.Option.{option_copied};
 ghost use Rattle.tx_server.specs.Ways.{AreFew, workers_of};
 
 use session_text::parse_number;
+use worker_pool::MOST_WORKERS;
 
 /// How many workers there are where none are named.
 const WORKERS: u32 = 4;
-
-/// The greatest number of workers.
-const MOST_WORKERS: u32 = 16;
 
 /// In which order the lines of sessions are attempted.
 #[derive(Drop)]

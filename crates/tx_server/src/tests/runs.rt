@@ -1,4 +1,6 @@
-//! Runs of one session: each report is the one that is due to the texts of its own entries.
+//! Runs of one session: each report is the one that is due to the texts of its own entries, its committed transactions are a
+//! serial run, and that run leaves its table.
+use crate::tests::sessions::is_judged;
 use crate::tests::{empty, replayed};
 use durable_top::{MemStore, Row};
 use std::alloc::Global;
@@ -250,5 +252,8 @@ fn reports_of_their_own_texts(rt: HostRuntime) {
         BOUNDS,
     ] {
         assert!(rt; is_run_again(&rt, rt.alloc(), report), "{report}");
+        let text = text_of(&rt, rt.alloc(), report);
+        let store = store_of(&rt, rt.alloc(), report);
+        assert!(rt; is_judged(&rt, rt.alloc(), &text, None, store), "{report}");
     }
 }

@@ -290,7 +290,7 @@ fn is_printed<S: TopStore>(
 }
 
 // Whether the report of that run is one of a serial run, judged apart from the proofs.
-fn is_judged<S: TopStore>(
+pub fn is_judged<S: TopStore>(
     rt: &impl Abort,
     alloc: Global,
     text: &str,

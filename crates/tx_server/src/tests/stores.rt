@@ -3,6 +3,7 @@ ghost use Rattle.std.specs.Prelude.{None};
 
 use crate::replay::replay_text;
 use crate::tests::runs::{UNDONE_WITH_PARENT, text_of};
+use crate::tests::sessions::is_judged;
 use crate::tests::{FIRST, replayed};
 use durable_top::{MemStore, Row, StoreFault, TopStore};
 use sql_store::SqlStore;
@@ -152,6 +153,15 @@ fn databases_with_rows(rt: HostRuntime) {
         let store = database(&rt, rt.alloc(), value);
         assert!(rt; is_run_over(&rt, rt.alloc(), store, report), "{report}");
     }
+}
+
+// What a database's report says is a serial run.
+#[test]
+fn rows_are_judged(rt: HostRuntime) {
+    let key = Key::parse(b"x").expect(&rt, "key");
+    let store = MemStore::new(rt.alloc(), &[Row { key, value: 1 }]).expect(&rt, "memory");
+    let text = text_of(&rt, rt.alloc(), REMOVED_AGAIN);
+    assert!(rt; is_judged(&rt, rt.alloc(), &text, None, store));
 }
 
 // Whether the second text's report opens with the rows that the first text left in the store.
