@@ -2,12 +2,13 @@
 ghost use Rattle.std.specs.Prelude.{◌≡◌, ◌↔◌, length, replicate, IfErr, IfOk, IsTrue, OnErr, OnOk};
 ghost use Rattle.serial_spec.specs.Interleaving.{AllAnswered};
 ghost use Rattle.txn_history.specs.Turns.{IsUnderWay};
+ghost use Rattle.durable_top.specs.Store.{plain};
 ghost use Rattle.manager_core.specs.Opening.{HasCause};
 ghost use Rattle.interleavings.specs.Turning.{IsClosed, IsFirstOpen, IsStart, Stepped, TellsStuck, Unstuck, can_go_on, next_number};
 
 use crate::attempt::attempt;
 use crate::report::{Report, labels_of, report_of};
-use durable_top::TopStore;
+use durable_top::{Row, TopStore};
 use manager_core::{Manager, OpenFault, Outcome};
 use serial_spec::{By, NoMemory};
 use session_text::Sessions;
@@ -100,6 +101,13 @@ impl<'a, S: TopStore> Turns<'a, S> {
             }
         }
         None
+    }
+
+    /// The opening rows, in byte order.
+    pub fn opening(&self) -> &[Row]
+        ensures { plain result.now ≡ self.now.core.rows }
+    {
+        self.manager.opening()
     }
 
     /// Whether every line is answered.

@@ -2,12 +2,13 @@
 ghost use Rattle.std.specs.Prelude.{◌≡◌, ◌<◌, ◌≤◌, ◌↔◌, IfErr, IfOk, IfSome, IsTrue, OnErr, OnOk};
 ghost use Rattle.serial_spec.specs.Interleaving.{AllAnswered};
 ghost use Rattle.txn_history.specs.Turns.{IsUnderWay};
+ghost use Rattle.durable_top.specs.Store.{plain};
 ghost use Rattle.manager_core.specs.Opening.{HasCause};
 ghost use Rattle.interleavings.specs.Turning.{IsClosed, IsStart, Unstuck, next_number};
 ghost use Rattle.shared_book.specs.Attempting.{Attempted, IsNext};
 
 use crate::same::{same_sessions, same_text};
-use durable_top::TopStore;
+use durable_top::{Row, TopStore};
 use interleavings::{Report, Turn, Turns};
 use manager_core::OpenFault;
 use serial_spec::NoMemory;
@@ -62,6 +63,13 @@ impl<'a, S: TopStore> Book<'a, S> {
         // What is known of a text comes with its length: here that it is short.
         let _count = self.sessions.len();
         self.turns.next_line(session)
+    }
+
+    /// The opening rows, in byte order.
+    pub fn opening(&self) -> &[Row]
+        ensures { plain result.now ≡ self.now.core.rows }
+    {
+        self.turns.opening()
     }
 
     /// Whether every line is answered.
