@@ -31,10 +31,8 @@ pub trait Gate {
 /// The most workers of a run.
 pub const MOST_WORKERS: u32 = 16;
 
-/// Behind how many lines in a row that it finds parked a worker only yields.
-const PATIENCE: u32 = 4;
-
-/// For how long it sleeps behind each further one, in microseconds.
+/// For how long a worker sleeps behind a parked line, once it has found as many parked in a row as there are sessions, in
+/// microseconds.
 const REST: u64 = 50;
 
 // Tries a line under the lock.
@@ -93,14 +91,14 @@ fn next_job(session: u32, tried: &Tried) -> Option<Job>
     }
 }
 
-// Rests behind a line that is parked: it yields behind the first few in a row, and sleeps behind each further one. Answers
-// how many they are by now, as far as that is asked. Meanwhile nobody has the line's job, and the other workers wait for
-// theirs.
-fn rest<R: Clock>(rt: &R, parked: u32, tried: &Tried) -> u32 {
+// Rests behind a line that is parked: it yields as long as fewer in a row were parked than there are sessions, so that each
+// may have been tried, and then it sleeps. Answers how many they are by now, as far as that is asked. Meanwhile nobody
+// has the line's job, and the other workers wait for theirs.
+fn rest<R: Clock>(rt: &R, parked: u32, sessions: u32, tried: &Tried) -> u32 {
     if tried.turn == Turn::Answered || tried.given_up.is_some() {
         return 0;
     }
-    if parked < PATIENCE {
+    if parked < sessions {
         thread::yield_now();
         return parked + 1;
     }
@@ -124,7 +122,7 @@ fn follow<R: Wait + Clock, S: TopStore, J: Opening, G: Gate>(
     };
     match turn(rt, sessions, desk, gate, session, line) {
         Ok(Some(tried)) => {
-            *parked = rest(rt, *parked, &tried);
+            *parked = rest(rt, *parked, count_of(sessions), &tried);
             next_job(session, &tried)
         }
         Ok(None) => None,
