@@ -28,7 +28,7 @@ module _ (tree : States) (locks : Table) (w : Wait) (u : ℕ) where
       false≢true (subst (λ (m : Modes). conflicts (whole m) (kind w.op) ≡ true) is apart.1)
 
   -- who holds somebody up has begun
-  holder_begun : (b : ℕ) → is_held_up tree locks w u b ≡ true → b < length (names tree)
+  pub holder_begun : (b : ℕ) → is_held_up tree locks w u b ≡ true → b < length (names tree)
   holder_begun b e = by (slice_get (names tree) b) refl (and_parts (has_number tree b) _ (and_parts (is_blocker_in tree locks w.txn w.key (kind w.op) b) (is_in_branch tree w.txn b u) e).0).0
     where
       by : (o : Option (List (List ℕ))) → slice_get (names tree) b ≡ o → is_some o ≡ true → b < length (names tree)

@@ -28,6 +28,7 @@ pub mod KeptOut
 pub mod Lines
 pub mod Branches
 pub mod HeldUp
+pub mod Alone
 pub mod Pairing
 pub mod Suspects
 pub mod Victims

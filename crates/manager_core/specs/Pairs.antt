@@ -1,10 +1,10 @@
 -- Which of those that wait wait for which, by the numbers of transactions.
-use Rattle.std.specs.Prelude.{ℕ, Bool, false, nat_eq, nat_lt, not, ◌&&◌, List, [], ◌∷◌, ◌++◌, map, filter, slice_get, Option, Some}
+use Rattle.std.specs.Prelude.{◌≡◌, ℕ, Bool, false, IsTrue, nat_eq, nat_lt, not, ◌&&◌, List, [], ◌∷◌, ◌++◌, map, filter, slice_get, Option, Some}
 use Rattle.std.specs.List.{list_any}
 use Rattle.txn_names.specs.Path.{Path, label_eq, meet}
 use Rattle.txn_tree.specs.States.{States, names}
 use Rattle.lock_table.specs.Locked.{Table}
-use Rattle.lock_table.specs.Blocking.{is_blocker_in, numbers}
+use Rattle.lock_table.specs.Blocking.{is_blocker_in, is_under, numbers}
 use Rattle.serial_spec.specs.Operations.{kind}
 use Rattle.wait_cycles.specs.Cycles.{Pairs}
 use Rattle.wait_cycles.specs.declared.waits.Wait.{Wait}
@@ -20,6 +20,12 @@ is_in_branch tree t b u = is_beside (slice_get (names tree) t) (slice_get (names
 -- whether b keeps this access from being answered, and u is in its branch
 abbrev pub is_held_up : States → Table → Wait → ℕ → ℕ → Bool
 is_held_up tree locks w u b = is_blocker_in tree locks w.txn w.key (kind w.op) b && is_in_branch tree w.txn b u
+
+-- u is top-level, and nobody else is below it
+pub record IsAlone (tree : States) (u : ℕ) : Type 0 where
+  pub label : List ℕ
+  pub named : slice_get (names tree) u ≡ Some (label ∷ [])
+  pub alone : (v : ℕ) → IsTrue (is_under tree u v) → u ≡ v
 
 -- whether somebody keeps this access from being answered, and u is in its branch
 abbrev pub waits_for_in : States → Table → Wait → ℕ → Bool

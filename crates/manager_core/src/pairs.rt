@@ -1,7 +1,7 @@
 //! Which of those that wait wait for which.
-ghost use Rattle.std.specs.Prelude.{◌≡◌, ◌≤◌, ◌+◌, ◌*◌, ◌++◌, length, vec_len, vec_capacity};
+ghost use Rattle.std.specs.Prelude.{◌≡◌, ◌≤◌, ◌+◌, ◌*◌, ◌++◌, length, vec_len, vec_capacity, IsTrue};
 ghost use Rattle.std.specs.List.{list_any};
-ghost use Rattle.manager_core.specs.Pairs.{is_held_up, is_in_branch, pairs_of, pairs_with, waits_for_in};
+ghost use Rattle.manager_core.specs.Pairs.{IsAlone, is_held_up, is_in_branch, pairs_of, pairs_with, waits_for_in};
 
 use lock_table::Locks;
 use txn_names::Name;
@@ -49,12 +49,29 @@ fn is_held_up_by_any(
         .any(|holder| is_held_up(tree, locks, wait, other, *holder))
 }
 
+// Whether the transaction is top-level and has no descendants. Then it is in nobody's branch but its own.
+fn is_alone(tree: &Tree, txn: TxnNo) -> bool
+    ensures { IsTrue result → IsAlone tree.now txn }
+{
+    let Some(name) = tree.name_of(txn) else {
+        return false;
+    };
+    if name.depth() != 1 {
+        return false;
+    }
+    tree.first_child(txn).is_none()
+}
+
 /// Whether the access waits for the other: that, or one that it is in the branch of, has to end or to go on before one that
 /// keeps the access from being answered can.
 pub(crate) fn waits_for(tree: &Tree, locks: &Locks, wait: &Wait, other: TxnNo) -> bool
     ensures { result ≡ waits_for_in tree.now locks.now wait.now other }
 {
-    is_held_up_by_any(tree, locks, wait, other, locks.holders(&wait.key))
+    if is_alone(tree, other) {
+        is_held_up(tree, locks, wait, other, other)
+    } else {
+        is_held_up_by_any(tree, locks, wait, other, locks.holders(&wait.key))
+    }
 }
 
 // Adds the pairs of this one that waits.
