@@ -6,7 +6,7 @@ use Rattle.std.proofs.lemmas.List.{append-nil, append_assoc, map-append}
 use Rattle.std.proofs.lemmas.List.Elements.{filter-append}
 use Rattle.std.proofs.lemmas.Option.{slice_get_within}
 use Rattle.std.specs.List.{list_any}
-use Rattle.std.proofs.lemmas.Bool.{and_parts, false≢true}
+use Rattle.std.proofs.lemmas.Bool.{and_parts, false≢true, false_from_ne_true}
 use Rattle.txn_tree.specs.States.{States, names}
 use Rattle.lock_table.specs.declared.modes.Modes.{Modes}
 use Rattle.lock_table.specs.Locked.{Table, modes_in, whole, free}
@@ -26,6 +26,11 @@ module _ (tree : States) (locks : Table) (w : Wait) (u : ℕ) where
       let begun = and_parts (has_number tree b) (not (is_under tree b w.txn) && conflicts (whole (modes_in locks b w.key)) (kind w.op)) blocks in
       let apart = and_parts (not (is_under tree b w.txn)) (conflicts (whole (modes_in locks b w.key)) (kind w.op)) begun.1 in
       false≢true (subst (λ (m : Modes). conflicts (whole m) (kind w.op) ≡ true) is apart.1)
+
+  -- so does whoever is not among those who may lock the key
+  pub left_out_holds_nobody : (holders : List ℕ) → ((v : ℕ) → IsFalse (list_any (nat_eq v) holders) → modes_in locks v w.key ≡ free)
+      → list_any (nat_eq u) holders ≡ false → is_held_up tree locks w u u ≡ false
+  left_out_holds_nobody holders out none = false_from_ne_true _ (λ e. free_holds_nobody u e (out u none))
 
   -- who holds somebody up has begun
   pub holder_begun : (b : ℕ) → is_held_up tree locks w u b ≡ true → b < length (names tree)

@@ -2,7 +2,7 @@
 use Rattle.std.proofs.Common.{◌≡◌, ℕ, zero, suc, ◌+◌, nat_eq, Bool, true, false, not, ◌&&◌, List, [], ◌∷◌, take, Option, Some, None, unwrap_or, refl, sym, ap, ◌∙◌, arith}
 use Rattle.std.specs.Prelude.{slice_get}
 use Rattle.std.specs.List.{list_any}
-use Rattle.std.proofs.lemmas.Bool.{and_from, and_parts, eqb-true, false≢true, false_from_ne_true, ltb-true, not_from_false, or_left, or_right}
+use Rattle.std.proofs.lemmas.Bool.{and_from, and_parts, eqb-true, false≢true, false_from_ne_true, ltb-true, not-true, not_from_false, or_left, or_right}
 use Rattle.std.proofs.lemmas.Option.{none-some}
 use Rattle.txn_names.specs.Path.{Path, is_front, label_eq, meet}
 use Rattle.txn_names.proofs.Names.{label_eq_self, path_eq_self}
@@ -26,8 +26,8 @@ use Rattle.serial_spec.specs.History.{Name, History, is_active}
 use Rattle.serial_spec.specs.Locks.{conflicts, foot, is_blocker}
 use Rattle.serial_spec.specs.Rows.{Rows}
 use Rattle.serial_spec.specs.Legal.{AreAllowed}
-use Rattle.serial_spec.specs.Waits.{wait_of as wait_by, waits_by, waits_for}
-use Rattle.txn_history.proofs.Theorems.{access_adds_at_key, quiet_stays, wait_adds_own}
+use Rattle.serial_spec.specs.Waits.{branch_of, wait_of as wait_by, waits_by, waits_for}
+use Rattle.txn_history.proofs.Theorems.{access_adds_at_key, quiet_stays, unawaited_adds_none, wait_adds_own}
 use Rattle.wait_cycles.specs.Waiting.{AreOnce, wait_of}
 use Rattle.wait_cycles.specs.declared.waits.Wait.{Wait}
 use Rattle.manager_core.specs.declared.outcome.Outcome.{Outcome}
@@ -35,10 +35,11 @@ use Rattle.manager_core.specs.declared.outcome.Outcome.TheVariants as made
 use Rattle.manager_core.specs.Outcomes.{answer_of}
 use Rattle.manager_core.specs.Kept.{AreTablesOf}
 use Rattle.manager_core.specs.Lines.{access_by}
-use Rattle.manager_core.specs.Pairs.{is_beside, is_held_up, is_in_branch, is_kept_out_at, passes, waits_for_in, waits_for_other}
+use Rattle.manager_core.specs.Pairs.{is_beside, is_held_up, is_beside_it, is_in_branch, passes, waits_by_way_of, waits_for_in, waits_for_other, waits_for_this}
 use Rattle.manager_core.specs.State.{entry}
 use Rattle.manager_core.specs.Tables.{Tabled}
 use Rattle.manager_core.specs.Victims.{StaysQuiet}
+use Rattle.manager_core.proofs.Branches.{in_branch}
 use Rattle.manager_core.proofs.Lasting.{is_open}
 use Rattle.manager_core.proofs.Locks.{blocker_as, name_at, present}
 use Rattle.manager_core.proofs.Named.{any_got, any_next}
@@ -127,20 +128,47 @@ module _ (rows : Rows) (h : History) (tables : Tabled) (are : AreTablesOf rows h
       by (Some x) None is_o is_p f g = false≢true f
       by (Some x) (Some y) is_o is_p f g = found x y is_o is_p g
 
-  -- where it keeps nobody out who waits at a key by numbers, it keeps nobody out there by names
+  -- where by numbers nobody who waits waits for it, by names nobody does
+  nobody_waits_for : (t : Name) (n : ℕ) → slice_get (names tables.tree) n ≡ Some t
+      → list_any (waits_for_this tables.tree tables.estate.locks n) tables.waits.waits ≡ false → (u : Name) → waits_for h u t ≡ false
+  nobody_waits_for t n at none u = false_from_ne_true _ (λ f. by (wait_by h u) (wait_by h t) refl refl f f)
+    where
+      found : (x y : Entry) → wait_by h u ≡ Some x → wait_by h t ≡ Some y → waits_for h u t ≡ true → ⊥
+      found x y is_x is_y f =
+          let one = at_place u x is_x in
+          let for : waits_for_in tables.tree tables.estate.locks one.wait n ≡ true = as_named rows h tables are one.wait n u t x y one.name at is_x is_y one.event ∙ f in
+          false≢true (sym none ∙ any_got (waits_for_this tables.tree tables.estate.locks n) tables.waits.waits one.place one.wait one.stands for)
+
+      by : (o p : Option Entry) → wait_by h u ≡ o → wait_by h t ≡ p → waits_by h u t o p ≡ true → waits_for h u t ≡ true → ⊥
+      by None p is_o is_p f g = false≢true f
+      by (Some x) None is_o is_p f g = false≢true f
+      by (Some x) (Some y) is_o is_p f g = found x y is_o is_p g
+
+  -- where by numbers nobody who waits at a key waits for another by way of t, by names nobody does
   keeps_nobody_out : (t : Name) (n : ℕ) → slice_get (names tables.tree) n ≡ Some t → (k : List ℕ)
-      → list_any (is_kept_out_at tables.tree tables.estate.locks n k) tables.waits.waits ≡ false
-      → (u : Name) (p : Op) (x : Entry) → wait_by h u ≡ Some x → x.event ≡ Access u k p → is_blocker h u k (kind p) t ≡ false
-  keeps_nobody_out t n at k none u p x waits event = false_from_ne_true _ (λ f.
+      → list_any (waits_by_way_of tables.tree tables.estate.locks tables.waits.waits n k) tables.waits.waits ≡ false
+      → (u v : Name) (p : Op) (x y : Entry) → wait_by h u ≡ Some x → x.event ≡ Access u k p → wait_by h v ≡ Some y
+      → (is_blocker h u k (kind p) t && is_front (branch_of u t) v) ≡ false
+  keeps_nobody_out t n at k none u v p x y waits event second = false_from_ne_true _ (λ both.
+      let f = and_parts (is_blocker h u k (kind p) t) (is_front (branch_of u t) v) both in
       let there = at_place u x waits in
+      let other = at_place v y second in
       let same : Access u there.wait.key there.wait.op ≡ Access u k p = sym there.event ∙ event in
       let key : there.wait.key ≡ k = ap (λ e. (unwrap_or (access_by Close e) (Close, k, p)).1) same in
       let op : there.wait.op ≡ p = ap (λ e. (unwrap_or (access_by Close e) (Close, k, p)).2) same in
       let blocks : is_blocker_in tables.tree tables.estate.locks there.wait.txn k (kind there.wait.op) n ≡ true =
       ap (λ o. is_blocker_in tables.tree tables.estate.locks there.wait.txn k (kind o) n) op
-      ∙ blocker_as rows h tables are u there.wait.txn there.name k (kind p) n t at ∙ f in
-      false≢true (sym none ∙ any_got (is_kept_out_at tables.tree tables.estate.locks n k) tables.waits.waits there.place there.wait there.stands
-      (and_from _ _ (ap (λ q. label_eq q k) key ∙ label_eq_self k) blocks)))
+      ∙ blocker_as rows h tables are u there.wait.txn there.name k (kind p) n t at ∙ f.0 in
+      let apart = and_parts (not (is_front t u)) (conflicts (foot h t k) (kind p)) (and_parts (is_active h t) (not (is_front t u) && conflicts (foot h t k) (kind p)) f.0).1 in
+      let beside : is_in_branch tables.tree there.wait.txn n other.wait.txn ≡ true =
+      ap (λ o. is_beside o (slice_get (names tables.tree) n) (slice_get (names tables.tree) other.wait.txn)) there.name
+      ∙ ap (λ o. is_beside (Some u) o (slice_get (names tables.tree) other.wait.txn)) at
+      ∙ ap (λ o. is_beside (Some u) (Some t) o) other.name
+      ∙ in_branch u t v (not-true (is_front t u) apart.0)
+      ∙ f.1 in
+      let some = any_got (is_beside_it tables.tree there.wait.txn n) tables.waits.waits other.place other.wait other.stands beside in
+      false≢true (sym none ∙ any_got (waits_by_way_of tables.tree tables.estate.locks tables.waits.waits n k) tables.waits.waits there.place there.wait there.stands
+      (and_from _ _ (ap (λ q. label_eq q k) key ∙ label_eq_self k) (and_from _ _ blocks some))))
 
 -- who does not wait by numbers waits for nobody
 waits_not : (rows : Rows) (h : History) (tables : Tabled) → AreTablesOf rows h tables → AreAllowed rows h → (t : Name) (n : ℕ) → IsNumberOf tables.tree t n
@@ -158,8 +186,9 @@ module _ (rows : Rows) (h : History) (tables : Tabled) (are : AreTablesOf rows h
   idle : is_active h t ≡ true → ⊥
   idle acts = false≢true (sym (present h tables.tree are.in_tree t acts) ∙ absent)
 
-  absent_keeps_nobody_out : (u : Name) (k : List ℕ) (x : Kind) → is_blocker h u k x t ≡ false
-  absent_keeps_nobody_out u k x = false_from_ne_true _ (λ f. idle (and_parts (is_active h t) (not (is_front t u) && conflicts (foot h t k) x) f).0)
+  absent_keeps_nobody_out : (u v : Name) (k : List ℕ) (x : Kind) → (is_blocker h u k x t && is_front (branch_of u t) v) ≡ false
+  absent_keeps_nobody_out u v k x = false_from_ne_true _ (λ f.
+      idle (and_parts (is_active h t) (not (is_front t u) && conflicts (foot h t k) x) (and_parts (is_blocker h u k x t) (is_front (branch_of u t) v) f).0).0)
 
   absent_waits_not : (u : Name) → waits_for h t u ≡ false
   absent_waits_not u = by (wait_by h t) refl
@@ -177,23 +206,40 @@ module _ (rows : Rows) (h : History) (tables : Tabled) (by : By) (t : Name) (k :
   pub quiet_if_absent : (outcome : Outcome) → is_absent_in tables.tree t ≡ true → StaysQuiet rows (entry by (Access t k op) (answer_of outcome)) h tables
   quiet_if_absent (made.Done r) absent allowed are q =
       let e : Entry = entry by (Access t k op) (Done r) in
-      access_adds_at_key rows e h allowed t k op r refl (λ u p x waits event. absent_keeps_nobody_out rows (e ∷ h) tables are t absent u k (kind p)) q
+      access_adds_at_key rows e h allowed t k op r refl (λ u v p x y waits event second. absent_keeps_nobody_out rows (e ∷ h) tables are t absent u v k (kind p)) q
   quiet_if_absent made.Waits absent allowed are q =
       let e : Entry = entry by (Access t k op) Waits in
       wait_adds_own rows e h allowed t (path_eq_self t) refl (absent_waits_not rows (e ∷ h) tables are t absent) q
   quiet_if_absent (made.Refused r) absent allowed are q = quiet_if_refused r allowed are q
 
-  pub quiet_if_nobody_is_kept_out : (r : Reply) (n : ℕ) → AreOnce tables.waits → IsNumberOf tables.tree t n
-      → list_any (is_kept_out_at tables.tree tables.estate.locks n k) tables.waits.waits ≡ false → StaysQuiet rows (entry by (Access t k op) (Done r)) h tables
-  quiet_if_nobody_is_kept_out r n once number none allowed are q =
+  pub quiet_if_it_is_in_nobodys_way : (r : Reply) (n : ℕ) → AreOnce tables.waits → IsNumberOf tables.tree t n
+      → list_any (waits_by_way_of tables.tree tables.estate.locks tables.waits.waits n k) tables.waits.waits ≡ false → StaysQuiet rows (entry by (Access t k op) (Done r)) h tables
+  quiet_if_it_is_in_nobodys_way r n once number none allowed are q =
       let e : Entry = entry by (Access t k op) (Done r) in
       access_adds_at_key rows e h allowed t k op r refl (keeps_nobody_out rows (e ∷ h) tables are allowed once t n (name_at tables.tree t n number) k none) q
 
-  pub quiet_if_it_waits_for_nobody : (n : ℕ) (w : Wait) → AreOnce tables.waits → IsNumberOf tables.tree t n → wait_of tables.waits n ≡ Some w
+  quiet_if_it_waits_for_nobody : (n : ℕ) (w : Wait) → AreOnce tables.waits → IsNumberOf tables.tree t n → wait_of tables.waits n ≡ Some w
       → list_any (waits_for_other tables.tree tables.estate.locks w) tables.waits.waits ≡ false → StaysQuiet rows (entry by (Access t k op) Waits) h tables
   quiet_if_it_waits_for_nobody n w once number kept none allowed are q =
       let e : Entry = entry by (Access t k op) Waits in
       wait_adds_own rows e h allowed t (path_eq_self t) refl (waits_for_nobody rows (e ∷ h) tables are allowed once t n w number kept none) q
+
+  quiet_if_nobody_waits_for_it : (n : ℕ) → AreOnce tables.waits → IsNumberOf tables.tree t n
+      → list_any (waits_for_this tables.tree tables.estate.locks n) tables.waits.waits ≡ false → StaysQuiet rows (entry by (Access t k op) Waits) h tables
+  quiet_if_nobody_waits_for_it n once number none allowed are q =
+      let e : Entry = entry by (Access t k op) Waits in
+      unawaited_adds_none rows e h allowed t (path_eq_self t) refl (nobody_waits_for rows (e ∷ h) tables are allowed once t n (name_at tables.tree t n number) none) q
+
+  -- it needs both for a cycle
+  pub quiet_if_not_between : (n : ℕ) (w : Wait) → AreOnce tables.waits → IsNumberOf tables.tree t n → wait_of tables.waits n ≡ Some w
+      → (list_any (waits_for_other tables.tree tables.estate.locks w) tables.waits.waits && list_any (waits_for_this tables.tree tables.estate.locks n) tables.waits.waits) ≡ false
+      → StaysQuiet rows (entry by (Access t k op) Waits) h tables
+  quiet_if_not_between n w once number kept none = go (list_any (waits_for_other tables.tree tables.estate.locks w) tables.waits.waits) refl
+    where
+      go : (b : Bool) → list_any (waits_for_other tables.tree tables.estate.locks w) tables.waits.waits ≡ b → StaysQuiet rows (entry by (Access t k op) Waits) h tables
+      go false is = quiet_if_it_waits_for_nobody n w once number kept is
+      go true is = quiet_if_nobody_waits_for_it n once number
+          (sym (ap (λ b. b && list_any (waits_for_this tables.tree tables.estate.locks n) tables.waits.waits) is) ∙ none)
 
   pub quiet_if_it_does_not_wait : (n : ℕ) → IsNumberOf tables.tree t n → wait_of tables.waits n ≡ None
       → StaysQuiet rows (entry by (Access t k op) Waits) h tables

@@ -44,9 +44,17 @@ pairs_of tree locks (w ∷ ws) others = pairs_with tree locks others w ++ pairs_
 abbrev pub waits_for_other : States → Table → Wait → Wait → Bool
 waits_for_other tree locks w v = not (nat_eq v.txn w.txn) && waits_for_in tree locks w v.txn
 
--- whether it waits at this key, and t keeps it from being answered
-abbrev pub is_kept_out_at : States → Table → ℕ → List ℕ → Wait → Bool
-is_kept_out_at tree locks t k w = label_eq w.key k && is_blocker_in tree locks w.txn k (kind w.op) t
+-- whether this access waits for u
+abbrev pub waits_for_this : States → Table → ℕ → Wait → Bool
+waits_for_this tree locks u w = waits_for_in tree locks w u
+
+-- whether it is in the branch by which b parts from t
+abbrev pub is_beside_it : States → ℕ → ℕ → Wait → Bool
+is_beside_it tree t b v = is_in_branch tree t b v.txn
+
+-- whether it waits at this key, t keeps it from being answered, and one of those that wait is in the branch of t
+abbrev pub waits_by_way_of : States → Table → List Wait → ℕ → List ℕ → Wait → Bool
+waits_by_way_of tree locks others t k w = label_eq w.key k && (is_blocker_in tree locks w.txn k (kind w.op) t && list_any (is_beside_it tree w.txn t) others)
 
 -- whether there is a wait, and it passes
 abbrev pub passes : (Wait → Bool) → Option Wait → Bool

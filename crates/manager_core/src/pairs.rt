@@ -1,15 +1,16 @@
 //! Which of those that wait wait for which.
-ghost use Rattle.std.specs.Prelude.{◌≡◌, ◌≤◌, ◌+◌, ◌*◌, ◌++◌, length, vec_len, vec_capacity, IsTrue};
+ghost use Rattle.std.specs.Prelude.{◌≡◌, ◌≤◌, ◌+◌, ◌*◌, ◌++◌, ℕ, nat_eq, length, vec_len, vec_capacity, IsFalse, IsTrue};
 ghost use Rattle.std.specs.List.{list_any};
+ghost use Rattle.lock_table.specs.Locked.{free, modes_in};
 ghost use Rattle.manager_core.specs.Pairs.{IsAlone, is_held_up, is_in_branch, pairs_of, pairs_with, waits_for_in};
 
 use lock_table::Locks;
-use txn_names::Name;
+use txn_names::{Key, Name};
 use txn_tree::{Tree, TxnNo};
 use wait_cycles::{Wait, Waits};
 
-// Whether the other is in the branch by which the blocker parts from the transaction.
-fn is_in_branch(tree: &Tree, txn: TxnNo, blocker: TxnNo, other: TxnNo) -> bool
+/// Whether the other is in the branch by which the blocker parts from the transaction.
+pub(crate) fn is_in_branch(tree: &Tree, txn: TxnNo, blocker: TxnNo, other: TxnNo) -> bool
     ensures { result ≡ is_in_branch tree.now txn blocker other }
 {
     match (
@@ -62,16 +63,58 @@ fn is_alone(tree: &Tree, txn: TxnNo) -> bool
     tree.first_child(txn).is_none()
 }
 
+// Whether a transaction keeps the access from being answered, of which the list has all that lock the key. Most are not in the
+// list, and a look at the locks costs more.
+#[tactic(auto, using(crate::proofs::HeldUp::left_out_holds_nobody))]
+fn is_held_up_by_itself(
+    tree: &Tree,
+    locks: &Locks,
+    wait: &Wait,
+    other: TxnNo,
+    holders: &[TxnNo],
+) -> bool
+    requires { (u : ℕ) → IsFalse (list_any (nat_eq u) holders.now) → modes_in locks.now u wait.now.key ≡ free }
+    ensures { result ≡ is_held_up tree.now locks.now wait.now other other }
+{
+    if holders.contains(&other) {
+        is_held_up(tree, locks, wait, other, other)
+    } else {
+        false
+    }
+}
+
+/// Those that lock the key, and maybe others.
+pub(crate) fn lockers<'a>(locks: &'a Locks, key: &Key) -> &'a [TxnNo]
+    ensures { (u : ℕ) → IsFalse (list_any (nat_eq u) result.now) → modes_in locks.now u key.now ≡ free }
+{
+    locks.holders(key)
+}
+
+/// Whether the access waits for the other, as `waits_for` tells it, where these are all that lock the wait's key: for many others
+/// they are asked for once.
+pub(crate) fn waits_for_among(
+    tree: &Tree,
+    locks: &Locks,
+    wait: &Wait,
+    other: TxnNo,
+    holders: &[TxnNo],
+) -> bool
+    requires { (u : ℕ) → IsFalse (list_any (nat_eq u) holders.now) → modes_in locks.now u wait.now.key ≡ free }
+    ensures { result ≡ waits_for_in tree.now locks.now wait.now other }
+{
+    if is_alone(tree, other) {
+        is_held_up_by_itself(tree, locks, wait, other, holders)
+    } else {
+        is_held_up_by_any(tree, locks, wait, other, holders)
+    }
+}
+
 /// Whether the access waits for the other: that, or one that it is in the branch of, has to end or to go on before one that
 /// keeps the access from being answered can.
 pub(crate) fn waits_for(tree: &Tree, locks: &Locks, wait: &Wait, other: TxnNo) -> bool
     ensures { result ≡ waits_for_in tree.now locks.now wait.now other }
 {
-    if is_alone(tree, other) {
-        is_held_up(tree, locks, wait, other, other)
-    } else {
-        is_held_up_by_any(tree, locks, wait, other, locks.holders(&wait.key))
-    }
+    waits_for_among(tree, locks, wait, other, lockers(locks, &wait.key))
 }
 
 // Adds the pairs of this one that waits.
@@ -87,9 +130,10 @@ fn add_pairs_of(
     ensures len { vec_len pairs.new ≤ vec_len pairs.old + length waits.now.waits }
     ensures capacity { vec_capacity pairs.old ≤ vec_capacity pairs.new }
 {
+    let holders = lockers(locks, &wait.key);
     for place in 0..waits.len() {
         if let Some(other) = waits.at(place) {
-            if waits_for(tree, locks, wait, other.txn) {
+            if waits_for_among(tree, locks, wait, other.txn, holders) {
                 pairs.push_reserved((wait.txn, other.txn));
             }
         }

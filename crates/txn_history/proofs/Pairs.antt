@@ -22,7 +22,7 @@ use Rattle.serial_spec.specs.Locks.{conflicts, footprint, greater, is_blocker, m
 use Rattle.serial_spec.specs.Waits.{accesses, is_waits, open_waits, wait_of, blocks_event, branch_of, waits_by, waits_for, WaitInTurn, Quiet}
 use Rattle.serial_spec.specs.Rows.{Rows}
 use Rattle.serial_spec.specs.Legal.{AreAllowed}
-use Rattle.txn_history.specs.Laws.{may_add_pair, AccessAddsAtKey, PairsStay, QuietStays, WaitAddsOwn}
+use Rattle.txn_history.specs.Laws.{may_add_pair, AccessAddsAtKey, PairsStay, QuietStays, UnawaitedAddsNone, WaitAddsOwn}
 use Rattle.txn_history.proofs.Tests.{clash}
 use Rattle.txn_history.proofs.Lists.{any-find, found_passes}
 use Rattle.txn_history.proofs.Activity.{acts, acts_after, active_acts, acts_active, begins-others, commits-fewer, aborts-fewer}
@@ -145,12 +145,14 @@ module _ (rows : Rows) (e : Entry) (h : History) (legal : AreAllowed rows (e ∷
       (λ _ _ g. cc)
       refl f
 
-  -- whoever keeps this access of t from being answered, or one on its branch, did so before
-  abbrev HasStoodInTheWay : Name → Event → Type 0
-  HasStoodInTheWay t ev = (v : Name) (k : List ℕ) (o : Op) → ev ≡ Access v k o → (b : Name) → Blocks (acts (e ∷ h)) (items (e ∷ h)) v k (kind o) b → OnBranch h v k (kind o) b
+  -- whoever keeps this access of t from being answered, and has u in its branch, did so before, or one on its branch did
+  abbrev HasStoodInTheWay : Name → Name → Event → Type 0
+  HasStoodInTheWay t u ev =
+      (v : Name) (k : List ℕ) (o : Op) → ev ≡ Access v k o → (b : Name) → is_front (branch_of t b) u ≡ true
+      → Blocks (acts (e ∷ h)) (items (e ∷ h)) v k (kind o) b → OnBranch h v k (kind o) b
 
   -- so it is blocked on the branches on which it was
-  blocked_on_branch : (t u : Name) (ev : Event) → accesses t ev ≡ true → HasStoodInTheWay t ev
+  blocked_on_branch : (t u : Name) (ev : Event) → accesses t ev ≡ true → HasStoodInTheWay t u ev
       → list_any (λ b. blocks_event (e ∷ h) ev b && is_front (branch_of t b) u) (begun (e ∷ h)) ≡ true
       → list_any (λ b. blocks_event h ev b && is_front (branch_of t b) u) (begun h) ≡ true
   blocked_on_branch t u (Begin v) a stood f = absurd (false≢true a)
@@ -158,7 +160,7 @@ module _ (rows : Rows) (e : Entry) (h : History) (legal : AreAllowed rows (e ∷
       let b = some_begun (λ b. is_blocker (e ∷ h) v k (kind o) b && is_front (branch_of t b) u) (e ∷ h) f in
       let p = and_parts (is_blocker (e ∷ h) v k (kind o) b.0) (is_front (branch_of t b.0) u) b.2 in
       let at_v : v ≡ t = same_path v t a in
-      let c : OnBranch h v k (kind o) b.0 = stood v k o refl b.0 (blocks_from (e ∷ h) v k (kind o) b.0 p.0) in
+      let c : OnBranch h v k (kind o) b.0 = stood v k o refl b.0 p.1 (blocks_from (e ∷ h) v k (kind o) b.0 p.0) in
       let branch : branch_of t b.0 ≡ branch_of t c.0 = subst (λ (w : Name). branch_of w b.0 ≡ branch_of w c.0) at_v c.2 in
       any_begun (λ b. is_blocker h v k (kind o) b && is_front (branch_of t b) u) c.0 h (begun_blocks h v k (kind o) c.0 c.1)
       (and_from _ _ (blocks_to h v k (kind o) c.0 c.1) (ap (λ (w : Name). is_front w u) (sym branch) ∙ p.1))
@@ -167,18 +169,18 @@ module _ (rows : Rows) (e : Entry) (h : History) (legal : AreAllowed rows (e ∷
   blocked_on_branch t u (After v w) a stood f = absurd (false≢true a)
 
   -- so a pair of which neither waits newly stood before, where those who keep the first from going on did
-  pair_before : (t u : Name) → waits_newly t ≡ false → waits_newly u ≡ false → ((w : Entry) → wait_of (e ∷ h) t ≡ Some w → HasStoodInTheWay t w.event)
+  pair_before : (t u : Name) → waits_newly t ≡ false → waits_newly u ≡ false → ((w z : Entry) → wait_of (e ∷ h) t ≡ Some w → wait_of (e ∷ h) u ≡ Some z → HasStoodInTheWay t u w.event)
       → (x y : Option Entry) → wait_of (e ∷ h) t ≡ x → wait_of (e ∷ h) u ≡ y → waits_by (e ∷ h) t u x y ≡ true → waits_for h t u ≡ true
   pair_before t u n m stood Nothing y f g w = absurd (false≢true w)
   pair_before t u n m stood (Some v) Nothing f g w = absurd (false≢true w)
   pair_before t u n m stood (Some v) (Some z) f g w =
       let a = waited_before t v n f in
       let b = waited_before u z m g in
-      ap (λ (o : Option Entry). waits_by h t u o (wait_of h u)) a.0 ∙ ap (waits_by h t u (Some v)) b.0 ∙ blocked_on_branch t u v.event a.1 (stood v f) w
+      ap (λ (o : Option Entry). waits_by h t u o (wait_of h u)) a.0 ∙ ap (waits_by h t u (Some v)) b.0 ∙ blocked_on_branch t u v.event a.1 (stood v z f g) w
 
   -- after an entry that answers no access all did
-  stood_unless_access : is_access (effect e) ≡ false → (t : Name) (ev : Event) → HasStoodInTheWay t ev
-  stood_unless_access none t ev v k o is b blocks = blocked_before rows h (kept rows h legal.0) (effect e) effect_sound none v k (kind o) b blocks
+  stood_unless_access : is_access (effect e) ≡ false → (t u : Name) (ev : Event) → HasStoodInTheWay t u ev
+  stood_unless_access none t u ev v k o is b beside blocks = blocked_before rows h (kept rows h legal.0) (effect e) effect_sound none v k (kind o) b blocks
 
   -- ---- an entry that may add none
 
@@ -189,7 +191,7 @@ module _ (rows : Rows) (e : Entry) (h : History) (legal : AreAllowed rows (e ∷
     -- a pair that stands stood before
     pub pair_stays : (t u : Name) → waits_for (e ∷ h) t u ≡ true → waits_for h t u ≡ true
     pair_stays t u w =
-        pair_before t u (waits_not t) (waits_not u) (λ x _. stood_unless_access (no_access e.event e.answer none) t x.event)
+        pair_before t u (waits_not t) (waits_not u) (λ x _ _ _. stood_unless_access (no_access e.event e.answer none) t u x.event)
         (wait_of (e ∷ h) t) (wait_of (e ∷ h) u) refl refl w
 
     -- so each row of waits stood before, and each cycle
@@ -198,55 +200,80 @@ module _ (rows : Rows) (e : Entry) (h : History) (legal : AreAllowed rows (e ∷
 
   -- ---- an entry by which t begins to wait
 
-  module _ (t : Name) (of_it : accesses t e.event ≡ true) (waits : is_waits e.answer ≡ true) (none : (u : Name) → waits_for (e ∷ h) t u ≡ false) where
+  module _ (t : Name) (of_it : accesses t e.event ≡ true) (waits : is_waits e.answer ≡ true) where
     -- nobody else waits newly
     others_not : (u : Name) → path_eq t u ≡ false → waits_newly u ≡ false
     others_not u other = false_from_ne_true _ (λ is. clash (ap (path_eq t) (sym (one_accessor t u e.event of_it (and_parts (is_waits e.answer) (waits_as u e) is).1)) ∙ path_eq_self t) other)
 
-    -- t is no first of a pair
-    first_is_other : (u v : Name) → waits_for (e ∷ h) u v ≡ true → path_eq t u ≡ false
-    first_is_other u v w = on_path t u (λ b. b ≡ false) (λ same. clash (ap (λ (x : Name). waits_for (e ∷ h) x v) same ∙ w) (none v)) (λ _. refl)
-
-    pair_of_others : (u v : Name) → waits_for (e ∷ h) u v ≡ true → path_eq t v ≡ false → waits_for h u v ≡ true
-    pair_of_others u v w other =
-        pair_before u v (others_not u (first_is_other u v w)) (others_not v other) (λ x _. stood_unless_access (wait_is_no_access e.event e.answer waits) u x.event)
+    -- a pair of two others stood before
+    pair_of_others : (u v : Name) → path_eq t u ≡ false → path_eq t v ≡ false → waits_for (e ∷ h) u v ≡ true → waits_for h u v ≡ true
+    pair_of_others u v first second w =
+        pair_before u v (others_not u first) (others_not v second) (λ x _ _ _. stood_unless_access (wait_is_no_access e.event e.answer waits) u v x.event)
         (wait_of (e ∷ h) u) (wait_of (e ∷ h) v) refl refl w
 
-    first_of : (u : Name) (us : List Name) (v : Name) → WaitInTurn (e ∷ h) u us v → path_eq t u ≡ false
-    first_of u [] v turn = first_is_other u v turn
-    first_of u (x ∷ xs) v turn = first_is_other u x turn.0
+    module _ (none : (u : Name) → waits_for (e ∷ h) t u ≡ false) where
+      -- t is no first of a pair
+      first_is_other : (u v : Name) → waits_for (e ∷ h) u v ≡ true → path_eq t u ≡ false
+      first_is_other u v w = on_path t u (λ b. b ≡ false) (λ same. clash (ap (λ (x : Name). waits_for (e ∷ h) x v) same ∙ w) (none v)) (λ _. refl)
 
-    -- so a row of waits that does not end at t stood before
-    turns_of_others : (u : Name) (us : List Name) (v : Name) → path_eq t v ≡ false → WaitInTurn (e ∷ h) u us v → WaitInTurn h u us v
-    turns_of_others u [] v other turn = pair_of_others u v turn other
-    turns_of_others u (x ∷ xs) v other turn = (pair_of_others u x turn.0 (first_of x xs v turn.1), turns_of_others x xs v other turn.1)
+      first_of : (u : Name) (us : List Name) (v : Name) → WaitInTurn (e ∷ h) u us v → path_eq t u ≡ false
+      first_of u [] v turn = first_is_other u v turn
+      first_of u (x ∷ xs) v turn = first_is_other u x turn.0
 
-    pub quiet_with_wait : Quiet h → Quiet (e ∷ h)
-    quiet_with_wait q u c = q u (c.0, c.1, turns_of_others u c.0 u (first_of u c.0 u c.2) c.2)
+      -- so a row of waits that does not end at t stood before
+      turns_of_others : (u : Name) (us : List Name) (v : Name) → path_eq t v ≡ false → WaitInTurn (e ∷ h) u us v → WaitInTurn h u us v
+      turns_of_others u [] v other turn = pair_of_others u v (first_is_other u v turn) other turn
+      turns_of_others u (x ∷ xs) v other turn =
+          (pair_of_others u x (first_is_other u x turn.0) (first_of x xs v turn.1) turn.0, turns_of_others x xs v other turn.1)
+
+      pub quiet_with_wait : Quiet h → Quiet (e ∷ h)
+      quiet_with_wait q u c = q u (c.0, c.1, turns_of_others u c.0 u (first_of u c.0 u c.2) c.2)
+
+    module _ (none : (u : Name) → waits_for (e ∷ h) u t ≡ false) where
+      -- t is no second of a pair
+      second_is_other : (u v : Name) → waits_for (e ∷ h) u v ≡ true → path_eq t v ≡ false
+      second_is_other u v w = on_path t v (λ b. b ≡ false) (λ same. clash (ap (λ (x : Name). waits_for (e ∷ h) u x) same ∙ w) (none u)) (λ _. refl)
+
+      last_of : (u : Name) (us : List Name) (v : Name) → WaitInTurn (e ∷ h) u us v → path_eq t v ≡ false
+      last_of u [] v turn = second_is_other u v turn
+      last_of u (x ∷ xs) v turn = last_of x xs v turn.1
+
+      -- so a row of waits that does not begin at t stood before
+      turns_from_others : (u : Name) (us : List Name) (v : Name) → path_eq t u ≡ false → WaitInTurn (e ∷ h) u us v → WaitInTurn h u us v
+      turns_from_others u [] v other turn = pair_of_others u v other (second_is_other u v turn) turn
+      turns_from_others u (x ∷ xs) v other turn =
+          let next = second_is_other u x turn.0 in
+          (pair_of_others u x other next turn.0, turns_from_others x xs v next turn.1)
+
+      pub quiet_unawaited : Quiet h → Quiet (e ∷ h)
+      quiet_unawaited q u c = q u (c.0, c.1, turns_from_others u c.0 u (last_of u c.0 u c.2) c.2)
 
   -- ---- an answered access of t at k
 
   module _ (t : Name) (k : List ℕ) (o : Op) (r : Reply) (does : effect e ≡ Accesses t k o r)
-      (none : (u : Name) (p : Op) (w : Entry) → wait_of (e ∷ h) u ≡ Some w → w.event ≡ Access u k p → is_blocker (e ∷ h) u k (kind p) t ≡ false) where
+      (none : (u v : Name) (p : Op) (w x : Entry) → wait_of (e ∷ h) u ≡ Some w → w.event ≡ Access u k p → wait_of (e ∷ h) v ≡ Some x
+      → (is_blocker (e ∷ h) u k (kind p) t && is_front (branch_of u t) v) ≡ false) where
     answered : is_waits e.answer ≡ false
     answered = done_is_no_wait e.event e.answer t k o r does
 
-    stood_beside : (u : Name) (w : Entry) → wait_of (e ∷ h) u ≡ Some w → accesses u w.event ≡ true → HasStoodInTheWay u w.event
-    stood_beside u w waits of_it v q p is b blocks =
-        let at_u : v ≡ u = same_path v u (ap (accesses u) (sym is) ∙ of_it) in
+    stood_beside : (u v : Name) (w x : Entry) → wait_of (e ∷ h) u ≡ Some w → wait_of (e ∷ h) v ≡ Some x → accesses u w.event ≡ true → HasStoodInTheWay u v w.event
+    stood_beside u v w x waits second of_it n q p is b beside blocks =
+        let at_u : n ≡ u = same_path n u (ap (accesses u) (sym is) ∙ of_it) in
         let apart : (label_eq k q && path_eq t b) ≡ false = false_from_ne_true _ (λ both.
         let parts = and_parts (label_eq k q) (path_eq t b) both in
         let key : k ≡ q = same_label k q parts.0 in
         let here : t ≡ b = same_path t b parts.1 in
-        let free = none u p w waits (is ∙ (λ i. Access (at_u i) (sym key i) p)) in
-        clash (blocks_to (e ∷ h) v q (kind p) b blocks) ((λ i. is_blocker (e ∷ h) (at_u i) (sym key i) (kind p) (sym here i)) ∙ free)) in
-        (b, before_access h t k o r v q (kind p) b apart (subst (λ y. Blocks (acts_after h y) (λ x. with_item x y (items h)) v q (kind p) b) does blocks), refl)
+        let free = none u v p w x waits (is ∙ (λ i. Access (at_u i) (sym key i) p)) second in
+        clash
+        (and_from _ _ (blocks_to (e ∷ h) n q (kind p) b blocks) beside)
+        ((λ i. is_blocker (e ∷ h) (at_u i) (sym key i) (kind p) (sym here i) && is_front (branch_of u (sym here i)) v) ∙ free)) in
+        (b, before_access h t k o r n q (kind p) b apart (subst (λ y. Blocks (acts_after h y) (λ z. with_item z y (items h)) n q (kind p) b) does blocks), refl)
 
     -- a pair that stands stood before
     pair_stays_beside : (u v : Name) → waits_for (e ∷ h) u v ≡ true → waits_for h u v ≡ true
     pair_stays_beside u v w =
         let not_newly : (x : Name) → waits_newly x ≡ false = λ x. ap (λ b. b && waits_as x e) answered in
-        pair_before u v (not_newly u) (not_newly v) (λ x waits. stood_beside u x waits (waited_before u x (not_newly u) waits).1)
+        pair_before u v (not_newly u) (not_newly v) (λ x y waits second. stood_beside u v x y waits second (waited_before u x (not_newly u) waits).1)
         (wait_of (e ∷ h) u) (wait_of (e ∷ h) v) refl refl w
 
     pub quiet_with_access : Quiet h → Quiet (e ∷ h)
@@ -263,6 +290,10 @@ quiet_stays rows e h legal none q = quiet_stays_at rows e h legal none q
 -- the same in the law's words
 pub wait_adds_own : WaitAddsOwn
 wait_adds_own rows e h legal t of_it waits none q = quiet_with_wait rows e h legal t of_it waits none q
+
+-- the same in the law's words
+pub unawaited_adds_none : UnawaitedAddsNone
+unawaited_adds_none rows e h legal t of_it waits none q = quiet_unawaited rows e h legal t of_it waits none q
 
 -- the same in the law's words
 pub access_adds_at_key : AccessAddsAtKey

@@ -1,6 +1,6 @@
 -- The laws of histories, as statements. Most ask that each entry is allowed where it stands; that no cycle of waits stood
 -- they do not ask.
-use Rattle.std.specs.Prelude.{◌≡◌, ◌≤◌, ◌⊎◌, Bool, true, false, IsTrue, IsFalse, List, [], ◌∷◌, length, ℕ, ℤ, Option, Some, is_some, if◌then◌else◌}
+use Rattle.std.specs.Prelude.{◌≡◌, ◌≤◌, ◌⊎◌, Bool, true, false, IsTrue, IsFalse, ◌&&◌, List, [], ◌∷◌, length, ℕ, ℤ, Option, Some, is_some, if◌then◌else◌}
 use Rattle.std.specs.Prelude.{None as Nothing}
 use Rattle.txn_names.specs.Path.{is_front, parent}
 use Rattle.serial_spec.specs.declared.operation.Op.{Op}
@@ -22,7 +22,7 @@ use Rattle.serial_spec.specs.Values.{seen}
 use Rattle.serial_spec.specs.Rows.{Rows, IsRising, value_in}
 use Rattle.serial_spec.specs.Allowed.{answer, most_keys}
 use Rattle.serial_spec.specs.Legal.{AreAllowed, Legal}
-use Rattle.serial_spec.specs.Waits.{accesses, is_waits, wait_of, waits_for, Quiet}
+use Rattle.serial_spec.specs.Waits.{accesses, branch_of, is_waits, wait_of, waits_for, Quiet}
 use Rattle.txn_history.specs.Apart.{Apart}
 
 -- every transaction that has begun and has no aborted ancestor, itself included, was replied what a serial run replies
@@ -177,13 +177,21 @@ WaitAddsOwn =
     → (t : Name) → IsTrue (accesses t e.event) → IsTrue (is_waits e.answer) → ((u : Name) → IsFalse (waits_for (e ∷ h) t u))
     → Quiet h → Quiet (e ∷ h)
 
--- an answered access of t at k makes no cycle where t then keeps out nobody who waits at k: each new pair is of one whom t's
--- new lock keeps out there
+-- nor does it where nobody waits for t afterwards: one pair of each new cycle has t second
+abbrev pub UnawaitedAddsNone : Type 0
+UnawaitedAddsNone =
+    (rows : Rows) (e : Entry) (h : History) → AreAllowed rows (e ∷ h)
+    → (t : Name) → IsTrue (accesses t e.event) → IsTrue (is_waits e.answer) → ((u : Name) → IsFalse (waits_for (e ∷ h) u t))
+    → Quiet h → Quiet (e ∷ h)
+
+-- an answered access of t at k makes no cycle where of those who wait there t then keeps out nobody who waits for another by
+-- it: each new pair is of one whom t's new lock keeps out there, and of one that waits in the branch of t
 abbrev pub AccessAddsAtKey : Type 0
 AccessAddsAtKey =
     (rows : Rows) (e : Entry) (h : History) → AreAllowed rows (e ∷ h)
     → (t : Name) (k : List ℕ) (o : Op) (r : Reply) → effect e ≡ Accesses t k o r
-    → ((u : Name) (p : Op) (w : Entry) → wait_of (e ∷ h) u ≡ Some w → w.event ≡ AccessOf u k p → IsFalse (is_blocker (e ∷ h) u k (kind p) t))
+    → ((u v : Name) (p : Op) (w x : Entry) → wait_of (e ∷ h) u ≡ Some w → w.event ≡ AccessOf u k p → wait_of (e ∷ h) v ≡ Some x
+    → IsFalse (is_blocker (e ∷ h) u k (kind p) t && is_front (branch_of u t) v))
     → Quiet h → Quiet (e ∷ h)
 
 -- one that waits while nobody else does closes no cycle

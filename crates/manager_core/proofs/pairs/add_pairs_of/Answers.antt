@@ -6,7 +6,7 @@ use Rattle.manager_core.specs.Pairs.{pairs_with, waits_for_in}
 use Rattle.serial_spec.proofs.Taking.{take_past}
 use Rattle.manager_core.proofs.HeldUp.{pairs_more}
 use Rattle.manager_core.proofs.pairs.add_pairs_of.Goals as goal
-use Rattle.manager_core.proofs.pairs.add_pairs_of.Goals.{in-Some+then-waits_for, in-Some+else-waits_for, in_default}
+use Rattle.manager_core.proofs.pairs.add_pairs_of.Goals.{in-Some+then-waits_for_among, in-Some+else-waits_for_among, in_default}
 
 pub loop-place-preserved : goal.loop-place-preserved
 loop-place-preserved c =
@@ -22,17 +22,17 @@ loop-place-preserved c =
     append_assoc first made (cond b ((wait.txn, v.txn) ∷ []) [])
     ∙ ap (λ xs. first ++ xs) (sym (pairs_more c.args.tree.now c.args.locks.now wait vs i v at ∙ ap (λ x. made ++ cond x ((wait.txn, v.txn) ∷ []) []) is)) in
     elim c.match-at.branch [
-      | in-Some+then-waits_for w ↦
+      | in-Some+then-waits_for_among w ↦
           rw w.pairs-is (
             w.push_reserved.ensures.items
                 ∙ ap (λ xs. xs ++ (wait.txn, w.in-Some.other.now.txn) ∷ []) inv.0
-                ∙ next w.in-Some.other.now (sym w.in-Some.ensures.wait) true (sym w.waits_for.ensures ∙ w.if-waits_for.true),
+                ∙ next w.in-Some.other.now (sym w.in-Some.ensures.wait) true (sym w.waits_for_among.ensures ∙ w.if-waits_for_among.true),
             omega (arith, inv.1, w.push_reserved.ensures.len),
             omega (arith, inv.2, w.push_reserved.ensures.capacity),
           )
-      | in-Some+else-waits_for w ↦
+      | in-Some+else-waits_for_among w ↦
           rw w.pairs-is (
-            inv.0 ∙ sym (append-nil _) ∙ next w.in-Some.other.now (sym w.in-Some.ensures.wait) false (sym w.waits_for.ensures ∙ w.if-waits_for.false),
+            inv.0 ∙ sym (append-nil _) ∙ next w.in-Some.other.now (sym w.in-Some.ensures.wait) false (sym w.waits_for_among.ensures ∙ w.if-waits_for_among.false),
             omega (arith, inv.1),
             inv.2,
           )

@@ -1,7 +1,7 @@
 use Rattle.std.proofs.Common.{sym, ◌∙◌}
 use Rattle.std.proofs.lemmas.Bool.{not-false}
 use Rattle.manager_core.specs.Tables.{Tabled}
-use Rattle.manager_core.proofs.Suspects.{quiet_if_absent, quiet_if_it_does_not_wait, quiet_if_it_waits_for_nobody, quiet_if_nobody_is_kept_out, quiet_if_refused}
+use Rattle.manager_core.proofs.Suspects.{quiet_if_absent, quiet_if_it_does_not_wait, quiet_if_it_is_in_nobodys_way, quiet_if_not_between, quiet_if_refused}
 use Rattle.manager_core.proofs.settling.may_close_cycle.Goals as goal
 
 pub returns-in_default : goal.returns-in_default
@@ -13,18 +13,18 @@ returns-in_default c =
 pub returns-in-Done : goal.returns-in-Done
 returns-in-Done c =
     let m : Tabled = record { tree = c.tables.inside.tree; marks = c.tables.inside.marks; estate = c.tables.inside.estate; waits = c.tables.inside.waits } in
-    let told = rw c.locks-locks.ensures at c.keeps_any_out.ensures.result in
+    let told = rw c.locks-locks.ensures at c.is_way_of_any.ensures.result in
     rw (← c.tables.view_is, c.in-Done.is)
     (λ none rows h by op.
-    quiet_if_nobody_is_kept_out rows h m by c.args.name.now c.args.key.now op c.in-Done.field-0 c.in-Some.txn c.keeps_any_out.ensures.once c.in-Some.ensures.number (sym told ∙ none))
+    quiet_if_it_is_in_nobodys_way rows h m by c.args.name.now c.args.key.now op c.in-Done.field-0 c.in-Some.txn c.is_way_of_any.ensures.once c.in-Some.ensures.number (sym told ∙ none))
 
 pub returns-in-Some-of : goal.returns-in-Some-of
 returns-in-Some-of c =
     let m : Tabled = record { tree = c.tables.inside.tree; marks = c.tables.inside.marks; estate = c.tables.inside.estate; waits = c.tables.inside.waits } in
-    let told = rw c.locks-locks.ensures at c.waits_for_any.ensures.result in
+    let told = rw c.locks-locks.ensures at c.is_between.ensures.result in
     rw (← c.tables.view_is, c.in-Waits.is)
     (λ none rows h by op.
-    quiet_if_it_waits_for_nobody rows h m by c.args.name.now c.args.key.now op c.in-Some.txn c.in-Some-of.wait.now c.waits_for_any.ensures.once c.in-Some.ensures.number
+    quiet_if_not_between rows h m by c.args.name.now c.args.key.now op c.in-Some.txn c.in-Some-of.wait.now c.is_between.ensures.once c.in-Some.ensures.number
     (sym c.in-Some-of.ensures) (sym told ∙ none))
 
 pub returns-in-None : goal.returns-in-None

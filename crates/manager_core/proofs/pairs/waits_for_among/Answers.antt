@@ -1,15 +1,14 @@
-use Rattle.std.proofs.Common.{sym, ◌∙◌}
+use Rattle.std.proofs.Common.{◌∙◌}
 use Rattle.manager_core.proofs.Alone.{alone_waited_for}
 use Rattle.manager_core.proofs.HeldUp.{found_among}
-use Rattle.manager_core.proofs.pairs.waits_for.Goals as goal
+use Rattle.manager_core.proofs.pairs.waits_for_among.Goals as goal
 
 pub returns-then-is_alone : goal.returns-then-is_alone
 returns-then-is_alone c =
-    c.is_held_up.ensures
+    c.is_held_up_by_itself.ensures
     ∙ alone_waited_for c.args.tree.now c.args.locks.now c.args.wait.now c.args.other (c.is_alone.ensures c.if-is_alone.true)
 
 pub returns-else-is_alone : goal.returns-else-is_alone
 returns-else-is_alone c =
     c.is_held_up_by_any.ensures
-    ∙ found_among c.args.tree.now c.args.locks.now c.args.wait.now c.args.other c.holders.result.now
-    (λ u out. c.holders.ensures.elsewhere u (sym (c.holders.ensures.each u) ∙ out))
+    ∙ found_among c.args.tree.now c.args.locks.now c.args.wait.now c.args.other c.args.holders.now c.requires
