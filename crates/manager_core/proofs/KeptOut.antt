@@ -1,13 +1,13 @@
 -- What keeps a line from its answer, by the tables and by the history.
 use Rattle.std.proofs.Common.{◌≡◌, ℕ, ◌<◌, Bool, true, false, not, cond, ◌&&◌, ◌||◌, List, length, Option, Some, None, option_map, is_some, refl, sym, ap, subst, ◌∙◌}
 use Rattle.std.specs.Prelude.{IsTrue, ◌↔◌}
-use Rattle.std.proofs.lemmas.Bool.{true≢false}
+use Rattle.std.proofs.lemmas.Bool.{and_parts, not-true, true≢false}
 use Rattle.serial_spec.specs.declared.operation.Op.{Op}
 use Rattle.serial_spec.specs.declared.operation.Reply.{Reply}
 use Rattle.serial_spec.specs.declared.operation.Reply.TheVariants.{Ok}
 use Rattle.serial_spec.specs.declared.entry.By.{By}
 use Rattle.serial_spec.specs.declared.entry.Refusal.{Refusal}
-use Rattle.serial_spec.specs.declared.entry.Refusal.TheVariants.{Unknown, Done as HasCommitted, Orphan}
+use Rattle.serial_spec.specs.declared.entry.Refusal.TheVariants.{Unknown, Done as HasCommitted, Orphan, Waiting, Full}
 use Rattle.serial_spec.specs.declared.event.When.{When}
 use Rattle.serial_spec.specs.declared.event.When.TheVariants.{Begun, Done as Ended}
 use Rattle.serial_spec.specs.declared.event.Event.{Event}
@@ -16,19 +16,22 @@ use Rattle.serial_spec.specs.declared.entry.Answer.{Answer}
 use Rattle.serial_spec.specs.declared.entry.Answer.TheVariants.{Done, Waits}
 use Rattle.serial_spec.specs.declared.entry.Entry.{Entry}
 use Rattle.serial_spec.specs.Operations.{kind, reply_of}
-use Rattle.serial_spec.specs.History.{Name, History, or_else, has_begun, top_aborted, status, is_committed}
+use Rattle.serial_spec.specs.History.{Name, History, Status, Absent, Live, Committed, Aborted, or_else, has_begun, top_aborted, status, is_active, is_committed, is_live_status, is_orphan}
 use Rattle.serial_spec.specs.Locks.{is_blocked}
 use Rattle.serial_spec.specs.Values.{seen}
 use Rattle.serial_spec.specs.Rows.{Rows, value_in}
-use Rattle.serial_spec.specs.Waits.{same_line, wait_of}
-use Rattle.serial_spec.specs.Allowed.{when, refused_or, cause_at_end, cause_at_access, has_come, has_waited, answer}
+use Rattle.serial_spec.specs.Waits.{accesses, open_waits, same_line, wait_of}
+use Rattle.serial_spec.specs.Allowed.{when, refused_or, is_full_for, waits_elsewhere, cause_at_end, cause_at_access, has_come, has_waited, answer}
 use Rattle.serial_spec.specs.Legal.{AreAllowed}
 use Rattle.manager_core.specs.Kept.{AreTablesOf}
 use Rattle.manager_core.specs.Lines.{IsWaitOf, waiting_access}
 use Rattle.manager_core.specs.Parking.{IsKeptOut, come_by}
 use Rattle.manager_core.specs.Tables.{Tabled, cause_in}
+use Rattle.txn_history.proofs.Lists.{any-find}
+use Rattle.manager_core.proofs.Lasting.{is_open}
 use Rattle.manager_core.proofs.Trees.{same_at_end}
 use Rattle.manager_core.proofs.Waits.{same_by}
+use Rattle.txn_history.proofs.Waiting.{waits_kept}
 use Rattle.manager_core.proofs.Retrying.{IsWaiting, waiting_is}
 
 -- ---- conditions
@@ -74,10 +77,43 @@ by_block : (c : Option Refusal) (b w : Bool) (r : Reply) → c ≡ None → w �
 by_block c true w r none waited = (λ _. rw (none, waited) refl, λ _. refl)
 by_block c false w r none waited = (λ f. cc, λ e. let no : refused_or None (Some (Done r)) ≡ None = subst (λ x. refused_or x (Some (Done r)) ≡ None) none e in cc)
 
+full_refused : (a b : Option Refusal) (full : Bool) → full ≡ true → is_some (or_else a (or_else b (when full Full))) ≡ true
+full_refused (Some x) b full e = refl
+full_refused None (Some x) full e = refl
+full_refused None None true e = refl
+full_refused None None false e = absurd (true≢false (sym e))
+
+live_not_committed : (s : Status) → is_live_status s ≡ true → is_committed s ≡ false
+live_not_committed Absent e = refl
+live_not_committed Live e = refl
+live_not_committed Committed e = absurd (true≢false (sym e))
+live_not_committed Aborted e = refl
+
+pub none_of : {X : Type 0} (x : Option X) → is_some x ≡ false → x ≡ None
+none_of None e = refl
+none_of (Some y) e = absurd (true≢false e)
+
+-- one that has begun and acts is refused no end
+none_at_end : (h : History) (t : Name) → has_begun h t ≡ true → is_active h t ≡ true → cause_at_end h t ≡ None
+none_at_end h t begun acts =
+    let p = and_parts (is_live_status (status h t)) (not (is_orphan h t)) acts in
+    rw (begun, none_of (top_aborted h t) (not-true (is_orphan h t) p.1), live_not_committed (status h t) p.0) refl
+
 module _ (rows : Rows) (h : History) (by : By) (t : Name) (k : List ℕ) (o : Op) where
+  -- of the causes only the bound on keys can hold for one that waits by this line
+  pub none_but_full : AreAllowed rows h → IsWaitOf h by (Access t k o) → is_full_for rows h k ≡ false → cause_at_access rows h by t k ≡ None
+  none_but_full allowed (w, waits, own, is) room =
+      let stands = is_open h t w waits in
+      let begun = (waits_kept rows h allowed).begun t (any-find (λ v. accesses t v.event) (λ v. accesses t v.event) (open_waits h) w stands.found stands.of_it) in
+      rw (none_at_end h t begun stands.acts, waits, own, room) refl
+
   -- one that a cause refuses is answered
   pub refused_out : is_some (cause_at_access rows h by t k) ≡ true → IsKeptOut rows h by (Access t k o) → ⊥
   refused_out some out = refused_some (cause_at_access rows h by t k) _ some out.none
+
+  -- so is one whose key would be one too many
+  pub full_out : is_full_for rows h k ≡ true → IsKeptOut rows h by (Access t k o) → ⊥
+  full_out full = refused_out (full_refused (cause_at_end h t) (when (waits_elsewhere h by t) Waiting) (is_full_for rows h k) full)
 
   -- one that waits, and is refused by no cause, is kept out exactly where it is blocked
   pub kept_out_as : AreAllowed rows h → IsWaitOf h by (Access t k o) → cause_at_access rows h by t k ≡ None
@@ -86,10 +122,6 @@ module _ (rows : Rows) (h : History) (by : By) (t : Name) (k : List ℕ) (o : Op
       let is = waiting_is rows h allowed t by k o (waiting_of h by t k o waits) in
       let both = by_block (cause_at_access rows h by t k) (is_blocked h t k (kind o)) (has_waited h by) (reply_of (seen (value_in rows) h t k) o) none is.waited in
       (λ b. record { can = waits; none = both.0 b }, λ out. both.1 out.none)
-
-pub none_of : {X : Type 0} (x : Option X) → is_some x ≡ false → x ≡ None
-none_of None e = refl
-none_of (Some y) e = absurd (true≢false e)
 
 -- told by whether no lock keeps it out
 pub by_may : {X : Type 0} (b m : Bool) → m ≡ not b → IsTrue b ↔ X → IsTrue (not m) ↔ X

@@ -11,8 +11,8 @@ use serial_spec::{By, MOST_KEYS, Refusal};
 use txn_names::{Key, Name};
 use txn_tree::Status;
 
-// Whether the key would be one too many.
-fn is_full_for(log: &Log, key: &Key) -> bool
+/// Whether the key would be one too many.
+pub(crate) fn is_full_for(log: &Log, key: &Key) -> bool
     ensures { result ≡ is_full_for log.now.rows log.now.entries key.now }
 {
     !log.knows(key) && log.known() >= MOST_KEYS

@@ -14,6 +14,7 @@ ghost use Rattle.manager_core.specs.Kept.{AreTablesOf};
 ghost use Rattle.manager_core.specs.Lines.{IsWaitOf};
 ghost use Rattle.manager_core.specs.Parking.{IsKeptOut, come_by};
 
+use crate::deciding::is_full_for;
 use crate::log::Log;
 use crate::tables::Tables;
 use crate::waiting::same_line;
@@ -85,7 +86,8 @@ impl Tables {
         if !self.waits_by(by, name, &Event::Access(*name, *key, op)) {
             return false;
         }
-        if self.refusal_of_access(log, by, name, key).is_some() {
+        // Of the causes that refuse an access this alone can hold for one that waits.
+        if is_full_for(log, key) {
             return false;
         }
         !self.may(name, key, op)

@@ -1,8 +1,9 @@
-use Rattle.std.proofs.Common.{◌≡◌, not, None, refl, sym, ◌∙◌}
+use Rattle.std.proofs.Common.{not, refl, sym, ◌∙◌}
 use Rattle.serial_spec.specs.Operations.{kind}
 use Rattle.serial_spec.specs.Locks.{is_blocked}
-use Rattle.serial_spec.specs.Allowed.{cause_at_access}
-use Rattle.manager_core.proofs.KeptOut.{kept_out_as, by_may, none_of}
+use Rattle.manager_core.proofs.KeptOut.{by_may, kept_out_as, none_but_full}
+use Rattle.manager_core.proofs.Lasting.{is_open}
+use Rattle.manager_core.proofs.Locks.{present}
 use Rattle.manager_core.proofs.tables.Tables.is_kept_out.Goals as goal
 
 pub returns : goal.returns
@@ -12,6 +13,13 @@ returns c =
     let k = c.args.key.now in
     let op = c.args.op in
     let waits = (c.waits_by.ensures log.rows log.entries k op c.requires.allowed c.requires.are refl).0 c.if-not-waits_by.false in
-    let none : cause_at_access log.rows log.entries c.args.by t k ≡ None = sym c.refusal_of_access.ensures ∙ none_of c.refusal_of_access.result (sym c.is_some.ensures ∙ c.if-is_some.false) in
+    let none = none_but_full log.rows log.entries c.args.by t k op c.requires.allowed waits (sym c.is_full_for.ensures ∙ c.if-is_full_for.false) in
     by_may (is_blocked log.entries t k (kind op)) c.may.result (c.may.ensures log.rows log.entries c.requires.are)
     (kept_out_as log.rows log.entries c.args.by t k op c.requires.allowed waits none)
+
+pub may-requires : goal.may-requires
+may-requires c =
+    let log = c.args.log.now in
+    let t = c.args.name.now in
+    let waits = (c.waits_by.ensures log.rows log.entries c.args.key.now c.args.op c.requires.allowed c.requires.are refl).0 c.if-not-waits_by.false in
+    record { begun = present log.entries c.args.self.now.tree c.requires.are.in_tree t (is_open log.entries t waits.0 waits.1).acts }
