@@ -1,5 +1,5 @@
 -- What each call of the manager is as an attempt.
-use Rattle.std.proofs.Common.{◌≡◌, ℕ, ◌⊎◌, inl, inr, ⊎_elim, Bool, true, false, List, [], ◌∷◌, Some, is_some, Result, Ok, Err, OnOk, IfOk, IsTrue, ◌↔◌, sym, ap, subst, ◌∙◌}
+use Rattle.std.proofs.Common.{◌≡◌, ℕ, ◌⊎◌, inl, inr, ⊎_elim, Bool, true, false, List, [], ◌∷◌, Some, is_some, Result, Ok, Err, OnOk, IfOk, IsTrue, ◌↔◌, refl, sym, ap, subst, ◌∙◌}
 use Rattle.std.proofs.Common.{None as Nothing}
 use Rattle.serial_spec.specs.declared.operation.Op.{Op}
 use Rattle.serial_spec.specs.declared.entry.By.{By}
@@ -14,12 +14,13 @@ use Rattle.txn_history.specs.Lines.{IsFree, IsWaitOf}
 use Rattle.txn_history.proofs.Tests.{clash}
 use Rattle.durable_top.specs.declared.store.TopStore.{Ghosts}
 use Rattle.manager_core.specs.declared.outcome.Outcome.{Outcome}
+use Rattle.manager_core.specs.declared.outcome.Outcome.TheVariants.{Waits}
 use Rattle.manager_core.specs.Outcomes.{answer_of}
 use Rattle.manager_core.specs.State.{State, entry}
 use Rattle.manager_core.specs.Asked.{IsLater}
 use Rattle.manager_core.specs.Sound.{IsSound}
 use Rattle.manager_core.specs.Calls.{Added, Answered, Committed, Retried, WaitsOn}
-use Rattle.manager_core.specs.Parking.{Awaited, Awaits}
+use Rattle.manager_core.specs.Parking.{Awaited, Awaits, IsKeptOut}
 use Rattle.manager_core.proofs.Waits.{same_by}
 use Rattle.interleavings.specs.Attempts.{Attempts, GoesOn}
 use Rattle.interleavings.proofs.Schedules.{on_same}
@@ -96,6 +97,13 @@ retried_attempt {S} g old new by t k op o (w, waits, own, is) r = ⊎_elim
 
     event_is : r.wait.event ≡ Access t k op
     event_is = ap (λ (x : Entry). x.event) (sym found) ∙ is
+
+-- one that is kept out still has no answer yet
+pub kept_out_attempt : {S : Type 0} (g : Ghosts S) (m : State S) (by : By) (e : Event) (b : Bool) → IsTrue b ↔ IsKeptOut m.rows m.history by e → b ≡ true → Attempts g m m by e Waits
+kept_out_attempt g m by e b is held = record {
+  told = inr (record { none = (is.0 held).none; outcome_is = refl; same = refl });
+  on = on_same g m;
+}
 
 -- ---- by what a call answered
 

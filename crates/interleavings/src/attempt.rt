@@ -22,8 +22,12 @@ fn attempt_access<S: TopStore>(
     ensures ok { IfOk result (λ outcome. Attempts S.TopStore manager.old manager.new by (Access name.now key.now op) outcome) }
     ensures err { OnErr result (manager.new ≡ manager.old) }
 {
-    if manager.free(by, &Event::Access(*name, *key, op)) {
+    let event = Event::Access(*name, *key, op);
+    if manager.free(by, &event) {
         manager.access(by, name, key, op)
+    } else if manager.held_up(by, &event) {
+        // Most attempts find the lock held still, and to ask for that alone is cheaper.
+        Ok(Outcome::Waits)
     } else {
         manager.retry(name)
     }
