@@ -69,8 +69,9 @@ impl Estate {
         versions.into_base()
     }
 
-    // Makes the places for an access of this kind.
-    fn reserve_access(&mut self, txn: TxnNo, key: &Key, kind: Kind) -> Result<(), NoMemory>
+    /// Makes all growths of an access of this kind beforehand, as `reserve_for` of its event does. The only error is that
+    /// memory runs out.
+    pub fn reserve_access(&mut self, txn: TxnNo, key: &Key, kind: Kind) -> Result<(), NoMemory>
         ensures succeeds { has_place self.old txn key.now kind → IsOk result }
         ensures ok { OnOk result (has_place self.new txn key.now kind) }
         ensures same { IsSame self.old self.new }
@@ -91,6 +92,19 @@ impl Estate {
     {
         self.locks.reserve_for_parent(child, parent)?;
         self.versions.reserve_for_parent(child, parent)
+    }
+
+    /// Makes all growths of a commit beforehand, as `reserve_for` of its event does: from the transaction's number to its
+    /// parent's, or into the table where it has none. The only error is that memory runs out.
+    pub fn reserve_hand_up(&mut self, child: TxnNo, parent: Option<TxnNo>) -> Result<(), NoMemory>
+        ensures succeeds { IfSome parent (λ p. MayGoUp self.old child (Some p) → IsOk result) }
+        ensures ok { OnOk result (MayGoUp self.new child parent) }
+        ensures same { IsSame self.old self.new }
+    {
+        match parent {
+            Some(parent) => self.reserve_for_parent(child, parent),
+            None => self.versions.reserve_for_base(child),
+        }
     }
 
     // Makes room for what a commit hands up.

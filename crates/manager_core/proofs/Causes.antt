@@ -1,18 +1,54 @@
 -- The cause that the tables tell is the definitions' first.
-use Rattle.std.proofs.Common.{◌≡◌, ℕ, ◌<◌, Bool, List, length, Option, Some, None, ap, ◌∙◌}
+use Rattle.std.proofs.Common.{◌≡◌, ℕ, ◌<◌, Bool, true, false, not, List, length, Option, Some, None, refl, sym, ap, ◌∙◌}
+use Rattle.std.proofs.lemmas.Bool.{true≢false}
+use Rattle.std.specs.Prelude.{option_map}
 use Rattle.std.specs.List.{list_any}
-use Rattle.txn_tree.specs.States.{names}
-use Rattle.txn_tree.specs.Asked.{is_live_child_in}
+use Rattle.txn_names.specs.Path.{top_of}
+use Rattle.txn_tree.specs.declared.status.Status.{Status}
+use Rattle.txn_tree.specs.declared.status.Status.TheVariants as state
+use Rattle.txn_tree.specs.States.{names, is_committed}
+use Rattle.txn_tree.specs.Asked.{IsNumberOf, has_committed_in, is_absent_in, is_live_child_in}
+use Rattle.txn_tree.specs.Numbered.{status_at, status_named}
+use Rattle.orphans.specs.Marked.{is_marked}
 use Rattle.serial_spec.specs.declared.entry.By.{By}
 use Rattle.serial_spec.specs.declared.entry.Refusal.{Refusal}
-use Rattle.serial_spec.specs.declared.entry.Refusal.TheVariants.{Children, Waiting, Full}
+use Rattle.serial_spec.specs.declared.entry.Refusal.TheVariants.{Children, Done, Full, Orphan, Unknown, Waiting}
 use Rattle.serial_spec.specs.History.{Name, History, or_else}
 use Rattle.serial_spec.specs.Rows.{Rows}
 use Rattle.serial_spec.specs.Legal.{AreAllowed}
 use Rattle.serial_spec.specs.Allowed.{when, waits_elsewhere, is_full_for, has_live_child, cause_at_end, cause_at_access, cause_at_commit}
 use Rattle.manager_core.specs.Kept.{AreTablesOf}
 use Rattle.manager_core.specs.Tables.{Tabled, cause_in}
+use Rattle.manager_core.proofs.Locks.{name_at}
 use Rattle.manager_core.proofs.Trees.{same_at_end, same_children}
+
+-- ---- by number
+
+not_absent : (b : Bool) → true ≡ not b → b ≡ false
+not_absent true e = absurd (true≢false e)
+not_absent false e = refl
+
+not_committed : (s : Status) → (s ≡ state.Committed → ⊥) → is_committed s ≡ false
+not_committed state.Committed n = absurd (n refl)
+not_committed s n = refl
+
+-- of one that has begun and has no aborted ancestor only its own state is left to ask
+module _ (tables : Tabled) (t : Name) (n : ℕ) (number : IsNumberOf tables.tree t n) (begun : true ≡ not (is_absent_in tables.tree t))
+    (none : None ≡ top_of (is_marked tables.marks) t) where
+  by_state : (b : Bool) → is_committed (status_at tables.tree n) ≡ b → when b Done ≡ cause_in tables t
+  by_state b e =
+      ap (λ c. when c Done) (sym e ∙ ap (λ o. is_committed (status_named tables.tree o)) (name_at tables.tree t n number))
+      ∙ ap (λ o. or_else (option_map (λ a. Orphan a) o) (when (has_committed_in tables.tree t) Done)) none
+      ∙ ap (λ c. or_else (when c Unknown) (or_else (option_map (λ a. Orphan a) (top_of (is_marked tables.marks) t)) (when (has_committed_in tables.tree t) Done)))
+      (sym (not_absent (is_absent_in tables.tree t) begun))
+
+  pub done_by_state : status_at tables.tree n ≡ state.Committed → Some Done ≡ cause_in tables t
+  done_by_state e = by_state true (ap is_committed e)
+
+  pub none_by_state : (status_at tables.tree n ≡ state.Committed → ⊥) → None ≡ cause_in tables t
+  none_by_state other = by_state false (not_committed (status_at tables.tree n) other)
+
+-- ---- by the history
 
 module _ (rows : Rows) (h : History) (tables : Tabled) (allowed : AreAllowed rows h) (are : AreTablesOf rows h tables) (t : Name) where
   module _ (some : 0 < length t) (by : By) where

@@ -3,12 +3,15 @@ use Rattle.std.proofs.Common.{◌≡◌, ℕ, suc, ◌+◌, Bool, true, false, c
 use Rattle.std.specs.Prelude.{slice_get}
 use Rattle.std.specs.List.{list_any, range_with_len}
 use Rattle.std.proofs.lemmas.Bool.{false≢true, eq-eqb, and_parts}
-use Rattle.txn_names.specs.Path.{is_front, path_eq}
+use Rattle.txn_names.specs.Path.{is_front, parent, path_eq}
 use Rattle.txn_names.proofs.Names.{same_path}
-use Rattle.txn_tree.specs.States.{States, names, status_in, is_absent as is_absent_state}
+use Rattle.txn_tree.specs.States.{IsTree, States, names, status_in, is_absent as is_absent_state}
 use Rattle.txn_tree.specs.declared.status.Status.{Status as State}
 use Rattle.txn_tree.specs.declared.status.Status.TheVariants as state
 use Rattle.txn_tree.specs.Asked.{is_name, is_absent_in, IsNumberOf}
+use Rattle.txn_tree.specs.Numbered.{is_parent_of}
+use Rattle.txn_tree.proofs.Numbers.{number_at}
+use Rattle.txn_tree.proofs.Places.{found_at}
 use Rattle.lock_table.specs.declared.modes.Modes.{Modes}
 use Rattle.lock_table.specs.Inherited.{free, whole}
 use Rattle.inherit.specs.LocksAndVersions.{LocksAndVersions, modes_of, left_of}
@@ -35,6 +38,17 @@ name_at tree t n is = by (slice_get (names tree) n) (sym (is n) ∙ eq-eqb n n r
     by : (o : Option Name) → is_name o t ≡ true → o ≡ Some t
     by None e = absurd (false≢true e)
     by (Some u) e = ap (λ v. Some v) (sym (same_path t u e))
+
+-- the number of the parent
+pub parent_numbered : (tree : States) (t : Name) (n p : ℕ) → IsTree tree → IsNumberOf tree t n → is_parent_of (slice_get (names tree) p) (slice_get (names tree) n) ≡ true
+    → IsNumberOf tree (parent t) p
+parent_numbered tree t n p is number above = by (slice_get (names tree) p) refl (ap (is_parent_of (slice_get (names tree) p)) (sym (name_at tree t n number)) ∙ above)
+  where
+    by : (o : Option Name) → slice_get (names tree) p ≡ o → is_parent_of o (Some t) ≡ true → IsNumberOf tree (parent t) p
+    by None at e = absurd (false≢true e)
+    by (Some u) at e =
+        number_at (names tree) is.distinct (parent t) p
+        (found_at (names tree) is.distinct (parent t) p (at ∙ ap (λ v. Some v) (sym (same_path (parent t) u e))))
 
 -- ---- who is blocked
 

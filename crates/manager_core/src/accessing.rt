@@ -10,7 +10,7 @@ ghost use Rattle.manager_core.specs.Tables.{ComesTo, HasOtherRoom, ReachesIn, Wa
 use crate::log::Log;
 use crate::outcome::Outcome;
 use crate::tables::Tables;
-use serial_spec::{By, Event, NoMemory, Op};
+use serial_spec::{By, NoMemory, Op};
 use txn_names::{Key, Name};
 
 /// An access that is asked for, with its line.
@@ -74,12 +74,10 @@ impl Tables {
         ensures err { OnErr result (HasOtherRoom self.old self.new) }
     {
         let Request { by, name, key, op } = request;
-        match self.refusal_of_access(log, *by, name, key) {
-            Some(refusal) => Ok(Outcome::Refused(refusal)),
-            None => {
-                self.estate
-                    .reserve_for(&self.tree, &Event::Access(*name, *key, *op))?;
-                let txn = self.number_of(name);
+        match self.number_at_access(log, *by, name, key) {
+            Err(refusal) => Ok(Outcome::Refused(refusal)),
+            Ok(txn) => {
+                self.estate.reserve_access(txn, key, op.kind())?;
                 match self.estate.access(&self.tree, txn, key, *op) {
                     Some(reply) => Ok(Outcome::Done(reply)),
                     None => Ok(Outcome::Waits),

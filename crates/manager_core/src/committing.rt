@@ -1,16 +1,15 @@
 //! A commit, in the tables: all growths first, then what takes no memory.
 ghost use Rattle.std.specs.Prelude.{◌≡◌, IfOk, OnOk, Some, slice_get, true};
 ghost use Rattle.txn_names.specs.Path.{Path};
-ghost use Rattle.txn_tree.specs.Asked.{IsNumberOf};
 ghost use Rattle.txn_tree.specs.Numbered.{is_active_at, live_children_at};
 ghost use Rattle.txn_tree.specs.States.{names};
-ghost use Rattle.inherit.specs.LocksAndVersions.{IsParent, MayGoUp};
+ghost use Rattle.inherit.specs.LocksAndVersions.{MayGoUp};
 ghost use Rattle.inherit.specs.Changes.{AreChangesOf};
 ghost use Rattle.manager_core.specs.Tables.{CommitsIn, HasOtherRoom};
 
 use crate::tables::Tables;
-use serial_spec::{Event, NoMemory};
-use txn_names::{Change, Name};
+use serial_spec::NoMemory;
+use txn_names::Change;
 use txn_tree::TxnNo;
 
 impl Tables {
@@ -24,16 +23,13 @@ impl Tables {
     /// Makes room for what goes up at the commit, from the transaction's number to its parent's.
     pub(crate) fn reserve_commit(
         &mut self,
-        name: &Name,
         child: TxnNo,
         parent: Option<TxnNo>,
     ) -> Result<(), NoMemory>
-        requires child { IsNumberOf self.old.tree name.now child }
-        requires parent { IsParent self.old.tree name.now parent }
         ensures room { OnOk result (MayGoUp self.new.estate child parent) }
         ensures same { HasOtherRoom self.old self.new }
     {
-        self.estate.reserve_for(&self.tree, &Event::Commit(*name))
+        self.estate.reserve_hand_up(child, parent)
     }
 
     /// Commits a transaction that nothing refuses, and hands up what it has, for which there is room. It takes no memory.

@@ -1,5 +1,7 @@
-//! Why a line is refused, read off the tables.
-ghost use Rattle.std.specs.Prelude.{◌≡◌, ◌<◌, length};
+//! Why a line is refused, read off the tables. What is not refused goes on by the transaction's number.
+ghost use Rattle.std.specs.Prelude.{◌≡◌, ◌<◌, length, IfOk};
+ghost use Rattle.std.specs.Result.{result_err};
+ghost use Rattle.txn_tree.specs.Asked.{IsNumberOf};
 ghost use Rattle.serial_spec.specs.Allowed.{cause_at_access, cause_at_commit, is_full_for};
 ghost use Rattle.serial_spec.specs.Legal.{AreAllowed};
 ghost use Rattle.manager_core.specs.Kept.{AreTablesOf};
@@ -9,7 +11,7 @@ use crate::log::Log;
 use crate::tables::Tables;
 use serial_spec::{By, MOST_KEYS, Refusal};
 use txn_names::{Key, Name};
-use txn_tree::Status;
+use txn_tree::{Status, TxnNo};
 
 /// Whether the key would be one too many.
 pub(crate) fn is_full_for(log: &Log, key: &Key) -> bool
@@ -19,60 +21,63 @@ pub(crate) fn is_full_for(log: &Log, key: &Key) -> bool
 }
 
 impl Tables {
-    /// The cause that access, commit and abort share.
-    pub(crate) fn refusal_at_end(&self, name: &Name) -> Option<Refusal>
-        ensures cause { result ≡ cause_in self.now name.now }
+    /// The number of a transaction that is live and has no aborted ancestor, or the cause that access, commit and abort
+    /// share.
+    pub(crate) fn active_number(&self, name: &Name) -> Result<TxnNo, Refusal>
+        ensures cause { result_err result ≡ cause_in self.now name.now }
+        ensures number { IfOk result (IsNumberOf self.now.tree name.now) }
         ensures some { 0 < length name.now }
     {
-        let status = self.tree.status(name);
-        if status == Status::Absent {
-            Some(Refusal::Unknown)
-        } else if let Some(top) = self.marks.top_aborted(name) {
-            Some(Refusal::Orphan(top))
-        } else if status == Status::Committed {
-            Some(Refusal::Done)
-        } else {
-            None
+        name.has_labels();
+        let Some(txn) = self.tree.no_of(name) else {
+            return Err(Refusal::Unknown);
+        };
+        if let Some(top) = self.marks.top_aborted(name) {
+            return Err(Refusal::Orphan(top));
+        }
+        match self.tree.status_at(txn) {
+            Status::Committed => Err(Refusal::Done),
+            _ => Ok(txn),
         }
     }
 
-    /// Why an access is refused.
-    pub(crate) fn refusal_of_access(
+    /// The number of a transaction whose access nothing but a lock may keep out, or why the access is refused.
+    pub(crate) fn number_at_access(
         &self,
         log: &Log,
         by: By,
         name: &Name,
         key: &Key,
-    ) -> Option<Refusal>
+    ) -> Result<TxnNo, Refusal>
         requires allowed { AreAllowed log.now.rows log.now.entries }
         requires are { AreTablesOf log.now.rows log.now.entries self.now }
-        ensures { result ≡ cause_at_access log.now.rows log.now.entries by name.now key.now }
+        ensures cause { result_err result ≡ cause_at_access log.now.rows log.now.entries by name.now key.now }
+        ensures number { IfOk result (IsNumberOf self.now.tree name.now) }
     {
-        if let Some(refusal) = self.refusal_at_end(name) {
-            Some(refusal)
-        } else if self.waits_elsewhere(name, by) {
-            Some(Refusal::Waiting)
+        let txn = self.active_number(name)?;
+        if self.waits_elsewhere(txn, by) {
+            Err(Refusal::Waiting)
         } else if is_full_for(log, key) {
-            Some(Refusal::Full)
+            Err(Refusal::Full)
         } else {
-            None
+            Ok(txn)
         }
     }
 
-    /// Why a commit is refused, the store left aside.
-    pub(crate) fn refusal_of_commit(&self, log: &Log, by: By, name: &Name) -> Option<Refusal>
+    /// The number of a transaction that may commit, or why the commit is refused; the store is left aside.
+    pub(crate) fn number_at_commit(&self, log: &Log, by: By, name: &Name) -> Result<TxnNo, Refusal>
         requires allowed { AreAllowed log.now.rows log.now.entries }
         requires are { AreTablesOf log.now.rows log.now.entries self.now }
-        ensures { result ≡ cause_at_commit log.now.entries by name.now }
+        ensures cause { result_err result ≡ cause_at_commit log.now.entries by name.now }
+        ensures number { IfOk result (IsNumberOf self.now.tree name.now) }
     {
-        if let Some(refusal) = self.refusal_at_end(name) {
-            Some(refusal)
-        } else if self.tree.live_children(name) > 0 {
-            Some(Refusal::Children)
-        } else if self.waits_elsewhere(name, by) {
-            Some(Refusal::Waiting)
+        let txn = self.active_number(name)?;
+        if self.tree.live_children_at(txn) > 0 {
+            Err(Refusal::Children)
+        } else if self.waits_elsewhere(txn, by) {
+            Err(Refusal::Waiting)
         } else {
-            None
+            Ok(txn)
         }
     }
 }

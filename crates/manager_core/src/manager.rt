@@ -209,9 +209,9 @@ impl<S: TopStore> Manager<S> {
         ensures err { OnErr result (self.new ≡ self.old) }
         ensures sound { OnOk result (IsSound S.TopStore self.new) }
     {
-        match self.tables.refusal_of_commit(&self.log, by, name) {
-            Some(refusal) => self.refuse_commit(by, name, refusal),
-            None => {
+        match self.tables.number_at_commit(&self.log, by, name) {
+            Err(refusal) => self.refuse_commit(by, name, refusal),
+            Ok(_) => {
                 if name.depth() > 1 {
                     self.commit_child(by, name)
                 } else {
@@ -246,8 +246,8 @@ impl<S: TopStore> Manager<S> {
     {
         self.log.reserve(1)?;
         let txn = self.tables.number_of(name);
-        let parent = self.tables.parent_number(name);
-        self.tables.reserve_commit(name, txn, Some(parent))?;
+        let parent = self.tables.parent_number(name, txn);
+        self.tables.reserve_commit(txn, Some(parent))?;
         self.tables.commit(txn, Some(parent));
         let outcome = Outcome::Done(Reply::Ok);
         self.log.add(by, Event::Commit(*name), &outcome);
@@ -266,7 +266,7 @@ impl<S: TopStore> Manager<S> {
     {
         self.log.reserve(1)?;
         let txn = self.tables.number_of(name);
-        self.tables.reserve_commit(name, txn, None)?;
+        self.tables.reserve_commit(txn, None)?;
         let changes = self.tables.changes(txn)?;
         if are_taken(&mut self.store, changes) {
             self.tables.commit(txn, None);

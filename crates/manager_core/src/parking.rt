@@ -1,6 +1,7 @@
 //! What keeps a line from its answer, read off the tables.
-ghost use Rattle.std.specs.Prelude.{◌≡◌, ◌↔◌, ℕ, List, not, IsFalse, IsTrue};
-ghost use Rattle.txn_tree.specs.Asked.{is_absent_in};
+ghost use Rattle.std.specs.Prelude.{◌≡◌, ◌↔◌, ℕ, List, not, IsTrue};
+ghost use Rattle.txn_names.specs.Path.{Path};
+ghost use Rattle.txn_tree.specs.Asked.{IsNumberOf};
 ghost use Rattle.serial_spec.specs.declared.operation.Op.{Op as Asked};
 ghost use Rattle.serial_spec.specs.declared.event.Event.TheVariants.{Access};
 ghost use Rattle.serial_spec.specs.Allowed.{has_come};
@@ -21,6 +22,7 @@ use crate::waiting::same_line;
 use serial_spec::{By, Event, Op, Refusal, When};
 use txn_history::is_same;
 use txn_names::{Key, Name};
+use txn_tree::TxnNo;
 
 // Whether a condition holds, by the cause that would refuse an abort.
 fn come_by(cause: Option<Refusal>, when: When) -> bool
@@ -55,7 +57,7 @@ impl Tables {
     pub(crate) fn has_come(&self, name: &Name, when: When) -> bool
         ensures { (rows : Rows) (h : History) → AreAllowed rows h → AreTablesOf rows h self.now → result ≡ has_come h name.now when }
     {
-        come_by(self.refusal_at_end(name), when)
+        come_by(self.active_number(name).err(), when)
     }
 
     // Whether this access of the transaction waits, and by this line.
@@ -69,11 +71,9 @@ impl Tables {
     }
 
     // Whether no lock keeps the access out.
-    fn may(&self, name: &Name, key: &Key, op: Op) -> bool
-        requires begun { IsFalse (is_absent_in self.now.tree name.now) }
-        ensures { (rows : Rows) (h : History) → AreTablesOf rows h self.now → result ≡ not (is_blocked h name.now key.now (kind op)) }
+    fn may(&self, txn: TxnNo, key: &Key, op: Op) -> bool
+        ensures { (t : Path) → IsNumberOf self.now.tree t txn → (rows : Rows) (h : History) → AreTablesOf rows h self.now → result ≡ not (is_blocked h t key.now (kind op)) }
     {
-        let txn = self.number_of(name);
         self.estate.locks().may(&self.tree, txn, key, op.kind())
     }
 
@@ -90,6 +90,6 @@ impl Tables {
         if is_full_for(log, key) {
             return false;
         }
-        !self.may(name, key, op)
+        !self.may(self.number_of(name), key, op)
     }
 }

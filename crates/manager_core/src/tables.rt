@@ -79,14 +79,14 @@ impl Tables {
         self.tree.no_of(name).unwrap()
     }
 
-    /// The number of a subtransaction's parent, which has begun.
-    pub(crate) fn parent_number(&self, name: &Name) -> TxnNo
-        requires below { 1 < length name.now }
-        requires begun { IsFalse (is_absent_in self.now.tree (parent name.now)) }
-        ensures { IsNumberOf self.now.tree (parent name.now) result }
+    /// The number of the parent of a subtransaction with this number.
+    pub(crate) fn parent_number(&self, _name: &Name, txn: TxnNo) -> TxnNo
+        requires below { 1 < length _name.now }
+        requires number { IsNumberOf self.now.tree _name.now txn }
+        ensures { IsNumberOf self.now.tree (parent _name.now) result }
     {
-        let parent = name.parent().unwrap();
-        self.number_of(&parent)
+        self.tree.has_distinct_names();
+        self.tree.parent_of(txn).unwrap()
     }
 
     /// Makes room for the marks of so many aborts.

@@ -1,5 +1,6 @@
 //! Waits, in the tables.
 ghost use Rattle.std.specs.Prelude.{◌≡◌, ◌<◌, ◌≤◌, ◌+◌, length, ℕ, IsFalse, None, Some};
+ghost use Rattle.txn_names.specs.Path.{Path};
 ghost use Rattle.txn_tree.specs.Asked.{IsNumberOf, is_absent_in};
 ghost use Rattle.serial_spec.specs.declared.entry.Answer.TheVariants as answer;
 ghost use Rattle.serial_spec.specs.declared.event.Event.TheVariants.{Access};
@@ -16,6 +17,7 @@ use crate::accessing::Request;
 use crate::tables::Tables;
 use serial_spec::{By, Op};
 use txn_names::{Key, Name};
+use txn_tree::TxnNo;
 
 /// Whether both are of one line of a session.
 pub(crate) fn same_line(a: By, b: By) -> bool
@@ -34,19 +36,26 @@ pub(crate) fn same_line(a: By, b: By) -> bool
 }
 
 impl Tables {
+    // The access by which the transaction with this number waits, with its line.
+    fn waiting_access_at(&self, txn: TxnNo) -> Option<(By, Key, Op)>
+        ensures { (t : Path) → IsNumberOf self.now.tree t txn → (rows : Rows) (h : History) → AreTablesOf rows h self.now → result ≡ waiting_access (wait_of h t) }
+    {
+        let wait = self.waits.of(txn)?;
+        Some((wait.by, wait.key, wait.op))
+    }
+
     /// The access by which the transaction waits, with its line.
     pub(crate) fn waiting_access(&self, name: &Name) -> Option<(By, Key, Op)>
         ensures { (rows : Rows) (h : History) → AreTablesOf rows h self.now → result ≡ waiting_access (wait_of h name.now) }
     {
-        let wait = self.waits.of(self.tree.no_of(name)?)?;
-        Some((wait.by, wait.key, wait.op))
+        self.waiting_access_at(self.tree.no_of(name)?)
     }
 
-    /// Whether the transaction waits by another line than this.
-    pub(crate) fn waits_elsewhere(&self, name: &Name, by: By) -> bool
-        ensures { (rows : Rows) (h : History) → AreTablesOf rows h self.now → result ≡ waits_elsewhere h by name.now }
+    /// Whether the transaction with this number waits by another line than this.
+    pub(crate) fn waits_elsewhere(&self, txn: TxnNo, by: By) -> bool
+        ensures { (t : Path) → IsNumberOf self.now.tree t txn → (rows : Rows) (h : History) → AreTablesOf rows h self.now → result ≡ waits_elsewhere h by t }
     {
-        match self.waiting_access(name) {
+        match self.waiting_access_at(txn) {
             Some((line, _, _)) => !same_line(line, by),
             None => false,
         }

@@ -17,14 +17,6 @@ number_of-txn-requires g c =
     let none = rw (← c.self.view_is) at c.requires.live in
     present m.log.entries m.tables.tree c.self.invariant.kept.are.in_tree c.args.name.now (active_at_commit m.log.entries c.args.by c.args.name.now none)
 
-pub parent_number-parent-requires-clause-begun : goal.parent_number-parent-requires-clause-begun
-parent_number-parent-requires-clause-begun g c =
-    let m = c.self.inside in
-    let t = c.args.name.now in
-    let none = rw (← c.self.view_is) at c.requires.live in
-    let acts = active_at_commit m.log.entries c.args.by t none in
-    present m.log.entries m.tables.tree c.self.invariant.kept.are.in_tree (parent t) (ancestors_act m.log.rows m.log.entries c.self.invariant.kept.allowed t (parent t) acts (is_front-parent t))
-
 pub invariant_of-self-in_err-reserve_commit : goal.invariant_of-self-in_err-reserve_commit
 invariant_of-self-in_err-reserve_commit g c =
     let m = c.self.inside in

@@ -2,7 +2,7 @@ use Rattle.std.proofs.Common.{refl, sym, ◌∙◌}
 use Rattle.manager_core.proofs.Reaching.{comes_done, comes_waits}
 use Rattle.manager_core.specs.Tables.{Tabled, HasOtherRoom}
 use Rattle.manager_core.proofs.tables.Tables.access.Goals as goal
-use Rattle.manager_core.proofs.tables.Tables.access.Goals.{in-Some-access, in-None-access}
+use Rattle.manager_core.proofs.tables.Tables.access.Goals.{in-Some, in-None}
 
 pub returns-after-access-clause-comes : goal.returns-after-access-clause-comes
 returns-after-access-clause-comes c =
@@ -10,14 +10,16 @@ returns-after-access-clause-comes c =
     let asked = c.args.request.now in
     let m : Tabled = record { tree = c.self.inside.tree; marks = c.self.inside.marks; estate = c.self.inside.estate; waits = c.self.inside.waits } in
     let are = rw (← c.self.view_is) at c.requires.are in
-    let mid : Tabled = record { tree = m.tree; marks = m.marks; estate = c.reserve_for.new.self; waits = m.waits } in
-    let same : HasOtherRoom m mid = record { tree = refl; marks = refl; estate = c.reserve_for.ensures.same; waits = λ n. refl } in
-    let none = sym c.in-None.is ∙ c.refusal_of_access.ensures in
+    let mid : Tabled = record { tree = m.tree; marks = m.marks; estate = c.reserve_access.new.self; waits = m.waits } in
+    let same : HasOtherRoom m mid = record { tree = refl; marks = refl; estate = c.reserve_access.ensures.same; waits = λ n. refl } in
+    let none = c.in-Ok.ensures.cause in
+    let n = c.in-Ok.txn in
+    let number = rw (← c.self.view_is) at c.in-Ok.ensures.number in
     elim c.match-access.branch [
-      | in-Some-access w ↦ rw w.result-is (comes_done log.rows log.entries m mid c.requires.allowed are same
-          asked.name c.number_of-txn.result c.number_of-txn.ensures.number asked.key asked.op asked.by none
-          w.in-Some-access.reply (sym w.in-Some-access.is ∙ c.access.ensures.reply))
-      | in-None-access w ↦ rw w.result-is (comes_waits log.rows log.entries m mid c.requires.allowed are same
-          asked.name c.number_of-txn.result c.number_of-txn.ensures.number asked.key asked.op asked.by none
-          (sym w.in-None-access.is ∙ c.access.ensures.reply))
+      | in-Some w ↦ rw w.result-is (comes_done log.rows log.entries m mid c.requires.allowed are same
+          asked.name n number asked.key asked.op asked.by none
+          w.in-Some.reply (sym w.in-Some.is ∙ c.access.ensures.reply))
+      | in-None w ↦ rw w.result-is (comes_waits log.rows log.entries m mid c.requires.allowed are same
+          asked.name n number asked.key asked.op asked.by none
+          (sym w.in-None.is ∙ c.access.ensures.reply))
     ]

@@ -7,8 +7,7 @@ use Rattle.manager_core.proofs.tables.Tables.may.Goals as goal
 pub returns : goal.returns
 returns c =
     let m : Tabled = record { tree = c.self.inside.tree; marks = c.self.inside.marks; estate = c.self.inside.estate; waits = c.self.inside.waits } in
-    let number = rw (← c.self.view_is) at c.number_of-txn.ensures.number in
     rw (← c.self.view_is)
-    (λ rows h are.
+    (λ t number rows h are.
     c.may.ensures
-    ∙ rw (c.locks.ensures, c.kind.ensures) (ap not (blocked_as rows h m are c.args.name.now c.number_of-txn.result number c.args.key.now (kind c.args.op))))
+    ∙ rw (c.locks.ensures, c.kind.ensures) (ap not (blocked_as rows h m are t c.args.txn number c.args.key.now (kind c.args.op))))
