@@ -6,8 +6,8 @@ use Rattle.manager_core.proofs.Lasting.{is_open}
 use Rattle.manager_core.proofs.Locks.{present}
 use Rattle.manager_core.proofs.tables.Tables.is_kept_out.Goals as goal
 
-pub returns-in-Ok : goal.returns-in-Ok
-returns-in-Ok c =
+pub returns : goal.returns
+returns c =
     let log = c.args.log.now in
     let t = c.args.name.now in
     let k = c.args.key.now in
