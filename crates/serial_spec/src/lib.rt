@@ -13,7 +13,7 @@ mod table;
 pub use entry::{Answer, By, Entry, Refusal};
 pub use event::{Event, When};
 pub use item::{Item, run_items};
-pub use limits::{MOST_KEYS, MOST_ROWS, MOST_TRANSACTIONS};
+pub use limits::{MOST_KEYS, MOST_LINES, MOST_ROWS, MOST_SESSIONS, MOST_TRANSACTIONS};
 pub use mode::Mode;
 pub use operation::{Kind, Op, Reply, act};
 pub use table::PlainTable;

@@ -3,6 +3,7 @@ use Rattle.std.specs.Prelude.{ℕ, ◌≤◌, Bool, IsTrue, IsFalse, List, [], �
 use Rattle.std.specs.List.{AllByRecursion, list_any}
 use Rattle.txn_names.specs.Path.{label_eq}
 use Rattle.txn_names.specs.Text.{IsName, IsKey, IsLabel}
+use Rattle.serial_spec.specs.declared.limits.TheConstants.{MOST_LINES, MOST_SESSIONS}
 use Rattle.serial_spec.specs.Operations.{is_i64}
 use Rattle.serial_spec.specs.Printing.{spelled_event}
 use Rattle.serial_spec.specs.Interleaving.{Session}
@@ -25,10 +26,10 @@ IsEvent (Commit n) = IsName n
 IsEvent (Abort n) = IsName n
 IsEvent (After n t) = IsName n
 
--- at most 1,024 lines behind the header
+-- the lines are those behind the header
 pub record IsSession (s : Session) : Type 0 where
   pub label : IsLabel s.label
-  pub short : length s.lines ≤ 1024
+  pub short : length s.lines ≤ MOST_LINES
   pub events : AllByRecursion IsEvent s.lines
 
 -- some session has this label
@@ -41,7 +42,7 @@ AreApart [] = Unit {0}
 AreApart (s ∷ ss) = IsFalse (is_taken s.label ss) × AreApart ss
 
 pub record IsText (ss : List Session) : Type 0 where
-  pub few : length ss ≤ 64
+  pub few : length ss ≤ MOST_SESSIONS
   pub sessions : AllByRecursion IsSession ss
   pub apart : AreApart ss
 

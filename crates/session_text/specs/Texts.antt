@@ -3,6 +3,7 @@ use Rattle.std.specs.Prelude.{◌≡◌, ℕ, ◌+◌, ◌-◌, ◌==◌, nat_le
 use Rattle.std.specs.Str.{bytes_eq}
 use Rattle.txn_names.specs.Reading.{label_of}
 use Rattle.txn_names.specs.Text.{IsLabel}
+use Rattle.serial_spec.specs.declared.limits.TheConstants.{MOST_LINES, MOST_SESSIONS}
 use Rattle.serial_spec.specs.Interleaving.{Session, lines_of}
 use Rattle.serial_spec.specs.declared.event.Event.{Event}
 use Rattle.session_text.specs.declared.fault.LineKind.{LineKind}
@@ -69,16 +70,16 @@ abbrev pub grown : List Session → TextLine → List Session
 grown ss (Header l) = with_header ss l
 grown ss (Command e) = with_line ss e
 
--- whether a line may stand here: a header's label is a new one and there are fewer than 64 sessions,
--- a command has a session before it that has fewer than 1,024 lines
+-- whether a line may stand here: a header's label is a new one and there is room for a session more,
+-- a command has a session before it that has room for a line more
 abbrev pub misplaced : List Session → TextLine → Option LineKind
 misplaced ss (Header l) =
     if is_taken l ss then Some kind.Header
-    else if nat_le 64 (length ss) then Some kind.Limit
+    else if nat_le MOST_SESSIONS (length ss) then Some kind.Limit
     else None
 misplaced ss (Command e) =
     if length ss == 0 then Some kind.Header
-    else if nat_le 1024 (length (open_lines ss)) then Some kind.Limit
+    else if nat_le MOST_LINES (length (open_lines ss)) then Some kind.Limit
     else None
 
 -- the sessions with this line, or its first fault

@@ -8,16 +8,10 @@ use crate::cut::cut;
 use crate::fault::{LineKind, TextFault};
 use crate::line::Line;
 use crate::text_line::TextLine;
-use serial_spec::NoMemory;
+use serial_spec::{MOST_LINES, MOST_SESSIONS, NoMemory};
 use std::alloc::Global;
 use std::marker::Model;
 use txn_names::Label;
-
-/// The most sessions of a text.
-const MOST_SESSIONS: usize = 64;
-
-/// The most lines of a session, without its header.
-const MOST_LINES: usize = 1024;
 
 // A header and the lines behind it.
 #[derive(Drop)]
