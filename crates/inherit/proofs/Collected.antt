@@ -1,8 +1,6 @@
 -- Keys collected in byte order, and the changes that are made of them.
 use Rattle.std.proofs.Common.{◌≡◌, ℕ, ℤ, Bool, true, false, cond, ◌&&◌, ◌||◌, List, [], ◌∷◌, ◌++◌, append_assoc, map, Option, Some, None, refl, sym, ap, subst, ◌∙◌}
-use Rattle.std.proofs.Math.Bool.{or-false}
 use Rattle.std.proofs.lemmas.Bool.{false≢true}
-use Rattle.std.proofs.lemmas.List.Folds.{list_any-append}
 use Rattle.std.specs.BTreeSet.{insert_key}
 use Rattle.std.specs.Cmp.Lexicographic.{slice_cmp, nat_list_eq_equiv}
 use Rattle.std.specs.List.{list_any, AllByRecursion}
@@ -18,6 +16,7 @@ use Rattle.lock_table.specs.Locked.{free, whole}
 use Rattle.serial_spec.specs.Locks.{is_exclusive}
 use Rattle.inherit.specs.LocksAndVersions.{LocksAndVersions, modes_of}
 use Rattle.inherit.specs.Changes.{writes}
+use Rattle.version_stack.proofs.Base.{any_append}
 use Rattle.serial_spec.proofs.Ordered.{on_ordering, above_all, turned, same_key}
 
 -- ---- a key put among others in its place
@@ -85,10 +84,6 @@ both true b h = refl
 both false true h = absurd (false≢true (h refl))
 both false false h = refl
 
--- whether a key is among some keys and one more
-any_push : (k q : List ℕ) (keys : List (List ℕ)) → list_any (label_eq k) (keys ++ q ∷ []) ≡ list_any (label_eq k) keys || label_eq k q
-any_push k q keys = list_any-append (label_eq k) keys (q ∷ []) ∙ ap (λ b. list_any (label_eq k) keys || b) (or-false (label_eq k q))
-
 -- collected are those of the keys that were written, in byte order
 pub record AreWritten (wrote : List ℕ → Bool) (keys collected : List (List ℕ)) : Type 0 where
   pub rising : AreRisingKeys collected
@@ -111,7 +106,7 @@ module _ (wrote : List ℕ → Bool) (keys collected : List (List ℕ)) where
         any_inserted collected q k
         ∙ ap (λ b. label_eq k q || b) (far.each k)
         ∙ taken (label_eq k q) (list_any (label_eq k) keys) (wrote k) (wrote_as k q true w)
-        ∙ ap (λ b. b && wrote k) (sym (any_push k q keys));
+        ∙ ap (λ b. b && wrote k) (sym (any_append k q keys));
   }
 
   -- one more key that was not
@@ -121,7 +116,7 @@ module _ (wrote : List ℕ → Bool) (keys collected : List (List ℕ)) where
     each = λ k.
         far.each k
         ∙ passed (label_eq k q) (list_any (label_eq k) keys) (wrote k) (wrote_as k q false w)
-        ∙ ap (λ b. b && wrote k) (sym (any_push k q keys));
+        ∙ ap (λ b. b && wrote k) (sym (any_append k q keys));
   }
 
   -- all have been gone through

@@ -6,7 +6,7 @@ ghost use Rattle.inherit.specs.LocksAndVersions.{HasRoom, IsRead, IsReady, IsSam
 ghost use Rattle.inherit.specs.Steps.{HasAccessed, HasDropped, HasGoneUp, reply_in};
 
 use lock_table::Locks;
-use serial_spec::{Event, Kind, NoMemory, Op, PlainTable, Reply, act};
+use serial_spec::{Event, Kind, Left, NoMemory, Op, PlainTable, Reply, act};
 use std::alloc::Global;
 use std::marker::Model;
 use txn_names::{Key, Name};
@@ -159,8 +159,10 @@ impl Estate {
         }
         let (_, reply) = act(self.versions.value_for(tree, txn, key), &op);
         self.locks.hold(txn, key, op.kind());
-        if let Some(value) = op.leaves(reply) {
-            self.versions.put(txn, key, value);
+        match op.leaves(reply) {
+            Left::Nothing => {}
+            Left::Absent => self.versions.put(txn, key, None),
+            Left::Value(value) => self.versions.put(txn, key, Some(value)),
         }
         Some(reply)
     }

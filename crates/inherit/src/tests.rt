@@ -1,7 +1,7 @@
 //! What becomes of locks and values together, and each call once. Under a trial run that refuses a growth the call is made
 //! again.
 use crate::Estate;
-use serial_spec::{Event, Mode, NoMemory, Op, PlainTable, Reply};
+use serial_spec::{Event, Left, Mode, NoMemory, Op, PlainTable, Reply};
 use std::process::Abort;
 use txn_names::{Change, Key, Name};
 use txn_tree::{Tree, TxnNo};
@@ -138,7 +138,7 @@ fn overflow(rt: &impl Abort, tree: &mut Tree, estate: &mut Estate) {
     assert!(rt; estate.versions().base().get(&x) == Some(most));
     assert!(rt; access(rt, estate, tree, &b, &x, Op::Add(1)) == Some(Reply::Overflow));
     assert!(rt; estate.locks().modes_of(top, &x) == (Mode::Write, Mode::None));
-    assert!(rt; estate.versions().left(top, &x).is_none());
+    assert!(rt; estate.versions().left(top, &x) == Left::Nothing);
     assert!(rt;
         change(rt, estate, tree, top)
             == Some(Change {

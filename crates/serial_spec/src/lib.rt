@@ -15,7 +15,7 @@ pub use event::{Event, When};
 pub use item::{Item, run_items};
 pub use limits::{MOST_KEYS, MOST_LINES, MOST_ROWS, MOST_SESSIONS, MOST_TRANSACTIONS};
 pub use mode::Mode;
-pub use operation::{Kind, Op, Reply, act};
+pub use operation::{Kind, Left, Op, Reply, act};
 pub use table::PlainTable;
 
 /// Memory ran out: a growth was refused.

@@ -1,6 +1,7 @@
 //! The worked values of operations, that each call can succeed, and a run of nested items.
 use crate::{
-    Answer, By, Entry, Event, Item, Kind, Mode, NoMemory, Op, PlainTable, Reply, act, run_items,
+    Answer, By, Entry, Event, Item, Kind, Left, Mode, NoMemory, Op, PlainTable, Reply, act,
+    run_items,
 };
 use std::alloc::Global;
 use std::process::Abort;
@@ -107,6 +108,19 @@ fn acts(rt: HostRuntime) {
         assert!(rt; act(old, &op) == want, "{op:?} at {old:?}");
     }
     assert!(rt; Op::Get.kind() == Kind::Read && Op::Add(0).kind() == Kind::Write);
+}
+
+#[test]
+fn leaves_what_the_reply_tells(rt: HostRuntime) {
+    for (op, reply, left) in [
+        (Op::Get, Reply::Value(7), Left::Nothing),
+        (Op::Set(8), Reply::Ok, Left::Value(8)),
+        (Op::Add(4), Reply::New(11), Left::Value(11)),
+        (Op::Add(4), Reply::Overflow, Left::Nothing),
+        (Op::Del, Reply::Ok, Left::Absent),
+    ] {
+        assert!(rt; op.leaves(reply) == left, "{op:?}");
+    }
 }
 
 #[test]

@@ -1,6 +1,6 @@
 //! The worked values of versions, and each call once. Under a trial run that refuses a growth the call is made again.
 use crate::Versions;
-use serial_spec::{NoMemory, PlainTable};
+use serial_spec::{Left, NoMemory, PlainTable};
 use std::process::Abort;
 use txn_names::{Key, Name};
 use txn_tree::{Tree, TxnNo};
@@ -103,7 +103,7 @@ fn nest(rt: &impl Abort, tree: &mut Tree, versions: &mut Versions) {
     put(rt, versions, r, &x, None);
     assert!(rt; sees(rt, versions, tree, &all, [Some(1), Some(1), None, nine]));
     hand_up(rt, versions, r, a);
-    assert!(rt; versions.left(a, &x) == Some(None) && versions.left(r, &x).is_none());
+    assert!(rt; versions.left(a, &x) == Left::Absent && versions.left(r, &x) == Left::Nothing);
     assert!(rt; sees(rt, versions, tree, &all, [None, None, None, nine]));
     store(rt, versions, a);
     assert!(rt; sees(rt, versions, tree, &all, [None, None, None, None]));

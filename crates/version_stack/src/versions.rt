@@ -1,13 +1,14 @@
 //! The versions over a base.
 ghost use Rattle.std.specs.Prelude.{◌≡◌, ◌≤◌, ◌<◌, ◌&&◌, length, ◌+◌, not, nat_eq, false, IsOk, IsTrue, IfSome, IfNone, OnErr, OnOk, List, ℕ, None, Some, if◌then◌else◌};
 ghost use Rattle.txn_cells.specs.Cells.{is_under};
+ghost use Rattle.serial_spec.specs.Operations.{as_option};
 ghost use Rattle.serial_spec.specs.Rows.{IsRising, value_in};
 ghost use Rattle.serial_spec.specs.Serial.{put};
 ghost use Rattle.version_stack.specs.Versioned.{FitsBase, IsTowards, base_after, base_in, handed_up, has_place, left_at, left_in, put_by, with_childs, with_keys, with_place};
 ghost use Rattle.version_stack.specs.Seen.{seen_in};
 
 use crate::version::Version;
-use serial_spec::{NoMemory, PlainTable};
+use serial_spec::{Left, NoMemory, PlainTable};
 use std::alloc::Global;
 use std::marker::Model;
 use txn_cells::CellTable;
@@ -85,12 +86,15 @@ impl Versions {
         base
     }
 
-    /// What the transaction left at the key: nothing, a value, or that the key is absent.
-    pub fn left(&self, txn: TxnNo, key: &Key) -> Option<Option<i64>>
-        ensures { result ≡ left_in self.now txn key.now }
+    /// What the transaction left at the key.
+    pub fn left(&self, txn: TxnNo, key: &Key) -> Left
+        ensures { as_option result ≡ left_in self.now txn key.now }
     {
-        let version = self.written.get(txn, key)?;
-        Some(version.value)
+        match self.written.get(txn, key) {
+            None => Left::Nothing,
+            Some(Version { value: None }) => Left::Absent,
+            Some(Version { value: Some(value) }) => Left::Value(value),
+        }
     }
 
     /// The value that the transaction sees at the key: what the deepest of itself and its ancestors left, else the
@@ -103,10 +107,11 @@ impl Versions {
         }
         let mut at = Some(txn);
         while let Some(above) = at {
-            if let Some(value) = self.left(above, key) {
-                return value;
+            match self.left(above, key) {
+                Left::Nothing => at = tree.parent_of(above),
+                Left::Absent => return None,
+                Left::Value(value) => return Some(value),
             }
-            at = tree.parent_of(above);
         }
         self.base.get(key)
     }
