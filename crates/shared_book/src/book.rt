@@ -1,5 +1,6 @@
 //! Sessions under way, which many threads take turns with.
 ghost use Rattle.std.specs.Prelude.{◌≡◌, ◌<◌, ◌≤◌, ◌↔◌, IfErr, IfOk, IfSome, IsTrue, OnErr, OnOk};
+ghost use Rattle.serial_spec.specs.declared.limits.TheConstants.{MOST_LINES, MOST_SESSIONS};
 ghost use Rattle.serial_spec.specs.Interleaving.{AllAnswered};
 ghost use Rattle.txn_history.specs.Turns.{IsUnderWay};
 ghost use Rattle.durable_top.specs.Store.{plain};
@@ -58,7 +59,7 @@ impl<'a, S: TopStore> Book<'a, S> {
     /// The number of the session's next line, where there is such a session and it has a line left.
     pub fn next_line(&self, session: u32) -> Option<u32>
         ensures next { result ≡ next_number self.now.sessions self.now.core.history session }
-        ensures within { IfSome result (λ line. (session < 64) × (0 < line) × (line ≤ 1024)) }
+        ensures within { IfSome result (λ line. (session < MOST_SESSIONS) × (0 < line) × (line ≤ MOST_LINES)) }
     {
         // What is known of a text comes with its length: here that it is short.
         let _count = self.sessions.len();

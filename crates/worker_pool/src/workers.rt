@@ -2,6 +2,7 @@
 ghost use Rattle.std.specs.Prelude.{◌≡◌, ◌<◌, ◌≤◌, IfErr, IfOk, IfSome};
 ghost use Rattle.crossbeam_channel.specs.Claims.{IsSeatAt};
 ghost use Rattle.crossbeam_channel.specs.Ends.{receives_on, sends_on};
+ghost use Rattle.serial_spec.specs.declared.limits.TheConstants.{MOST_SESSIONS};
 ghost use Rattle.worker_pool.specs.Jobs.{IsJob, IsNextJob};
 ghost use Rattle.worker_pool.specs.Served.{IsAfterOpening};
 
@@ -159,7 +160,7 @@ fn work<R: Wait + Clock, S: TopStore, J: Opening, G: Gate>(
 
 // How many sessions there are.
 fn count_of(sessions: &Sessions) -> u32
-    ensures { result ≤ 64 }
+    ensures { result ≤ MOST_SESSIONS }
 {
     sessions.len() as u32
 }
