@@ -1,5 +1,6 @@
 //! Stores in memory commit by commit: one without faults, one that refuses, and one that fails.
-use crate::{MemStore, Row, StoreFault, TopStore};
+use crate::{MemStore, Row, StoreFault, TopStore, are_rising, table_of};
+use serial_spec::PlainTable;
 use std::alloc::Global;
 use std::process::Abort;
 use txn_names::{Change, Key};
@@ -142,4 +143,32 @@ fn a_commit_that_finds_no_memory(rt: HostRuntime) {
         Err(_) => MemStore::new(rt.alloc(), &rows).expect(&rt, "memory"),
     };
     assert!(rt; commits_again(&rt, rt.alloc(), &mut store));
+}
+
+fn table(rt: &impl Abort, alloc: Global, rows: &[Row]) -> PlainTable {
+    match table_of(alloc, rows) {
+        Ok(table) => table,
+        Err(_) => table_of(alloc, rows).expect(rt, "memory"),
+    }
+}
+
+// Of two rows with one key the first counts.
+#[test]
+fn rows_make_a_table(rt: HostRuntime) {
+    for (first, second, rising, len) in [
+        ("a=1", "b=2", true, 2),
+        ("b=2", "a=1", false, 2),
+        ("b=2", "b=3", false, 1),
+    ] {
+        let rows = [row(&rt, first), row(&rt, second)];
+        let table = table(&rt, rt.alloc(), &rows);
+        assert!(rt;
+            are_rising(&rows) == rising && table.len() == len,
+            "{first} {second}"
+        );
+        assert!(rt;
+            table.get(&rows[0].key) == Some(rows[0].value),
+            "{first} {second}"
+        );
+    }
 }

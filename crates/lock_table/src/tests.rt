@@ -89,6 +89,10 @@ fn share(rt: &impl Abort, tree: &mut Tree, locks: &mut Locks) {
         assert!(rt; locks.modes_of(txn, &x) == wanted);
     }
     assert!(rt; locks.may(tree, c, &x, Kind::Read) && !locks.may(tree, c, &x, Kind::Write));
+    assert!(rt;
+        locks.blocks(tree, b, c, &x, Kind::Write) && !locks.blocks(tree, b, b, &x, Kind::Write)
+    );
+    assert!(rt; locks.holders(&x) == [l, b].as_slice());
 }
 
 #[test]

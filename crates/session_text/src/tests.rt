@@ -1,5 +1,5 @@
 //! Texts with the faults that they are due, and what is read of those without one.
-use crate::{LineKind, Sessions, TextFault, parse_line};
+use crate::{LineKind, Sessions, TextFault, parse_line, parse_number};
 use serial_spec::{Event, Op, When};
 use std::alloc::Global;
 use std::process::Abort;
@@ -335,5 +335,22 @@ fn the_first_fault_of_a_line(rt: HostRuntime) {
         ("begin a\n", LineKind::Name),
     ] {
         assert!(rt; is_refused(text, kind), "{text}");
+    }
+}
+
+#[test]
+fn numbers_have_one_spelling(rt: HostRuntime) {
+    for (text, number) in [
+        ("0", Some(0)),
+        ("-7", Some(-7)),
+        ("9223372036854775807", Some(i64::MAX)),
+        ("-9223372036854775808", Some(i64::MIN)),
+        ("9223372036854775808", None),
+        ("-0", None),
+        ("01", None),
+        ("+1", None),
+        ("", None),
+    ] {
+        assert!(rt; parse_number(text.as_bytes()) == number, "{text}");
     }
 }

@@ -119,6 +119,7 @@ fn a_parent_has_what_its_children_left(rt: HostRuntime) {
         }
     }
     assert!(rt; table.holders(&key(&rt, 39)).len() == 15);
+    assert!(rt; table.standing_out(&key(&rt, 39)).is_empty());
     table.drop_under(&tree, TxnNo::new(2));
     assert!(rt; has_all(&rt, &table, TxnNo::new(2), None));
     assert!(rt; has_all(&rt, &table, TxnNo::new(4), Some(Latest(4))));

@@ -3,8 +3,8 @@ use crate::{Cycle, Wait, Waits, Work, find_cycle, victim};
 use serial_spec::{By, NoMemory, Op};
 use std::alloc::Global;
 use std::process::Abort;
-use txn_names::Key;
-use txn_tree::TxnNo;
+use txn_names::{Key, Name};
+use txn_tree::{Tree, TxnNo};
 
 fn pair(waiting: u32, other: u32) -> (TxnNo, TxnNo) {
     (TxnNo::new(waiting), TxnNo::new(other))
@@ -154,4 +154,45 @@ fn half_of_a_hundred(rt: HostRuntime) {
         waits.cancel(TxnNo::new(2 * half + 1));
     }
     assert!(rt; evens_wait(&waits));
+}
+
+fn begin_once(tree: &mut Tree, name: &Name) -> Option<TxnNo> {
+    match tree.begin(name) {
+        Ok(number) => Some(number),
+        Err(_) => None,
+    }
+}
+
+fn begin(rt: &impl Abort, tree: &mut Tree, text: &str) -> TxnNo {
+    let name = Name::parse(text.as_bytes()).expect(rt, text);
+    match begin_once(tree, &name) {
+        Some(number) => number,
+        None => begin_once(tree, &name).expect(rt, "begun"),
+    }
+}
+
+fn add_into_room_once(waits: &mut Waits, wait: &Wait) -> Result<(), NoMemory> {
+    waits.reserve(1)?;
+    waits.cancel(wait.txn);
+    waits.add_reserved(wait.txn, &wait.key, wait.op, wait.by);
+    Ok(())
+}
+
+fn add_into_room(rt: &impl Abort, waits: &mut Waits, wait: &Wait) {
+    if add_into_room_once(waits, wait).is_err() {
+        add_into_room_once(waits, wait).expect(rt, "memory");
+    }
+}
+
+// A transaction and its child wait no more, and its neighbour waits on.
+#[test]
+fn those_below_wait_no_more(rt: HostRuntime) {
+    let (mut tree, mut waits) = (Tree::new(rt.alloc()), Waits::new(rt.alloc()));
+    assert!(rt; waits.is_empty());
+    for (text, line) in [("a", 1), ("b", 2), ("a/l", 3)] {
+        let txn = begin(&rt, &mut tree, text);
+        add_into_room(&rt, &mut waits, &wait(&rt, txn.place(), line));
+    }
+    waits.drop_under(&tree, TxnNo::new(0));
+    assert!(rt; waits.len() == 1 && stands(&waits, &wait(&rt, 1, 2)));
 }
