@@ -20,6 +20,3 @@ pub use table::PlainTable;
 
 /// Memory ran out: a growth was refused.
 pub type NoMemory = std::alloc::AllocError;
-
-#[cfg(test)]
-mod tests;

@@ -20,6 +20,3 @@ pub use fault::{LineKind, TextFault};
 pub use line::{Line, parse_line};
 pub use number::parse_number;
 pub use sessions::Sessions;
-
-#[cfg(test)]
-mod tests;

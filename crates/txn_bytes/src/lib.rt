@@ -6,6 +6,3 @@ mod sink;
 
 pub use held::Held;
 pub use sink::{WriteFault, put};
-
-#[cfg(test)]
-mod tests;

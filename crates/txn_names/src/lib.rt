@@ -11,6 +11,3 @@ pub use change::Change;
 pub use key::{Key, KeyFault};
 pub use label::{Label, LabelFault};
 pub use name::{MOST_LABELS, Name, NameFault};
-
-#[cfg(test)]
-mod tests;

@@ -1,6 +1,7 @@
 //! Texts with the faults that they are due, and what is read of those without one.
-use crate::{LineKind, Sessions, TextFault, parse_line, parse_number};
+use session_text::{LineKind, Sessions, TextFault, parse_line, parse_number};
 use serial_spec::{Event, Op, When};
+use session_text::{LineKind, Sessions, TextFault, parse_line};
 use std::alloc::Global;
 use std::process::Abort;
 use txn_names::{Key, Label, Name};

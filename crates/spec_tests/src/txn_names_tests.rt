@@ -1,11 +1,11 @@
 //! The worked values of names, that each call can succeed, and where a fault of the writer stops a name.
-use crate::{Change, Key, KeyFault, Label, LabelFault, Name, NameFault, laws};
 use std::alloc::Global;
 use std::hash::{DefaultHasher, Hash, Hasher};
 use std::io;
 use std::io::{ErrorKind, Write};
 use std::process::Abort;
 use txn_bytes::WriteFault;
+use txn_names::{Change, Key, KeyFault, Label, LabelFault, Name, NameFault, laws};
 
 /// Takes one byte at each of `calls` calls, and then answers an error, or that it took nothing.
 #[derive(Drop)]

@@ -1,5 +1,5 @@
 //! The worked values of operations, that each call can succeed, and a run of nested items.
-use crate::{
+use serial_spec::{
     Answer, By, Entry, Event, Item, Kind, Left, Mode, NoMemory, Op, PlainTable, Reply, act,
     run_items,
 };

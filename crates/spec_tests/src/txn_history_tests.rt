@@ -1,9 +1,9 @@
 //! That each call on a history can succeed, over more lines and keys than a table has at first.
 ghost use Rattle.std.specs.Prelude.{◌<◌};
 
-use crate::History;
 use serial_spec::{Answer, By, Entry, Event, Op, PlainTable, Refusal, Reply};
 use std::process::Abort;
+use txn_history::History;
 use txn_names::{Key, Name};
 
 fn name(rt: &impl Abort) -> Name {

@@ -1,9 +1,9 @@
 //! What no clause says: that each call can succeed, and where a fault of the writer stops a write.
-use crate::{Held, WriteFault, put};
 use std::alloc::Global;
 use std::hash::{DefaultHasher, Hash, Hasher};
 use std::io;
 use std::io::{ErrorKind, Write};
+use txn_bytes::{Held, WriteFault, put};
 
 /// Takes up to `step` bytes at each of `calls` calls, and then answers an error, or that it took nothing.
 #[derive(Drop)]
