@@ -5,6 +5,3 @@ mod changes;
 mod estate;
 
 pub use estate::Estate;
-
-#[cfg(test)]
-mod tests;

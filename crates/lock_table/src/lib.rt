@@ -6,6 +6,3 @@ mod modes;
 
 pub use locks::Locks;
 pub use serial_spec::Mode;
-
-#[cfg(test)]
-mod tests;

@@ -4,9 +4,6 @@
 ghost use Rattle.std.specs.Prelude.{◌≡◌, ◌+◌, ◌<◌, ◌≤◌, ◌||◌, [], IsOk, OnOk};
 ghost use Rattle.txn_names.specs.Path.{Path, path_eq, top_of};
 
-#[cfg(test)]
-mod tests;
-
 use indexmap::IndexSet;
 use std::alloc::{AllocError, Global};
 use std::marker::Model;

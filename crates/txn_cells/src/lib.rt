@@ -11,6 +11,3 @@ mod table;
 
 pub use inherit::Inherit;
 pub use table::CellTable;
-
-#[cfg(test)]
-mod tests;

@@ -14,6 +14,3 @@ pub use number::TxnNo;
 pub use serial_spec::MOST_TRANSACTIONS;
 pub use status::Status;
 pub use tree::Tree;
-
-#[cfg(test)]
-mod tests;

@@ -13,6 +13,3 @@ mod waits;
 pub use cycle::{Cycle, victim};
 pub use finder::{Work, find_cycle};
 pub use waits::{Wait, Waits};
-
-#[cfg(test)]
-mod tests;

@@ -1,9 +1,9 @@
 //! The worked values of the tree, and each refusal once.
-use crate::{MOST_TRANSACTIONS, Status, Tree, TreeFault, TxnNo};
 use serial_spec::Refusal;
 use std::hash::{DefaultHasher, Hash, Hasher};
 use std::process::Abort;
 use txn_names::Name;
+use txn_tree::{MOST_TRANSACTIONS, Status, Tree, TreeFault, TxnNo};
 
 fn name(rt: &impl Abort, text: &str) -> Name {
     Name::parse(text.as_bytes()).expect(rt, text)

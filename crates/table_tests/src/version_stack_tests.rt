@@ -1,9 +1,10 @@
 //! The worked values of versions, and each call once. Under a trial run that refuses a growth the call is made again.
-use crate::Versions;
+use version_stack::Versions;
 use serial_spec::{Left, NoMemory, PlainTable};
 use std::process::Abort;
 use txn_names::{Key, Name};
 use txn_tree::{Tree, TxnNo};
+use version_stack::Versions;
 
 const CHILDREN: u8 = 29;
 

@@ -2,7 +2,7 @@ use Rattle.std.proofs.Common.{◌≡◌, ◌<◌, Some, None, rules}
 use Rattle.std.specs.Prelude.{length}
 use Rattle.txn_names.specs.Path.{parent}
 use Rattle.txn_tree.specs.Asked.{IsNumberOf}
-use Rattle.inherit.proofs.tests.commit_once.Goals as goal
+use Rattle.table_tests.proofs.inherit_tests.commit_once.Goals as goal
 
 pub commit_child-requires : goal.commit_child-requires
 commit_child-requires c =

@@ -1,5 +1,5 @@
 //! The worked values of the table, and each call once. Under a trial run that refuses a growth the call is made again.
-use crate::{Locks, Mode};
+use lock_table::{Locks, Mode};
 use serial_spec::{Kind, NoMemory};
 use std::process::Abort;
 use txn_names::{Key, Name};

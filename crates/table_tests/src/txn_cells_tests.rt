@@ -2,9 +2,9 @@
 //! refuses a growth the call is made again.
 ghost use Rattle.std.specs.Prelude.{◌≡◌, false};
 
-use crate::{CellTable, Inherit};
 use serial_spec::NoMemory;
 use std::process::Abort;
+use txn_cells::{CellTable, Inherit};
 use txn_names::{Key, Name};
 use txn_tree::{Tree, TxnNo};
 

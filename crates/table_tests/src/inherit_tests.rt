@@ -1,6 +1,6 @@
 //! What becomes of locks and values together, and each call once. Under a trial run that refuses a growth the call is made
 //! again.
-use crate::Estate;
+use inherit::Estate;
 use serial_spec::{Event, Left, Mode, NoMemory, Op, PlainTable, Reply};
 use std::process::Abort;
 use txn_names::{Change, Key, Name};

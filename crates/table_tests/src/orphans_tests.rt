@@ -1,7 +1,7 @@
 //! Which front is the topmost, and that a refused growth leaves the marks: a trial run has each growth refused in turn.
 ghost use Rattle.std.specs.Prelude.{◌≤◌};
 
-use crate::Marks;
+use orphans::Marks;
 use std::alloc::Global;
 use std::process::Abort;
 use txn_names::Name;

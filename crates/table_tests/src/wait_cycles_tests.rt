@@ -1,5 +1,4 @@
 //! The worked values of the finder, and each call on waits once. Under a trial run that refuses a growth the call is made again.
-use crate::{Cycle, Wait, Waits, Work, find_cycle, victim};
 use serial_spec::{By, NoMemory, Op};
 use std::alloc::Global;
 use std::process::Abort;

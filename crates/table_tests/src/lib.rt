@@ -1,0 +1,18 @@
+//! The tests of the tables below the manager: orphans, txn_tree, txn_cells, lock_table, version_stack, inherit and wait_cycles,
+//! each in a module of its own.
+#![tactic(auto)]
+
+#[cfg(test)]
+mod inherit_tests;
+#[cfg(test)]
+mod lock_table_tests;
+#[cfg(test)]
+mod orphans_tests;
+#[cfg(test)]
+mod txn_cells_tests;
+#[cfg(test)]
+mod txn_tree_tests;
+#[cfg(test)]
+mod version_stack_tests;
+#[cfg(test)]
+mod wait_cycles_tests;
