@@ -8,6 +8,3 @@ mod store;
 pub use memory::MemStore;
 pub use rows::{are_rising, table_of};
 pub use store::{Row, StoreFault, TopStore};
-
-#[cfg(test)]
-mod tests;

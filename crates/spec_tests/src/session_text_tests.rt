@@ -1,7 +1,6 @@
 //! Texts with the faults that they are due, and what is read of those without one.
-use session_text::{LineKind, Sessions, TextFault, parse_line, parse_number};
 use serial_spec::{Event, Op, When};
-use session_text::{LineKind, Sessions, TextFault, parse_line};
+use session_text::{LineKind, Sessions, TextFault, parse_line, parse_number};
 use std::alloc::Global;
 use std::process::Abort;
 use txn_names::{Key, Label, Name};

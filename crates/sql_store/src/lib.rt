@@ -13,6 +13,3 @@ mod writes;
 
 pub use memory::MemoryStore;
 pub use store::SqlStore;
-
-#[cfg(test)]
-mod tests;

@@ -1,5 +1,4 @@
 //! The worked values of versions, and each call once. Under a trial run that refuses a growth the call is made again.
-use version_stack::Versions;
 use serial_spec::{Left, NoMemory, PlainTable};
 use std::process::Abort;
 use txn_names::{Key, Name};

@@ -4,6 +4,7 @@ use std::alloc::Global;
 use std::process::Abort;
 use txn_names::{Key, Name};
 use txn_tree::{Tree, TxnNo};
+use wait_cycles::{Cycle, Wait, Waits, Work, find_cycle, victim};
 
 fn pair(waiting: u32, other: u32) -> (TxnNo, TxnNo) {
     (TxnNo::new(waiting), TxnNo::new(other))

@@ -1,8 +1,8 @@
 //! A store over a database file and its log. Each of the two stops at some call and the machine with it: what is opened
 //! then holds the table before a commit or after it.
 use super::{are, change};
-use crate::SqlStore;
 use durable_top::TopStore;
+use sql_store::SqlStore;
 use sqlite::{Connection, FileStore, Files, Options};
 use sqlite_disk::{Crash, Disk, Fuse, Memory};
 use std::alloc::Global;

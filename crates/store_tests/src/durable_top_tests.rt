@@ -1,5 +1,5 @@
 //! Stores in memory commit by commit: one without faults, one that refuses, and one that fails.
-use crate::{MemStore, Row, StoreFault, TopStore, are_rising, table_of};
+use durable_top::{MemStore, Row, StoreFault, TopStore, are_rising, table_of};
 use serial_spec::PlainTable;
 use std::alloc::Global;
 use std::process::Abort;

@@ -1,8 +1,8 @@
 //! Stores over databases in memory and over files that stop. Real files are for the tests of the program.
 mod stops;
 
-use crate::{MemoryStore, SqlStore};
 use durable_top::{Row, StoreFault, TopStore};
+use sql_store::{MemoryStore, SqlStore};
 use sqlite::{Connection, Error, MemStore};
 use std::alloc::Global;
 use std::process::Abort;

@@ -1,0 +1,7 @@
+//! The tests of durable_top and sql_store, each in a module of its own.
+#![tactic(auto)]
+
+#[cfg(test)]
+mod durable_top_tests;
+#[cfg(test)]
+mod sql_store_tests;
