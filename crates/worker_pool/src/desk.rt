@@ -48,6 +48,12 @@ pub(crate) struct Tried {
 #[derive(Drop)]
 pub(crate) struct Desk<'a, S: TopStore, J: Opening> {
     book: Book<'a, S>,
+    // How many sessions there are.
+    sessions: u32,
+    // How many attempts were parked in a row, whoever made them, since a line was answered or stuck lines were looked for.
+    parked: u32,
+    // How many sessions had a line left when stuck lines were last looked for.
+    open: u32,
     // Whether memory ran out while someone had the lock.
     refused: bool,
     of: PhantomData<J>,
@@ -65,12 +71,15 @@ impl<'a, S: TopStore, J: Opening> Model for Desk<'a, S, J> {
 }
 
 impl<'a, S: TopStore, J: Opening> Desk<'a, S, J> {
-    pub(crate) fn new(book: Book<'a, S>) -> Desk<'a, S, J>
+    pub(crate) fn new(book: Book<'a, S>, sessions: u32) -> Desk<'a, S, J>
         requires { IsOpenedWith S.TopStore J.rows J.doubt book }
         ensures { result ≡ book.entry }
     {
         Desk {
             book,
+            sessions,
+            parked: 0,
+            open: 0,
             refused: false,
             of: PhantomData,
         }
@@ -90,13 +99,45 @@ impl<'a, S: TopStore, J: Opening> Desk<'a, S, J> {
         self.book.stuck()
     }
 
-    // Looks for a line that must be given up, where one was parked.
+    // How many sessions have a line left.
+    fn count_open(&self) -> u32 {
+        (0..self.sessions)
+            .filter(|session| self.book.next_line(*session).is_some())
+            .count() as u32
+    }
+
+    // Counts an attempt that was parked. Answers whether so many were parked in a row that each session may have been
+    // tried, and then it begins to count anew.
+    fn is_look_due(&mut self) -> bool
+        ensures { self.new ≡ self.old }
+    {
+        self.parked = self.parked.saturating_add(1);
+        if self.parked < self.open {
+            return false;
+        }
+        self.parked = 0;
+        self.open = self.count_open();
+        true
+    }
+
+    // Looks for a line that must be given up, where none of the open sessions was answered for a whole round. As long as
+    // one is answered, nothing is stuck.
     fn look_for_stuck(&mut self, turn: Turn) -> Result<Option<(u32, u32)>, NoMemory>
         ensures { IfOk result (λ line. LooksForStuck S.TopStore self.old self.new turn line) }
     {
         match turn {
-            Turn::Parked => self.stuck(),
-            Turn::Answered | Turn::OutOfTurn => Ok(None),
+            Turn::Parked => {
+                if self.is_look_due() {
+                    self.stuck()
+                } else {
+                    Ok(None)
+                }
+            }
+            Turn::Answered => {
+                self.parked = 0;
+                Ok(None)
+            }
+            Turn::OutOfTurn => Ok(None),
         }
     }
 
@@ -114,7 +155,7 @@ impl<'a, S: TopStore, J: Opening> Desk<'a, S, J> {
         })
     }
 
-    /// Attempts a line, and looks for a line that must be given up where this one is parked. The only error is that memory
+    /// Attempts a line, and may look for a line that must be given up where this one is parked. The only error is that memory
     /// runs out, and then no report will be made.
     pub(crate) fn take_turn(
         &mut self,

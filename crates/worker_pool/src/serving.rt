@@ -4,7 +4,7 @@ ghost use Rattle.worker_pool.specs.Openings.{IsOpenedWith};
 ghost use Rattle.worker_pool.specs.Served.{HasServeCause, IsAfterOpening, IsServed, IsServedFrom};
 
 use crate::desk::{Desk, Opening};
-use crate::workers::{Gate, MOST_WORKERS, work_through};
+use crate::workers::{Gate, MOST_WORKERS, count_of, work_through};
 use durable_top::TopStore;
 use interleavings::Report;
 use manager_core::OpenFault;
@@ -46,7 +46,7 @@ pub(crate) fn serve_book<
     ensures ok { IfOk result (λ run. IsServedFrom S.TopStore J.rows J.doubt sessions.now faults run.0 run.1) }
     ensures err { IfErr result IsAfterOpening }
 {
-    let desk: Mutex<Desk<'_, S, J>> = Mutex::new(Desk::new(book));
+    let desk: Mutex<Desk<'_, S, J>> = Mutex::new(Desk::new(book, count_of(sessions)));
     let worked = work_through(rt, alloc, sessions, &desk, workers, gate);
     desk.into_inner().into_report(sessions, faults, worked)
 }

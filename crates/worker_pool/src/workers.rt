@@ -159,7 +159,7 @@ fn work<R: Wait + Clock, S: TopStore, J: Opening, G: Gate>(
 }
 
 // How many sessions there are.
-fn count_of(sessions: &Sessions) -> u32
+pub(crate) fn count_of(sessions: &Sessions) -> u32
     ensures { result ≤ MOST_SESSIONS }
 {
     sessions.len() as u32
