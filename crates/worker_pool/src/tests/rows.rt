@@ -38,6 +38,9 @@ const ALWAYS_GIVEN_UP: &[u8] =
     b"session p\nbegin a\nbegin a/l\nset a/l x 1\ncommit a/l\nafter b done\ncommit a\n\
 session q\nafter a/l done\nbegin b\nget b x\ncommit b\n";
 
+/// One session, two lines of which wait for what will not be.
+const ALONE: &[u8] = b"session s\nbegin a\nafter b begun\nset a x 1\nafter b done\ncommit a\n";
+
 /// Eight sessions that each add 1 to one key.
 const EIGHT: &[u8] =
     b"session s0\nbegin t0\nadd t0 x 1\ncommit t0\nsession s1\nbegin t1\nadd t1 x 1\ncommit t1\n\
@@ -131,6 +134,39 @@ fn one_given_up(rt: HostRuntime) {
         assert!(rt; gate.heard(10));
         assert!(rt; given_up(&report) == 1);
         assert!(rt; value_of(&rt, &report, b"x") == Some(1));
+    }
+}
+
+#[test]
+fn two_given_up_of_one_session(rt: HostRuntime) {
+    for workers in WORKERS {
+        let gate = Counts::new();
+        let report = served(&rt, rt.alloc(), ALONE, workers, &gate);
+        assert!(rt; gate.heard(5));
+        assert!(rt; given_up(&report) == 2);
+        assert!(rt; value_of(&rt, &report, b"x") == Some(1));
+    }
+}
+
+// 64 sessions of two lines each, all of which wait for what will not be.
+fn all_stuck(rt: &impl Abort, alloc: Global) -> String {
+    let mut text = String::new(alloc);
+    for i in 0..64 {
+        let lines = format!(in alloc; "session s{i}\nafter a begun\nafter a done\n");
+        text.push_str(&lines.expect(rt, "memory"))
+            .expect(rt, "memory");
+    }
+    text
+}
+
+#[test]
+fn all_given_up(rt: HostRuntime) {
+    let text = all_stuck(&rt, rt.alloc());
+    for workers in WORKERS {
+        let gate = Counts::new();
+        let report = served(&rt, rt.alloc(), text.as_bytes(), workers, &gate);
+        assert!(rt; given_up(&report) == 128);
+        assert!(rt; gate.answered.load(Ordering::SeqCst) == 128);
     }
 }
 
