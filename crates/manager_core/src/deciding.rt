@@ -17,7 +17,8 @@ use txn_tree::{Status, TxnNo};
 pub(crate) fn is_full_for(log: &Log, key: &Key) -> bool
     ensures { result ≡ is_full_for log.now.rows log.now.entries key.now }
 {
-    !log.knows(key) && log.known() >= MOST_KEYS
+    // Few know so many, and to count costs less than to look the key up.
+    log.known() >= MOST_KEYS && !log.knows(key)
 }
 
 impl Tables {
