@@ -22,6 +22,3 @@ mod waiting;
 
 pub use manager::{Manager, Parts};
 pub use outcome::{OpenFault, Outcome};
-
-#[cfg(test)]
-mod tests;

@@ -1,5 +1,5 @@
 //! Cycles of waits, and who is aborted to break them.
-use crate::tests::watched::play;
+use crate::manager_core_tests::watched::play;
 
 // Two that write two keys in opposite order: the one that began later is the victim.
 #[test]

@@ -1,5 +1,5 @@
 //! What ends with what, and which refusal a line gets.
-use crate::tests::watched::play;
+use crate::manager_core_tests::watched::play;
 
 #[test]
 fn an_abort_takes_all_below(rt: HostRuntime) {

@@ -1,7 +1,7 @@
 //! Stores that take the changes, and some that do not.
-use crate::tests::watched::{call, entry, play, play_over, store_of};
-use crate::{Manager, OpenFault, Outcome};
+use crate::manager_core_tests::watched::{answer_of, call, entry, play, play_over, store_of};
 use durable_top::{MemStore, StoreFault, TopStore};
+use manager_core::{Manager, OpenFault, Outcome};
 use std::alloc::Global;
 use std::process::Abort;
 
@@ -54,7 +54,7 @@ fn is_answered(rt: &impl Abort, manager: &mut Manager<MemStore>, text: &str) -> 
     let line = entry(rt, text);
     assert!(rt; manager.free(line.by, &line.event));
     match call(manager, line.by, &line.event) {
-        Ok(outcome) => outcome.answer() == line.answer,
+        Ok(outcome) => answer_of(&outcome) == line.answer,
         Err(_) => false,
     }
 }

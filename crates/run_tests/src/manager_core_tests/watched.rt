@@ -8,8 +8,8 @@ ghost use Rattle.serial_spec.specs.declared.event.Event.TheVariants.{Access};
 ghost use Rattle.manager_core.specs.Calls.{WaitsOrIsUndone};
 ghost use Rattle.manager_core.specs.Lines.{IsFree};
 
-use crate::{Manager, OpenFault, Outcome, Parts};
 use durable_top::{MemStore, Row, TopStore, are_rising};
+use manager_core::{Manager, OpenFault, Outcome, Parts};
 use serial_spec::{Answer, By, Entry, Event, NoMemory, Op, PlainTable, Refusal, Reply, When};
 use std::alloc::Global;
 use std::hash::{DefaultHasher, Hash, Hasher};
@@ -231,6 +231,15 @@ pub fn call<S: TopStore>(
     }
 }
 
+/// The answer that the history keeps of what a call comes to.
+pub fn answer_of(outcome: &Outcome) -> Answer {
+    match *outcome {
+        Outcome::Done(reply) => Answer::Done(reply),
+        Outcome::Waits => Answer::Waits,
+        Outcome::Refused(refusal) => Answer::Refused(refusal),
+    }
+}
+
 // Adds an entry to those that are due, where there is room.
 fn owe(rt: &impl Abort, due: &mut Vec<Entry>, by: By, event: &Event, answer: Answer) {
     assert!(rt; due.len() < due.capacity());
@@ -286,7 +295,7 @@ fn ask<S: TopStore>(
             call(&mut watched.manager, by, event).expect(rt, "memory")
         }
     };
-    owe(rt, &mut watched.due, by, event, outcome.answer());
+    owe(rt, &mut watched.due, by, event, answer_of(&outcome));
     owe_aborts(rt, &mut watched.due, By::Victim, victims);
     assert!(rt; is_due(watched));
     if victims.is_empty() {
@@ -317,12 +326,12 @@ fn ask_again<S: TopStore>(
     if outcome == Outcome::Waits {
         assert!(rt; is_as_before(watched, before));
     } else {
-        owe(rt, &mut watched.due, by, event, outcome.answer());
+        owe(rt, &mut watched.due, by, event, answer_of(&outcome));
         owe_aborts(rt, &mut watched.due, By::Victim, victims);
         assert!(rt; is_due(watched));
         assert!(rt; !watched.manager.waiting(name));
     }
-    outcome.answer()
+    answer_of(&outcome)
 }
 
 // Makes the call of an access.
@@ -398,10 +407,10 @@ fn wait_for<S: TopStore>(
     if outcome == Outcome::Waits {
         assert!(rt; is_as_before(watched, before));
     } else {
-        owe(rt, &mut watched.due, by, event, outcome.answer());
+        owe(rt, &mut watched.due, by, event, answer_of(&outcome));
         assert!(rt; is_due(watched));
     }
-    outcome.answer()
+    answer_of(&outcome)
 }
 
 const NOT_STORED: Answer = Answer::Refused(Refusal::Store);
@@ -425,7 +434,7 @@ fn answer_to<S: TopStore>(
         wait_and_give_up(rt, watched, *by, event);
         Answer::Stuck
     } else if watched.manager.free(*by, event) {
-        ask(rt, watched, *by, event, victims).answer()
+        answer_of(&ask(rt, watched, *by, event, victims))
     } else {
         ask_again(rt, watched, *by, event, victims)
     }
@@ -446,7 +455,7 @@ fn tell<S: TopStore>(rt: &impl Abort, watched: &mut Watched<S>, text: &str) {
     let mut answer = answer_to(rt, watched, &line, victims);
     // A store in memory has refused since memory ran out.
     if answer == NOT_STORED && line.answer == Answer::Done(Reply::Ok) {
-        answer = ask(rt, watched, again(line.by), &line.event, victims).answer();
+        answer = answer_of(&ask(rt, watched, again(line.by), &line.event, victims));
     }
     assert!(rt; answer == line.answer, "{text}");
 }

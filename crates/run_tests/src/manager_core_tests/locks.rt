@@ -1,5 +1,5 @@
 //! Who waits for whom, and how long.
-use crate::tests::watched::play;
+use crate::manager_core_tests::watched::play;
 
 // The line that waited is answered when its transaction waits no more.
 #[test]

@@ -1,5 +1,5 @@
 //! Lines that wait for a condition, and lines that are given up.
-use crate::tests::watched::play;
+use crate::manager_core_tests::watched::play;
 
 // What has begun is told at once, what has come to its end once it has, by its commit or by an abort above it.
 #[test]
