@@ -11,6 +11,3 @@ mod workers;
 
 pub use serving::{ServeFault, serve};
 pub use workers::{Gate, MOST_WORKERS};
-
-#[cfg(test)]
-mod tests;

@@ -1,5 +1,5 @@
 //! A whole run by workers.
-ghost use Rattle.std.specs.Prelude.{◌≡◌, ◌<◌, ◌≤◌, IfErr, IfOk};
+ghost use Rattle.std.specs.Prelude.{◌≡◌, ◌≤◌, IfErr, IfOk};
 ghost use Rattle.worker_pool.specs.Openings.{IsOpenedWith};
 ghost use Rattle.worker_pool.specs.Served.{HasServeCause, IsAfterOpening, IsServed, IsServedFrom};
 
@@ -25,9 +25,8 @@ pub enum ServeFault {
     Thread,
 }
 
-/// Serves the sessions of a book on which nothing was done yet. Lines that are left by the workers, of whom there may be
-/// none, are tried by the calling thread.
-pub(crate) fn serve_book<
+// Serves the sessions of a book on which nothing was done yet.
+fn serve_book<
     J: Opening + Send,
     R: Threads + Wait + Clock + Sync,
     S: TopStore + Send,
@@ -51,8 +50,9 @@ pub(crate) fn serve_book<
     desk.into_inner().into_report(sessions, faults, worked)
 }
 
-/// Serves the sessions by so many workers over one lock, and gives the report and the store. Where it answers, the report
-/// is that of a legal history that takes all lines of the sessions in turn; which one is the threads' choice.
+/// Serves the sessions by so many workers over one lock, and gives the report and the store. Lines that are left by the
+/// workers, of whom there may be none, are tried by the calling thread. Where it answers, the report is that of a legal
+/// history that takes all lines of the sessions in turn; which one is the threads' choice.
 #[tactic(auto, using(crate::proofs::Kept::as_opened, crate::proofs::Reported::if_served, crate::proofs::Reported::if_cause))]
 pub fn serve<R: Threads + Wait + Clock + Sync, S: TopStore + Send, G: Gate + Sync>(
     rt: &R,
@@ -62,7 +62,7 @@ pub fn serve<R: Threads + Wait + Clock + Sync, S: TopStore + Send, G: Gate + Syn
     workers: u32,
     gate: &G,
 ) -> Result<(Report, S), ServeFault>
-    requires { (0 < workers) × (workers ≤ MOST_WORKERS) }
+    requires { workers ≤ MOST_WORKERS }
     ensures ok { IfOk result (λ run. IsServed S.TopStore sessions store run.0 run.1) }
     ensures err { IfErr result (λ fault. HasServeCause S.TopStore store fault) }
 {

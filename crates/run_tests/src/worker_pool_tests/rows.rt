@@ -1,21 +1,13 @@
 //! Texts with their tables, by one worker, by two and by many.
 use super::served;
-use crate::Gate;
-use crate::serving::serve_book;
-use durable_top::{MemStore, TopStore};
 use interleavings::Report;
 use serial_spec::{Answer, By, Entry, Event, Reply};
-use session_text::Sessions;
-use shared_book::Book;
 use std::alloc::Global;
-use std::marker::Brand;
 use std::process::Abort;
 use std::rt::HostRuntime;
-use std::sync::Wait;
 use std::sync::atomic::{AtomicU64, Ordering};
-use std::thread::Threads;
-use std::time::Clock;
 use txn_names::{Key, Name};
+use worker_pool::Gate;
 
 const ONE: &[u8] = b"session s\nbegin a\nset a x 5\nget a x\ncommit a\n";
 
@@ -170,28 +162,11 @@ fn all_given_up(rt: HostRuntime) {
     }
 }
 
-// The answers of a run without workers, whose lines are all left to the calling thread.
-#[tactic(auto, using(crate::proofs::Kept::as_opened))]
-fn served_by_none<R: Threads + Wait + Clock + Abort + Sync, S: TopStore + Send>(
-    rt: &R,
-    alloc: Global,
-    text: &[u8],
-    store: S,
-    gate: &Counts,
-) -> Report {
-    let sessions = Sessions::parse(alloc, text).expect(rt, "a text");
-    let faults = store.faults();
-    let book = Book::open(alloc, &sessions, store).expect(rt, "a book");
-    let run = serve_book::<Brand, R, S, Counts>(rt, alloc, &sessions, book, faults, 0, gate);
-    let (report, _store) = run.expect(rt, "a report");
-    report
-}
-
+// A run without workers, whose lines are all left to the calling thread.
 #[test]
 fn left_by_workers(rt: HostRuntime) {
     let gate = Counts::new();
-    let store = MemStore::new(rt.alloc(), &[]).expect(&rt, "memory");
-    let report = served_by_none(&rt, rt.alloc(), ALWAYS_GIVEN_UP, store, &gate);
+    let report = served(&rt, rt.alloc(), ALWAYS_GIVEN_UP, 0, &gate);
     assert!(rt; gate.heard(10));
     assert!(rt; given_up(&report) == 1);
     assert!(rt; value_of(&rt, &report, b"x") == Some(1));

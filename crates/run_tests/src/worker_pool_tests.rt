@@ -2,7 +2,6 @@
 mod gates;
 mod rows;
 
-use crate::{Gate, MOST_WORKERS, serve};
 use durable_top::MemStore;
 use interleavings::Report;
 use session_text::Sessions;
@@ -11,6 +10,7 @@ use std::process::Abort;
 use std::sync::Wait;
 use std::thread::Threads;
 use std::time::Clock;
+use worker_pool::{Gate, MOST_WORKERS, serve};
 
 /// The report of a text over an empty table.
 fn served<R: Threads + Wait + Clock + Abort + Sync, G: Gate + Sync>(
@@ -20,7 +20,7 @@ fn served<R: Threads + Wait + Clock + Abort + Sync, G: Gate + Sync>(
     workers: u32,
     gate: &G,
 ) -> Report {
-    assert!(rt; 0 < workers && workers <= MOST_WORKERS);
+    assert!(rt; workers <= MOST_WORKERS);
     let sessions = Sessions::parse(alloc, text).expect(rt, "a text");
     let store = MemStore::new(alloc, &[]).expect(rt, "memory");
     let (report, _store) = serve(rt, alloc, sessions, store, workers, gate).expect(rt, "a report");

@@ -1,11 +1,11 @@
 //! Two lines are under way at once, and one is answered while the other is held up at the gate.
 use super::served;
-use crate::Gate;
 use interleavings::Report;
 use serial_spec::By;
 use std::rt::HostRuntime;
 use std::sync::atomic::{AtomicBool, Ordering};
 use std::thread;
+use worker_pool::Gate;
 
 const TWO: &[u8] = b"session p\nbegin a\ncommit a\nsession q\nbegin b\ncommit b\n";
 
