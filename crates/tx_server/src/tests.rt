@@ -6,6 +6,7 @@ mod sessions;
 mod stops;
 mod stores;
 mod workers;
+mod workloads;
 
 use crate::program::{replay_over, tx_main};
 use crate::replay::{ReplayFault, replay_text};

@@ -2,7 +2,7 @@
 //! one transaction after another, and has to lead to the report's table.
 use durable_top::Row;
 use interleavings::Report;
-use serial_spec::{Answer, Entry, Event, Item, PlainTable, run_items};
+use serial_spec::{Answer, Entry, Event, Item, PlainTable, Reply, run_items};
 use std::alloc::Global;
 use std::process::Abort;
 use txn_names::Name;
@@ -69,11 +69,12 @@ fn is_same(left: &PlainTable, right: &PlainTable) -> bool {
     left.len() == right.len() && (0..left.len()).all(|place| left.at(place) == right.at(place))
 }
 
-/// Whether the committed top-level transactions, one after another, have these replies and leave this table.
-pub fn is_serial(rt: &impl Abort, alloc: Global, report: &Report) -> bool {
+// Whether the committed top-level transactions of this history, over the report's opening rows, have these replies and leave
+// the report's table.
+fn is_serial_by(rt: &impl Abort, alloc: Global, report: &Report, history: &[Entry]) -> bool {
     let mut under = Vec::new(alloc);
     begin(rt, alloc, &mut under, None);
-    for entry in report.history() {
+    for entry in history {
         enter(rt, alloc, &mut under, entry);
     }
     let Some(root) = under.first() else {
@@ -82,4 +83,26 @@ pub fn is_serial(rt: &impl Abort, alloc: Global, report: &Report) -> bool {
     let mut table = table_of(rt, alloc, report.opening());
     let wrong = run_items(&mut table, root.items.as_slice()).expect(rt, "memory");
     wrong.is_none() && is_same(&table, report.table())
+}
+
+/// Whether the committed top-level transactions, one after another, have these replies and leave this table.
+pub fn is_serial(rt: &impl Abort, alloc: Global, report: &Report) -> bool {
+    is_serial_by(rt, alloc, report, report.history())
+}
+
+/// Whether that were so of the same report with another sum as the reply to the first add. It must not be.
+pub fn is_serial_spoiled(rt: &impl Abort, alloc: Global, report: &Report) -> bool {
+    let mut history = Vec::new(alloc);
+    let mut spoiled = false;
+    for entry in report.history() {
+        let mut entry = *entry;
+        if let Answer::Done(Reply::New(sum)) = entry.answer {
+            if !spoiled {
+                spoiled = true;
+                entry.answer = Answer::Done(Reply::New(sum.wrapping_add(1)));
+            }
+        }
+        history.push(entry).expect(rt, "memory");
+    }
+    is_serial_by(rt, alloc, report, history.as_slice())
 }
