@@ -127,6 +127,12 @@ impl Locks {
     pub fn may(&self, tree: &Tree, txn: TxnNo, key: &Key, kind: Kind) -> bool
         ensures { result ≡ not (is_blocked_in tree.now self.now txn key.now kind) }
     {
+        // Writers are few, and of the others that have a place at the key most only wait.
+        if kind == Kind::Write {
+            if self.is_any_blocker(tree, txn, key, kind, self.table.standing_out(key)) {
+                return false;
+            }
+        }
         !self.is_any_blocker(tree, txn, key, kind, self.rivals(key, kind))
     }
 
