@@ -92,15 +92,14 @@ fn next_job(session: u32, tried: &Tried) -> Option<Job>
     }
 }
 
-// Rests behind a line that is parked: it yields as long as fewer in a row were parked than there are sessions, so that each
-// may have been tried, and then it sleeps. Answers how many they are by now, as far as that is asked. Meanwhile nobody
-// has the line's job, and the other workers wait for theirs.
+// Rests behind a line that is parked, once as many in a row were parked as there are sessions, so that each may have been tried.
+// Answers how many they are by now, as far as that is asked. Meanwhile nobody has the line's job, and the other workers wait
+// for theirs.
 fn rest<R: Clock>(rt: &R, parked: u32, sessions: u32, tried: &Tried) -> u32 {
     if tried.turn == Turn::Answered || tried.given_up.is_some() {
         return 0;
     }
     if parked < sessions {
-        thread::yield_now();
         return parked + 1;
     }
     thread::sleep(rt, Duration::from_micros(REST));
