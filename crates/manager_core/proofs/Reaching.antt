@@ -1,5 +1,5 @@
 -- What an access comes to by the estate is what it comes to by the history.
-use Rattle.std.proofs.Common.{◌≡◌, ℕ, Bool, true, false, cond, ◌&&◌, List, Some, None, refl, sym, ap, ◌∙◌}
+use Rattle.std.proofs.Common.{◌≡◌, ℕ, Bool, true, false, not, true≢false, cond, ◌&&◌, List, Some, None, refl, sym, ap, ◌∙◌}
 use Rattle.std.proofs.lemmas.Option.{same_Some, none-some}
 use Rattle.txn_names.specs.Path.{label_eq}
 use Rattle.std.specs.Prelude.{slice_get}
@@ -31,6 +31,11 @@ use Rattle.manager_core.proofs.Tabled.{tables_roomy}
 replied : (b : Bool) (x r : Reply) → Some r ≡ cond b None (Some x) → (b ≡ false) × (r ≡ x)
 replied true x r e = absurd (none-some r (sym e))
 replied false x r e = (refl, same_Some r x e)
+
+-- a lock keeps out where it is told that none lets in
+pub kept_by_lock : (b r : Bool) → r ≡ not b → r ≡ false → b ≡ true
+kept_by_lock true r e f = refl
+kept_by_lock false r e f = absurd (true≢false (sym e ∙ f))
 
 kept_out : (b : Bool) (x : Reply) → None ≡ cond b None (Some x) → b ≡ true
 kept_out true x e = refl

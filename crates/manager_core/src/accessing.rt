@@ -77,6 +77,10 @@ impl Tables {
         match self.number_at_access(log, *by, name, key) {
             Err(refusal) => Ok(Outcome::Refused(refusal)),
             Ok(txn) => {
+                // One that has to wait takes no place at the key, so that those with a place are those with a lock.
+                if !self.may(txn, key, *op) {
+                    return Ok(Outcome::Waits);
+                }
                 self.estate.reserve_access(txn, key, op.kind())?;
                 match self.estate.access(&self.tree, txn, key, *op) {
                     Some(reply) => Ok(Outcome::Done(reply)),

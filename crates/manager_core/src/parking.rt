@@ -70,8 +70,8 @@ impl Tables {
         }
     }
 
-    // Whether no lock keeps the access out.
-    fn may(&self, txn: TxnNo, key: &Key, op: Op) -> bool
+    /// Whether no lock keeps the access out.
+    pub(crate) fn may(&self, txn: TxnNo, key: &Key, op: Op) -> bool
         ensures { (t : Path) → IsNumberOf self.now.tree t txn → (rows : Rows) (h : History) → AreTablesOf rows h self.now → result ≡ not (is_blocked h t key.now (kind op)) }
     {
         self.estate.locks().may(&self.tree, txn, key, op.kind())

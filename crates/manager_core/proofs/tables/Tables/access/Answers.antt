@@ -1,5 +1,5 @@
 use Rattle.std.proofs.Common.{refl, sym, ◌∙◌}
-use Rattle.manager_core.proofs.Reaching.{comes_done, comes_waits}
+use Rattle.manager_core.proofs.Reaching.{comes_done, comes_waits, kept_by_lock}
 use Rattle.manager_core.specs.Tables.{Tabled, HasOtherRoom}
 use Rattle.manager_core.proofs.tables.Tables.access.Goals as goal
 use Rattle.manager_core.proofs.tables.Tables.access.Goals.{in-Some, in-None}
@@ -23,3 +23,10 @@ returns-after-access-clause-comes c =
           asked.name n number asked.key asked.op asked.by none
           (sym w.in-None.is ∙ c.access.ensures.reply))
     ]
+
+pub returns-then-not-may-clause-comes : goal.returns-then-not-may-clause-comes
+returns-then-not-may-clause-comes c =
+    let log = c.args.log.now in (
+      c.in-Ok.ensures.cause,
+      kept_by_lock _ c.may.result (c.may.ensures c.args.request.now.name c.in-Ok.ensures.number log.rows log.entries c.requires.are) c.if-not-may.true,
+    )
