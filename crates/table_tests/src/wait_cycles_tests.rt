@@ -119,7 +119,9 @@ fn stands(waits: &Waits, wait: &Wait) -> bool {
 fn waits_come_and_go(rt: HostRuntime) {
     let mut waits = Waits::new(rt.alloc());
     let (first, second, again) = (wait(&rt, 4, 1), wait(&rt, 9, 2), wait(&rt, 4, 3));
+    assert!(rt; waits.is_empty());
     add(&rt, &mut waits, &first);
+    assert!(rt; !waits.is_empty());
     add(&rt, &mut waits, &second);
     assert!(rt; stands(&waits, &first) && stands(&waits, &second));
     waits.cancel(first.txn);

@@ -1,23 +1,15 @@
 -- What a run of a text says of the program.
 use Rattle.std.proofs.Common.{◌≡◌, ℕ, List, Option, Some, None, refl, inl, inr}
 use Rattle.std.specs.Io.KnownBytes.{Keeps}
-use Rattle.txn_bytes.proofs.Appending.{kept}
 use Rattle.durable_top.specs.declared.store.TopStore.{Ghosts}
-use Rattle.tx_server.specs.Ways.{Way}
-use Rattle.tx_server.specs.Replays.{IsReplayed, spelled_report}
-use Rattle.tx_server.specs.Programs.{IsMissed, IsPrinted, Misses, MissesFrom, Prints, PrintsFrom}
+use Rattle.session_runs.specs.Ways.{Way}
+use Rattle.session_runs.specs.Printing.{IsMissed, IsPrinted}
+use Rattle.tx_server.specs.Programs.{Misses, MissesFrom, Prints, PrintsFrom}
 
 -- a writer that got nothing
 pub same_kept : (w : Option (List ℕ)) → Keeps w w
 same_kept None = tt
 same_kept (Some xs) = refl
-
--- a writer that keeps what it got after the whole report
-pub printed_kept : {S : Type 0} (g : Ghosts S) (old mid new : Option (List ℕ)) (text : List ℕ) (way : Way) (store left : S) → IsReplayed g old mid text way store left → Keeps mid new → IsPrinted g old new text way store
-printed_kept g old mid new text way store left h k = record {
-  left = left;
-  replayed = record { told = h.told; holds = h.holds; written = kept old mid new (spelled_report h.told) h.written k };
-}
 
 pub prints : {S : Type 0} (g : Ghosts S) (old new : Option (List ℕ)) (text : List ℕ) (way : Way) (store : S) (status : ℕ) → ((k : List ℕ) → g.table store k ≡ None) → (status ≡ 0 → IsPrinted g old new text way store) → status ≡ 0 → Prints g old new
 prints g old new text way store status empty h done = record { text = text; way = way; store = store; empty = empty; printed = h done }

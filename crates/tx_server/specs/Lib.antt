@@ -1,5 +1,1 @@
-pub mod Ways
-pub mod Replays
 pub mod Programs
-pub mod Faults
-pub mod Schedules

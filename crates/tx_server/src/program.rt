@@ -1,16 +1,13 @@
 //! The program, apart from where its words come from and where its bytes go.
 ghost use Rattle.std.specs.Prelude.{◌≡◌, ◌≢◌, ◌≤◌, ◌⊎◌};
 ghost use Rattle.std.specs.Io.KnownBytes.{Keeps};
-ghost use Rattle.tx_server.specs.Programs.{IsMissed, IsPrinted, Misses, MissesFrom, Prints, PrintsFrom};
-ghost use Rattle.tx_server.specs.Ways.{AreFew, IsServable, way_of, Scheduled, ByWorkers};
+ghost use Rattle.session_runs.specs.declared.reporting.TheConstants.{DONE, FAILED};
+ghost use Rattle.session_runs.specs.Ways.{IsServable};
+ghost use Rattle.tx_server.specs.Programs.{Misses, MissesFrom, Prints, PrintsFrom};
 
 use crate::command::{Task, task_of};
-use crate::fault::{Fault, fault_of};
-use crate::replay::replay_text;
-use crate::schedule::attempts_of;
-use crate::serve::{OpenGate, run_text};
-use crate::way::{Way, workers_of};
 use durable_top::{StoreFault, TopStore};
+use session_runs::{Fault, Way, attempts_of, report_over, tell, workers_of};
 use sql_store::{MemoryStore, SqlStore};
 use sqlite::{Alter, File, FileStore};
 use std::alloc::{AllocError, Global};
@@ -21,12 +18,6 @@ use std::rt::{Files, HostRuntime};
 use std::sync::Wait;
 use std::thread::Threads;
 use std::time::Clock;
-
-/// The exit status where all was done.
-const DONE: u8 = 0;
-
-/// The exit status where one line on the error writer says why not.
-const FAILED: u8 = 1;
 
 /// The exit status where the words are no command line of the program.
 pub const MISUSED: u8 = 2;
@@ -185,14 +176,6 @@ fn misuse<E: Write, T: Display>(err: &mut E, text: &T) -> u8
     MISUSED
 }
 
-/// Says why there is no report. Where the error writer fails too, the exit status alone tells.
-pub fn tell<E: Write>(err: &mut E, fault: Fault<'_>) -> u8
-    ensures { result ≡ FAILED }
-{
-    let _ = writeln!(err, "{fault}");
-    FAILED
-}
-
 // The file is read first, then the store is made, and then come the text and the run.
 fn report_file<F: Files + AllocGlobal, R: Threads + Wait + Clock + Sync, W: Write, E: Write>(
     rt: &F,
@@ -266,77 +249,4 @@ fn report_opened<F: Alter + Drop + Send, R: Threads + Wait + Clock + Sync, W: Wr
         return tell(err, Fault::CannotOpen);
     };
     report_over(threads, alloc, text, way, store, out, err)
-}
-
-// By a schedule or by workers.
-fn report_over<R: Threads + Wait + Clock + Sync, S: TopStore + Send, W: Write, E: Write>(
-    threads: &R,
-    alloc: Global,
-    text: &[u8],
-    way: &Way,
-    store: S,
-    out: &mut W,
-    err: &mut E,
-) -> u8
-    requires { IsServable way.now }
-    ensures done { result ≡ DONE → IsPrinted S.TopStore (W.contents out.old) (W.contents out.new) text.now (way_of way.now) store }
-    ensures undone { result ≢ DONE → IsMissed S.TopStore (W.contents out.old) (W.contents out.new) text.now (way_of way.now) store }
-    ensures status { result ≤ FAILED }
-{
-    match way {
-        Way::Schedule(list) => replay_over(alloc, text, list.as_slice(), store, out, err),
-        Way::Workers(count) => serve_over(threads, alloc, text, *count, store, out, err),
-    }
-}
-
-/// Replays this text over this store by this schedule, and answers the exit status. The report goes to `out`, and only where the
-/// whole run was done; a fault goes to `err`, in one line. The store is dropped.
-pub fn replay_over<S: TopStore, W: Write, E: Write>(
-    alloc: Global,
-    text: &[u8],
-    schedule: &[u32],
-    store: S,
-    out: &mut W,
-    err: &mut E,
-) -> u8
-    ensures done { result ≡ DONE → IsPrinted S.TopStore (W.contents out.old) (W.contents out.new) text.now (Scheduled schedule.now) store }
-    ensures undone { result ≢ DONE → IsMissed S.TopStore (W.contents out.old) (W.contents out.new) text.now (Scheduled schedule.now) store }
-    ensures status { result ≤ FAILED }
-{
-    match replay_text(alloc, text, schedule, store, out) {
-        Ok(_left) => finish(out, err),
-        Err(fault) => tell(err, fault_of(fault)),
-    }
-}
-
-// The same by so many workers.
-fn serve_over<R: Threads + Wait + Clock + Sync, S: TopStore + Send, W: Write, E: Write>(
-    threads: &R,
-    alloc: Global,
-    text: &[u8],
-    workers: u32,
-    store: S,
-    out: &mut W,
-    err: &mut E,
-) -> u8
-    requires { AreFew workers }
-    ensures done { result ≡ DONE → IsPrinted S.TopStore (W.contents out.old) (W.contents out.new) text.now ByWorkers store }
-    ensures undone { result ≢ DONE → IsMissed S.TopStore (W.contents out.old) (W.contents out.new) text.now ByWorkers store }
-    ensures status { result ≤ FAILED }
-{
-    match run_text(threads, alloc, text, store, workers, &OpenGate, out) {
-        Ok(_left) => finish(out, err),
-        Err(fault) => tell(err, fault_of(fault)),
-    }
-}
-
-// What the writer still holds goes where it is to go.
-fn finish<W: Write, E: Write>(out: &mut W, err: &mut E) -> u8
-    ensures kept { Keeps (W.contents out.old) (W.contents out.new) }
-    ensures status { result ≤ FAILED }
-{
-    match out.flush() {
-        Ok(()) => DONE,
-        Err(_) => tell(err, Fault::CannotWrite),
-    }
 }

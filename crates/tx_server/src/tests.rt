@@ -1,20 +1,6 @@
-//! Texts with their reports, by the program's words and over stores of all kinds.
-mod faults;
-mod runs;
-mod serial;
-mod sessions;
-mod stops;
-mod stores;
-mod workers;
-mod workloads;
-
-use crate::program::{replay_over, tx_main};
-use crate::replay::{ReplayFault, replay_text};
-use durable_top::{MemStore, TopStore};
-use session_text::{LineKind, TextFault};
-use std::alloc::Global;
+//! The program by its words, over files and databases.
+use crate::program::tx_main;
 use std::fs;
-use std::io::{self, ErrorKind, Write};
 use std::process::Abort;
 use std::rt::HostRuntime;
 use std::sync::Wait;
@@ -35,11 +21,6 @@ const DONE: &[u8] = b"session s\nbegin a\ncommit a\nget a x\ncommit a\n";
 
 const DONE_REPORT: &[u8] =
     b"open\ns 1 begin a -> ok\ns 2 commit a -> ok\ns 3 get a x -> refused done\ns 4 commit a -> refused done\ntable\nend\n";
-
-/// A transaction that is left open.
-const OPEN: &[u8] = b"session s\nbegin a\nset a x 1\n";
-
-const OPEN_REPORT: &[u8] = b"open\ns 1 begin a -> ok\ns 2 set a x 1 -> ok\n* close a\ntable\nend\n";
 
 /// What the program answers, and what its two writers got.
 #[derive(Drop)]
@@ -64,102 +45,6 @@ impl Told {
     fn is_misuse(&self) -> bool {
         self.status == 2 && self.out.is_empty() && !self.err.is_empty()
     }
-}
-
-fn replayed<S: TopStore>(alloc: Global, text: &[u8], store: S) -> Told {
-    let mut out = Vec::new(alloc);
-    let mut err = Vec::new(alloc);
-    let status = replay_over(alloc, text, &[], store, &mut out, &mut err);
-    Told { status, out, err }
-}
-
-fn empty(rt: &impl Abort, alloc: Global) -> MemStore {
-    MemStore::new(alloc, &[]).expect(rt, "memory")
-}
-
-#[test]
-fn texts_and_reports(rt: HostRuntime) {
-    for (text, report) in [
-        (FIRST, FIRST_REPORT),
-        (b"".as_slice(), EMPTY_REPORT),
-        (DONE, DONE_REPORT),
-        (OPEN, OPEN_REPORT),
-    ] {
-        let store = empty(&rt, rt.alloc());
-        assert!(rt; replayed(rt.alloc(), text, store).is_report(report));
-    }
-}
-
-// Whether a beginning of a right text has a report, or is told as one without its last line feed.
-fn is_cut(rt: &impl Abort, alloc: Global, cut: &[u8]) -> bool {
-    let mut out = Vec::new(alloc);
-    let whole = cut.is_empty() || cut.ends_with(b"\n");
-    match replay_text(alloc, cut, &[], empty(rt, alloc), &mut out) {
-        Ok(_) => whole,
-        Err(ReplayFault::Text(TextFault::Bad { line: _, kind })) => {
-            !whole && kind == LineKind::End && out.is_empty()
-        }
-        Err(_) => false,
-    }
-}
-
-#[test]
-fn text_cut_anywhere(rt: HostRuntime) {
-    for end in 0..FIRST.len() {
-        assert!(rt; is_cut(&rt, rt.alloc(), &FIRST[..end]), "at {end}");
-    }
-}
-
-/// Takes so many bytes, and then no more. What it took it passes on, or it fails to.
-#[derive(Drop)]
-struct Narrow {
-    taken: Vec<u8>,
-    left: usize,
-    flushes: bool,
-}
-
-impl Write for Narrow {
-    fn write(&mut self, buf: &[u8]) -> io::Result<usize> {
-        let n = buf.len().min(self.left);
-        if n == 0 {
-            return Ok(0);
-        }
-        self.taken.extend_from_slice(&buf[..n])?;
-        self.left -= n;
-        Ok(n)
-    }
-
-    fn flush(&mut self) -> io::Result<()> {
-        if self.flushes {
-            Ok(())
-        } else {
-            Err(io::Error::from(ErrorKind::Other))
-        }
-    }
-}
-
-// Whether a writer that takes so many bytes of the first report is told as one that failed.
-fn is_narrow(rt: &impl Abort, alloc: Global, left: usize, flushes: bool) -> bool {
-    let mut out = Narrow {
-        taken: Vec::new(alloc),
-        left,
-        flushes,
-    };
-    let mut err = Vec::new(alloc);
-    let status = replay_over(alloc, FIRST, &[], empty(rt, alloc), &mut out, &mut err);
-    let taken = out.taken.as_slice();
-    status == 1
-        && err.as_slice() == b"tx: cannot write\n".as_slice()
-        && taken.len() == left
-        && FIRST_REPORT.starts_with(taken)
-}
-
-#[test]
-fn writer_that_fails_at_each_place(rt: HostRuntime) {
-    for left in 0..FIRST_REPORT.len() {
-        assert!(rt; is_narrow(&rt, rt.alloc(), left, true), "at {left}");
-    }
-    assert!(rt; is_narrow(&rt, rt.alloc(), FIRST_REPORT.len(), false));
 }
 
 /// What the program does with these words.
@@ -276,4 +161,35 @@ fn words_that_are_no_command_line(rt: HostRuntime) {
     ] {
         assert!(rt; run(&rt, &rt, words).is_misuse(), "{words}");
     }
+}
+
+// A text of one session and a list that names a second one, by the program.
+#[test]
+fn program_by_a_schedule(rt: HostRuntime) {
+    fs::write(&rt, "one.tx", b"session s\nbegin a\ncommit a\n").expect(&rt, "file");
+    let report = b"open\ns 1 begin a -> ok\ns 2 commit a -> ok\ntable\nend\n";
+    assert!(rt; run(&rt, &rt, "replay one.tx --schedule 0,0,0").is_report(report));
+    assert!(rt; run(&rt, &rt, "replay one.tx --schedule 0,1").is_fault("tx: schedule: item 2\n"));
+    assert!(rt; run(&rt, &rt, "replay --schedule 1 one.tx").is_fault("tx: schedule: item 1\n"));
+}
+
+// One session has one order, whoever takes its lines.
+#[test]
+fn program_by_workers(rt: HostRuntime) {
+    let _ = fs::remove_dir_all(&rt, "run_test");
+    fs::create_dir_all(&rt, "run_test").expect(&rt, "folder");
+    for (file, text) in [
+        ("run_test/first.tx", FIRST),
+        ("run_test/done.tx", DONE),
+        ("run_test/fault.tx", b"session s\nbegin a".as_slice()),
+    ] {
+        fs::write(&rt, file, text).expect(&rt, file);
+    }
+    assert!(rt; run(&rt, &rt, "run run_test/first.tx").is_report(FIRST_REPORT));
+    assert!(rt; run(&rt, &rt, "run run_test/done.tx --workers 16").is_report(DONE_REPORT));
+    assert!(rt; run(&rt, &rt, "run run_test/fault.tx").is_fault("tx: line 2: end\n"));
+    assert!(rt; run(&rt, &rt, "run nosuch.tx --workers 1").is_fault("tx: cannot read nosuch.tx\n"));
+    let words = "run run_test/first.tx --workers 2 --db";
+    assert!(rt; run_on(&rt, &rt, words, "run_test/a.db").is_report(FIRST_REPORT));
+    fs::remove_dir_all(&rt, "run_test").expect(&rt, "folder");
 }

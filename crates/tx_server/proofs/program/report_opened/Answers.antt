@@ -1,4 +1,4 @@
-use Rattle.tx_server.specs.Ways.{way_of}
+use Rattle.session_runs.specs.Ways.{way_of}
 use Rattle.tx_server.proofs.Printed.{misses_from, prints_from}
 use Rattle.tx_server.proofs.program.report_opened.Goals as goal
 

@@ -1,7 +1,7 @@
 //! The list by which a run is scheduled, as the command line gives it.
 ghost use Rattle.std.specs.Prelude.{◌≡◌, IfOk};
 ghost use Rattle.std.specs.Option.{option_copied};
-ghost use Rattle.tx_server.specs.Schedules.{attempts_of, schedule_of, session_in};
+ghost use Rattle.session_runs.specs.Schedules.{attempts_of, schedule_of, session_in};
 
 use session_text::parse_number;
 use std::alloc::{AllocError, Global};

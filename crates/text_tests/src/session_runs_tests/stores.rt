@@ -1,11 +1,11 @@
 //! Runs over stores of all kinds: those that refuse and fail, and databases that have rows or are used again.
 ghost use Rattle.std.specs.Prelude.{None};
 
-use crate::replay::replay_text;
-use crate::tests::runs::{UNDONE_WITH_PARENT, text_of};
-use crate::tests::sessions::is_judged;
-use crate::tests::{FIRST, replayed};
+use crate::session_runs_tests::runs::{UNDONE_WITH_PARENT, text_of};
+use crate::session_runs_tests::sessions::is_judged;
+use crate::session_runs_tests::{FIRST, replayed};
 use durable_top::{MemStore, Row, StoreFault, TopStore};
+use session_runs::replay_text;
 use sql_store::SqlStore;
 use sqlite::MemStore as Trees;
 use std::alloc::Global;

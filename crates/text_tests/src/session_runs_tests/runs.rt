@@ -1,7 +1,7 @@
 //! Runs of one session: each report is the one that is due to the texts of its own entries, its committed transactions are a
 //! serial run, and that run leaves its table.
-use crate::tests::sessions::is_judged;
-use crate::tests::{empty, replayed};
+use crate::session_runs_tests::sessions::is_judged;
+use crate::session_runs_tests::{empty, replayed};
 use durable_top::{MemStore, Row};
 use std::alloc::Global;
 use std::process::Abort;

@@ -1,14 +1,12 @@
 //! Runs of several sessions: each report is the one that is due to the texts of its own entries, its committed transactions
 //! are a serial run, and that run leaves its table.
-use crate::replay::{ReplayFault, replay_text};
-use crate::schedule::attempts_of;
-use crate::tests::serial::is_serial;
-use crate::tests::{empty, run};
+use crate::session_runs_tests::empty;
+use crate::session_runs_tests::serial::is_serial;
 use durable_top::{MemStore, Row, TopStore};
 use interleavings::{RunFault, run_schedule};
+use session_runs::{ReplayFault, attempts_of, replay_text};
 use session_text::Sessions;
 use std::alloc::Global;
-use std::fs;
 use std::process::Abort;
 use std::rt::HostRuntime;
 use txn_names::Key;
@@ -405,14 +403,4 @@ fn lists_and_their_items(rt: HostRuntime) {
     ] {
         assert!(rt; stray(&rt, rt.alloc(), list) == item, "{list}");
     }
-}
-
-// A text of one session and a list that names a second one, by the program.
-#[test]
-fn program_by_a_schedule(rt: HostRuntime) {
-    fs::write(&rt, "one.tx", b"session s\nbegin a\ncommit a\n").expect(&rt, "file");
-    let report = b"open\ns 1 begin a -> ok\ns 2 commit a -> ok\ntable\nend\n";
-    assert!(rt; run(&rt, &rt, "replay one.tx --schedule 0,0,0").is_report(report));
-    assert!(rt; run(&rt, &rt, "replay one.tx --schedule 0,1").is_fault("tx: schedule: item 2\n"));
-    assert!(rt; run(&rt, &rt, "replay --schedule 1 one.tx").is_fault("tx: schedule: item 1\n"));
 }

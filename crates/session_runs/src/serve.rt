@@ -1,8 +1,8 @@
 //! A session text by worker threads, from its bytes to the bytes of its report.
 ghost use Rattle.std.specs.Prelude.{◌≡◌, IfErr, IfOk};
-ghost use Rattle.tx_server.specs.Replays.{HasReplayCause, IsReplayed, IsUnwritten};
-ghost use Rattle.tx_server.specs.Ways.{AreFew};
-ghost use Rattle.tx_server.specs.Ways.{ByWorkers};
+ghost use Rattle.session_runs.specs.Replays.{HasReplayCause, IsReplayed, IsUnwritten};
+ghost use Rattle.session_runs.specs.Ways.{AreFew};
+ghost use Rattle.session_runs.specs.Ways.{ByWorkers};
 
 use crate::replay::ReplayFault;
 use durable_top::TopStore;

@@ -1,8 +1,8 @@
 //! Texts of 64 sessions and about 4,096 lines, of the shapes that `bench_texts` times, by workers: each report is judged.
-use crate::serve::OpenGate;
-use crate::tests::empty;
-use crate::tests::serial::{is_serial, is_serial_spoiled};
+use crate::session_runs_tests::empty;
+use crate::session_runs_tests::serial::{is_serial, is_serial_spoiled};
 use interleavings::Report;
+use session_runs::OpenGate;
 use session_text::Sessions;
 use std::alloc::Global;
 use std::process::Abort;

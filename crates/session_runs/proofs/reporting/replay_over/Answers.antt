@@ -1,6 +1,6 @@
 use Rattle.std.proofs.Common.{inr}
-use Rattle.tx_server.proofs.Printed.{printed_kept}
-use Rattle.tx_server.proofs.program.replay_over.Goals as goal
+use Rattle.session_runs.proofs.Printed.{printed_kept}
+use Rattle.session_runs.proofs.reporting.replay_over.Goals as goal
 
 pub returns-in-Ok-clause-done : goal.returns-in-Ok-clause-done
 returns-in-Ok-clause-done g c = λ done. printed_kept _ _ _ _ _ _ _ _ c.in-Ok.ensures.ok c.finish.ensures.kept

@@ -1,7 +1,7 @@
 //! In which order the lines of sessions are attempted, as the command line asks for it.
 ghost use Rattle.std.specs.Prelude.{◌≡◌, IfSome};
 ghost use Rattle.std.specs.Option.{option_copied};
-ghost use Rattle.tx_server.specs.Ways.{AreFew, workers_of};
+ghost use Rattle.session_runs.specs.Ways.{AreFew, workers_of};
 
 use session_text::parse_number;
 use worker_pool::MOST_WORKERS;

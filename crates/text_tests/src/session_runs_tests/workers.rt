@@ -1,10 +1,9 @@
 //! Texts by one worker, by two and by many: which order the threads take is theirs, and the table is the same.
-use crate::serve::{OpenGate, run_text};
-use crate::tests::serial::is_serial;
-use crate::tests::{DONE, DONE_REPORT, FIRST, FIRST_REPORT, empty, run, run_on};
+use crate::session_runs_tests::serial::is_serial;
+use crate::session_runs_tests::{FIRST, empty};
+use session_runs::{OpenGate, run_text};
 use session_text::Sessions;
 use std::alloc::Global;
-use std::fs;
 use std::process::Abort;
 use std::rt::HostRuntime;
 use std::sync::Wait;
@@ -83,25 +82,4 @@ fn tables_by_workers(rt: HostRuntime) {
             );
         }
     }
-}
-
-// One session has one order, whoever takes its lines.
-#[test]
-fn program_by_workers(rt: HostRuntime) {
-    let _ = fs::remove_dir_all(&rt, "run_test");
-    fs::create_dir_all(&rt, "run_test").expect(&rt, "folder");
-    for (file, text) in [
-        ("run_test/first.tx", FIRST),
-        ("run_test/done.tx", DONE),
-        ("run_test/fault.tx", b"session s\nbegin a".as_slice()),
-    ] {
-        fs::write(&rt, file, text).expect(&rt, file);
-    }
-    assert!(rt; run(&rt, &rt, "run run_test/first.tx").is_report(FIRST_REPORT));
-    assert!(rt; run(&rt, &rt, "run run_test/done.tx --workers 16").is_report(DONE_REPORT));
-    assert!(rt; run(&rt, &rt, "run run_test/fault.tx").is_fault("tx: line 2: end\n"));
-    assert!(rt; run(&rt, &rt, "run nosuch.tx --workers 1").is_fault("tx: cannot read nosuch.tx\n"));
-    let words = "run run_test/first.tx --workers 2 --db";
-    assert!(rt; run_on(&rt, &rt, words, "run_test/a.db").is_report(FIRST_REPORT));
-    fs::remove_dir_all(&rt, "run_test").expect(&rt, "folder");
 }

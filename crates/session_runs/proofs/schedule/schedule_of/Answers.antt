@@ -2,8 +2,8 @@ use Rattle.std.proofs.Common.{rules, tests}
 use Rattle.std.proofs.lemmas.Iterator.{YieldsList-from_map, items_from_collect}
 use Rattle.std.proofs.lemmas.Iterator.Consumers.{YieldsList-at}
 use Rattle.std.proofs.lemmas.Iterator.Splits.{YieldsList-from_slice_split}
-use Rattle.tx_server.specs.Schedules.{session_in}
-use Rattle.tx_server.proofs.schedule.schedule_of.Goals as goal
+use Rattle.session_runs.specs.Schedules.{session_in}
+use Rattle.session_runs.proofs.schedule.schedule_of.Goals as goal
 
 pub returns : goal.returns
 returns c =

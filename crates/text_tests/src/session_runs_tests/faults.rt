@@ -1,14 +1,12 @@
 //! The line of each fault, to the byte, with its exit status and nothing on the output.
 ghost use Rattle.std.specs.Prelude.{ℕ, None, if◌then◌else◌};
 
-use crate::fault::fault_of;
-use crate::program::tell;
-use crate::replay::ReplayFault;
-use crate::tests::{Told, empty, replayed};
+use crate::session_runs_tests::{Told, empty, replayed};
 use durable_top::{MemStore, Row, StoreFault, TopStore, are_rising};
 use interleavings::RunFault;
 use manager_core::OpenFault;
 use report_text::WriteFault;
+use session_runs::{ReplayFault, fault_of, tell};
 use session_text::{LineKind, TextFault};
 use std::alloc::Global;
 use std::process::Abort;

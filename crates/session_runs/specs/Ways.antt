@@ -7,8 +7,8 @@ use Rattle.interleavings.specs.Told.{Told}
 use Rattle.interleavings.specs.Runs.{IsRun}
 use Rattle.worker_pool.specs.Served.{IsServed}
 use Rattle.worker_pool.specs.declared.workers.TheConstants.{MOST_WORKERS}
-use Rattle.tx_server.specs.declared.way.Way as chosen
-use Rattle.tx_server.specs.declared.way.Way.TheVariants as choose
+use Rattle.session_runs.specs.declared.way.Way as chosen
+use Rattle.session_runs.specs.declared.way.Way.TheVariants as choose
 
 -- by the schedule and then in rounds, or by worker threads in an order that nobody says
 pub data Way : Type 0 where

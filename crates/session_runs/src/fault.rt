@@ -1,6 +1,6 @@
 //! The lines by which the program says why it gave no report.
 ghost use Rattle.std.specs.Prelude.{◌≡◌};
-ghost use Rattle.tx_server.specs.Faults.{told};
+ghost use Rattle.session_runs.specs.Faults.{told};
 
 use crate::replay::ReplayFault;
 use interleavings::RunFault;

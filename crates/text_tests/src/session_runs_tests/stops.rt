@@ -1,7 +1,7 @@
 //! A session text over a database file and its log. Each of the two stops at some call and the machine with it: what is
 //! opened then has the table of the commits that were acknowledged, or of one more where that one was not answered.
-use crate::replay::replay_text;
 use durable_top::TopStore;
+use session_runs::replay_text;
 use sql_store::SqlStore;
 use sqlite::{Connection, FileStore, Files, Options};
 use sqlite_disk::{Crash, Disk, Fuse, Memory};

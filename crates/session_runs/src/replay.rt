@@ -1,7 +1,7 @@
 //! A session text, from its bytes to the bytes of its report.
 ghost use Rattle.std.specs.Prelude.{◌≡◌, IfErr, IfOk};
-ghost use Rattle.tx_server.specs.Replays.{HasReplayCause, IsReplayed, IsUnwritten};
-ghost use Rattle.tx_server.specs.Ways.{Scheduled};
+ghost use Rattle.session_runs.specs.Replays.{HasReplayCause, IsReplayed, IsUnwritten};
+ghost use Rattle.session_runs.specs.Ways.{Scheduled};
 
 use durable_top::TopStore;
 use interleavings::{RunFault, run_schedule};

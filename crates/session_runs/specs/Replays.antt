@@ -12,9 +12,9 @@ use Rattle.interleavings.specs.Runs.{HasRunCause}
 use Rattle.interleavings.specs.declared.run.RunFault.{RunFault}
 use Rattle.worker_pool.specs.Served.{HasServeCause}
 use Rattle.worker_pool.specs.declared.serving.ServeFault.{ServeFault}
-use Rattle.tx_server.specs.Ways.{Way, Scheduled, ByWorkers, IsRunBy}
-use Rattle.tx_server.specs.declared.replay.ReplayFault.{ReplayFault}
-use Rattle.tx_server.specs.declared.replay.ReplayFault.TheVariants.{Text, Run, Serve, Write}
+use Rattle.session_runs.specs.Ways.{Way, Scheduled, ByWorkers, IsRunBy}
+use Rattle.session_runs.specs.declared.replay.ReplayFault.{ReplayFault}
+use Rattle.session_runs.specs.declared.replay.ReplayFault.TheVariants.{Text, Run, Serve, Write}
 
 -- the bytes of a report
 abbrev pub spelled_report : Told → List ℕ

@@ -3,10 +3,10 @@ use Rattle.session_text.specs.declared.fault.TextFault.TheVariants as read
 use Rattle.manager_core.specs.declared.outcome.OpenFault.TheVariants as opening
 use Rattle.interleavings.specs.declared.run.RunFault.TheVariants as ran
 use Rattle.worker_pool.specs.declared.serving.ServeFault.TheVariants as served
-use Rattle.tx_server.specs.declared.replay.ReplayFault.{ReplayFault}
-use Rattle.tx_server.specs.declared.replay.ReplayFault.TheVariants.{Text, Run, Serve, Write}
-use Rattle.tx_server.specs.declared.fault.Fault.{Fault}
-use Rattle.tx_server.specs.declared.fault.Fault.TheVariants.{Line, Schedule, CannotOpen, TooManyRows, NoMemory, CannotStart, CannotWrite}
+use Rattle.session_runs.specs.declared.replay.ReplayFault.{ReplayFault}
+use Rattle.session_runs.specs.declared.replay.ReplayFault.TheVariants.{Text, Run, Serve, Write}
+use Rattle.session_runs.specs.declared.fault.Fault.{Fault}
+use Rattle.session_runs.specs.declared.fault.Fault.TheVariants.{Line, Schedule, CannotOpen, TooManyRows, NoMemory, CannotStart, CannotWrite}
 
 abbrev pub told : ReplayFault → Fault
 told (Text (read.Bad line kind)) = Line line kind

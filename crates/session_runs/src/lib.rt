@@ -1,0 +1,16 @@
+//! Runs of session texts: from a text's bytes and a store to the bytes of a report, or of the line that says why there is none.
+#![tactic(auto)]
+
+mod fault;
+mod replay;
+mod reporting;
+mod schedule;
+mod serve;
+mod way;
+
+pub use fault::{Fault, fault_of};
+pub use replay::{ReplayFault, replay_text};
+pub use reporting::{DONE, FAILED, replay_over, report_over, tell};
+pub use schedule::{attempts_of, schedule_of};
+pub use serve::{OpenGate, run_text};
+pub use way::{Way, workers_of};

@@ -1,0 +1,103 @@
+//! A run of a text over a store that is there, from the text's bytes to a report or a fault line, and an exit status.
+ghost use Rattle.std.specs.Prelude.{◌≡◌, ◌≢◌, ◌≤◌};
+ghost use Rattle.std.specs.Io.KnownBytes.{Keeps};
+ghost use Rattle.session_runs.specs.Printing.{IsMissed, IsPrinted};
+ghost use Rattle.session_runs.specs.Ways.{AreFew, IsServable, way_of, Scheduled, ByWorkers};
+
+use crate::fault::{Fault, fault_of};
+use crate::replay::replay_text;
+use crate::serve::{OpenGate, run_text};
+use crate::way::Way;
+use durable_top::TopStore;
+use std::alloc::Global;
+use std::io::Write;
+use std::sync::Wait;
+use std::thread::Threads;
+use std::time::Clock;
+
+/// The exit status where all was done.
+pub const DONE: u8 = 0;
+
+/// The exit status where one line on the error writer says why not.
+pub const FAILED: u8 = 1;
+
+/// Runs this text over this store in this way, and answers the exit status. The report goes to `out`, and only where the whole
+/// run was done; a fault goes to `err`, in one line. The store is dropped.
+pub fn report_over<R: Threads + Wait + Clock + Sync, S: TopStore + Send, W: Write, E: Write>(
+    threads: &R,
+    alloc: Global,
+    text: &[u8],
+    way: &Way,
+    store: S,
+    out: &mut W,
+    err: &mut E,
+) -> u8
+    requires { IsServable way.now }
+    ensures done { result ≡ DONE → IsPrinted S.TopStore (W.contents out.old) (W.contents out.new) text.now (way_of way.now) store }
+    ensures undone { result ≢ DONE → IsMissed S.TopStore (W.contents out.old) (W.contents out.new) text.now (way_of way.now) store }
+    ensures status { result ≤ FAILED }
+{
+    match way {
+        Way::Schedule(list) => replay_over(alloc, text, list.as_slice(), store, out, err),
+        Way::Workers(count) => serve_over(threads, alloc, text, *count, store, out, err),
+    }
+}
+
+/// The same by this schedule.
+pub fn replay_over<S: TopStore, W: Write, E: Write>(
+    alloc: Global,
+    text: &[u8],
+    schedule: &[u32],
+    store: S,
+    out: &mut W,
+    err: &mut E,
+) -> u8
+    ensures done { result ≡ DONE → IsPrinted S.TopStore (W.contents out.old) (W.contents out.new) text.now (Scheduled schedule.now) store }
+    ensures undone { result ≢ DONE → IsMissed S.TopStore (W.contents out.old) (W.contents out.new) text.now (Scheduled schedule.now) store }
+    ensures status { result ≤ FAILED }
+{
+    match replay_text(alloc, text, schedule, store, out) {
+        Ok(_left) => finish(out, err),
+        Err(fault) => tell(err, fault_of(fault)),
+    }
+}
+
+// The same by so many workers.
+fn serve_over<R: Threads + Wait + Clock + Sync, S: TopStore + Send, W: Write, E: Write>(
+    threads: &R,
+    alloc: Global,
+    text: &[u8],
+    workers: u32,
+    store: S,
+    out: &mut W,
+    err: &mut E,
+) -> u8
+    requires { AreFew workers }
+    ensures done { result ≡ DONE → IsPrinted S.TopStore (W.contents out.old) (W.contents out.new) text.now ByWorkers store }
+    ensures undone { result ≢ DONE → IsMissed S.TopStore (W.contents out.old) (W.contents out.new) text.now ByWorkers store }
+    ensures status { result ≤ FAILED }
+{
+    match run_text(threads, alloc, text, store, workers, &OpenGate, out) {
+        Ok(_left) => finish(out, err),
+        Err(fault) => tell(err, fault_of(fault)),
+    }
+}
+
+/// Says why there is no report. Where the error writer fails too, the exit status alone tells.
+pub fn tell<E: Write>(err: &mut E, fault: Fault<'_>) -> u8
+    ensures { result ≡ FAILED }
+{
+    let _ = writeln!(err, "{fault}");
+    FAILED
+}
+
+// What the writer still holds goes where it is to go.
+fn finish<W: Write, E: Write>(out: &mut W, err: &mut E) -> u8
+    ensures kept { Keeps (W.contents out.old) (W.contents out.new) }
+    ensures status { result ≤ FAILED }
+{
+    match out.flush() {
+        Ok(()) => DONE,
+        Err(_) => tell(err, Fault::CannotWrite),
+    }
+}
