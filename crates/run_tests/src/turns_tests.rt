@@ -41,7 +41,7 @@ fn sessions_in_turn(rt: HostRuntime) {
     assert!(rt; turns.finished() && turns.next_line(0).is_none());
     assert!(rt; turns.step(0).ok() == Some(Turn::OutOfTurn));
     match turns.into_report() {
-        Ok((report, _store)) => assert!(rt; report.history().len() == 4),
+        Ok((report, _store)) => assert!(rt; report.history().len() == 3),
         Err(_turns) => assert!(rt; false, "memory"),
     }
 }
@@ -70,7 +70,7 @@ fn lines_by_number(rt: HostRuntime) {
     }
     assert!(rt; book.finished());
     match book.into_report() {
-        Ok((report, _store)) => assert!(rt; report.history().len() == 4),
+        Ok((report, _store)) => assert!(rt; report.history().len() == 3),
         Err(_book) => assert!(rt; false, "memory"),
     }
 }

@@ -32,12 +32,16 @@ pub trait Gate {
 /// The most workers of a run.
 pub const MOST_WORKERS: u32 = 16;
 
-/// For how long a worker sleeps behind a parked line, once it has found as many parked in a row as there are sessions, in
-/// microseconds.
+/// For how long a worker sleeps where it finds the lock taken, and behind a parked line, once it has found as many parked in a row
+/// as there are sessions, in microseconds.
 const REST: u64 = 50;
 
-// Tries a line under the lock.
-fn try_line<R: Wait, S: TopStore, J: Opening>(
+/// How often a worker that finds the lock taken rests, before it waits in line for it.
+const RESTS: u32 = 32;
+
+// Tries a line under the lock. A worker that finds the lock taken rests and looks again: so whoever has the lock goes on with line
+// after line, and need not wake another one at each.
+fn try_line<R: Wait + Clock, S: TopStore, J: Opening>(
     rt: &R,
     desk: &Mutex<Desk<'_, S, J>>,
     session: u32,
@@ -46,12 +50,18 @@ fn try_line<R: Wait, S: TopStore, J: Opening>(
 ) -> Result<Tried, NoMemory>
     ensures { IfOk result (λ tried. IsNextJob session tried.next) }
 {
+    for _ in 0..RESTS {
+        if let Some(mut held) = desk.try_lock() {
+            return held.take_turn(session, line, text);
+        }
+        thread::sleep(rt, Duration::from_micros(REST));
+    }
     let mut held = desk.lock(rt);
     held.take_turn(session, line, text)
 }
 
 // Tries a line, if there is one, and calls the gate around it.
-fn turn<R: Wait, S: TopStore, J: Opening, G: Gate>(
+fn turn<R: Wait + Clock, S: TopStore, J: Opening, G: Gate>(
     rt: &R,
     sessions: &Sessions,
     desk: &Mutex<Desk<'_, S, J>>,
@@ -234,7 +244,7 @@ fn is_over<R: Wait, S: TopStore, J: Opening>(rt: &R, desk: &Mutex<Desk<'_, S, J>
 }
 
 // Tries the lines that are left, in rounds, until none is: those whose jobs were lost. Most runs leave none.
-fn finish<R: Wait, S: TopStore, J: Opening, G: Gate>(
+fn finish<R: Wait + Clock, S: TopStore, J: Opening, G: Gate>(
     rt: &R,
     sessions: &Sessions,
     desk: &Mutex<Desk<'_, S, J>>,
