@@ -43,7 +43,8 @@ pub fn report_over<R: Threads + Wait + Clock + Sync, S: TopStore + Send, W: Writ
     }
 }
 
-/// The same by this schedule.
+/// Replays this text over this store by this schedule, and answers the exit status. The report goes to `out`, and only where the
+/// whole run was done; a fault goes to `err`, in one line. The store is dropped.
 pub fn replay_over<S: TopStore, W: Write, E: Write>(
     alloc: Global,
     text: &[u8],
