@@ -23,11 +23,11 @@ fn attempt_access<S: TopStore>(
     ensures err { OnErr result (manager.new ≡ manager.old) }
 {
     let event = Event::Access(*name, *key, op);
-    if manager.free(by, &event) {
-        manager.access(by, name, key, op)
-    } else if manager.held_up(by, &event) {
-        // Most attempts find the lock held still, and to ask for that alone is cheaper.
+    // Most attempts find the lock held still, and to ask for that alone is cheaper.
+    if manager.held_up(by, &event) {
         Ok(Outcome::Waits)
+    } else if manager.free(by, &event) {
+        manager.access(by, name, key, op)
     } else {
         manager.retry(name)
     }

@@ -10,7 +10,6 @@ use Rattle.serial_spec.specs.declared.entry.Refusal.{Refusal}
 use Rattle.serial_spec.specs.declared.entry.Refusal.TheVariants.{Unknown, Done as HasCommitted, Orphan, Waiting, Full}
 use Rattle.serial_spec.specs.declared.event.When.{When}
 use Rattle.serial_spec.specs.declared.event.When.TheVariants.{Begun, Done as Ended}
-use Rattle.serial_spec.specs.declared.event.Event.{Event}
 use Rattle.serial_spec.specs.declared.event.Event.TheVariants.{Access, After}
 use Rattle.serial_spec.specs.declared.entry.Answer.{Answer}
 use Rattle.serial_spec.specs.declared.entry.Answer.TheVariants.{Done, Waits}
@@ -135,20 +134,26 @@ pub none_waits_by : (h : History) (by : By) (t : Name) (k : List ℕ) (o : Op) �
 none_waits_by h by t k o none waits = let no : Some (by, k, o) ≡ None = sym (waiting_of h by t k o waits) ∙ none in true≢false (ap is_some no)
 
 module _ (rows : Rows) (h : History) (allowed : AreAllowed rows h) (by line : By) (t : Name) (k q : List ℕ) (o p : Op) (kept : waiting_access (wait_of h t) ≡ Some (line, q, p)) where
-  -- the wait is this one exactly where it is by this line and of this event
-  pub waits_by_both : (x : Event) → x ≡ Access t k o → (b : Bool) → IsTrue b ↔ (IsTrue (same_line line by) × (Access t q p ≡ x)) → IsTrue b ↔ IsWaitOf h by x
-  waits_by_both x event b same = subst (λ y. IsTrue b ↔ IsWaitOf h by y) (sym event) (forth, back)
+  -- the wait is this one exactly where it is by this line, of this key and this operation
+  pub waits_by_both : (b : Bool) → IsTrue b ↔ (IsTrue (same_line line by) × ((q ≡ k) × (p ≡ o))) → IsTrue b ↔ IsWaitOf h by (Access t k o)
+  waits_by_both b same = (forth, back)
     where
       is : IsWaiting h t line q p
       is = waiting_is rows h allowed t line q p kept
 
       forth : IsTrue b → IsWaitOf h by (Access t k o)
-      forth e = let both = same.0 e in (is.wait, is.waits, ap (λ y. same_line y by) is.by_is ∙ both.0, is.event_is ∙ both.1 ∙ event)
+      forth e =
+          let both = same.0 e in
+          (is.wait, is.waits, ap (λ y. same_line y by) is.by_is ∙ both.0, is.event_is ∙ ap (λ y. Access t y p) both.1.0 ∙ ap (Access t k) both.1.1)
 
       back : IsWaitOf h by (Access t k o) → IsTrue b
       back (w, waits, own, asked) =
           let found : w ≡ is.wait = let both : Some w ≡ Some is.wait = sym waits ∙ is.waits in cc in
-          same.1 (
-            ap (λ y. same_line y by) (sym is.by_is) ∙ ap (λ (y : Entry). same_line y.by by) (sym found) ∙ own,
-            sym is.event_is ∙ ap (λ (y : Entry). y.event) (sym found) ∙ asked ∙ sym event,
-          )
+          let event : Access t q p ≡ Access t k o = sym is.event_is ∙ ap (λ (y : Entry). y.event) (sym found) ∙ asked in
+          same.1 (ap (λ y. same_line y by) (sym is.by_is) ∙ ap (λ (y : Entry). same_line y.by by) (sym found) ∙ own, (key_of event, op_of event))
+        where
+          key_of : Access t q p ≡ Access t k o → q ≡ k
+          key_of e = cc
+
+          op_of : Access t q p ≡ Access t k o → p ≡ o
+          op_of e = cc

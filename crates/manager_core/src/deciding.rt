@@ -1,7 +1,7 @@
 //! Why a line is refused, read off the tables. What is not refused goes on by the transaction's number.
 ghost use Rattle.std.specs.Prelude.{◌≡◌, ◌<◌, length, IfOk};
 ghost use Rattle.std.specs.Result.{result_err};
-ghost use Rattle.txn_tree.specs.Asked.{IsNumberOf};
+ghost use Rattle.txn_tree.specs.Asked.{IsNumberOf, IsRootless};
 ghost use Rattle.serial_spec.specs.Allowed.{cause_at_access, cause_at_commit, is_full_for};
 ghost use Rattle.serial_spec.specs.Legal.{AreAllowed};
 ghost use Rattle.manager_core.specs.Kept.{AreTablesOf};
@@ -28,6 +28,7 @@ impl Tables {
         ensures cause { result_err result ≡ cause_in self.now name.now }
         ensures number { IfOk result (IsNumberOf self.now.tree name.now) }
         ensures some { 0 < length name.now }
+        ensures rootless { IsRootless self.now.tree }
     {
         name.has_labels();
         let Some(txn) = self.tree.no_of(name) else {
@@ -71,6 +72,7 @@ impl Tables {
         requires are { AreTablesOf log.now.rows log.now.entries self.now }
         ensures cause { result_err result ≡ cause_at_commit log.now.entries by name.now }
         ensures number { IfOk result (IsNumberOf self.now.tree name.now) }
+        ensures rootless { IsRootless self.now.tree }
     {
         let txn = self.active_number(name)?;
         if self.tree.live_children_at(txn) > 0 {

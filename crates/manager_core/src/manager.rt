@@ -209,15 +209,10 @@ impl<S: TopStore> Manager<S> {
         ensures err { OnErr result (self.new ≡ self.old) }
         ensures sound { OnOk result (IsSound S.TopStore self.new) }
     {
-        match self.tables.number_at_commit(&self.log, by, name) {
-            Err(refusal) => self.refuse_commit(by, name, refusal),
-            Ok(_) => {
-                if name.depth() > 1 {
-                    self.commit_child(by, name)
-                } else {
-                    self.commit_top(by, name)
-                }
-            }
+        if name.depth() > 1 {
+            self.commit_child(by, name)
+        } else {
+            self.commit_top(by, name)
         }
     }
 
@@ -237,15 +232,17 @@ impl<S: TopStore> Manager<S> {
 
     fn commit_child(&mut self, by: By, name: &Name) -> Result<Outcome, NoMemory>
         requires free { IsFree self.old.history by (Commit name.now) }
-        requires live { None ≡ cause_at_commit self.old.history by name.now }
         requires below { 1 < length name.now }
         ensures ok { IfOk result (λ outcome. Committed S.TopStore self.old self.new by name.now outcome) }
         ensures at_once { IfOk result (λ outcome. IsFalse (is_waits (answer_of outcome))) }
         ensures err { OnErr result (self.new ≡ self.old) }
         ensures sound { OnOk result (IsSound S.TopStore self.new) }
     {
+        let txn = match self.tables.number_at_commit(&self.log, by, name) {
+            Ok(txn) => txn,
+            Err(refusal) => return self.refuse_commit(by, name, refusal),
+        };
         self.log.reserve(1)?;
-        let txn = self.tables.number_of(name);
         let parent = self.tables.parent_number(name, txn);
         self.tables.reserve_commit(txn, Some(parent))?;
         self.tables.commit(txn, Some(parent));
@@ -257,15 +254,17 @@ impl<S: TopStore> Manager<S> {
     // All growths come before the store's call.
     fn commit_top(&mut self, by: By, name: &Name) -> Result<Outcome, NoMemory>
         requires free { IsFree self.old.history by (Commit name.now) }
-        requires live { None ≡ cause_at_commit self.old.history by name.now }
         requires top { length name.now ≡ 1 }
         ensures ok { IfOk result (λ outcome. Committed S.TopStore self.old self.new by name.now outcome) }
         ensures at_once { IfOk result (λ outcome. IsFalse (is_waits (answer_of outcome))) }
         ensures err { OnErr result (self.new ≡ self.old) }
         ensures sound { OnOk result (IsSound S.TopStore self.new) }
     {
+        let txn = match self.tables.number_at_commit(&self.log, by, name) {
+            Ok(txn) => txn,
+            Err(refusal) => return self.refuse_commit(by, name, refusal),
+        };
         self.log.reserve(1)?;
-        let txn = self.tables.number_of(name);
         self.tables.reserve_commit(txn, None)?;
         let changes = self.tables.changes(txn)?;
         if are_taken(&mut self.store, changes) {

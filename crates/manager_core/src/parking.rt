@@ -1,8 +1,7 @@
 //! What keeps a line from its answer, read off the tables.
-ghost use Rattle.std.specs.Prelude.{◌≡◌, ◌↔◌, ℕ, List, not, IsTrue};
+ghost use Rattle.std.specs.Prelude.{◌≡◌, ◌↔◌, not, IsTrue};
 ghost use Rattle.txn_names.specs.Path.{Path};
 ghost use Rattle.txn_tree.specs.Asked.{IsNumberOf};
-ghost use Rattle.serial_spec.specs.declared.operation.Op.{Op as Asked};
 ghost use Rattle.serial_spec.specs.declared.event.Event.TheVariants.{Access};
 ghost use Rattle.serial_spec.specs.Allowed.{has_come};
 ghost use Rattle.serial_spec.specs.History.{History};
@@ -19,8 +18,7 @@ use crate::deciding::is_full_for;
 use crate::log::Log;
 use crate::tables::Tables;
 use crate::waiting::same_line;
-use serial_spec::{By, Event, Op, Refusal, When};
-use txn_history::is_same;
+use serial_spec::{By, Op, Refusal, When};
 use txn_names::{Key, Name};
 use txn_tree::TxnNo;
 
@@ -38,18 +36,11 @@ fn come_by(cause: Option<Refusal>, when: When) -> bool
     }
 }
 
-// Whether this is the event.
-fn is_access(event: &Event, name: &Name, key: Key, op: Op) -> bool
-    ensures { IsTrue result ↔ (Access name.now key op ≡ event.now) }
+// Whether a wait is for this access, and by this line.
+fn is_of(wait: (By, Key, Op), by: By, key: &Key, op: Op) -> bool
+    ensures { IsTrue result ↔ (IsTrue (same_line wait.0 by) × ((wait.1 ≡ key.now) × (wait.2 ≡ op))) }
 {
-    is_same(&Event::Access(*name, key, op), event)
-}
-
-// Whether a wait is of this event, and by this line.
-fn is_of(wait: (By, Key, Op), by: By, name: &Name, access: &Event) -> bool
-    ensures { IsTrue result ↔ (IsTrue (same_line wait.0 by) × (Access name.now wait.1 wait.2 ≡ access.now)) }
-{
-    same_line(wait.0, by) && is_access(access, name, wait.1, wait.2)
+    same_line(wait.0, by) && wait.1 == *key && wait.2 == op
 }
 
 impl Tables {
@@ -60,12 +51,12 @@ impl Tables {
         come_by(self.active_number(name).err(), when)
     }
 
-    // Whether this access of the transaction waits, and by this line.
-    fn waits_by(&self, by: By, name: &Name, access: &Event) -> bool
-        ensures { (rows : Rows) (h : History) (k : List ℕ) (op : Asked) → AreAllowed rows h → AreTablesOf rows h self.now → access.now ≡ Access name.now k op → IsTrue result ↔ IsWaitOf h by access.now }
+    // Whether the transaction with this number waits for this access, and by this line.
+    fn waits_by(&self, txn: TxnNo, by: By, key: &Key, op: Op) -> bool
+        ensures { (t : Path) → IsNumberOf self.now.tree t txn → (rows : Rows) (h : History) → AreAllowed rows h → AreTablesOf rows h self.now → IsTrue result ↔ IsWaitOf h by (Access t key.now op) }
     {
-        match self.waiting_access(name) {
-            Some(wait) => is_of(wait, by, name, access),
+        match self.waiting_access_at(txn) {
+            Some(wait) => is_of(wait, by, key, op),
             None => false,
         }
     }
@@ -83,13 +74,16 @@ impl Tables {
         requires are { AreTablesOf log.now.rows log.now.entries self.now }
         ensures { IsTrue result ↔ IsKeptOut log.now.rows log.now.entries by (Access name.now key.now op) }
     {
-        if !self.waits_by(by, name, &Event::Access(*name, *key, op)) {
+        let Some(txn) = self.tree.no_of(name) else {
+            return false;
+        };
+        if !self.waits_by(txn, by, key, op) {
             return false;
         }
         // Of the causes that refuse an access this alone can hold for one that waits.
         if is_full_for(log, key) {
             return false;
         }
-        !self.may(self.number_of(name), key, op)
+        !self.may(txn, key, op)
     }
 }

@@ -36,8 +36,8 @@ pub(crate) fn same_line(a: By, b: By) -> bool
 }
 
 impl Tables {
-    // The access by which the transaction with this number waits, with its line.
-    fn waiting_access_at(&self, txn: TxnNo) -> Option<(By, Key, Op)>
+    /// The access by which the transaction with this number waits, with its line.
+    pub(crate) fn waiting_access_at(&self, txn: TxnNo) -> Option<(By, Key, Op)>
         ensures { (t : Path) → IsNumberOf self.now.tree t txn → (rows : Rows) (h : History) → AreTablesOf rows h self.now → result ≡ waiting_access (wait_of h t) }
     {
         let wait = self.waits.of(txn)?;

@@ -1,10 +1,10 @@
-use Rattle.std.proofs.Common.{◌≡◌, ◌<◌, ◌≤◌, ℕ, Bool, Some, true, false, refl, sym, ap, ◌∙◌, arith, rules}
+use Rattle.std.proofs.Common.{◌≡◌, ◌<◌, ◌≤◌, ℕ, true, false, refl, sym, ap, ◌∙◌, arith, rules}
 use Rattle.std.specs.Prelude.{nat_lt}
 use Rattle.std.specs.List.{list_any}
 use Rattle.std.proofs.lemmas.Bool.{lt-ltb, le-ltb}
 use Rattle.txn_names.specs.Path.{Path}
 use Rattle.txn_tree.specs.States.{States, names}
-use Rattle.txn_tree.specs.Asked.{IsNumberOf, is_live_child_in, live_children_of}
+use Rattle.txn_tree.specs.Asked.{IsNumberOf, is_live_child_in}
 use Rattle.txn_tree.specs.Numbered.{live_children_at, live_children_named}
 use Rattle.txn_tree.proofs.Children.{any_counted}
 use Rattle.manager_core.proofs.Causes.{commit_by_end, commit_cause}
