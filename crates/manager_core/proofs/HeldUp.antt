@@ -20,7 +20,7 @@ use Rattle.manager_core.specs.Pairs.{is_held_up, is_in_branch, pairs_of, pairs_w
 
 module _ (tree : States) (locks : Table) (w : Wait) (u : ℕ) where
   -- whoever locks nothing holds nobody up
-  free_holds_nobody : (b : ℕ) → is_held_up tree locks w u b ≡ true → modes_in locks b w.key ≡ free → ⊥
+  pub free_holds_nobody : (b : ℕ) → is_held_up tree locks w u b ≡ true → modes_in locks b w.key ≡ free → ⊥
   free_holds_nobody b e is =
       let blocks = (and_parts (is_blocker_in tree locks w.txn w.key (kind w.op) b) (is_in_branch tree w.txn b u) e).0 in
       let begun = and_parts (has_number tree b) (not (is_under tree b w.txn) && conflicts (whole (modes_in locks b w.key)) (kind w.op)) blocks in

@@ -27,6 +27,10 @@ pub record IsAlone (tree : States) (u : ℕ) : Type 0 where
   pub named : slice_get (names tree) u ≡ Some (label ∷ [])
   pub alone : (v : ℕ) → IsTrue (is_under tree u v) → u ≡ v
 
+-- each of these is top-level, and nobody else is below it
+abbrev pub AreAlone : States → List ℕ → Type 0
+AreAlone tree us = (u : ℕ) → IsTrue (list_any (nat_eq u) us) → IsAlone tree u
+
 -- whether somebody keeps this access from being answered, and u is in its branch
 abbrev pub waits_for_in : States → Table → Wait → ℕ → Bool
 waits_for_in tree locks w u = list_any (is_held_up tree locks w u) (numbers tree)
@@ -55,6 +59,10 @@ is_beside_it tree t b v = is_in_branch tree t b v.txn
 -- whether it waits at this key, t keeps it from being answered, and one of those that wait is in the branch of t
 abbrev pub waits_by_way_of : States → Table → List Wait → ℕ → List ℕ → Wait → Bool
 waits_by_way_of tree locks others t k w = label_eq w.key k && (is_blocker_in tree locks w.txn k (kind w.op) t && list_any (is_beside_it tree w.txn t) others)
+
+-- nobody waits, at whichever key and by whichever locks, for another by way of t
+abbrev pub IsNobodysWay : States → List Wait → ℕ → Type 0
+IsNobodysWay tree waits t = (locks : Table) (k : List ℕ) → list_any (waits_by_way_of tree locks waits t k) waits ≡ false
 
 -- whether there is a wait, and it passes
 abbrev pub passes : (Wait → Bool) → Option Wait → Bool

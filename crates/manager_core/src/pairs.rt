@@ -2,7 +2,7 @@
 ghost use Rattle.std.specs.Prelude.{◌≡◌, ◌≤◌, ◌+◌, ◌*◌, ◌++◌, ℕ, nat_eq, length, vec_len, vec_capacity, IsFalse, IsTrue};
 ghost use Rattle.std.specs.List.{list_any};
 ghost use Rattle.lock_table.specs.Locked.{free, modes_in};
-ghost use Rattle.manager_core.specs.Pairs.{IsAlone, is_held_up, is_in_branch, pairs_of, pairs_with, waits_for_in};
+ghost use Rattle.manager_core.specs.Pairs.{AreAlone, IsAlone, is_held_up, is_in_branch, pairs_of, pairs_with, waits_for_in};
 
 use lock_table::Locks;
 use txn_names::{Key, Name};
@@ -50,8 +50,9 @@ fn is_held_up_by_any(
         .any(|holder| is_held_up(tree, locks, wait, other, *holder))
 }
 
-// Whether the transaction is top-level and has no descendants. Then it is in nobody's branch but its own.
-fn is_alone(tree: &Tree, txn: TxnNo) -> bool
+/// Whether the transaction is top-level and has no descendants. Then it is in nobody's branch but its own, and nobody else is in
+/// its branch.
+pub(crate) fn is_alone(tree: &Tree, txn: TxnNo) -> bool
     ensures { IsTrue result → IsAlone tree.now txn }
 {
     let Some(name) = tree.name_of(txn) else {
@@ -61,6 +62,19 @@ fn is_alone(tree: &Tree, txn: TxnNo) -> bool
         return false;
     }
     tree.first_child(txn).is_none()
+}
+
+/// Whether each of them is top-level and has no descendants.
+#[tactic(auto, using(crate::proofs::Alone::one_more_alone))]
+pub(crate) fn are_alone(tree: &Tree, txns: &[TxnNo]) -> bool
+    ensures { IsTrue result → AreAlone tree.now txns.now }
+{
+    for place in 0..txns.len() {
+        if !is_alone(tree, txns[place]) {
+            return false;
+        }
+    }
+    true
 }
 
 // Whether a transaction keeps the access from being answered, of which the list has all that lock the key. Most are not in the
@@ -91,17 +105,23 @@ pub(crate) fn lockers<'a>(locks: &'a Locks, key: &Key) -> &'a [TxnNo]
 }
 
 /// Whether the access waits for the other, as `waits_for` tells it, where these are all that lock the wait's key: for many others
-/// they are asked for once.
+/// they are asked for once. So is whether all of them are known to be top-level without descendants: then nobody else is in the
+/// branch of one, and most are told by the list alone.
 pub(crate) fn waits_for_among(
     tree: &Tree,
     locks: &Locks,
     wait: &Wait,
     other: TxnNo,
     holders: &[TxnNo],
+    alone: bool,
 ) -> bool
-    requires { (u : ℕ) → IsFalse (list_any (nat_eq u) holders.now) → modes_in locks.now u wait.now.key ≡ free }
+    requires holders { (u : ℕ) → IsFalse (list_any (nat_eq u) holders.now) → modes_in locks.now u wait.now.key ≡ free }
+    requires alone { IsTrue alone → AreAlone tree.now holders.now }
     ensures { result ≡ waits_for_in tree.now locks.now wait.now other }
 {
+    if alone {
+        return is_held_up_by_itself(tree, locks, wait, other, holders);
+    }
     if is_alone(tree, other) {
         is_held_up_by_itself(tree, locks, wait, other, holders)
     } else {
@@ -114,7 +134,7 @@ pub(crate) fn waits_for_among(
 pub(crate) fn waits_for(tree: &Tree, locks: &Locks, wait: &Wait, other: TxnNo) -> bool
     ensures { result ≡ waits_for_in tree.now locks.now wait.now other }
 {
-    waits_for_among(tree, locks, wait, other, lockers(locks, &wait.key))
+    waits_for_among(tree, locks, wait, other, lockers(locks, &wait.key), false)
 }
 
 // Adds the pairs of this one that waits.
@@ -131,9 +151,10 @@ fn add_pairs_of(
     ensures capacity { vec_capacity pairs.old ≤ vec_capacity pairs.new }
 {
     let holders = lockers(locks, &wait.key);
+    let alone = are_alone(tree, holders);
     for place in 0..waits.len() {
         if let Some(other) = waits.at(place) {
-            if waits_for_among(tree, locks, wait, other.txn, holders) {
+            if waits_for_among(tree, locks, wait, other.txn, holders, alone) {
                 pairs.push_reserved((wait.txn, other.txn));
             }
         }

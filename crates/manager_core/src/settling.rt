@@ -2,7 +2,7 @@
 //!
 //! Each step looks for pairs of which the first waits for the second only where the step itself can have added one. All pairs
 //! together are as many as those that wait, squared, and most steps add none.
-ghost use Rattle.std.specs.Prelude.{◌≡◌, ◌≤◌, ◌+◌, ◌*◌, ◌∷◌, ◌&&◌, ℕ, nat_eq, length, slice_get, IsFalse};
+ghost use Rattle.std.specs.Prelude.{◌≡◌, ◌≤◌, ◌+◌, ◌*◌, ◌∷◌, ◌&&◌, ℕ, nat_eq, length, slice_get, IsFalse, IsTrue};
 ghost use Rattle.std.specs.List.{list_any};
 ghost use Rattle.lock_table.specs.Blocking.{is_blocker_in};
 ghost use Rattle.lock_table.specs.Locked.{free, modes_in};
@@ -17,7 +17,7 @@ ghost use Rattle.serial_spec.specs.Waits.{Quiet};
 ghost use Rattle.wait_cycles.specs.Waiting.{AreOnce};
 ghost use Rattle.manager_core.specs.Kept.{AreTablesOf};
 ghost use Rattle.manager_core.specs.Outcomes.{answer_of};
-ghost use Rattle.manager_core.specs.Pairs.{is_beside_it, passes, waits_by_way_of, waits_for_other, waits_for_this};
+ghost use Rattle.manager_core.specs.Pairs.{AreAlone, IsNobodysWay, is_beside_it, passes, waits_by_way_of, waits_for_other, waits_for_this};
 ghost use Rattle.manager_core.specs.State.{entry};
 ghost use Rattle.manager_core.specs.Tables.{rows_in};
 ghost use Rattle.manager_core.specs.Victims.{Breaks, StaysQuiet};
@@ -27,7 +27,7 @@ use crate::breaker::Breaker;
 use crate::breaking::break_cycles;
 use crate::log::Log;
 use crate::outcome::Outcome;
-use crate::pairs::{is_in_branch, lockers, waits_for, waits_for_among};
+use crate::pairs::{are_alone, is_alone, is_in_branch, lockers, waits_for, waits_for_among};
 use crate::tables::Tables;
 use lock_table::Locks;
 use serial_spec::Event;
@@ -42,14 +42,16 @@ fn waits_for_one_at(
     waits: &Waits,
     wait: &Wait,
     holders: &[TxnNo],
+    alone: bool,
     place: usize,
 ) -> bool
-    requires { (u : ℕ) → IsFalse (list_any (nat_eq u) holders.now) → modes_in locks.now u wait.now.key ≡ free }
+    requires holders { (u : ℕ) → IsFalse (list_any (nat_eq u) holders.now) → modes_in locks.now u wait.now.key ≡ free }
+    requires alone { IsTrue alone → AreAlone tree.now holders.now }
     ensures { result ≡ passes (waits_for_other tree.now locks.now wait.now) (slice_get waits.now.waits place) }
 {
     match waits.at(place) {
         Some(other) => {
-            other.txn != wait.txn && waits_for_among(tree, locks, wait, other.txn, holders)
+            other.txn != wait.txn && waits_for_among(tree, locks, wait, other.txn, holders, alone)
         }
         None => false,
     }
@@ -62,8 +64,9 @@ fn waits_for_any(tree: &Tree, locks: &Locks, waits: &Waits, wait: &Wait) -> bool
     ensures once { AreOnce waits.now }
 {
     let holders = lockers(locks, &wait.key);
+    let alone = are_alone(tree, holders);
     for place in 0..waits.len() {
-        if waits_for_one_at(tree, locks, waits, wait, holders, place) {
+        if waits_for_one_at(tree, locks, waits, wait, holders, alone, place) {
             return true;
         }
     }
@@ -158,12 +161,25 @@ fn waits_by_way_of_it_at(
     }
 }
 
+// Whether the transaction is top-level without descendants, and does not wait. Then no other is in its branch, so that nobody waits
+// for another by way of it.
+#[tactic(auto, using(crate::proofs::Alone::nobodys_way))]
+fn is_nobodys_way(tree: &Tree, waits: &Waits, txn: TxnNo) -> bool
+    ensures { IsTrue result → IsNobodysWay tree.now waits.now.waits txn }
+{
+    is_alone(tree, txn) && waits.of(txn).is_none()
+}
+
 // Whether any access that waits at the key waits for another by way of the transaction.
 #[tactic(auto, using(crate::proofs::Suspects::here_passes, crate::proofs::Suspects::next_fails))]
 fn is_way_of_any(tree: &Tree, locks: &Locks, waits: &Waits, txn: TxnNo, key: &Key) -> bool
     ensures result { result ≡ list_any (waits_by_way_of tree.now locks.now waits.now.waits txn key.now) waits.now.waits }
     ensures once { AreOnce waits.now }
 {
+    if is_nobodys_way(tree, waits, txn) {
+        waits.has_each_once();
+        return false;
+    }
     for place in 0..waits.len() {
         if waits_by_way_of_it_at(tree, locks, waits, txn, key, place) {
             return true;
