@@ -32,15 +32,23 @@ pub trait Gate {
 /// The most workers of a run.
 pub const MOST_WORKERS: u32 = 16;
 
-/// For how long a worker sleeps where it finds the lock taken, and behind a parked line, once it has found as many parked in a row
-/// as there are sessions, in microseconds.
+/// For how long a worker sleeps behind a parked line, once it has found as many parked in a row as there are sessions, in
+/// microseconds.
 const REST: u64 = 50;
+
+/// For how long a worker sleeps where it finds the lock taken, in microseconds. Each further sleep is twice as long, up to the
+/// longest.
+const LOCK_REST: u64 = 200;
+
+/// The longest sleep of a worker that finds the lock taken again and again, in microseconds.
+const LONGEST_REST: u64 = 1600;
 
 /// How often a worker that finds the lock taken rests, before it waits in line for it.
 const RESTS: u32 = 32;
 
 // Tries a line under the lock. A worker that finds the lock taken rests and looks again: so whoever has the lock goes on with line
-// after line, and need not wake another one at each.
+// after line, and need not wake another one at each. The rests get longer, since each change of the worker costs: what the lines
+// read stands in the cache of another processor then.
 fn try_line<R: Wait + Clock, S: TopStore, J: Opening>(
     rt: &R,
     desk: &Mutex<Desk<'_, S, J>>,
@@ -50,11 +58,13 @@ fn try_line<R: Wait + Clock, S: TopStore, J: Opening>(
 ) -> Result<Tried, NoMemory>
     ensures { IfOk result (λ tried. IsNextJob session tried.next) }
 {
+    let mut rest = LOCK_REST;
     for _ in 0..RESTS {
         if let Some(mut held) = desk.try_lock() {
             return held.take_turn(session, line, text);
         }
-        thread::sleep(rt, Duration::from_micros(REST));
+        thread::sleep(rt, Duration::from_micros(rest));
+        rest = rest.saturating_mul(2).min(LONGEST_REST);
     }
     let mut held = desk.lock(rt);
     held.take_turn(session, line, text)
