@@ -1,5 +1,5 @@
 //! A run of a text over a store that is there, from the text's bytes to a report or a fault line, and an exit status.
-ghost use Rattle.std.specs.Prelude.{◌≡◌, ◌≢◌, ◌≤◌};
+ghost use Rattle.std.specs.Prelude.{◌≡◌, ◌≢◌, ◌≤◌, IfErr, IfOk, OnErr};
 ghost use Rattle.std.specs.Io.KnownBytes.{Keeps};
 ghost use Rattle.session_runs.specs.Printing.{IsMissed, IsPrinted};
 ghost use Rattle.session_runs.specs.Ways.{AreFew, IsServable, way_of, Scheduled, ByWorkers};
@@ -8,7 +8,7 @@ use crate::fault::{Fault, fault_of};
 use crate::replay::replay_text;
 use crate::serve::{OpenGate, run_text};
 use crate::way::Way;
-use durable_top::TopStore;
+use durable_top::{StoreFault, TopStore};
 use std::alloc::Global;
 use std::io::Write;
 use std::sync::Wait;
@@ -40,6 +40,29 @@ pub fn report_over<R: Threads + Wait + Clock + Sync, S: TopStore + Send, W: Writ
     match way {
         Way::Schedule(list) => replay_over(alloc, text, list.as_slice(), store, out, err),
         Way::Workers(count) => serve_over(threads, alloc, text, *count, store, out, err),
+    }
+}
+
+/// The same over a store that was opened. Where it was not, that is told, and nothing is run.
+pub fn report_opened<R: Threads + Wait + Clock + Sync, S: TopStore + Send, W: Write, E: Write>(
+    threads: &R,
+    alloc: Global,
+    text: &[u8],
+    way: &Way,
+    opened: Result<S, StoreFault>,
+    out: &mut W,
+    err: &mut E,
+) -> u8
+    requires { IsServable way.now }
+    ensures done { IfOk opened (λ store. result ≡ DONE → IsPrinted S.TopStore (W.contents out.old) (W.contents out.new) text.now (way_of way.now) store) }
+    ensures undone { IfOk opened (λ store. result ≢ DONE → IsMissed S.TopStore (W.contents out.old) (W.contents out.new) text.now (way_of way.now) store) }
+    ensures unopened { IfErr opened (λ fault. result ≡ FAILED) }
+    ensures unwritten { OnErr opened (out.new ≡ out.old) }
+    ensures status { result ≤ FAILED }
+{
+    match opened {
+        Ok(store) => report_over(threads, alloc, text, way, store, out, err),
+        Err(_) => tell(err, Fault::CannotOpen),
     }
 }
 

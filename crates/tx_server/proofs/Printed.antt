@@ -1,5 +1,6 @@
 -- What a run of a text says of the program.
-use Rattle.std.proofs.Common.{◌≡◌, ℕ, List, Option, Some, None, refl, inl, inr}
+use Rattle.std.proofs.Common.{◌≡◌, ℕ, List, Option, Some, None, refl, sym, subst, inl, inr, arith}
+use Rattle.std.specs.Prelude.{◌≢◌, Result, Ok, Err, IfErr, IfOk, OnErr}
 use Rattle.std.specs.Io.KnownBytes.{Keeps}
 use Rattle.durable_top.specs.declared.store.TopStore.{Ghosts}
 use Rattle.session_runs.specs.Ways.{Way}
@@ -24,3 +25,15 @@ prints_from g old new text way store status h done = record { text = text; way =
 pub misses_from : {S : Type 0} (g : Ghosts S) (old new : Option (List ℕ)) (text : List ℕ) (way : Way) (store : S) → IsMissed g old new text way store → MissesFrom g old new
 misses_from g old new text way store (inl k) = inl k
 misses_from g old new text way store (inr u) = inr (record { text = text; way = way; store = store; unpassed = u })
+
+-- the same over a store that was opened, or was not
+pub prints_opened : {S F : Type 0} (g : Ghosts S) (old new : Option (List ℕ)) (text : List ℕ) (way : Way) (status : ℕ) (opened : Result S F)
+    → IfOk opened (λ store. status ≡ 0 → IsPrinted g old new text way store) → IfErr opened (λ fault. status ≡ 1) → status ≡ 0 → PrintsFrom g old new
+prints_opened g old new text way status (Ok store) h failed done = prints_from g old new text way store status h done
+prints_opened g old new text way status (Err fault) h failed done = absurd (omega (arith, failed, done))
+
+pub misses_opened : {S F W : Type 0} (g : Ghosts S) (contents : W → Option (List ℕ)) (old new : W) (text : List ℕ) (way : Way) (status : ℕ) (opened : Result S F)
+    → IfOk opened (λ store. status ≢ 0 → IsMissed g (contents old) (contents new) text way store) → OnErr opened (new ≡ old) → status ≢ 0
+    → MissesFrom g (contents old) (contents new)
+misses_opened g contents old new text way status (Ok store) h same undone = misses_from g (contents old) (contents new) text way store (h undone)
+misses_opened g contents old new text way status (Err fault) h same undone = inl (subst (λ w. Keeps (contents old) (contents w)) (sym same) (same_kept (contents old)))

@@ -7,7 +7,7 @@ ghost use Rattle.tx_server.specs.Programs.{Misses, MissesFrom, Prints, PrintsFro
 
 use crate::command::{Task, task_of};
 use durable_top::{StoreFault, TopStore};
-use session_runs::{Fault, Way, attempts_of, report_over, tell, workers_of};
+use session_runs::{Fault, Way, attempts_of, report_opened, report_over, tell, workers_of};
 use sql_store::{MemoryStore, SqlStore};
 use sqlite::{Alter, File, FileStore};
 use std::alloc::{AllocError, Global};
@@ -219,7 +219,7 @@ fn report_into<R: Threads + Wait + Clock + Sync, W: Write, E: Write>(
     let Ok(text) = fs::read(rt, file) else {
         return tell(err, Fault::CannotRead(file));
     };
-    report_opened(
+    report_pages(
         threads,
         alloc,
         text.as_slice(),
@@ -230,8 +230,8 @@ fn report_into<R: Threads + Wait + Clock + Sync, W: Write, E: Write>(
     )
 }
 
-// The same over a store that was opened, whatever its pages stand in.
-fn report_opened<F: Alter + Drop + Send, R: Threads + Wait + Clock + Sync, W: Write, E: Write>(
+// The same over a store that was opened, or was not, whatever its pages stand in.
+fn report_pages<F: Alter + Drop + Send, R: Threads + Wait + Clock + Sync, W: Write, E: Write>(
     threads: &R,
     alloc: Global,
     text: &[u8],
@@ -245,8 +245,5 @@ fn report_opened<F: Alter + Drop + Send, R: Threads + Wait + Clock + Sync, W: Wr
     ensures undone { result ≢ DONE → MissesFrom ⟦<SqlStore<F> as TopStore>⟧ (W.contents out.old) (W.contents out.new) }
     ensures status { result ≤ FAILED }
 {
-    let Ok(store) = opened else {
-        return tell(err, Fault::CannotOpen);
-    };
-    report_over(threads, alloc, text, way, store, out, err)
+    report_opened(threads, alloc, text, way, opened, out, err)
 }
