@@ -22,7 +22,7 @@ use std::time::{Clock, Duration};
 
 /// What is called around a line, by whoever tries it and outside the lock.
 pub trait Gate {
-    /// Before each attempt of a line.
+    /// Before each attempt of a line, also before one that comes to nothing because another worker has the lock.
     fn pass(&self, session: u32, line: u32);
 
     /// Once for each line that was answered.
@@ -36,56 +36,42 @@ pub const MOST_WORKERS: u32 = 16;
 /// microseconds.
 const REST: u64 = 50;
 
-/// For how long a worker sleeps where it finds the lock taken, in microseconds. Each further sleep is twice as long, up to the
+/// For how long a worker stands back that finds the lock taken, in microseconds. Each time in a row it is twice as long, up to the
 /// longest.
 const LOCK_REST: u64 = 200;
 
-/// The longest sleep of a worker that finds the lock taken again and again, in microseconds.
-const LONGEST_REST: u64 = 1600;
+/// The longest time for which a worker stands back that finds the lock taken again and again, in microseconds.
+const LONGEST_REST: u64 = 6400;
 
-/// How often a worker that finds the lock taken rests, before it waits in line for it.
-const RESTS: u32 = 32;
-
-// Tries a line under the lock. A worker that finds the lock taken rests and looks again: so whoever has the lock goes on with line
-// after line, and need not wake another one at each. The rests get longer, since each change of the worker costs: what the lines
-// read stands in the cache of another processor then.
-fn try_line<R: Wait + Clock, S: TopStore, J: Opening>(
-    rt: &R,
+// Tries a line under the lock, unless another worker has it.
+fn try_line<S: TopStore, J: Opening>(
     desk: &Mutex<Desk<'_, S, J>>,
     session: u32,
     line: u32,
     text: &Line,
-) -> Result<Tried, NoMemory>
-    ensures { IfOk result (λ tried. IsNextJob session tried.next) }
+) -> Result<Option<Tried>, NoMemory>
+    ensures { IfOk result (λ turn. IfSome turn (λ tried. IsNextJob session tried.next)) }
 {
-    let mut rest = LOCK_REST;
-    for _ in 0..RESTS {
-        if let Some(mut held) = desk.try_lock() {
-            return held.take_turn(session, line, text);
-        }
-        thread::sleep(rt, Duration::from_micros(rest));
-        rest = rest.saturating_mul(2).min(LONGEST_REST);
+    match desk.try_lock() {
+        Some(mut held) => Ok(Some(held.take_turn(session, line, text)?)),
+        None => Ok(None),
     }
-    let mut held = desk.lock(rt);
-    held.take_turn(session, line, text)
 }
 
-// Tries a line, if there is one, and calls the gate around it.
-fn turn<R: Wait + Clock, S: TopStore, J: Opening, G: Gate>(
-    rt: &R,
-    sessions: &Sessions,
+// Tries a line, and calls the gate around it. Where another worker has the lock, nothing comes of it.
+fn turn<S: TopStore, J: Opening, G: Gate>(
     desk: &Mutex<Desk<'_, S, J>>,
     gate: &G,
     session: u32,
     line: u32,
+    text: &Line,
 ) -> Result<Option<Tried>, NoMemory>
     ensures { IfOk result (λ turn. IfSome turn (λ tried. IsNextJob session tried.next)) }
 {
-    let Some(text) = sessions.line(session, line) else {
+    gate.pass(session, line);
+    let Some(tried) = try_line(desk, session, line, text)? else {
         return Ok(None);
     };
-    gate.pass(session, line);
-    let tried = try_line(rt, desk, session, line, text)?;
     if tried.turn == Turn::Answered {
         gate.answered(session, line);
     }
@@ -112,40 +98,70 @@ fn next_job(session: u32, tried: &Tried) -> Option<Job>
     }
 }
 
-// Rests behind a line that is parked, once as many in a row were parked as there are sessions, so that each may have been tried.
-// Answers how many they are by now, as far as that is asked. Meanwhile nobody has the line's job, and the other workers wait
-// for theirs.
-fn rest<R: Clock>(rt: &R, parked: u32, sessions: u32, tried: &Tried) -> u32 {
+// How patient a worker has become.
+#[derive(Drop)]
+struct Patience {
+    // How many of its attempts were parked in a row, as far as that is asked.
+    parked: u32,
+    // For how long it stands back once its job is passed on, in microseconds.
+    rest: u64,
+}
+
+// Counts a line that was tried. Behind a parked one it rests, once as many in a row were parked as there are sessions, so that each
+// may have been tried. Meanwhile nobody has the line's job, and the other workers wait for theirs.
+fn count_tried<R: Clock>(rt: &R, patience: &mut Patience, sessions: u32, tried: &Tried) {
+    patience.rest = 0;
     if tried.turn == Turn::Answered || tried.given_up.is_some() {
-        return 0;
+        patience.parked = 0;
+    } else if patience.parked < sessions {
+        patience.parked += 1;
+    } else {
+        thread::sleep(rt, Duration::from_micros(REST));
     }
-    if parked < sessions {
-        return parked + 1;
+}
+
+// Counts a line that was not tried, since another worker has the lock.
+fn count_taken(patience: &mut Patience) {
+    patience.rest = patience
+        .rest
+        .saturating_mul(2)
+        .max(LOCK_REST)
+        .min(LONGEST_REST);
+}
+
+// Stands back, where it found the lock taken. It has passed its job on, so that whoever has the lock goes on with line after
+// line of every session, and need not wake another worker at each. The rests get longer, since each change of the worker costs:
+// what the lines read stands in the cache of another processor then.
+fn stand_back<R: Clock>(rt: &R, patience: &Patience) {
+    if patience.rest > 0 {
+        thread::sleep(rt, Duration::from_micros(patience.rest));
     }
-    thread::sleep(rt, Duration::from_micros(REST));
-    parked
 }
 
 // Does a job, and gives the one that follows: the session's next line, which may be the same again, or a stop.
-fn follow<R: Wait + Clock, S: TopStore, J: Opening, G: Gate>(
+fn follow<R: Clock, S: TopStore, J: Opening, G: Gate>(
     rt: &R,
     sessions: &Sessions,
     desk: &Mutex<Desk<'_, S, J>>,
     gate: &G,
     job: Job,
-    parked: &mut u32,
+    patience: &mut Patience,
 ) -> Option<Job>
+    requires { IsJob job }
     ensures { IfSome result IsJob }
 {
     let Job::Line { session, line } = job else {
         return Some(Job::Stop);
     };
-    match turn(rt, sessions, desk, gate, session, line) {
+    match turn(desk, gate, session, line, sessions.line(session, line)?) {
         Ok(Some(tried)) => {
-            *parked = rest(rt, *parked, count_of(sessions), &tried);
+            count_tried(rt, patience, count_of(sessions), &tried);
             next_job(session, &tried)
         }
-        Ok(None) => None,
+        Ok(None) => {
+            count_taken(patience);
+            Some(job)
+        }
         Err(_) => Some(Job::Stop),
     }
 }
@@ -163,17 +179,18 @@ fn work<R: Wait + Clock, S: TopStore, J: Opening, G: Gate>(
     requires seat { IsSeatAt (sends_on sender.now) pass }
     requires ends { receives_on receiver.now ≡ sends_on sender.now }
 {
-    let mut parked = 0;
+    let mut patience = Patience { parked: 0, rest: 0 };
     for _ in rt.forever() {
         let Ok(job) = receiver.recv_as::<Takes, R>(rt, &mut pass) else {
             return;
         };
-        if let Some(next) = follow(rt, sessions, desk, gate, job, &mut parked) {
+        if let Some(next) = follow(rt, sessions, desk, gate, job, &mut patience) {
             let _ = sender.send_as::<Sends, R>(rt, &mut pass, next);
             if matches!(next, Job::Stop) {
                 return;
             }
         }
+        stand_back(rt, &patience);
     }
 }
 
@@ -254,7 +271,7 @@ fn is_over<R: Wait, S: TopStore, J: Opening>(rt: &R, desk: &Mutex<Desk<'_, S, J>
 }
 
 // Tries the lines that are left, in rounds, until none is: those whose jobs were lost. Most runs leave none.
-fn finish<R: Wait + Clock, S: TopStore, J: Opening, G: Gate>(
+fn finish<R: Wait, S: TopStore, J: Opening, G: Gate>(
     rt: &R,
     sessions: &Sessions,
     desk: &Mutex<Desk<'_, S, J>>,
@@ -265,8 +282,11 @@ fn finish<R: Wait + Clock, S: TopStore, J: Opening, G: Gate>(
             break;
         }
         for session in 0..count_of(sessions) {
-            if let Some(line) = next_line(rt, desk, session) {
-                turn(rt, sessions, desk, gate, session, line)?;
+            let Some(line) = next_line(rt, desk, session) else {
+                continue;
+            };
+            if let Some(text) = sessions.line(session, line) {
+                turn(desk, gate, session, line, text)?;
             }
         }
     }
