@@ -7,7 +7,7 @@ use Rattle.worker_pool.specs.declared.jobs.Job.TheVariants.{Line, Stop}
 
 -- a line that a text may have, or a stop
 abbrev pub IsJob : Job → Type 0
-IsJob (Line session line) = (session < MOST_SESSIONS) × (0 < line) × (line ≤ MOST_LINES)
+IsJob (Line session line parked) = (session < MOST_SESSIONS) × (0 < line) × (line ≤ MOST_LINES)
 IsJob Stop = Unit {0}
 
 abbrev pub AreJobs : List Job → Type 0

@@ -1,15 +1,15 @@
 //! Workers over one lock.
 ghost use Rattle.std.specs.Prelude.{◌≡◌, ◌<◌, ◌≤◌, IfErr, IfOk, IfSome};
 ghost use Rattle.crossbeam_channel.specs.Claims.{IsSeatAt};
-ghost use Rattle.crossbeam_channel.specs.Ends.{receives_on, sends_on};
+ghost use Rattle.crossbeam_channel.specs.Ends.{sends_on};
 ghost use Rattle.serial_spec.specs.declared.limits.TheConstants.{MOST_SESSIONS};
 ghost use Rattle.worker_pool.specs.Jobs.{IsJob, IsNextJob};
 ghost use Rattle.worker_pool.specs.Served.{IsAfterOpening};
 
 use crate::desk::{Desk, Opening, Tried};
-use crate::jobs::{Cut, Job, Limits, Receiver, Sender, Sends, Takes};
+use crate::jobs::{Channel, Job, Lanes};
 use crate::serving::ServeFault;
-use crossbeam_channel::{Pass, bounded_with};
+use crossbeam_channel::Pass;
 use durable_top::TopStore;
 use interleavings::Turn;
 use serial_spec::NoMemory;
@@ -36,11 +36,11 @@ pub const MOST_WORKERS: u32 = 16;
 /// microseconds.
 const REST: u64 = 50;
 
-/// For how long a worker stands back that finds the lock taken, in microseconds. Each time in a row it is twice as long, up to the
+/// For how long a worker stands back that finds the lock taken, or no job, in microseconds. Each time in a row it is twice as long, up to the
 /// longest.
 const LOCK_REST: u64 = 200;
 
-/// The longest time for which a worker stands back that finds the lock taken again and again, in microseconds.
+/// The longest time for which a worker stands back that finds the lock taken, or no job, again and again, in microseconds.
 const LONGEST_REST: u64 = 6400;
 
 // Tries a line under the lock, unless another worker has it.
@@ -81,13 +81,17 @@ fn turn<S: TopStore, J: Opening, G: Gate>(
     Ok(Some(tried))
 }
 
-// The job that follows a line of the session.
-fn next_job(session: u32, tried: &Tried) -> Option<Job>
+// The job that follows this line of the session.
+fn next_job(session: u32, line: u32, tried: &Tried) -> Option<Job>
     requires { IsNextJob session tried.now.next }
     ensures { IfSome result IsJob }
 {
     match tried.next {
-        Some(line) => Some(Job::Line { session, line }),
+        Some(next) => Some(Job::Line {
+            session,
+            line: next,
+            parked: next == line,
+        }),
         None => {
             if tried.finished {
                 Some(Job::Stop)
@@ -101,6 +105,8 @@ fn next_job(session: u32, tried: &Tried) -> Option<Job>
 // How patient a worker has become.
 #[derive(Drop)]
 struct Patience {
+    // Whether its next job is one that was parked, if there is any.
+    is_parked_due: bool,
     // How many of its attempts were parked in a row, as far as that is asked.
     parked: u32,
     // For how long it stands back once its job is passed on, in microseconds.
@@ -120,8 +126,8 @@ fn count_tried<R: Clock>(rt: &R, patience: &mut Patience, sessions: u32, tried: 
     }
 }
 
-// Counts a line that was not tried, since another worker has the lock.
-fn count_taken(patience: &mut Patience) {
+// Counts a line that was not tried, since another worker has the lock, or that no job was there.
+fn count_idle(patience: &mut Patience) {
     patience.rest = patience
         .rest
         .saturating_mul(2)
@@ -129,9 +135,10 @@ fn count_taken(patience: &mut Patience) {
         .min(LONGEST_REST);
 }
 
-// Stands back, where it found the lock taken. It has passed its job on, so that whoever has the lock goes on with line after
-// line of every session, and need not wake another worker at each. The rests get longer, since each change of the worker costs:
-// what the lines read stands in the cache of another processor then.
+// Stands back, where it found the lock taken, or no job. It has passed its job on, so that whoever has the lock goes on with line
+// after line of every session, and need not wake another worker at each. The rests get longer, since each change of the worker
+// costs: what the lines read stands in the cache of another processor then. It sleeps, and does not wait in a receive, since the
+// next job may come through either channel.
 fn stand_back<R: Clock>(rt: &R, patience: &Patience) {
     if patience.rest > 0 {
         thread::sleep(rt, Duration::from_micros(patience.rest));
@@ -150,45 +157,62 @@ fn follow<R: Clock, S: TopStore, J: Opening, G: Gate>(
     requires { IsJob job }
     ensures { IfSome result IsJob }
 {
-    let Job::Line { session, line } = job else {
+    let Job::Line { session, line, .. } = job else {
         return Some(Job::Stop);
     };
     match turn(desk, gate, session, line, sessions.line(session, line)?) {
         Ok(Some(tried)) => {
             count_tried(rt, patience, count_of(sessions), &tried);
-            next_job(session, &tried)
+            next_job(session, line, &tried)
         }
         Ok(None) => {
-            count_taken(patience);
+            count_idle(patience);
             Some(job)
         }
         Err(_) => Some(Job::Stop),
     }
 }
 
+// Takes a job. Behind each that was not parked comes one that was, as far as there are any.
+fn take_job<R: Wait>(rt: &R, lanes: &mut Lanes<'_>, patience: &mut Patience) -> Option<Job>
+    ensures { IfSome result IsJob }
+{
+    if !patience.is_parked_due {
+        patience.is_parked_due = true;
+        if let Some(job) = lanes.take_ready(rt) {
+            return Some(job);
+        }
+    }
+    patience.is_parked_due = false;
+    if let Some(job) = lanes.take_parked(rt) {
+        return Some(job);
+    }
+    lanes.take_ready(rt)
+}
+
 // Does jobs until there is a stop, which is sent on.
 fn work<R: Wait + Clock, S: TopStore, J: Opening, G: Gate>(
     rt: &R,
-    sender: &Sender,
-    receiver: &Receiver,
-    mut pass: Pass<Job, ()>,
+    mut lanes: Lanes<'_>,
     sessions: &Sessions,
     desk: &Mutex<Desk<'_, S, J>>,
     gate: &G,
-)
-    requires seat { IsSeatAt (sends_on sender.now) pass }
-    requires ends { receives_on receiver.now ≡ sends_on sender.now }
-{
-    let mut patience = Patience { parked: 0, rest: 0 };
+) {
+    let mut patience = Patience {
+        is_parked_due: false,
+        parked: 0,
+        rest: 0,
+    };
     for _ in rt.forever() {
-        let Ok(job) = receiver.recv_as::<Takes, R>(rt, &mut pass) else {
-            return;
-        };
-        if let Some(next) = follow(rt, sessions, desk, gate, job, &mut patience) {
-            let _ = sender.send_as::<Sends, R>(rt, &mut pass, next);
-            if matches!(next, Job::Stop) {
-                return;
+        if let Some(job) = take_job(rt, &mut lanes, &mut patience) {
+            if let Some(next) = follow(rt, sessions, desk, gate, job, &mut patience) {
+                lanes.put(rt, next);
+                if matches!(next, Job::Stop) {
+                    return;
+                }
             }
+        } else {
+            count_idle(&mut patience);
         }
         stand_back(rt, &patience);
     }
@@ -202,19 +226,24 @@ pub(crate) fn count_of(sessions: &Sessions) -> u32
 }
 
 // Sends the first line of each session that has lines, or a stop where none has.
-fn first_jobs<R: Wait>(rt: &R, sender: &Sender, pass: &mut Pass<Job, ()>, sessions: &Sessions)
-    requires { IsSeatAt (sends_on sender.now) pass.old }
-    ensures { IsSeatAt (sends_on sender.now) pass.new }
+fn first_jobs<R: Wait>(rt: &R, ready: &Channel, pass: &mut Pass<Job, ()>, sessions: &Sessions)
+    requires { IsSeatAt (sends_on ready.now.sender) pass.old }
+    ensures { IsSeatAt (sends_on ready.now.sender) pass.new }
 {
     let mut none = true;
     for session in 0..count_of(sessions) {
         if sessions.line(session, 1).is_some() {
             none = false;
-            let _ = sender.send_as::<Sends, R>(rt, pass, Job::Line { session, line: 1 });
+            let first = Job::Line {
+                session,
+                line: 1,
+                parked: false,
+            };
+            ready.put(rt, pass, first);
         }
     }
     if none {
-        let _ = sender.send_as::<Sends, R>(rt, pass, Job::Stop);
+        ready.put(rt, pass, Job::Stop);
     }
 }
 
@@ -226,28 +255,37 @@ fn start_all<
     G: Gate + Sync,
 >(
     rt: &R,
-    sender: &Sender,
-    receiver: &Receiver,
-    mut pass: Pass<Job, ()>,
+    ready: &Channel,
+    mut to_ready: Pass<Job, ()>,
+    parked: &Channel,
+    mut to_parked: Pass<Job, ()>,
     sessions: &Sessions,
     desk: &Mutex<Desk<'_, S, J>>,
     workers: u32,
     gate: &G,
 ) -> bool
-    requires seat { IsSeatAt (sends_on sender.now) pass }
-    requires ends { receives_on receiver.now ≡ sends_on sender.now }
+    requires { IsSeatAt (sends_on ready.now.sender) to_ready × IsSeatAt (sends_on parked.now.sender) to_parked }
 {
     thread::scope(
         thread::scope_env(),
         rt,
         |scope| -> bool
-            requires { IsSeatAt (sends_on sender.now) pass × (receives_on receiver.now ≡ sends_on sender.now) }
+            requires { IsSeatAt (sends_on ready.now.sender) to_ready × IsSeatAt (sends_on parked.now.sender) to_parked }
         {
             for _ in 0..workers {
-                let mine = sender.another::<Cut>(&mut pass);
-                let worker = move || work(rt, sender, receiver, mine, sessions, desk, gate);
+                let (first, second) = (
+                    ready.another(&mut to_ready),
+                    parked.another(&mut to_parked),
+                );
+                let worker = move || work(
+                    rt,
+                    Lanes::new(ready, parked, first, second),
+                    sessions,
+                    desk,
+                    gate,
+                );
                 if scope.spawn(worker).is_err() {
-                    let _ = sender.send_as::<Sends, R>(rt, &mut pass, Job::Stop);
+                    ready.put(rt, &mut to_ready, Job::Stop);
                     return false;
                 }
             }
@@ -312,12 +350,16 @@ pub(crate) fn work_through<
 {
     // A job of each session, and a stop of each worker and of the driver.
     let room = (count_of(sessions) + workers + 1) as usize;
-    let Ok((sender, receiver, mut pass)) = bounded_with::<Job, (), Limits, Global>(alloc, room)
-    else {
+    let Ok((ready, mut to_ready)) = Channel::new(alloc, room) else {
         return Err(ServeFault::NoMemory);
     };
-    first_jobs(rt, &sender, &mut pass, sessions);
-    if !start_all(rt, &sender, &receiver, pass, sessions, desk, workers, gate) {
+    let Ok((parked, to_parked)) = Channel::new(alloc, room) else {
+        return Err(ServeFault::NoMemory);
+    };
+    first_jobs(rt, &ready, &mut to_ready, sessions);
+    if !start_all(
+        rt, &ready, to_ready, &parked, to_parked, sessions, desk, workers, gate,
+    ) {
         return Err(ServeFault::Thread);
     }
     match finish(rt, sessions, desk, gate) {
