@@ -63,6 +63,20 @@ HasReplayCause g old new text (Scheduled schedule) store (Serve fault) = ⊥
 HasReplayCause g old new text ByWorkers store (Serve fault) = IsUnserved g text store fault
 HasReplayCause g old new text way store (Write fault) = IsCutShort g old new text way store
 
+-- the text spells no sessions, and the fault tells why
+abbrev pub IsUnread : List ℕ → ReplayFault → Type 0
+IsUnread text (Text fault) = Tells fault (sessions_of text)
+IsUnread text (Run fault) = ⊥
+IsUnread text (Serve fault) = ⊥
+IsUnread text (Write fault) = ⊥
+
+-- the writer failed, after a beginning of this report
+abbrev pub IsUnended : Option (List ℕ) → Option (List ℕ) → Told → ReplayFault → Type 0
+IsUnended old new r (Text fault) = ⊥
+IsUnended old new r (Run fault) = ⊥
+IsUnended old new r (Serve fault) = ⊥
+IsUnended old new r (Write fault) = AppendsFront old new (spelled_report r)
+
 -- a fault that came before anything was written
 abbrev pub IsUnwritten : ReplayFault → Type 0
 IsUnwritten (Text fault) = Unit {0}

@@ -1,6 +1,7 @@
 //! Runs of session texts: from a text's bytes and a store to the bytes of a report, or of the line that says why there is none.
 #![tactic(auto)]
 
+mod ends;
 mod fault;
 mod replay;
 mod reporting;

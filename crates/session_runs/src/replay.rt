@@ -3,10 +3,11 @@ ghost use Rattle.std.specs.Prelude.{◌≡◌, IfErr, IfOk};
 ghost use Rattle.session_runs.specs.Replays.{HasReplayCause, IsReplayed, IsUnwritten};
 ghost use Rattle.session_runs.specs.Ways.{Scheduled};
 
+use crate::ends::{put_report, read_sessions};
 use durable_top::TopStore;
 use interleavings::{RunFault, run_schedule};
-use report_text::{WriteFault, write_report};
-use session_text::{Sessions, TextFault};
+use report_text::WriteFault;
+use session_text::TextFault;
 use std::alloc::Global;
 use std::io::Write;
 use worker_pool::ServeFault;
@@ -25,6 +26,7 @@ pub enum ReplayFault {
 /// Reads a session text, runs it over the store by the schedule, writes the report, and gives the store back. The first
 /// fault is told: of the text, of the run, or of the writer. Only after one of the writer has `out` taken bytes, which
 /// are a beginning of the report.
+#[tactic(auto, using(crate::proofs::Causes::unread, crate::proofs::Causes::unended, crate::proofs::Causes::written))]
 pub fn replay_text<S: TopStore, W: Write>(
     alloc: Global,
     text: &[u8],
@@ -36,16 +38,11 @@ pub fn replay_text<S: TopStore, W: Write>(
     ensures err { IfErr result (λ fault. HasReplayCause S.TopStore (W.contents out.old) (W.contents out.new) text.now (Scheduled schedule.now) store fault) }
     ensures unwritten { IfErr result (λ fault. IsUnwritten fault → out.new ≡ out.old) }
 {
-    let sessions = match Sessions::parse(alloc, text) {
-        Ok(sessions) => sessions,
-        Err(fault) => return Err(ReplayFault::Text(fault)),
-    };
+    let sessions = read_sessions(alloc, text)?;
     let (report, left) = match run_schedule(alloc, &sessions, schedule, store) {
         Ok(run) => run,
         Err(fault) => return Err(ReplayFault::Run(fault)),
     };
-    match write_report(&report, out) {
-        Ok(()) => Ok(left),
-        Err(fault) => Err(ReplayFault::Write(fault)),
-    }
+    put_report(&report, out)?;
+    Ok(left)
 }

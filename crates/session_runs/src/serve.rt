@@ -4,10 +4,9 @@ ghost use Rattle.session_runs.specs.Replays.{HasReplayCause, IsReplayed, IsUnwri
 ghost use Rattle.session_runs.specs.Ways.{AreFew};
 ghost use Rattle.session_runs.specs.Ways.{ByWorkers};
 
+use crate::ends::{put_report, read_sessions};
 use crate::replay::ReplayFault;
 use durable_top::TopStore;
-use report_text::write_report;
-use session_text::Sessions;
 use std::alloc::Global;
 use std::io::Write;
 use std::sync::Wait;
@@ -29,6 +28,7 @@ impl Gate for OpenGate {
 /// In which order the lines are attempted is the threads' choice; whichever it is, the report says of it what every
 /// report says. The first fault is told: of the text, of the run, or of the writer. Only after one of the writer has `out`
 /// taken bytes, which are a beginning of the report.
+#[tactic(auto, using(crate::proofs::Causes::unread, crate::proofs::Causes::unended, crate::proofs::Causes::written))]
 pub fn run_text<R: Threads + Wait + Clock + Sync, S: TopStore + Send, G: Gate + Sync, W: Write>(
     rt: &R,
     alloc: Global,
@@ -43,16 +43,11 @@ pub fn run_text<R: Threads + Wait + Clock + Sync, S: TopStore + Send, G: Gate + 
     ensures err { IfErr result (λ fault. HasReplayCause S.TopStore (W.contents out.old) (W.contents out.new) text.now ByWorkers store fault) }
     ensures unwritten { IfErr result (λ fault. IsUnwritten fault → out.new ≡ out.old) }
 {
-    let sessions = match Sessions::parse(alloc, text) {
-        Ok(sessions) => sessions,
-        Err(fault) => return Err(ReplayFault::Text(fault)),
-    };
+    let sessions = read_sessions(alloc, text)?;
     let (report, left) = match serve(rt, alloc, sessions, store, workers, gate) {
         Ok(run) => run,
         Err(fault) => return Err(ReplayFault::Serve(fault)),
     };
-    match write_report(&report, out) {
-        Ok(()) => Ok(left),
-        Err(fault) => Err(ReplayFault::Write(fault)),
-    }
+    put_report(&report, out)?;
+    Ok(left)
 }

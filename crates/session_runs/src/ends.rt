@@ -1,0 +1,35 @@
+//! The first step and the last of every run of a text: from its bytes to its sessions, and from the report to its bytes.
+ghost use Rattle.std.specs.Prelude.{◌≡◌, Ok, IfErr, IfOk, OnOk};
+ghost use Rattle.session_text.specs.Texts.{sessions_of};
+ghost use Rattle.txn_bytes.specs.Written.{AppendsFront};
+ghost use Rattle.std.specs.Io.KnownBytes.{Appends};
+ghost use Rattle.session_runs.specs.Replays.{IsUnended, IsUnread, spelled_report};
+
+use crate::replay::ReplayFault;
+use interleavings::Report;
+use report_text::write_report;
+use session_text::Sessions;
+use std::alloc::Global;
+use std::io::Write;
+
+/// The sessions that a text spells, or why it spells none.
+pub(crate) fn read_sessions(alloc: Global, text: &[u8]) -> Result<Sessions, ReplayFault>
+    ensures ok { IfOk result (λ sessions. sessions_of text.now ≡ Ok sessions) }
+    ensures err { IfErr result (λ fault. IsUnread text.now fault) }
+{
+    match Sessions::parse(alloc, text) {
+        Ok(sessions) => Ok(sessions),
+        Err(fault) => Err(ReplayFault::Text(fault)),
+    }
+}
+
+/// Writes the report. After the fault, which is the writer's, `out` has taken a beginning of it.
+pub(crate) fn put_report<W: Write>(report: &Report, out: &mut W) -> Result<(), ReplayFault>
+    ensures ok { OnOk result (Appends (W.contents out.old) (W.contents out.new) (spelled_report report.now)) }
+    ensures err { IfErr result (λ fault. IsUnended (W.contents out.old) (W.contents out.new) report.now fault) }
+{
+    match write_report(report, out) {
+        Ok(()) => Ok(()),
+        Err(fault) => Err(ReplayFault::Write(fault)),
+    }
+}
