@@ -1,6 +1,6 @@
 use Rattle.std.proofs.Common.{inl}
-use Rattle.tx_server.proofs.Printed.{same_kept}
-use Rattle.tx_server.proofs.program.run.Goals as goal
+use Rattle.tx_program.proofs.Printed.{same_kept}
+use Rattle.tx_program.proofs.program.run.Goals as goal
 
 pub returns-in-None-clause-undone : goal.returns-in-None-clause-undone
 returns-in-None-clause-undone g c = λ undone. inl (inl (same_kept (g.W.Write.contents c.args.out.now)))

@@ -3,7 +3,7 @@ ghost use Rattle.std.specs.Prelude.{◌≡◌, ◌≢◌, ◌≤◌, ◌⊎◌};
 ghost use Rattle.std.specs.Io.KnownBytes.{Keeps};
 ghost use Rattle.session_runs.specs.declared.reporting.TheConstants.{DONE, FAILED};
 ghost use Rattle.session_runs.specs.Ways.{IsServable};
-ghost use Rattle.tx_server.specs.Programs.{Misses, MissesFrom, Prints, PrintsFrom};
+ghost use Rattle.tx_program.specs.Programs.{Misses, MissesFrom, Prints, PrintsFrom};
 
 use crate::command::{Task, task_of};
 use durable_top::{StoreFault, TopStore};

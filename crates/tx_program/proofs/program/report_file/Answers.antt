@@ -1,6 +1,6 @@
 use Rattle.session_runs.specs.Ways.{way_of}
-use Rattle.tx_server.proofs.Printed.{misses, prints}
-use Rattle.tx_server.proofs.program.report_file.Goals as goal
+use Rattle.tx_program.proofs.Printed.{misses, prints}
+use Rattle.tx_program.proofs.program.report_file.Goals as goal
 
 pub returns-clause-done : goal.returns-clause-done
 returns-clause-done g c =

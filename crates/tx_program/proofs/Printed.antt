@@ -5,7 +5,7 @@ use Rattle.std.specs.Io.KnownBytes.{Keeps}
 use Rattle.durable_top.specs.declared.store.TopStore.{Ghosts}
 use Rattle.session_runs.specs.Ways.{Way}
 use Rattle.session_runs.specs.Printing.{IsMissed, IsPrinted}
-use Rattle.tx_server.specs.Programs.{Misses, MissesFrom, Prints, PrintsFrom}
+use Rattle.tx_program.specs.Programs.{Misses, MissesFrom, Prints, PrintsFrom}
 
 -- a writer that got nothing
 pub same_kept : (w : Option (List ℕ)) → Keeps w w

@@ -1,11 +1,11 @@
 //! The program by its words, over files and databases.
-use crate::program::tx_main;
 use std::fs;
 use std::process::Abort;
 use std::rt::HostRuntime;
 use std::sync::Wait;
 use std::thread::Threads;
 use std::time::Clock;
+use tx_program::tx_main;
 
 /// One transaction that reads its own write: a text and its report.
 const FIRST: &[u8] = b"session s\nbegin a\nset a x 5\nget a x\ncommit a\n";
