@@ -44,7 +44,7 @@ fn stray(count: u32, schedule: &[u32]) -> Option<usize>
 fn give_up<S: TopStore>(turns: Turns<'_, S>) -> RunFault
     ensures { result ≡ RunFault.NoMemory }
 {
-    let _turns = turns;
+    drop(turns);
     RunFault::NoMemory
 }
 

@@ -66,7 +66,13 @@ impl Tables {
     pub(crate) fn into_base(self) -> PlainTable
         ensures { result.rows ≡ rows_in self }
     {
-        let Tables { estate, .. } = self;
+        let Tables {
+            tree,
+            marks,
+            estate,
+            waits,
+        } = self;
+        drop((tree, marks, waits));
         estate.into_base()
     }
 

@@ -1,6 +1,6 @@
 //! Sessions under way, and the book over them: each call once.
 use durable_top::{MemStore, Row};
-use interleavings::{Turn, Turns};
+use interleavings::{Report, Turn, Turns};
 use session_text::Sessions;
 use shared_book::Book;
 use std::alloc::Global;
@@ -24,6 +24,12 @@ fn one_row(rt: &impl Abort, alloc: Global) -> MemStore {
     MemStore::new(alloc, &[Row { key, value: 1 }]).expect(rt, "memory")
 }
 
+fn report_alone(run: (Report, MemStore)) -> Report {
+    let (report, store) = run;
+    drop(store);
+    report
+}
+
 // Whether a step comes to this, while nobody is stuck.
 fn steps(turns: &mut Turns<'_, MemStore>, session: u32, turn: Turn) -> bool {
     turns.stuck().ok() == Some(None) && turns.step(session).ok() == Some(turn)
@@ -40,10 +46,16 @@ fn sessions_in_turn(rt: HostRuntime) {
     }
     assert!(rt; turns.finished() && turns.next_line(0).is_none());
     assert!(rt; turns.step(0).ok() == Some(Turn::OutOfTurn));
-    match turns.into_report() {
-        Ok((report, _store)) => assert!(rt; report.history().len() == 3),
-        Err(_turns) => assert!(rt; false, "memory"),
-    }
+    let report = match turns.into_report() {
+        Ok(run) => report_alone(run),
+        Err(turns) => {
+            drop(turns);
+            rt.panic("memory")
+        }
+    };
+    assert!(rt; report.history().len() == 3);
+    drop(report);
+    drop(sessions);
 }
 
 // Whether the session's next line is tried and comes to this, and any other line to nothing.
@@ -69,8 +81,14 @@ fn lines_by_number(rt: HostRuntime) {
         assert!(rt; attempts(&mut book, &sessions, session, turn), "{session}");
     }
     assert!(rt; book.finished());
-    match book.into_report() {
-        Ok((report, _store)) => assert!(rt; report.history().len() == 3),
-        Err(_book) => assert!(rt; false, "memory"),
-    }
+    let report = match book.into_report() {
+        Ok(run) => report_alone(run),
+        Err(book) => {
+            drop(book);
+            rt.panic("memory")
+        }
+    };
+    assert!(rt; report.history().len() == 3);
+    drop(report);
+    drop(sessions);
 }

@@ -23,6 +23,7 @@ fn served<R: Threads + Wait + Clock + Abort + Sync, G: Gate + Sync>(
     assert!(rt; workers <= MOST_WORKERS);
     let sessions = Sessions::parse(alloc, text).expect(rt, "a text");
     let store = MemStore::new(alloc, &[]).expect(rt, "memory");
-    let (report, _store) = serve(rt, alloc, sessions, store, workers, gate).expect(rt, "a report");
+    let (report, store) = serve(rt, alloc, sessions, store, workers, gate).expect(rt, "a report");
+    drop(store);
     report
 }

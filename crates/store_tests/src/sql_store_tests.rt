@@ -85,7 +85,11 @@ fn adopted(connection: Connection<MemStore>) -> Option<SqlStore<MemStore>> {
 // Whether a store that takes the connection over gives these rows.
 fn is_left(rt: &impl Abort, alloc: Global, connection: Connection<MemStore>, rows: &str) -> bool {
     match adopted(connection) {
-        Some(mut store) => gives(rt, alloc, &mut store, rows),
+        Some(mut store) => {
+            let is_given = gives(rt, alloc, &mut store, rows);
+            drop(store);
+            is_given
+        }
         None => false,
     }
 }
@@ -114,7 +118,9 @@ fn keeps(rt: &impl Abort, alloc: Global, script: &str, rows: &str) -> bool {
     let Ok(mut store) = MemoryStore::new(alloc) else {
         return false;
     };
-    serves(rt, alloc, &mut store, "", script) && gives(rt, alloc, &mut store, rows)
+    let is_kept = serves(rt, alloc, &mut store, "", script) && gives(rt, alloc, &mut store, rows);
+    drop(store);
+    is_kept
 }
 
 #[test]
@@ -149,6 +155,7 @@ fn a_commit_that_finds_no_memory(rt: HostRuntime) {
         Err(_) => MemoryStore::new(rt.alloc()).expect(&rt, "memory"),
     };
     assert!(rt; commits_again(&rt, rt.alloc(), &mut store));
+    drop(store);
 }
 
 // A database in memory on which these statements were run.
@@ -163,7 +170,11 @@ fn database(alloc: Global, sql: &str) -> Result<Connection<MemStore>, Error> {
 // What a store over it answers: to its opening, or else to the first load.
 fn answer_of(connection: Connection<MemStore>, alloc: Global) -> (&'static str, &'static str) {
     match SqlStore::adopt(connection) {
-        Ok(mut store) => ("ok", word(&store.load(alloc))),
+        Ok(mut store) => {
+            let answer = word(&store.load(alloc));
+            drop(store);
+            ("ok", answer)
+        }
         Err((fault, _)) => (word::<()>(&Err(fault)), ""),
     }
 }

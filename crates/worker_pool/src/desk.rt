@@ -220,7 +220,7 @@ impl<'a, S: TopStore, J: Opening> Desk<'a, S, J> {
     fn give_up(self, fault: ServeFault) -> ServeFault
         ensures { result ≡ fault }
     {
-        let _desk = self;
+        drop(self);
         fault
     }
 
@@ -247,7 +247,7 @@ impl<'a, S: TopStore, J: Opening> Desk<'a, S, J> {
 fn give_up<S: TopStore>(book: Book<'_, S>) -> ServeFault
     ensures { result ≡ ServeFault.NoMemory }
 {
-    let _book = book;
+    drop(book);
     ServeFault::NoMemory
 }
 

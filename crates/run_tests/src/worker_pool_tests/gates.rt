@@ -132,5 +132,6 @@ fn two_at_once(rt: HostRuntime) {
         assert!(rt; !gate.late.load(Ordering::SeqCst));
         assert!(rt; report.history().len() == 4);
         assert!(rt; gate.begins(&report));
+        drop(report);
     }
 }

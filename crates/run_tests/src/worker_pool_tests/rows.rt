@@ -105,6 +105,7 @@ fn tables(rt: HostRuntime) {
             assert!(rt; value_of(&rt, &report, b"x") == x);
             assert!(rt; value_of(&rt, &report, b"y") == y);
             assert!(rt; report.table().len() == rows);
+            drop(report);
         }
     }
 }
@@ -126,6 +127,7 @@ fn one_given_up(rt: HostRuntime) {
         assert!(rt; gate.heard(10));
         assert!(rt; given_up(&report) == 1);
         assert!(rt; value_of(&rt, &report, b"x") == Some(1));
+        drop(report);
     }
 }
 
@@ -137,6 +139,7 @@ fn two_given_up_of_one_session(rt: HostRuntime) {
         assert!(rt; gate.heard(5));
         assert!(rt; given_up(&report) == 2);
         assert!(rt; value_of(&rt, &report, b"x") == Some(1));
+        drop(report);
     }
 }
 
@@ -159,6 +162,7 @@ fn all_given_up(rt: HostRuntime) {
         let report = served(&rt, rt.alloc(), text.as_bytes(), workers, &gate);
         assert!(rt; given_up(&report) == 128);
         assert!(rt; gate.answered.load(Ordering::SeqCst) == 128);
+        drop(report);
     }
 }
 
@@ -170,6 +174,7 @@ fn left_by_workers(rt: HostRuntime) {
     assert!(rt; gate.heard(10));
     assert!(rt; given_up(&report) == 1);
     assert!(rt; value_of(&rt, &report, b"x") == Some(1));
+    drop(report);
 }
 
 // Whether some access of the transaction was answered that the key has this value now.
@@ -207,5 +212,6 @@ fn eight_that_add(rt: HostRuntime) {
         assert!(rt; commits_in_order(report.history()) == Some(8));
         assert!(rt; value_of(&rt, &report, b"x") == Some(8));
         assert!(rt; report.table().len() == 1);
+        drop(report);
     }
 }

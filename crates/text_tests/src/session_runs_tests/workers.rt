@@ -60,7 +60,11 @@ fn is_judged_serial<R: Threads + Wait + Clock + Abort + Sync>(
     assert!(rt; 0 < workers && workers <= 16);
     let sessions = Sessions::parse(alloc, text).expect(rt, "a text");
     match serve(rt, alloc, sessions, empty(rt, alloc), workers, &OpenGate) {
-        Ok((report, _store)) => is_serial(rt, alloc, &report),
+        Ok((report, store)) => {
+            let is_served = is_serial(rt, alloc, &report);
+            drop((report, store));
+            is_served
+        }
         Err(_) => false,
     }
 }

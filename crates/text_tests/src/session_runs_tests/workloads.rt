@@ -252,7 +252,8 @@ fn report_by<R: Threads + Wait + Clock + Abort + Sync>(
     assert!(rt; 0 < workers && workers <= 16);
     let sessions = Sessions::parse(alloc, text).expect(rt, "a text");
     let run = serve(rt, alloc, sessions, empty(rt, alloc), workers, &OpenGate);
-    let (report, _store) = run.expect(rt, "a report");
+    let (report, store) = run.expect(rt, "a report");
+    drop(store);
     report
 }
 
@@ -265,7 +266,9 @@ fn is_judged<R: Threads + Wait + Clock + Abort + Sync>(
 ) -> bool {
     let text = text_of(rt, alloc, workload);
     let report = report_by(rt, alloc, text.as_bytes(), workers);
-    is_serial(rt, alloc, &report)
+    let is_served = is_serial(rt, alloc, &report);
+    drop(report);
+    is_served
 }
 
 #[test]
@@ -295,4 +298,5 @@ fn spoiled_report(rt: HostRuntime) {
     let report = report_by(&rt, rt.alloc(), text.as_bytes(), 4);
     assert!(rt; is_serial(&rt, rt.alloc(), &report));
     assert!(rt; !is_serial_spoiled(&rt, rt.alloc(), &report));
+    drop(report);
 }
