@@ -41,7 +41,7 @@ pub bind_ok : {A B E : Type 0} (r : Result A E) (f : A → Result B E) (y : B) �
 bind_ok (Ok x) f y h = (x, refl, h)
 bind_ok (Err e) f y h = cc
 
-or_fault_ok : {A D E : Type 0} (e : E) (r : Result A D) (x : A) → or_fault e r ≡ Ok x → r ≡ Ok x
+pub or_fault_ok : {A D E : Type 0} (e : E) (r : Result A D) (x : A) → or_fault e r ≡ Ok x → r ≡ Ok x
 or_fault_ok e (Ok y) x h = cc
 or_fault_ok e (Err d) x h = cc
 
@@ -74,13 +74,13 @@ passed true b c e1 e2 e3 w k h = cc
 passed false false c e1 e2 e3 w k h = cc
 passed false true true e1 e2 e3 w k h = cc
 
-key_reads : (w k : List ℕ) → key_in w ≡ Ok k → IsKey k × (w ≡ k)
+pub key_reads : (w k : List ℕ) → key_in w ≡ Ok k → IsKey k × (w ≡ k)
 key_reads w k h =
     let p = passed (nat_eq (length w) 0) (list_all is_key_byte w) (nat_lt 32 (length w)) key.Empty key.BadByte key.Long w k (or_fault_ok kind.Key (key_of w) k h) in
     let whole : IsKey w = record { some = omega (arith, eqb-false (length w) 0 p.0); short = omega (arith, ltb-false 32 (length w) p.2); plain = p.1 } in
     (subst IsKey p.3 whole, p.3)
 
-key_again : (k : List ℕ) → IsKey k → key_in k ≡ Ok k
+pub key_again : (k : List ℕ) → IsKey k → key_in k ≡ Ok k
 key_again k h =
     let some : nat_eq (length k) 0 ≡ false = ne_eqb (length k) 0 (λ e. omega (arith, e, h.some)) in
     let short : nat_lt 32 (length k) ≡ false = le-ltb 32 (length k) h.short in

@@ -56,7 +56,7 @@ key_lacks c g k h = Lacks-from_all c is_key_byte g.key k h.plain
 pub label_lacks : (c : ℕ) → IsGap c → (l : List ℕ) → list_all is_label_byte l ≡ true → Lacks c l
 label_lacks c g l h = Lacks-from_all c is_label_byte g.label l h
 
-decimal_lacks : (c : ℕ) → IsGap c → (n : ℕ) → n < 2 ^ 64 → Lacks c (decimal n)
+pub decimal_lacks : (c : ℕ) → IsGap c → (n : ℕ) → n < 2 ^ 64 → Lacks c (decimal n)
 decimal_lacks c g n h = Lacks-from_all c is_ascii_digit g.digit (decimal n) (digits_decimal own n h)
 
 number_lacks : (c : ℕ) → IsGap c → (v : ℤ) → is_i64 v ≡ true → Lacks c (spelled_number v)
@@ -85,9 +85,13 @@ joined_lacks c d (w ∷ []) e h = h.0
 joined_lacks c d (w ∷ v ∷ vs) e h =
     Lacks-append c w (d ∷ join_with_byte d (v ∷ vs)) h.0 (and_from _ _ (not_from_false (nat_eq d c) e) (joined_lacks c d (v ∷ vs) e h.1))
 
--- a command has no line feed
+-- a command has no byte but spaces that none of its words has
+pub event_lacks_gap : (c : ℕ) → IsGap c → nat_eq 32 c ≡ false → (e : Event) → IsEvent e → Lacks c (spelled_event e)
+event_lacks_gap c g other e h = subst (Lacks c) (joined_words e) (joined_lacks c 32 (words_of e) other (words_lack c g e h))
+
+-- and no line feed
 pub event_lacks : (e : Event) → IsEvent e → Lacks 10 (spelled_event e)
-event_lacks e h = subst (Lacks 10) (joined_words e) (joined_lacks 10 32 (words_of e) refl (words_lack 10 line_feed e h))
+event_lacks e h = event_lacks_gap 10 line_feed refl e h
 
 -- ---- it is read again
 

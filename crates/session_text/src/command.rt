@@ -5,9 +5,9 @@ ghost use Rattle.session_text.specs.Steps.{Gives};
 ghost use Rattle.session_text.specs.Words.{parts_left};
 ghost use Rattle.session_text.specs.Commands.{event_of, key_in, keyed, name_in, named, number_in, one, three, timed, two, valued, when_in};
 
-use crate::cut::cut;
 use crate::fault::LineKind;
 use crate::number::parse_number;
+use crate::parting::cut;
 use serial_spec::{Event, Op, When};
 use txn_names::{Key, Name};
 

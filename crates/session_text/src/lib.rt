@@ -8,15 +8,16 @@
 #![tactic(auto)]
 
 mod command;
-mod cut;
 mod fault;
 pub mod laws;
 mod line;
 mod number;
+mod parting;
 mod sessions;
 mod text_line;
 
 pub use fault::{LineKind, TextFault};
 pub use line::{Line, parse_line};
 pub use number::parse_number;
+pub use parting::cut;
 pub use sessions::Sessions;

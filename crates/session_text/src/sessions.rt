@@ -4,9 +4,9 @@ ghost use Rattle.std.specs.Option.{option_copied};
 ghost use Rattle.session_text.specs.Grammar.{IsText, is_taken};
 ghost use Rattle.session_text.specs.Texts.{IsTextLine, Tells, at_line, grown, label_at, line_at, misplaced, open_lines, sessions_of, with_bytes};
 
-use crate::cut::cut;
 use crate::fault::{LineKind, TextFault};
 use crate::line::Line;
+use crate::parting::cut;
 use crate::text_line::TextLine;
 use serial_spec::{MOST_LINES, MOST_SESSIONS, NoMemory};
 use std::alloc::Global;

@@ -6,9 +6,9 @@ ghost use Rattle.session_text.specs.Texts.{IsTextLine, label_in, labelled, line_
 ghost use Rattle.session_text.specs.Words.{parts_left};
 
 use crate::command::one;
-use crate::cut::cut;
 use crate::fault::LineKind;
 use crate::line::{Line, parse_line};
+use crate::parting::cut;
 use txn_names::Label;
 
 /// A line of a text.

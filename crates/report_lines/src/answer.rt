@@ -1,0 +1,155 @@
+//! Answers, read, and which of them an event may have.
+ghost use Rattle.std.specs.Prelude.{◌≡◌};
+ghost use Rattle.report_lines.specs.Answers.{may_answer, may_begin, may_commit, may_access, may_abort, may_after};
+ghost use Rattle.report_lines.specs.Reading.{answer_of, one_word, refusal_of, two_words};
+
+use serial_spec::{Answer, Event, Op, Refusal, Reply};
+use session_text::{cut, parse_number};
+use txn_names::Name;
+
+// An answer of one word.
+fn one_word(word: &[u8]) -> Option<Answer>
+    ensures { result ≡ one_word word.now }
+{
+    if word == b"ok".as_slice() {
+        Some(Answer::Done(Reply::Ok))
+    } else if word == b"none".as_slice() {
+        Some(Answer::Done(Reply::Absent))
+    } else if word == b"overflow".as_slice() {
+        Some(Answer::Done(Reply::Overflow))
+    } else if word == b"waits".as_slice() {
+        Some(Answer::Waits)
+    } else if word == b"stuck".as_slice() {
+        Some(Answer::Stuck)
+    } else {
+        None
+    }
+}
+
+// What stands behind `refused`.
+fn refusal_of(word: &[u8]) -> Option<Refusal>
+    ensures { result ≡ refusal_of word.now }
+{
+    if word == b"unknown".as_slice() {
+        Some(Refusal::Unknown)
+    } else if word == b"used".as_slice() {
+        Some(Refusal::Used)
+    } else if word == b"no-parent".as_slice() {
+        Some(Refusal::NoParent)
+    } else if word == b"done".as_slice() {
+        Some(Refusal::Done)
+    } else if word == b"children".as_slice() {
+        Some(Refusal::Children)
+    } else if word == b"waiting".as_slice() {
+        Some(Refusal::Waiting)
+    } else if word == b"full".as_slice() {
+        Some(Refusal::Full)
+    } else if word == b"store".as_slice() {
+        Some(Refusal::Store)
+    } else {
+        None
+    }
+}
+
+// An answer of two words: the first one, and what stands behind it.
+fn two_words(word: &[u8], rest: &[u8]) -> Option<Answer>
+    ensures { result ≡ two_words word.now rest.now }
+{
+    if word == b"value".as_slice() {
+        Some(Answer::Done(Reply::Value(parse_number(rest)?)))
+    } else if word == b"new".as_slice() {
+        Some(Answer::Done(Reply::New(parse_number(rest)?)))
+    } else if word == b"refused".as_slice() {
+        Some(Answer::Refused(refusal_of(rest)?))
+    } else if word == b"orphan".as_slice() {
+        Some(Answer::Refused(Refusal::Orphan(Name::parse(rest).ok()?)))
+    } else {
+        None
+    }
+}
+
+/// The answer that the bytes spell.
+pub(crate) fn answer_of(bytes: &[u8]) -> Option<Answer>
+    ensures { result ≡ answer_of bytes.now }
+{
+    match cut(bytes, b' ') {
+        (word, None) => one_word(word),
+        (word, Some(rest)) => two_words(word, rest),
+    }
+}
+
+fn may_begin(answer: &Answer) -> bool
+    ensures { result ≡ may_begin answer.now }
+{
+    match answer {
+        Answer::Done(Reply::Ok) => true,
+        Answer::Refused(Refusal::Used | Refusal::NoParent | Refusal::Orphan(_) | Refusal::Full) =>
+            true,
+        _ => false,
+    }
+}
+
+fn may_access(op: Op, answer: &Answer) -> bool
+    ensures { result ≡ may_access op answer.now }
+{
+    match answer {
+        Answer::Waits | Answer::Stuck => true,
+        Answer::Refused(
+            Refusal::Unknown
+            | Refusal::Orphan(_)
+            | Refusal::Done
+            | Refusal::Waiting
+            | Refusal::Full,
+        ) => true,
+        Answer::Done(Reply::Value(_) | Reply::Absent) => matches!(op, Op::Get),
+        Answer::Done(Reply::Ok) => matches!(op, Op::Set(_) | Op::Del),
+        Answer::Done(Reply::New(_) | Reply::Overflow) => matches!(op, Op::Add(_)),
+        _ => false,
+    }
+}
+
+fn may_commit(answer: &Answer) -> bool
+    ensures { result ≡ may_commit answer.now }
+{
+    match answer {
+        Answer::Done(Reply::Ok) => true,
+        Answer::Refused(
+            Refusal::Unknown
+            | Refusal::Orphan(_)
+            | Refusal::Done
+            | Refusal::Children
+            | Refusal::Waiting
+            | Refusal::Store,
+        ) => true,
+        _ => false,
+    }
+}
+
+fn may_abort(answer: &Answer) -> bool
+    ensures { result ≡ may_abort answer.now }
+{
+    match answer {
+        Answer::Done(Reply::Ok) => true,
+        Answer::Refused(Refusal::Unknown | Refusal::Orphan(_) | Refusal::Done) => true,
+        _ => false,
+    }
+}
+
+fn may_after(answer: &Answer) -> bool
+    ensures { result ≡ may_after answer.now }
+{
+    matches!(answer, Answer::Done(Reply::Ok) | Answer::Stuck)
+}
+
+/// Whether a line that asks this may have the answer.
+pub(crate) fn may_answer(event: &Event, answer: &Answer) -> bool
+    ensures { result ≡ may_answer event.now answer.now }
+{
+    match event {
+        Event::Begin(_) => may_begin(answer),
+        Event::Access(_, _, op) => may_access(*op, answer),
+        Event::Commit(_) => may_commit(answer),
+        Event::Abort(_) => may_abort(answer),
+        Event::After(_, _) => may_after(answer),
+    }
+}

@@ -1,0 +1,133 @@
+//! Lines of reports: what is read of some, and that others are refused.
+use report_lines::{ReportEntry, parse_entry, parse_row};
+use serial_spec::{Answer, Event, Op, Refusal, Reply, When};
+use std::process::Abort;
+use txn_names::{Key, Label, Name};
+
+fn name(rt: &impl Abort, text: &str) -> Name {
+    Name::parse(text.as_bytes()).expect(rt, text)
+}
+
+fn key(rt: &impl Abort, text: &str) -> Key {
+    Key::parse(text.as_bytes()).expect(rt, text)
+}
+
+// Whether the text is read as this line's entry.
+fn is_line(rt: &impl Abort, text: &str, place: (&str, u32), event: Event, answer: Answer) -> bool {
+    let label = Label::parse(place.0.as_bytes()).expect(rt, text);
+    let line = place.1;
+    let entry = ReportEntry::Line {
+        label,
+        line,
+        event,
+        answer,
+    };
+    parse_entry(text.as_bytes()) == Some(entry)
+}
+
+#[test]
+fn entries_of_lines(rt: HostRuntime) {
+    let (a, below, x) = (name(&rt, "a"), name(&rt, "a/b"), key(&rt, "x-1"));
+    let (begin, commit) = (Event::Begin(below), Event::Commit(a));
+    let (add, get) = (
+        Event::Access(a, x, Op::Add(-4)),
+        Event::Access(below, x, Op::Get),
+    );
+    let orphan = Answer::Refused(Refusal::Orphan(a));
+    let new = Answer::Done(Reply::New(-5));
+    let store = Answer::Refused(Refusal::Store);
+    let after = Event::After(a, When::Done);
+    assert!(rt;
+        is_line(
+            &rt,
+            "s 1024 begin a/b -> orphan a",
+            ("s", 1024),
+            begin,
+            orphan
+        )
+    );
+    assert!(rt; is_line(&rt, "s0 2 add a x-1 -4 -> new -5", ("s0", 2), add, new));
+    assert!(rt;
+        is_line(
+            &rt,
+            "q 3 get a/b x-1 -> waits",
+            ("q", 3),
+            get,
+            Answer::Waits
+        )
+    );
+    assert!(rt;
+        is_line(
+            &rt,
+            "q 4 commit a -> refused store",
+            ("q", 4),
+            commit,
+            store
+        )
+    );
+    assert!(rt;
+        is_line(
+            &rt,
+            "q 5 after a done -> stuck",
+            ("q", 5),
+            after,
+            Answer::Stuck
+        )
+    );
+    assert!(rt; parse_entry(b"* victim a/b") == Some(ReportEntry::Victim(below)));
+    assert!(rt; parse_entry(b"* close a") == Some(ReportEntry::Close(a)));
+}
+
+#[test]
+fn lines_that_are_no_entries(rt: HostRuntime) {
+    for text in [
+        "",
+        "open",
+        "x=5",
+        "s 1",
+        "s 0 begin a -> ok",
+        "s 1025 begin a -> ok",
+        "s 01 begin a -> ok",
+        "S 1 begin a -> ok",
+        "s 1 begin a",
+        "s 1 begin a ->ok",
+        "s 1 begin a-> ok",
+        "s 1 begin a -> ok ",
+        "s 1  begin a -> ok",
+        "s 1 begin a -> waits",
+        "s 1 begin a -> refused done",
+        "s 1 get a x -> ok",
+        "s 1 get a x -> value 05",
+        "s 1 set a x 5 -> new 5",
+        "s 1 add a x 5 -> value 5",
+        "s 1 commit a -> refused full",
+        "s 1 abort a -> stuck",
+        "s 1 after a begun -> waits",
+        "s 1 session q -> ok",
+        "* victim",
+        "* victim A",
+        "* abort a",
+        "*  close a",
+        "** close a",
+    ] {
+        assert!(rt; parse_entry(text.as_bytes()).is_none(), "{text}");
+    }
+}
+
+#[test]
+fn rows(rt: HostRuntime) {
+    let row = (key(&rt, "g.x"), i64::MIN);
+    assert!(rt; parse_row(b"g.x=-9223372036854775808") == Some(row));
+    for text in [
+        "x",
+        "x=",
+        "=5",
+        "x=5 ",
+        "x==5",
+        "x=9223372036854775808",
+        "X=1",
+        "x=+1",
+    ] {
+        assert!(rt; parse_row(text.as_bytes()).is_none(), "{text}");
+    }
+}
