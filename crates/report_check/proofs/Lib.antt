@@ -1,0 +1,5 @@
+pub mod Agreeing
+pub mod Served
+pub mod Spelled
+pub mod Grown
+pub mod Sound

@@ -1,0 +1,284 @@
+-- Where the verdict is yes, the bytes are a report whose committed top-level transactions are a serial run.
+use Rattle.std.proofs.Common.{◌≡◌, ℕ, ℤ, zero, suc, ◌≤◌, ◌+◌, List, [], ◌∷◌, length, true, false, Bool, cond, Option, Some, None, Result, Ok, Err, refl, sym, ap, ap₂, ◌∙◌, subst, arith, ⊎_elim, length-take-le, ◌-◌}
+use Rattle.std.specs.Prelude.{◌||◌, ◌&&◌, codes, is_none, is_some}
+use Rattle.std.specs.List.{list_any}
+use Rattle.std.specs.Option.{ok_or}
+use Rattle.std.specs.Ordering.{int_eq}
+use Rattle.std.specs.Str.{bytes_eq}
+use Rattle.std.proofs.lemmas.Bool.{and_parts, true≢false}
+use Rattle.std.proofs.lemmas.Bool.Decides.{Decides-int_eq}
+use Rattle.txn_names.specs.Path.{label_eq, parent}
+use Rattle.txn_names.proofs.Names.{same_label}
+use Rattle.serial_spec.specs.declared.entry.Answer.{Answer}
+use Rattle.serial_spec.specs.declared.entry.Answer.TheVariants.{Done, Waits, Stuck, Refused}
+use Rattle.serial_spec.specs.declared.entry.Entry.{Entry}
+use Rattle.serial_spec.specs.declared.event.Event.{Event}
+use Rattle.serial_spec.specs.declared.event.Event.TheVariants.{Begin, Access, Commit, Abort, After}
+use Rattle.serial_spec.specs.declared.operation.Reply.TheVariants as reply
+use Rattle.serial_spec.specs.History.{History, Name, Status, Absent, Live, Committed, Aborted, effect, effect_of, begun, has_aborted, has_begun, has_committed, is_committed, is_live, is_live_status, is_orphan, or_else, status, top_aborted}
+use Rattle.serial_spec.specs.Legal.{first_live, is_top_level}
+use Rattle.serial_spec.specs.Rows.{Rows, value_in}
+use Rattle.session_text.specs.Grammar.{IsEvent}
+use Rattle.session_text.specs.Words.{cut_at}
+use Rattle.session_text.proofs.Reading.{bind_ok, pick}
+use Rattle.txn_history.proofs.Begun.{none_begun}
+use Rattle.txn_history.proofs.Tops.{top_by_parent}
+use Rattle.report_lines.specs.Laws.{IsReportEntry}
+use Rattle.report_lines.specs.Reading.{entry_of, row_of}
+use Rattle.report_lines.specs.declared.entry.ReportEntry.{ReportEntry}
+use Rattle.report_lines.specs.declared.entry.ReportEntry.TheVariants as told
+use Rattle.report_lines.proofs.Entries.{entries_read_back}
+use Rattle.report_check.specs.Laws.{IsServed, YesIsSound}
+use Rattle.report_check.specs.Passing.{Part, Start, Opening, Entries, Final, Ended, Read, at_part, entry_in, entry_next, final_next, has_ended, is_in_time, is_next, may_add_row, may_close, may_do, may_end, may_follow, middle_next, next, next_at, none_waits, opening_next, read, read_from, unread, with_entry, with_opening, with_row}
+use Rattle.report_check.specs.Serving.{map_behind}
+use Rattle.report_check.specs.Verdicts.{IsJudged, IsRun, compared, first_wrong, same_row, served}
+use Rattle.report_check.specs.declared.verdict.Verdict.TheVariants.{Yes, No}
+use Rattle.report_check.proofs.Grown.{IsGrown, IsNamed, grown_more, grown_none}
+use Rattle.report_check.proofs.Served.{accesses_are_items}
+use Rattle.report_check.proofs.Spelled.{read_is_report}
+
+-- ---- what holds of what was read so far
+
+-- behind the line `table` no top-level transaction is live
+abbrev IsOver : Part → History → Type 0
+IsOver Start h = Unit {0}
+IsOver Opening h = Unit {0}
+IsOver Entries h = Unit {0}
+IsOver Final h = first_live h (begun h) ≡ None
+IsOver Ended h = first_live h (begun h) ≡ None
+
+record IsHeld (r : Read) : Type 0 where
+  grown : IsGrown r.history
+  over : IsOver r.part r.history
+
+named_event : (e : Event) (a : Answer) → IsEvent e → IsNamed (effect_of e a)
+named_event (Begin t) (Done reply.Ok) h = h.some
+named_event (Begin t) (Done (reply.Value v)) h = tt
+named_event (Begin t) (Done reply.Absent) h = tt
+named_event (Begin t) (Done (reply.New v)) h = tt
+named_event (Begin t) (Done reply.Overflow) h = tt
+named_event (Begin t) Waits h = tt
+named_event (Begin t) Stuck h = tt
+named_event (Begin t) (Refused r) h = tt
+named_event (Access t k o) (Done r) h = tt
+named_event (Access t k o) Waits h = tt
+named_event (Access t k o) Stuck h = tt
+named_event (Access t k o) (Refused r) h = tt
+named_event (Commit t) (Done reply.Ok) h = h.some
+named_event (Commit t) (Done (reply.Value v)) h = tt
+named_event (Commit t) (Done reply.Absent) h = tt
+named_event (Commit t) (Done (reply.New v)) h = tt
+named_event (Commit t) (Done reply.Overflow) h = tt
+named_event (Commit t) Waits h = tt
+named_event (Commit t) Stuck h = tt
+named_event (Commit t) (Refused r) h = tt
+named_event (Abort t) (Done reply.Ok) h = tt
+named_event (Abort t) (Done (reply.Value v)) h = tt
+named_event (Abort t) (Done reply.Absent) h = tt
+named_event (Abort t) (Done (reply.New v)) h = tt
+named_event (Abort t) (Done reply.Overflow) h = tt
+named_event (Abort t) Waits h = tt
+named_event (Abort t) Stuck h = tt
+named_event (Abort t) (Refused r) h = tt
+named_event (After t w) (Done r) h = tt
+named_event (After t w) Waits h = tt
+named_event (After t w) Stuck h = tt
+named_event (After t w) (Refused r) h = tt
+
+named_entry : (labels : List (List ℕ)) (x : ReportEntry) → IsReportEntry x → IsNamed (effect (entry_in labels x))
+named_entry labels (told.Line l n e a) h = named_event e a h.event
+named_entry labels (told.Victim t) h = tt
+named_entry labels (told.Close t) h = tt
+
+no_read : {P : Type 0} (s : Read) → None ≡ Some s → P
+no_read s h = cc
+
+some_read : (r s : Read) → Some r ≡ Some s → r ≡ s
+some_read r s h = cc
+
+-- ---- one line more
+
+entry_held : (r s : Read) (p : List ℕ) (o : Option ReportEntry) → IsGrown r.history → entry_of p ≡ o → entry_next r o ≡ Some s → IsHeld s
+entry_held r s p None g e h = no_read s h
+entry_held r s p (Some x) g e h =
+    pick (may_follow r.history (entry_in r.labels x)) (Some (with_entry r x)) None (Some s) h
+    (λ may same.
+    let f : Entry = entry_in r.labels x in
+    let front = and_parts (is_in_time r.history f.by && is_next r.history f.by f.event f.answer && may_do r.history (effect f)) (may_close f.by f.event) may in
+    let done = and_parts (is_in_time r.history f.by && is_next r.history f.by f.event f.answer) (may_do r.history (effect f)) front.0 in
+    subst IsHeld (some_read (with_entry r x) s same)
+    (record { grown = grown_more r.history f g done.1 (named_entry r.labels x ((entries_read_back p x).0 e).0); over = tt }))
+    (λ _ none. no_read s none)
+
+was_none : (o : Option Name) → is_none o ≡ true → o ≡ None
+was_none None h = refl
+was_none (Some t) h = cc
+
+middle_held : (r s : Read) (p : List ℕ) → IsGrown r.history → middle_next r p ≡ Some s → IsHeld s
+middle_held r s p g h =
+    pick (bytes_eq p (codes "table")) (cond (may_end r) (Some (at_part Final r)) None) (entry_next r (entry_of p)) (Some s) h
+    (λ _ h2. pick (may_end r) (Some (at_part Final r)) None (Some s) h2
+    (λ may same. subst IsHeld (some_read (at_part Final r) s same)
+    (record { grown = g; over = was_none _ (and_parts (is_none (first_live r.history (begun r.history))) (none_waits r.history (length r.labels)) may).0 }))
+    (λ _ none. no_read s none))
+    (λ _ h2. entry_held r s p (entry_of p) g refl h2)
+
+opening_held : (r s : Read) (p : List ℕ) (o : Option (List ℕ × ℤ)) → IsGrown r.history → opening_next r p o ≡ Some s → IsHeld s
+opening_held r s p None g h = middle_held r s p g h
+opening_held r s p (Some row) g h =
+    pick (may_add_row r.opening row.0) (Some (with_opening r row)) None (Some s) h
+    (λ _ same. subst IsHeld (some_read (with_opening r row) s same) (record { grown = g; over = tt })) (λ _ none. no_read s none)
+
+final_held : (r s : Read) (o : Option (List ℕ × ℤ)) → IsGrown r.history → first_live r.history (begun r.history) ≡ None → final_next r o ≡ Some s → IsHeld s
+final_held r s None g over h = no_read s h
+final_held r s (Some row) g over h =
+    pick (may_add_row r.table row.0) (Some (with_row r row)) None (Some s) h
+    (λ _ same. subst IsHeld (some_read (with_row r row) s same) (record { grown = g; over = over })) (λ _ none. no_read s none)
+
+held_at : (q : Part) (r s : Read) (p : List ℕ) → IsGrown r.history → IsOver q r.history → next_at q r p ≡ Some s → IsHeld s
+held_at Start r s p g over h =
+    pick (bytes_eq p (codes "open")) (Some (at_part Opening r)) None (Some s) h
+    (λ _ same. subst IsHeld (some_read (at_part Opening r) s same) (record { grown = g; over = tt })) (λ _ none. no_read s none)
+held_at Opening r s p g over h = opening_held r s p (row_of p) g h
+held_at Entries r s p g over h = middle_held r s p g h
+held_at Final r s p g over h =
+    pick (bytes_eq p (codes "end")) (Some (at_part Ended r)) (final_next r (row_of p)) (Some s) h
+    (λ _ same. subst IsHeld (some_read (at_part Ended r) s same) (record { grown = g; over = over })) (λ _ h2. final_held r s (row_of p) g over h2)
+held_at Ended r s p g over h = no_read s h
+
+-- ---- all lines
+
+same_ok : (r s : Read) → ◌≡◌ {A = Result Read ℕ} (Ok r) (Ok s) → r ≡ s
+same_ok r s h = cc
+
+was_some : (o : Option Read) (n : ℕ) (r : Read) → ok_or o n ≡ Ok r → o ≡ Some r
+was_some (Some q) n r h = cc
+was_some None n r h = cc
+
+record IsDone (s : Read) : Type 0 where
+  grown : IsGrown s.history
+  over : first_live s.history (begun s.history) ≡ None
+
+ended_over : (q : Part) (h : History) → has_ended q ≡ true → IsOver q h → first_live h (begun h) ≡ None
+ended_over Start h e over = cc
+ended_over Opening h e over = cc
+ended_over Entries h e over = cc
+ended_over Final h e over = over
+ended_over Ended h e over = over
+
+done_from : (n : ℕ) (r s : Read) (ps : List (List ℕ)) → IsHeld r → read_from n r ps ≡ Ok s → IsDone s
+done_from n r s [] held h = cc
+done_from n r s (p ∷ []) held h =
+    pick _ (Ok r) (Err n) (Ok s) h
+    (λ b same. subst IsDone (same_ok r s same) (record { grown = held.grown; over = ended_over r.part r.history (and_parts _ _ b).1 held.over }))
+    (λ _ no2. cc)
+done_from n r s (p ∷ q ∷ ps) held h =
+    let m = bind_ok (ok_or (next r p) n) (λ more. read_from (n + 1) more (q ∷ ps)) s h in
+    done_from (n + 1) m.0 s (q ∷ ps) (held_at r.part r m.0 p held.grown held.over (was_some (next r p) n m.0 m.1)) m.2
+
+read_done : (bs : List ℕ) (s : Read) → read bs ≡ Ok s → IsDone s
+read_done bs s h = done_from 1 unread s (cut_at 10 bs) (record { grown = grown_none; over = tt }) h
+
+-- ---- who has committed
+
+live_none : (h : History) (ts : List Name) → first_live h ts ≡ None → list_any (λ t. is_top_level t && is_live h t) ts ≡ false
+live_none h [] e = refl
+live_none h (t ∷ ts) e = by (live_none h ts) (first_live h ts) refl (is_top_level t && is_live h t) refl e
+  where
+    by : (first_live h ts ≡ None → list_any (λ t. is_top_level t && is_live h t) ts ≡ false) → (o : Option Name) → first_live h ts ≡ o → (b : Bool) → (is_top_level t && is_live h t) ≡ b → or_else o (cond b (Some t) None) ≡ None
+        → ((is_top_level t && is_live h t) || list_any (λ t. is_top_level t && is_live h t) ts) ≡ false
+    by more (Some u) f b k e = cc
+    by more None f true k e = cc
+    by more None f false k e = ap₂ (λ x y. x || y) k (more f)
+
+abbrev status_by : Bool → Bool → Bool → Status
+status_by b a c = cond b (cond a Aborted (cond c Committed Live)) Absent
+
+-- by its own begin, commit and abort
+committed_by : (b a c : Bool) → b ≡ true → a ≡ false → is_live_status (status_by b a c) ≡ false → is_committed (status_by b a c) ≡ true
+committed_by true false true hb ha hl = refl
+committed_by true false false hb ha hl = absurd (true≢false hl)
+committed_by true true c hb ha hl = absurd (true≢false ha)
+committed_by false a c hb ha hl = absurd (true≢false (sym hb))
+
+orphan_parts : (p : Option Name) (b : Bool) (t : Name) → is_some (or_else p (cond b (Some t) None)) ≡ false → (is_some p ≡ false) × (b ≡ false)
+orphan_parts (Some u) b t h = absurd (true≢false h)
+orphan_parts None true t h = absurd (true≢false h)
+orphan_parts None false t h = (refl, refl)
+
+-- nobody above is aborted, nor is it itself
+no_orphan : (h : History) (l : List ℕ) (ls : Name) → is_orphan h (l ∷ ls) ≡ false → (is_orphan h (parent (l ∷ ls)) ≡ false) × (has_aborted h (l ∷ ls) ≡ false)
+no_orphan h l ls e = orphan_parts (top_aborted h (parent (l ∷ ls))) (has_aborted h (l ∷ ls)) (l ∷ ls) (sym (ap is_some (top_by_parent h l ls)) ∙ e)
+
+committed_status : (h : History) (l : List ℕ) (ls : Name) → is_committed (status h (l ∷ ls)) ≡ true → has_committed h (l ∷ ls) ≡ true
+committed_status h l ls e = by (has_begun h (l ∷ ls)) (has_aborted h (l ∷ ls)) (has_committed h (l ∷ ls)) e
+  where
+    by : (b a c : Bool) → is_committed (status_by b a c) ≡ true → c ≡ true
+    by true false true e = refl
+    by true false false e = absurd (true≢false (sym e))
+    by true true c e = absurd (true≢false (sym e))
+    by false a c e = absurd (true≢false (sym e))
+
+parent_length : (l m : List ℕ) (ls : Name) → length (parent (l ∷ m ∷ ls)) ≡ suc (length ls)
+parent_length l m ls =
+    let all : length (l ∷ m ∷ ls) ≡ suc (suc (length ls)) = refl in
+    length-take-le (length (l ∷ m ∷ ls) - 1) (l ∷ m ∷ ls) (omega (arith, all)) ∙ omega (arith, all)
+
+has_parent : (l m : List ℕ) (ls : Name) → parent (l ∷ m ∷ ls) ≡ [] → ⊥
+has_parent l m ls e = absurd (omega (arith, ap length e, parent_length l m ls))
+
+all_committed : (h : History) → IsGrown h → first_live h (begun h) ≡ None → (n : ℕ) (t : Name) → length t ≤ n → has_begun h t ≡ true → is_orphan h t ≡ false → is_committed (status h t) ≡ true
+all_committed h g over n [] le b o = absurd (true≢false (sym b ∙ g.rootless))
+all_committed h g over n (l ∷ []) le b o =
+    let dead = none_begun (λ t. is_top_level t && is_live h t) (l ∷ []) h (live_none h (begun h) over) b in
+    committed_by (has_begun h (l ∷ [])) (has_aborted h (l ∷ [])) (has_committed h (l ∷ [])) b (no_orphan h l [] o).1 dead
+all_committed h g over zero (l ∷ m ∷ ls) le b o = absurd (omega (arith, le))
+all_committed h g over (suc n) (l ∷ m ∷ ls) le b o =
+    let no = no_orphan h l (m ∷ ls) o in
+    let above : has_begun h (parent (l ∷ m ∷ ls)) ≡ true = ⊎_elim (λ (r : parent (l ∷ m ∷ ls) ≡ []). absurd (has_parent l m ls r)) (λ (k : has_begun h (parent (l ∷ m ∷ ls)) ≡ true). k) (g.down l (m ∷ ls) b) in
+    let done : has_committed h (parent (l ∷ m ∷ ls)) ≡ true =
+    committed_name (parent (l ∷ m ∷ ls)) (has_parent l m ls) (all_committed h g over n (parent (l ∷ m ∷ ls)) (omega (arith, le, parent_length l m ls)) above no.0) in
+    committed_by (has_begun h (l ∷ m ∷ ls)) (has_aborted h (l ∷ m ∷ ls)) (has_committed h (l ∷ m ∷ ls)) b no.1 (g.closed l (m ∷ ls) b done)
+  where
+    committed_name : (t : Name) → (t ≡ [] → ⊥) → is_committed (status h t) ≡ true → has_committed h t ≡ true
+    committed_name [] some e = absurd (some refl)
+    committed_name (k ∷ ks) some e = committed_status h k ks e
+
+-- ---- the table
+
+same_rows : (n : ℕ) (xs ys : Rows) → Yes ≡ compared n xs ys → xs ≡ ys
+same_rows n [] [] h = refl
+same_rows n [] (y ∷ ys) h = cc
+same_rows n (x ∷ xs) [] h = cc
+same_rows n (x ∷ xs) (y ∷ ys) h =
+    pick (same_row x y) (compared (suc n) xs ys) (No n) Yes (sym h)
+    (λ e more.
+    let p = and_parts (label_eq x.0 y.0) (int_eq x.1 y.1) e in
+    ap₂ (λ (r : List ℕ × ℤ) rs. r ∷ rs) (ap₂ (λ k v. (k, v)) (same_label x.0 y.0 p.0) ((Decides-int_eq x.1 y.1).0 p.1)) (same_rows (suc n) xs ys (sym more)))
+    (λ _ no2. cc)
+
+-- ---- all together
+
+sound_run : (bs : List ℕ) (r : Read) (o : Option ℕ) → read bs ≡ Ok r → first_wrong r ≡ o → IsRun r o Yes → IsServed bs
+sound_run bs r (Some n) e w v = cc
+sound_run bs r None e w v =
+    let done = read_done bs r e in
+    let law = accesses_are_items (1 + length r.opening) r.history [] (value_in r.opening) in
+    let table : value_in r.table ≡ map_behind (value_in r.opening) (served r) = ap value_in (same_rows _ r.table v.due v.verdict) ∙ v.left in
+    record {
+      opening = r.opening;
+      labels = r.labels;
+      history = r.history;
+      table = r.table;
+      bytes = read_is_report bs r e;
+      runs = (law.1.0 w, sym law.0 ∙ sym table);
+      below = done.grown.down;
+      committed = λ t b o. all_committed r.history done.grown done.over (length t) t (omega arith) b o;
+    }
+
+sound_by : (bs : List ℕ) (j : Result Read ℕ) → read bs ≡ j → IsJudged j Yes → IsServed bs
+sound_by bs (Err n) e v = cc
+sound_by bs (Ok r) e v = sound_run bs r (first_wrong r) e refl v
+
+pub yes_is_sound : YesIsSound
+yes_is_sound bs v = sound_by bs (read bs) refl v
