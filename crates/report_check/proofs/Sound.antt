@@ -35,7 +35,7 @@ use Rattle.report_check.specs.Verdicts.{IsJudged, IsRun, compared, first_wrong, 
 use Rattle.report_check.specs.declared.verdict.Verdict.TheVariants.{Yes, No}
 use Rattle.report_check.proofs.Grown.{IsGrown, IsNamed, grown_more, grown_none}
 use Rattle.report_check.proofs.Served.{accesses_are_items}
-use Rattle.report_check.proofs.Spelled.{read_is_report}
+use Rattle.report_check.proofs.Spelled.{no_read, read_is_report, same_ok, some_read, was_some}
 
 -- ---- what holds of what was read so far
 
@@ -90,12 +90,6 @@ named_entry labels (told.Line l n e a) h = named_event e a h.event
 named_entry labels (told.Victim t) h = tt
 named_entry labels (told.Close t) h = tt
 
-no_read : {P : Type 0} (s : Read) → None ≡ Some s → P
-no_read s h = cc
-
-some_read : (r s : Read) → Some r ≡ Some s → r ≡ s
-some_read r s h = cc
-
 -- ---- one line more
 
 entry_held : (r s : Read) (p : List ℕ) (o : Option ReportEntry) → IsGrown r.history → entry_of p ≡ o → entry_next r o ≡ Some s → IsHeld s
@@ -147,13 +141,6 @@ held_at Final r s p g over h =
 held_at Ended r s p g over h = no_read s h
 
 -- ---- all lines
-
-same_ok : (r s : Read) → ◌≡◌ {A = Result Read ℕ} (Ok r) (Ok s) → r ≡ s
-same_ok r s h = cc
-
-was_some : (o : Option Read) (n : ℕ) (r : Read) → ok_or o n ≡ Ok r → o ≡ Some r
-was_some (Some q) n r h = cc
-was_some None n r h = cc
 
 record IsDone (s : Read) : Type 0 where
   grown : IsGrown s.history

@@ -72,9 +72,6 @@ rows_more (r ∷ rows) row =
 
 -- ---- labels
 
-label_of : List (List ℕ) → ℕ → List ℕ
-label_of labels s = unwrap_or (slice_get labels s) []
-
 stays : (labels more : List (List ℕ)) (s : ℕ) → s < length labels → unwrap_or (slice_get (labels ++ more) s) [] ≡ unwrap_or (slice_get labels s) []
 stays labels more s h =
     unwrap_or-slice_get (labels ++ more) s [] ∙ get_or-append labels more [] s h ∙ sym (unwrap_or-slice_get labels s [])
@@ -141,10 +138,10 @@ entry_text r x p is e =
     ap₂ (λ h b. (line (codes "open") ++ spelled_rows r.opening) ++ (h ++ line b)) is.history (is.entry ∙ sym e)
     ∙ sym (append_assoc (line (codes "open") ++ spelled_rows r.opening) (spelled_history r.labels r.history) (line p))
 
-no_read : {P : Type 0} (s : Read) → None ≡ Some s → P
+pub no_read : {P : Type 0} (s : Read) → None ≡ Some s → P
 no_read s h = cc
 
-some_read : (r s : Read) → Some r ≡ Some s → r ≡ s
+pub some_read : (r s : Read) → Some r ≡ Some s → r ≡ s
 some_read r s h = cc
 
 entry_step : (q : Part) (r s : Read) (p : List ℕ) (o : Option ReportEntry) → so_far q r ≡ base r → r.table ≡ [] → AreWithin (length r.labels) r.history
@@ -240,15 +237,12 @@ nothing : (p : List ℕ) → length p ≡ 0 → p ≡ []
 nothing [] h = refl
 nothing (b ∷ p) h = absurd (omega (arith, h))
 
-same_ok : (r s : Read) → ◌≡◌ {A = Result Read ℕ} (Ok r) (Ok s) → r ≡ s
+pub same_ok : (r s : Read) → ◌≡◌ {A = Result Read ℕ} (Ok r) (Ok s) → r ≡ s
 same_ok r s h = cc
 
-was_some : (o : Option Read) (n : ℕ) (r : Read) → ok_or o n ≡ Ok r → o ≡ Some r
+pub was_some : (o : Option Read) (n : ℕ) (r : Read) → ok_or o n ≡ Ok r → o ≡ Some r
 was_some (Some q) n r h = cc
 was_some None n r h = cc
-
-record IsWhole (text : List ℕ) (s : Read) : Type 0 where
-  whole : text ≡ report s.opening s.labels s.history s.table
 
 all_from : (n : ℕ) (r s : Read) (ps : List (List ℕ)) → IsBlank r.part r → AreWithin (length r.labels) r.history → read_from n r ps ≡ Ok s
     → so_far r.part r ++ join_with_byte 10 ps ≡ report s.opening s.labels s.history s.table
