@@ -1,7 +1,7 @@
 -- The tree of transactions that a report tells of: whoever began did so below one that was live, and none is live below one that has committed.
 use Rattle.std.proofs.Common.{◌≡◌, ◌⊎◌, inl, inr, ℕ, ◌<◌, List, [], ◌∷◌, length, true, false, Bool, cond, not, refl, sym, ◌∙◌, subst, arith, ⊎_elim}
 use Rattle.std.specs.Prelude.{◌||◌, ◌&&◌}
-use Rattle.std.proofs.lemmas.Bool.{and_parts, true≢false}
+use Rattle.std.proofs.lemmas.Bool.{and_parts, not-true, or_cases, or_right, true≢false}
 use Rattle.txn_names.specs.Path.{path_eq, parent}
 use Rattle.txn_names.proofs.Names.{same_path, path_eq_self}
 use Rattle.serial_spec.specs.declared.entry.Entry.{Entry}
@@ -26,14 +26,6 @@ IsNamed x = Unit {0}
 
 abbrev live_of : Bool → Bool → Bool → Bool
 live_of b a c = is_live_status (cond b (cond a Aborted (cond c Committed Live)) Absent)
-
-or_true : (a b : Bool) → (a || b) ≡ true → (a ≡ true) ⊎ (b ≡ true)
-or_true true b h = inl refl
-or_true false b h = inr h
-
-or_second : (a b : Bool) → b ≡ true → (a || b) ≡ true
-or_second true b h = refl
-or_second false b h = h
 
 -- one that has ended stays so
 dead_stays : (i b j a k c : Bool) → b ≡ true → live_of b a c ≡ false → live_of (i || b) (j || a) (k || c) ≡ false
@@ -112,14 +104,10 @@ child_ended : (h : History) (x : Effect) (t : Name) → may_do h x ≡ true → 
 child_ended h (Begins u) t m c b = absurd (true≢false (sym c))
 child_ended h (Accesses u k o r) t m c b = absurd (true≢false (sym c))
 child_ended h (Commits u) t m c b =
-    let none = not_true (has_live_child h u) (and_parts _ _ m).1 in
+    let none = not-true (has_live_child h u) (and_parts _ _ m).1 in
     let found = none_begun (λ v. path_eq (parent v) u && is_live h v) t h none b in
     after_true (path_eq (parent t) u) (is_live h t) (subst (λ v. path_eq v u ≡ true) (same_path u (parent t) c) (path_eq_self u)) found
   where
-    not_true : (a : Bool) → not a ≡ true → a ≡ false
-    not_true true h = absurd (true≢false (sym h))
-    not_true false h = refl
-
     after_true : (a b : Bool) → a ≡ true → (a && b) ≡ false → b ≡ false
     after_true true b h k = k
     after_true false b h k = absurd (true≢false (sym h))
@@ -143,10 +131,10 @@ grown_more h e g m named = record { rootless = neither _ _ (root_begin x named) 
     down : (l : List ℕ) (ls : Name) → (is_begin (l ∷ ls) x || has_begun h (l ∷ ls)) ≡ true
         → (parent (l ∷ ls) ≡ []) ⊎ ((is_begin (parent (l ∷ ls)) x || has_begun h (parent (l ∷ ls))) ≡ true)
     down l ls b = ⊎_elim
-        (λ (i : is_begin (l ∷ ls) x ≡ true). ⊎_elim (λ (r : parent (l ∷ ls) ≡ []). inl r) (λ (k : has_begun h (parent (l ∷ ls)) ≡ true). inr (or_second _ _ k))
+        (λ (i : is_begin (l ∷ ls) x ≡ true). ⊎_elim (λ (r : parent (l ∷ ls) ≡ []). inl r) (λ (k : has_begun h (parent (l ∷ ls)) ≡ true). inr (or_right _ _ k))
         (live_is_begun h (parent (l ∷ ls)) (parent_live h x (l ∷ ls) m i)))
-        (λ (k : has_begun h (l ∷ ls) ≡ true). ⊎_elim (λ (r : parent (l ∷ ls) ≡ []). inl r) (λ (k2 : has_begun h (parent (l ∷ ls)) ≡ true). inr (or_second _ _ k2)) (g.down l ls k))
-        (or_true _ _ b)
+        (λ (k : has_begun h (l ∷ ls) ≡ true). ⊎_elim (λ (r : parent (l ∷ ls) ≡ []). inl r) (λ (k2 : has_begun h (parent (l ∷ ls)) ≡ true). inr (or_right _ _ k2)) (g.down l ls k))
+        (or_cases _ _ b)
 
     stays : (l : List ℕ) (ls : Name) → has_begun h (l ∷ ls) ≡ true → is_live h (l ∷ ls) ≡ false → is_live (e ∷ h) (l ∷ ls) ≡ false
     stays l ls b d = dead_stays (is_begin (l ∷ ls) x) (has_begun h (l ∷ ls)) (is_abort (l ∷ ls) x) (has_aborted h (l ∷ ls)) (is_commit (l ∷ ls) x) (has_committed h (l ∷ ls)) b d
@@ -160,8 +148,8 @@ grown_more h e g m named = record { rootless = neither _ _ (root_begin x named) 
         (λ (k : has_committed h (parent (l ∷ ls)) ≡ true). ⊎_elim
         (λ (i : is_begin (l ∷ ls) x ≡ true). absurd (true≢false (sym (live_not_committed h (parent (l ∷ ls)) g.uncommitted (parent_live h x (l ∷ ls) m i) k))))
         (λ (old : has_begun h (l ∷ ls) ≡ true). stays l ls old (g.closed l ls old k))
-        (or_true _ _ b))
-        (or_true _ _ c)
+        (or_cases _ _ b))
+        (or_cases _ _ c)
 
 pub grown_none : IsGrown []
 grown_none = record { rootless = refl; uncommitted = refl; down = λ l ls b. absurd (true≢false (sym b)); closed = λ l ls b c. absurd (true≢false (sym b)) }

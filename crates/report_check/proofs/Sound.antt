@@ -22,6 +22,7 @@ use Rattle.session_text.specs.Grammar.{IsEvent}
 use Rattle.session_text.specs.Words.{cut_at}
 use Rattle.session_text.proofs.Reading.{bind_ok, pick}
 use Rattle.txn_history.proofs.Begun.{none_begun}
+use Rattle.txn_history.proofs.StatusTests.{status_committed}
 use Rattle.txn_history.proofs.Tops.{top_by_parent}
 use Rattle.report_lines.specs.Laws.{IsReportEntry}
 use Rattle.report_lines.specs.Reading.{entry_of, row_of}
@@ -197,15 +198,6 @@ orphan_parts None false t h = (refl, refl)
 no_orphan : (h : History) (l : List ℕ) (ls : Name) → is_orphan h (l ∷ ls) ≡ false → (is_orphan h (parent (l ∷ ls)) ≡ false) × (has_aborted h (l ∷ ls) ≡ false)
 no_orphan h l ls e = orphan_parts (top_aborted h (parent (l ∷ ls))) (has_aborted h (l ∷ ls)) (l ∷ ls) (sym (ap is_some (top_by_parent h l ls)) ∙ e)
 
-committed_status : (h : History) (l : List ℕ) (ls : Name) → is_committed (status h (l ∷ ls)) ≡ true → has_committed h (l ∷ ls) ≡ true
-committed_status h l ls e = by (has_begun h (l ∷ ls)) (has_aborted h (l ∷ ls)) (has_committed h (l ∷ ls)) e
-  where
-    by : (b a c : Bool) → is_committed (status_by b a c) ≡ true → c ≡ true
-    by true false true e = refl
-    by true false false e = absurd (true≢false (sym e))
-    by true true c e = absurd (true≢false (sym e))
-    by false a c e = absurd (true≢false (sym e))
-
 parent_length : (l m : List ℕ) (ls : Name) → length (parent (l ∷ m ∷ ls)) ≡ suc (length ls)
 parent_length l m ls =
     let all : length (l ∷ m ∷ ls) ≡ suc (suc (length ls)) = refl in
@@ -229,7 +221,7 @@ all_committed h g over (suc n) (l ∷ m ∷ ls) le b o =
   where
     committed_name : (t : Name) → (t ≡ [] → ⊥) → is_committed (status h t) ≡ true → has_committed h t ≡ true
     committed_name [] some e = absurd (some refl)
-    committed_name (k ∷ ks) some e = committed_status h k ks e
+    committed_name (k ∷ ks) some e = status_committed h k ks e
 
 -- ---- the table
 
