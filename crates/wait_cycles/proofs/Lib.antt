@@ -3,8 +3,9 @@ pub mod Found
 pub mod Ways
 pub mod Closed
 pub mod Tops
-pub mod Records
 pub mod Agreement
 pub mod Again
 pub mod Sorted
 pub mod Kept
+pub mod Listed
+pub mod Stored

@@ -4,3 +4,4 @@ pub mod Sorted
 pub mod Waiting
 pub mod Agreement
 pub mod Room
+pub mod Stored

@@ -1,7 +1,7 @@
 -- Accesses that wait, at most one of a transaction.
-use Rattle.std.specs.Prelude.{◌≡◌, ℕ, nat_eq, List, Option, Some, find, slice_get}
-use Rattle.std.specs.List.{IsDistinct}
-use Rattle.std.specs.Map.{keys_of, lookup}
+use Rattle.std.specs.Prelude.{◌≡◌, ◌+◌, Bool, false, ◌<◌, ℕ, nat_eq, List, length, Option, Some, find, slice_get, if◌then◌else◌}
+use Rattle.std.specs.Option.{option_map, unwrap_or}
+use Rattle.txn_tree.specs.States.{States}
 pub use Rattle.txn_tree.specs.Numbered.{is_under}
 use Rattle.wait_cycles.specs.declared.waits.Wait.{Wait}
 
@@ -17,12 +17,16 @@ wait_in waits t = find (λ w. nat_eq w.txn t) waits
 abbrev pub wait_of : Waiting → ℕ → Option Wait
 wait_of s t = wait_in s.waits t
 
+-- whether there is a wait, of the transaction or of one below it
+abbrev pub is_under_in : States → ℕ → Option Wait → Bool
+is_under_in tree t o = unwrap_or (option_map (λ w. is_under tree t w.txn) o) false
+
 -- no two waits are of one transaction, so that each transaction that waits is met once
 pub record AreOnce (s : Waiting) : Type 0 where
   pub apart : (i j : ℕ) (v w : Wait) → slice_get s.waits i ≡ Some v → slice_get s.waits j ≡ Some w → v.txn ≡ w.txn → i ≡ j
   pub all : (t : ℕ) (w : Wait) → wait_of s t ≡ Some w → (i : ℕ) × (slice_get s.waits i ≡ Some w)
 
--- each stands under the number of its transaction, and no two stand under one
-pub record AreKept (records : List (ℕ × Wait)) : Type 0 where
-  pub own : (t : ℕ) (w : Wait) → lookup (nat_eq t) records ≡ Some w → w.txn ≡ t
-  pub unique : IsDistinct nat_eq (keys_of records)
+-- the wait at this place is gone, and the last stands there
+pub record IsTaken (place : ℕ) (old new : List Wait) : Type 0 where
+  pub len : length new + 1 ≡ length old
+  pub from : (i : ℕ) → i < length new → slice_get new i ≡ slice_get old (if nat_eq i place then length new else i)

@@ -7,6 +7,7 @@ mod finder;
 pub mod laws;
 mod order;
 mod reached;
+mod records;
 mod trail;
 mod waits;
 

@@ -1,10 +1,9 @@
 //! The accesses that wait.
 ghost use Rattle.std.specs.Prelude.{◌≡◌, ◌+◌, ◌<◌, ◌≤◌, [], ℕ, nat_eq, not, filter, length, slice_get, if◌then◌else◌, IsOk, IsSome, IsTrue, IfSome, OnOk, OnErr, None, Some};
 ghost use Rattle.std.specs.Option.{option_copied};
-ghost use Rattle.indexmap.specs.IndexMap.{IsUnique, spare, values};
-ghost use Rattle.wait_cycles.specs.Waiting.{AreOnce, is_under, wait_of};
+ghost use Rattle.wait_cycles.specs.Waiting.{AreOnce, is_under, is_under_in, wait_of};
 
-use indexmap::IndexMap;
+use crate::records::Records;
 use serial_spec::{By, NoMemory, Op};
 use std::alloc::Global;
 use std::marker::Model;
@@ -23,39 +22,25 @@ pub struct Wait {
 /// The accesses that wait, at most one of a transaction. Only `reserve` and `add` take memory.
 #[derive(Drop)]
 pub struct Waits {
-    records: IndexMap<TxnNo, Wait>,
-    room: usize,
+    records: Records,
 }
 
 impl Model for Waits {
-    ghost use Rattle.std.specs.Prelude.{◌≤◌};
-    ghost use Rattle.indexmap.specs.IndexMap.{spare, values};
-    ghost use Rattle.wait_cycles.specs.Waiting.{AreKept, Waiting};
+    ghost use Rattle.wait_cycles.specs.Waiting.{Waiting};
 
     ghost Value = { Waiting };
 
-    ghost view = { λ w. record { waits = values w.records; room = w.room } };
-
-    ghost invariant = { λ w. AreKept w.records.entries × (w.room ≤ spare w.records) };
+    ghost view = { λ w. w.records };
 }
 
-// The wait at this place among all.
-fn wait_at(records: &IndexMap<TxnNo, Wait>, place: usize) -> Option<&Wait>
-    ensures { option_copied result ≡ slice_get (values records.now) place }
+// Whether the wait at this place is of the transaction or of one below it.
+fn is_under_at(records: &Records, tree: &Tree, txn: TxnNo, place: usize) -> bool
+    ensures { result ≡ is_under_in tree.now txn (slice_get records.now.waits place) }
 {
-    match records.get_index(place) {
-        Some((_, wait)) => Some(wait),
-        None => None,
+    match records.at(place) {
+        Some(wait) => tree.is_under(txn, wait.txn),
+        None => false,
     }
-}
-
-// Takes the waits of the transaction and of all below it out.
-fn sweep(records: &mut IndexMap<TxnNo, Wait>, tree: &Tree, txn: TxnNo)
-    ensures left { records.new.entries ≡ filter (λ e. not (is_under tree.now txn e.0)) records.old.entries }
-    ensures unique { IsUnique nat_eq records.new }
-    ensures room { spare records.old ≤ spare records.new }
-{
-    records.retain(|number, _| !tree.is_under(txn, *number));
 }
 
 impl Waits {
@@ -65,8 +50,7 @@ impl Waits {
         ensures room { result.room ≡ 0 }
     {
         Waits {
-            records: IndexMap::new(alloc),
-            room: 0,
+            records: Records::new(alloc),
         }
     }
 
@@ -78,18 +62,14 @@ impl Waits {
         ensures kept { self.old.room ≤ self.new.room }
         ensures succeeds { additional ≤ self.old.room → IsOk result }
     {
-        if self.room < additional {
-            self.records.reserve(additional)?;
-            self.room = additional;
-        }
-        Ok(())
+        self.records.reserve(additional)
     }
 
     /// Each transaction waits once at most. The call does nothing: it tells the prover so.
     pub fn has_each_once(&self)
         ensures { AreOnce self.now }
     {
-        let _ = &self.records;
+        let _ = self.records.len();
     }
 
     /// How many wait. Each wait stands at one place, from 0 to below this number.
@@ -112,14 +92,15 @@ impl Waits {
         ensures wait { option_copied result ≡ slice_get self.now.waits place }
         ensures stands { IfSome (option_copied result) (λ w. wait_of self.now w.txn ≡ Some w) }
     {
-        wait_at(&self.records, place)
+        self.records.at(place)
     }
 
     /// The transaction's wait, if it waits.
     pub fn of(&self, txn: TxnNo) -> Option<&Wait>
         ensures { option_copied result ≡ wait_of self.now txn }
     {
-        self.records.get(&txn)
+        let record = self.records.find(txn)?;
+        Some(&record.wait)
     }
 
     /// One more waits, which did not. If memory runs out, the only error, all is as before. Where there is room for one it
@@ -151,8 +132,7 @@ impl Waits {
             op,
             by,
         };
-        self.records.insert(txn, wait).unwrap();
-        self.room -= 1;
+        self.records.push(wait);
     }
 
     /// The transaction waits no more. So fewer wait, if it did.
@@ -162,7 +142,11 @@ impl Waits {
         ensures fewer { IsSome (wait_of self.old txn) → length self.new.waits < length self.old.waits }
         ensures room { self.old.room ≤ self.new.room }
     {
-        self.records.swap_remove(&txn);
+        let Some(record) = self.records.find(txn) else {
+            return;
+        };
+        let place = record.place;
+        self.records.take(place);
     }
 
     /// The transaction and all its descendants wait no more. So fewer wait, if any of them did.
@@ -172,6 +156,12 @@ impl Waits {
         ensures fewer { (u : ℕ) → IsTrue (is_under tree.now txn u) → IsSome (wait_of self.old u) → length self.new.waits < length self.old.waits }
         ensures room { self.old.room ≤ self.new.room }
     {
-        sweep(&mut self.records, tree, txn);
+        let mut place = self.records.len();
+        while place > 0 {
+            place -= 1;
+            if is_under_at(&self.records, tree, txn, place) {
+                self.records.take(place);
+            }
+        }
     }
 }
