@@ -41,6 +41,16 @@ pub record HasTooMany {S : Type 0} (g : Ghosts S) (store : S) : Type 0 where
   pub rising : IsRising (plain rows)
   pub many : most_rows < length rows
 
+-- the store was asked once, answered rows that are not too many, and was left so
+pub record HasGivenFew {S : Type 0} (g : Ghosts S) (store : S) : Type 0 where
+  pub left : S
+  pub rows : List Row
+  pub loaded : g.loads store left (Ok rows)
+  pub later : IsLater g store left
+  pub are : g.doubt left ≡ 0 → value_in (plain rows) ≡ g.table store
+  pub rising : IsRising (plain rows)
+  pub few : length rows ≤ most_rows
+
 -- the store was asked once, answered this fault in place of its rows, and was left so
 pub record FailsToLoad {S : Type 0} (g : Ghosts S) (store : S) (fault : StoreFault) : Type 0 where
   pub left : S
@@ -49,8 +59,8 @@ pub record FailsToLoad {S : Type 0} (g : Ghosts S) (store : S) (fault : StoreFau
   pub failures : TellsFailure (g.failures store) (g.failures left) (fault ≡ Failed)
   pub faults : g.faults left ≡ g.faults store
 
--- why the manager was not opened
+-- Why the manager was not opened. Memory ran out behind the store's answer, and not in place of it
 abbrev pub HasCause : {S : Type 0} → Ghosts S → S → OpenFault → Type 0
-HasCause g store NoMemory = Unit {0}
+HasCause g store NoMemory = HasGivenFew g store
 HasCause g store (Store fault) = FailsToLoad g store fault
 HasCause g store TooManyRows = HasTooMany g store

@@ -16,8 +16,9 @@ pub enum Outcome {
 /// Why a manager was not opened.
 #[derive(Clone, Copy, Debug, PartialEq, Eq)]
 pub enum OpenFault {
+    /// Memory ran out once the store had given its rows, which are not too many.
     NoMemory,
-    /// The store did not give its rows.
+    /// The store did not give its rows, for want of memory too.
     Store(StoreFault),
     /// The store has more rows than keys may be known.
     TooManyRows,
