@@ -6,6 +6,7 @@ use Rattle.serial_spec.specs.declared.entry.By.{By}
 use Rattle.serial_spec.specs.declared.entry.Entry.{Entry}
 use Rattle.serial_spec.specs.declared.event.Event.{Event}
 use Rattle.serial_spec.specs.declared.event.Event.TheVariants.{Begin, Access, Commit, Abort, After}
+use Rattle.serial_spec.specs.declared.entry.Answer.{Answer}
 use Rattle.serial_spec.specs.declared.event.When.{When}
 use Rattle.serial_spec.specs.History.{Name, History}
 use Rattle.serial_spec.specs.Waits.{Quiet, wait_of}
@@ -22,42 +23,56 @@ use Rattle.manager_core.specs.Sound.{IsSound}
 use Rattle.manager_core.specs.Calls.{Added, Answered, Committed, Retried, WaitsOn}
 use Rattle.manager_core.specs.Parking.{Awaited, Awaits, IsKeptOut}
 use Rattle.manager_core.proofs.Waits.{same_by}
+use Rattle.interleavings.specs.Trails.{EntryAsks, Trail}
 use Rattle.interleavings.specs.Attempts.{Attempts, GoesOn}
+use Rattle.interleavings.proofs.Trails.{committed_asks, trail_more, trail_one, trail_victims}
 use Rattle.interleavings.proofs.Schedules.{on_same}
+
+-- an entry of this event asks nothing of the store, whatever its answer
+abbrev pub AsksNothing : {S : Type 0} → Ghosts S → State S → Event → Type 0
+AsksNothing {S} g old e = (a : Answer) (s : S) → EntryAsks g old.rows old.history e a s s
 
 module _ {S : Type 0} (g : Ghosts S) (old new : State S) (by : By) (e : Event) (o : Outcome) where
   -- beside the history nothing has changed
-  beside_on : new ≡ record old { history = new.history } → GoesOn g old new
-  beside_on same = record {
+  beside_on : new ≡ record old { history = new.history } → Trail g old.rows old.history old.store new.history old.store → GoesOn g old new
+  beside_on same trail = record {
     rows = ap (λ (m : State S). m.rows) same;
     opened = ap (λ (m : State S). m.opened) same;
+    trail = subst (Trail g old.rows old.history old.store new.history) (sym (ap (λ (m : State S). m.store) same)) trail;
     later = subst (IsLater g old.store) (sym (ap (λ (m : State S). m.store) same)) (on_same g old).later;
   }
 
-  pub answered_attempt : Answered old new by e o → Attempts g old new by e o
-  answered_attempt a = record {
-    told = inl (record { allowed = a.allowed; victims = a.victims; broken = a.broken });
-    on = beside_on a.beside;
-  }
+  module _ (nothing : AsksNothing g old e) where
+    trail_entry : Trail g old.rows old.history old.store (entry by e (answer_of o) ∷ old.history) old.store
+    trail_entry = trail_one g old.rows old.history (entry by e (answer_of o)) old.store old.store (nothing (answer_of o) old.store)
 
-  -- where no cycle stands there are no victims
-  pub added_attempt : Quiet new.history → Added old new by e o → Attempts g old new by e o
-  added_attempt quiet a = record {
-    told = inl (record { allowed = a.allowed; victims = []; broken = (subst Quiet history quiet, history) });
-    on = beside_on (a.added ∙ ap (λ h. record old { history = h }) (sym history));
-  }
-    where
-      history : new.history ≡ entry by e (answer_of o) ∷ old.history
-      history = ap (λ (m : State S). m.history) a.added
+    pub answered_attempt : Answered old new by e o → Attempts g old new by e o
+    answered_attempt a = record {
+      told = inl (record { allowed = a.allowed; victims = a.victims; broken = a.broken });
+      on = beside_on a.beside
+          (trail_more g old.rows old.history old.store (entry by e (answer_of o) ∷ old.history) old.store new.history old.store trail_entry
+          (trail_victims g old.rows (entry by e (answer_of o) ∷ old.history) a.victims new.history old.store a.broken));
+    }
 
-  pub awaited_attempt : Quiet new.history → Awaited old new by e o → Attempts g old new by e o
-  awaited_attempt quiet a = ⊎_elim
-      (λ (added : Added old new by e o). added_attempt quiet added)
-      (λ (awaits : Awaits old new by e o). record {
-        told = inr (record { none = awaits.none; outcome_is = awaits.outcome_is; same = ap (λ (m : State S). m.history) awaits.same });
-        on = subst (GoesOn g old) (sym awaits.same) (on_same g old);
-      })
-      a
+    -- where no cycle stands there are no victims
+    pub added_attempt : Quiet new.history → Added old new by e o → Attempts g old new by e o
+    added_attempt quiet a = record {
+      told = inl (record { allowed = a.allowed; victims = []; broken = (subst Quiet history quiet, history) });
+      on = beside_on (a.added ∙ ap (λ h. record old { history = h }) (sym history))
+          (subst (λ h. Trail g old.rows old.history old.store h old.store) (sym history) trail_entry);
+    }
+      where
+        history : new.history ≡ entry by e (answer_of o) ∷ old.history
+        history = ap (λ (m : State S). m.history) a.added
+
+    pub awaited_attempt : Quiet new.history → Awaited old new by e o → Attempts g old new by e o
+    awaited_attempt quiet a = ⊎_elim
+        (λ (added : Added old new by e o). added_attempt quiet added)
+        (λ (awaits : Awaits old new by e o). record {
+          told = inr (record { none = awaits.none; outcome_is = awaits.outcome_is; same = ap (λ (m : State S). m.history) awaits.same });
+          on = subst (GoesOn g old) (sym awaits.same) (on_same g old);
+        })
+        a
 
 pub committed_attempt : {S : Type 0} (g : Ghosts S) (old new : State S) (by : By) (t : Name) (o : Outcome) → Quiet new.history → Committed g old new by t o
     → Attempts g old new by (Commit t) o
@@ -66,6 +81,8 @@ committed_attempt {S} g old new by t o quiet c = record {
   on = record {
     rows = ap (λ (m : State S). m.rows) c.added;
     opened = ap (λ (m : State S). m.opened) c.added;
+    trail = subst (λ h. Trail g old.rows old.history old.store h new.store) (sym history)
+        (trail_one g old.rows old.history (entry by (Commit t) (answer_of o)) old.store new.store (committed_asks g old new by t o c));
     later = c.later;
   };
 }
@@ -78,7 +95,7 @@ pub retried_attempt : {S : Type 0} (g : Ghosts S) (old new : State S) (by : By) 
     → Retried old new t o → Attempts g old new by (Access t k op) o
 retried_attempt {S} g old new by t k op o (w, waits, own, is) r = ⊎_elim
     (λ (a : Answered old new r.wait.by r.wait.event o).
-    answered_attempt g old new by (Access t k op) o (subst (λ x. Answered old new by x o) event_is (subst (λ b. Answered old new b r.wait.event o) by_is a)))
+    answered_attempt g old new by (Access t k op) o (λ a s. refl) (subst (λ x. Answered old new by x o) event_is (subst (λ b. Answered old new b r.wait.event o) by_is a)))
     (λ (out : WaitsOn old new r.wait o). record {
       told = inr (record {
         none = subst (λ x. answer old.rows old.history by x ≡ Nothing) event_is (subst (λ b. answer old.rows old.history b r.wait.event ≡ Nothing) by_is out.none);
@@ -108,17 +125,17 @@ kept_out_attempt g m by e b is held = record {
 -- ---- by what a call answered
 
 module _ {S E : Type 0} (g : Ghosts S) (old new : State S) (by : By) where
-  pub if_added : (e : Event) (r : Result Outcome E) → IfOk r (λ o. Added old new by e o) → OnOk r (IsSound g new) → IfOk r (λ o. Attempts g old new by e o)
-  if_added e (Ok o) a sound = added_attempt g old new by e o sound.quiet a
-  if_added e (Err x) a sound = tt
+  pub if_added : (e : Event) → AsksNothing g old e → (r : Result Outcome E) → IfOk r (λ o. Added old new by e o) → OnOk r (IsSound g new) → IfOk r (λ o. Attempts g old new by e o)
+  if_added e nothing (Ok o) a sound = added_attempt g old new by e o nothing sound.quiet a
+  if_added e nothing (Err x) a sound = tt
 
-  pub if_answered : (e : Event) (r : Result Outcome E) → IfOk r (λ o. Answered old new by e o) → IfOk r (λ o. Attempts g old new by e o)
-  if_answered e (Ok o) a = answered_attempt g old new by e o a
-  if_answered e (Err x) a = tt
+  pub if_answered : (t : Name) (k : List ℕ) (op : Op) (r : Result Outcome E) → IfOk r (λ o. Answered old new by (Access t k op) o) → IfOk r (λ o. Attempts g old new by (Access t k op) o)
+  if_answered t k op (Ok o) a = answered_attempt g old new by (Access t k op) o (λ x s. refl) a
+  if_answered t k op (Err x) a = tt
 
-  pub if_awaited : (e : Event) (r : Result Outcome E) → IfOk r (λ o. Awaited old new by e o) → OnOk r (IsSound g new) → IfOk r (λ o. Attempts g old new by e o)
-  if_awaited e (Ok o) a sound = awaited_attempt g old new by e o sound.quiet a
-  if_awaited e (Err x) a sound = tt
+  pub if_awaited : (e : Event) → AsksNothing g old e → (r : Result Outcome E) → IfOk r (λ o. Awaited old new by e o) → OnOk r (IsSound g new) → IfOk r (λ o. Attempts g old new by e o)
+  if_awaited e nothing (Ok o) a sound = awaited_attempt g old new by e o nothing sound.quiet a
+  if_awaited e nothing (Err x) a sound = tt
 
   pub if_committed : (t : Name) (r : Result Outcome E) → IfOk r (λ o. Committed g old new by t o) → OnOk r (IsSound g new) → IfOk r (λ o. Attempts g old new by (Commit t) o)
   if_committed t (Ok o) a sound = committed_attempt g old new by t o sound.quiet a

@@ -1,8 +1,9 @@
 -- The close, and what a whole run comes to.
-use Rattle.std.proofs.Common.{◌≡◌, ℕ, ◌+◌, ◌≤◌, List, [], ◌∷◌, ◌++◌, length, map, None, Result, Ok, Err, OnOk, IfOk, IfErr, sym, ap, subst, ◌∙◌, arith}
+use Rattle.std.proofs.Common.{◌≡◌, ℕ, ◌+◌, ◌≤◌, List, [], ◌∷◌, ◌++◌, length, map, None, Result, Ok, Err, OnOk, OnErr, IfOk, IfErr, sym, ap, subst, ◌∙◌, arith}
 use Rattle.serial_spec.specs.History.{Name, History, begun}
 use Rattle.serial_spec.specs.Legal.{first_live, Legal}
 use Rattle.serial_spec.specs.Rows.{Rows, value_in}
+use Rattle.serial_spec.specs.Serial.{stored}
 use Rattle.serial_spec.specs.Interleaving.{Session, AllAnswered, IsInterleaving, IsFinished}
 use Rattle.serial_spec.specs.Follows.{Steps, Rounds, AfterClose}
 use Rattle.txn_history.specs.Turns.{IsUnderWay}
@@ -15,9 +16,14 @@ use Rattle.manager_core.specs.Sound.{IsSound, store_refusals}
 use Rattle.manager_core.specs.Closing.{closings}
 use Rattle.manager_core.specs.Calls.{Closed}
 use Rattle.interleavings.specs.Told.{Told}
+use Rattle.interleavings.specs.Trails.{Trail}
+use Rattle.interleavings.proofs.Trails.{trail_closings, trail_more}
 use Rattle.interleavings.specs.Turning.{Turning, AreTurns, IsStart, IsClosed}
-use Rattle.interleavings.specs.Scheduled.{RunsList, RunsAll, RunsWhole}
-use Rattle.interleavings.specs.Runs.{AllThere, IsRun}
+use Rattle.interleavings.specs.Scheduled.{BreaksOff, Goes, Stands, RunsList, RunsAll, RunsWhole}
+use Rattle.interleavings.proofs.Schedules.{goes_still}
+use Rattle.interleavings.specs.Runs.{AllThere, HasRunCause, IsBrokenOff, IsRun, WasAsked}
+use Rattle.interleavings.specs.declared.run.RunFault.{RunFault}
+use Rattle.interleavings.specs.declared.run.RunFault.TheVariants.{NoMemory}
 
 -- ---- the close
 
@@ -62,6 +68,10 @@ module _ {S : Type 0} (g : Ghosts S) (old : Turning S) (numbers : List ℕ) (new
     interleaving = closed_in_turn;
     finished = finishes.1;
     store = ap (λ (m : State S). m.store) closed.added;
+    trail =
+        subst (λ s. Trail g old.core.rows old.core.history old.core.store new.history s) (sym (ap (λ (m : State S). m.store) closed.added))
+        (subst (λ h. Trail g old.core.rows old.core.history old.core.store h old.core.store) (sym history)
+        (trail_closings g old.core.rows closed.names old.core.history old.core.store));
     stored = sound.backed.same;
     refusals = subst (λ n. g.faults new.store ≡ counted (n + store_refusals new.history)) (ap (λ (m : State S). m.opened) closed.added) sound.backed.refusals;
   }
@@ -74,11 +84,31 @@ module _ {S : Type 0} (g : Ghosts S) where
   runs_whole schedule first mid last (Ok x) list all = record { between = mid; list = list; all = all }
   runs_whole schedule first mid last (Err x) list all = tt
 
+  -- from a trail behind the opening
+  from_start : (ss : List Session) (store : S) (first : Turning S) (h : History) (left : S) → IsStart g ss store first
+      → Trail g first.core.rows first.core.history first.core.store h left → WasAsked g store first.core.rows h left
+  from_start ss store first h left start trail = record {
+    first = first.core.store;
+    given = start.opened.given;
+    loaded = start.opened.loaded;
+    are = start.opened.are;
+    trail = subst (λ h0. Trail g first.core.rows h0 first.core.store h left) start.opened.history trail;
+  }
+
+  -- what went on from the opening to its close
+  pub was_asked : (ss : List Session) (store : S) (first last : Turning S) (r : Told) (left : S) → IsStart g ss store first → Goes g first last → IsClosed g last r left
+      → WasAsked g store r.opening r.history left
+  was_asked ss store first last r left start goes closed =
+      subst (λ x. WasAsked g store x r.history left) (sym (closed.opening ∙ goes.on.rows))
+      (from_start ss store first r.history left start
+      (trail_more g first.core.rows first.core.history first.core.store last.core.history last.core.store r.history left goes.on.trail
+      (subst (λ x. Trail g x last.core.history last.core.store r.history left) goes.on.rows closed.trail)))
+
   pub is_run : (ss : List Session) (schedule : List ℕ) (store left : S) (first last : Turning S) (r : Told) → AllThere (length ss) schedule → IsStart g ss store first
       → RunsWhole g schedule first last → IsClosed g last r left → IsRun g ss schedule store r left
   is_run ss schedule store left first last r there start whole closed = record {
     there = there;
-    loaded = record { left = first.core.store; given = start.opened.given; loaded = start.opened.loaded; are = rows_first ∙ start.opened.are };
+    asked = was_asked ss store first last r left start (goes_still g first mid last list.goes all.goes) closed;
     opening = λ none. ap value_in rows_first ∙ start.opened.rows (undoubted none);
     labels = subst (λ x. r.labels ≡ map (λ s. s.label) x) same_sessions closed.labels;
     follows = record {
@@ -125,3 +155,33 @@ module _ {S : Type 0} (g : Ghosts S) where
       undoubted none =
           let last_none : g.doubt last.core.store ≡ 0 = sym (ap g.doubt closed.store) ∙ none in
           omega (arith, list.goes.on.later.doubt, all.goes.on.later.doubt, last_none)
+
+  -- ---- a run that was broken off
+
+  pub closed_off : {T E : Type 0} (schedule : List ℕ) (first last : Turning S) (r : Result T E) → RunsWhole g schedule first last → OnErr r (Stands g last) → OnErr r (BreaksOff g first)
+  closed_off schedule first last (Ok x) whole stands = tt
+  closed_off schedule first last (Err x) whole stands =
+      record { last = last; goes = goes_still g first whole.between last whole.list.goes whole.all.goes; stands = stands }
+
+  pub broken_off : (ss : List Session) (store : S) (first : Turning S) → IsStart g ss store first → BreaksOff g first → IsBrokenOff g ss store
+  broken_off ss store first start off = record {
+    opening = first.core.rows;
+    history = last.core.history;
+    left = last.core.store;
+    asked = from_start ss store first last.core.history last.core.store start off.goes.on.trail;
+    few = start.opened.few;
+    way = subst (λ x. IsUnderWay x ss last.core.history) off.goes.on.rows
+        (subst (λ x. IsUnderWay last.core.rows x last.core.history) (off.goes.sessions ∙ start.sessions) off.stands.way);
+    table = last.core.table;
+    stored = subst (λ x. (k : List ℕ) → value_in last.core.table k ≡ stored (value_in x) last.core.history k) off.goes.on.rows off.stands.sound.stored;
+    has = off.stands.sound.backed.same;
+    refusals = off.stands.sound.backed.refusals ∙ ap (λ n. counted (n + store_refusals last.core.history)) (off.goes.on.opened ∙ start.opened.faults);
+  }
+    where
+      last : Turning S
+      last = off.last
+
+  pub run_off : {T : Type 0} (ss : List Session) (schedule : List ℕ) (store : S) (first : Turning S) (r : Result T RunFault) → AllThere (length ss) schedule → IsStart g ss store first
+      → IfErr r (λ fault. fault ≡ NoMemory) → OnErr r (BreaksOff g first) → IfErr r (HasRunCause g ss schedule store)
+  run_off ss schedule store first (Ok x) there start is off = tt
+  run_off ss schedule store first (Err x) there start is off = subst (HasRunCause g ss schedule store) (sym is) (there, broken_off ss store first start off)

@@ -1,3 +1,4 @@
+pub mod Trails
 pub mod Attempts
 pub mod Numbers
 pub mod Stuck
@@ -7,3 +8,4 @@ pub mod Closed
 pub mod Strays
 pub mod Labels
 pub mod Reported
+pub mod Opened

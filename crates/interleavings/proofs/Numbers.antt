@@ -9,7 +9,7 @@ use Rattle.serial_spec.specs.declared.entry.By.TheVariants.{Line}
 use Rattle.serial_spec.specs.declared.entry.Answer.TheVariants.{Stuck}
 use Rattle.serial_spec.specs.History.{History}
 use Rattle.serial_spec.specs.Interleaving.{Session, lines_of, answered, next_event, next_line, MustGiveUp, IsInterleaving}
-use Rattle.serial_spec.specs.Follows.{stuck}
+use Rattle.serial_spec.specs.Follows.{NoneGivesUp, stuck}
 use Rattle.serial_spec.specs.Legal.{Legal}
 use Rattle.serial_spec.specs.Waits.{Quiet}
 use Rattle.std.specs.List.{AllByRecursion}
@@ -24,11 +24,15 @@ use Rattle.durable_top.specs.declared.store.TopStore.{Ghosts}
 use Rattle.manager_core.specs.declared.outcome.Outcome.{Outcome}
 use Rattle.manager_core.specs.declared.outcome.Outcome.TheVariants.{Waits}
 use Rattle.manager_core.specs.State.{State, entry}
+use Rattle.manager_core.specs.Asked.{IsLater}
 use Rattle.manager_core.specs.Opening.{most_rows}
 use Rattle.serial_spec.specs.Rows.{Rows}
 use Rattle.interleavings.specs.Attempts.{Attempts}
 use Rattle.interleavings.specs.declared.turns.Turn.TheVariants.{Answered, Parked}
-use Rattle.interleavings.specs.Turning.{AreNext, AreTurns, Stepped, next_number}
+use Rattle.interleavings.specs.Trails.{Trail}
+use Rattle.interleavings.specs.Turning.{AreNext, AreTurns, Turning, Stepped, Unstuck, next_number}
+use Rattle.interleavings.proofs.Trails.{stuck_asks, trail_one}
+use Rattle.interleavings.proofs.Schedules.{on_same}
 use Rattle.interleavings.proofs.Attempts.{attempt_steps, others_count, count_waits, count_answered, own_answered, other_answered}
 
 pub unsome : {X : Type 0} (a b : X) → Some a ≡ Some b → a ≡ b
@@ -225,6 +229,10 @@ module _ {S : Type 0} (g : Ghosts S) (ss : List Session) (old new : State S) (nu
 
 -- ---- a line that is given up
 
+-- or none is
+pub unstuck_none : {S : Type 0} (g : Ghosts S) (t : Turning S) → NoneGivesUp t.core.rows t.sessions t.core.history → Unstuck g t t None
+unstuck_none g t none = record { sessions = refl; told = (none, refl); on = on_same g t.core }
+
 module _ {S : Type 0} (ss : List Session) (old new : State S) (numbers : List ℕ) (turns : AreTurns (record { sessions = ss; core = old }) numbers)
     (s l : ℕ) (e : Event) (must : MustGiveUp old.rows ss old.history s e) (is : l ≡ suc (answered old.history s))
     (added : new ≡ record old { history = entry (Line s l) e Stuck ∷ old.history }) where
@@ -234,6 +242,24 @@ module _ {S : Type 0} (ss : List Session) (old new : State S) (numbers : List �
 
   stuck_rows : new.rows ≡ old.rows
   stuck_rows = ap (λ (m : State S). m.rows) added
+
+  -- so the stuck rule was applied
+  pub unstuck : (g : Ghosts S) → Unstuck g (record { sessions = ss; core = old }) (record { sessions = ss; core = new }) (Some (s, l))
+  unstuck g = record {
+    sessions = refl;
+    told = (is, (e, must, stuck_history));
+    on = record {
+      rows = stuck_rows;
+      opened = ap (λ (m : State S). m.opened) added;
+      trail = subst (Trail g old.rows old.history old.store new.history) (sym stuck_store)
+          (subst (λ h. Trail g old.rows old.history old.store h old.store) (sym (ap (λ (m : State S). m.history) added))
+          (trail_one g old.rows old.history (entry (Line s l) e Stuck) old.store old.store (stuck_asks g old.rows old.history e old.store)));
+      later = subst (IsLater g old.store) (sym stuck_store) (on_same g old).later;
+    };
+  }
+    where
+      stuck_store : new.store ≡ old.store
+      stuck_store = ap (λ (m : State S). m.store) added
 
   pub turns_stuck : length (set numbers s (l + 1)) ≡ length numbers → AreTurns (record { sessions = ss; core = new }) (set numbers s (l + 1))
   turns_stuck count = record {

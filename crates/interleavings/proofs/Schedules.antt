@@ -1,15 +1,18 @@
 -- A run, one call after another.
-use Rattle.std.proofs.Common.{ℕ, suc, inl, inr, List, [], ◌∷◌, ◌++◌, length, Option, Some, None, refl, ap, subst, ◌∙◌, arith}
+use Rattle.std.proofs.Common.{◌≡◌, ℕ, suc, inl, inr, List, [], ◌∷◌, ◌++◌, length, Option, Some, None, Result, Ok, Err, OnErr, refl, sym, ap, subst, ◌∙◌, arith}
 use Rattle.serial_spec.specs.History.{History}
 use Rattle.serial_spec.specs.Rows.{Rows}
-use Rattle.serial_spec.specs.Interleaving.{Session, AllAnswered, Step}
+use Rattle.serial_spec.specs.Interleaving.{Session, AllAnswered, Step, StepsOn, next_event}
 use Rattle.serial_spec.specs.Follows.{Steps, Unsticks, Round}
 use Rattle.durable_top.specs.declared.store.TopStore.{Ghosts}
 use Rattle.manager_core.specs.State.{State}
 use Rattle.manager_core.specs.Asked.{IsLater}
 use Rattle.interleavings.specs.declared.turns.Turn.{Turn}
+use Rattle.interleavings.specs.declared.turns.Turn.TheVariants.{OutOfTurn}
+use Rattle.interleavings.specs.Trails.{Trail}
 use Rattle.interleavings.specs.Attempts.{GoesOn}
 use Rattle.interleavings.specs.Turning.{Turning, Stepped, Unstuck, GivesUpLine}
+use Rattle.interleavings.proofs.Trails.{trail_more, trail_none}
 use Rattle.interleavings.specs.Scheduled.{Goes, RunsList, RunsEach, RunsRound, RunsSoFar, RunsAll}
 
 -- ---- going on
@@ -21,11 +24,19 @@ pub on_still : {S : Type 0} (g : Ghosts S) (old mid new : State S) → GoesOn g 
 on_still g old mid new a b = record {
   rows = b.rows ∙ a.rows;
   opened = b.opened ∙ a.opened;
+  trail =
+      trail_more g old.rows old.history old.store mid.history mid.store new.history new.store a.trail
+      (subst (λ r. Trail g r mid.history mid.store new.history new.store) a.rows b.trail);
   later = later_still g old.store mid.store new.store a.later b.later;
 }
 
 pub on_same : {S : Type 0} (g : Ghosts S) (old : State S) → GoesOn g old old
-on_same g old = record { rows = refl; opened = refl; later = record { doubt = omega arith; failures = omega arith } }
+on_same g old = record {
+  rows = refl;
+  opened = refl;
+  trail = trail_none g old.rows old.history old.store;
+  later = record { doubt = omega arith; failures = omega arith };
+}
 
 steps_more : (rows : Rows) (ss : List Session) (list : List ℕ) (s : ℕ) (h mid h2 : History) → Steps rows ss list h mid → Step rows ss mid s h2
     → Steps rows ss (list ++ s ∷ []) h h2
@@ -33,10 +44,10 @@ steps_more rows ss [] s h mid h2 same step = (h2, subst (λ x. Step rows ss x s 
 steps_more rows ss (t ∷ list) s h mid h2 (next, first, rest) step = (next, first, steps_more rows ss list s next mid h2 rest step)
 
 module _ {S : Type 0} (g : Ghosts S) where
-  goes_same : (t : Turning S) → Goes g t t
+  pub goes_same : (t : Turning S) → Goes g t t
   goes_same t = record { sessions = refl; on = on_same g t.core }
 
-  goes_still : (old mid new : Turning S) → Goes g old mid → Goes g mid new → Goes g old new
+  pub goes_still : (old mid new : Turning S) → Goes g old mid → Goes g mid new → Goes g old new
   goes_still old mid new a b = record { sessions = b.sessions ∙ a.sessions; on = on_still g old.core mid.core new.core a.on b.on }
 
   module _ (old mid new : Turning S) (goes : Goes g old mid) where
@@ -49,6 +60,24 @@ module _ {S : Type 0} (g : Ghosts S) where
 
     step_back : (s : ℕ) (turn : Turn) → Stepped g mid new s turn → Step old.core.rows old.sessions mid.core.history s new.core.history
     step_back s turn st = back (λ r ss. Step r ss mid.core.history s new.core.history) st.step
+
+  -- one that is out of turn
+  pub stepped_none : (t : Turning S) (s : ℕ) → next_event t.sessions t.core.history s ≡ None → Stepped g t t s OutOfTurn
+  stepped_none t s none = record {
+    sessions = refl;
+    step = subst (λ x. StepsOn t.core.rows t.core.history s x t.core.history) (sym none) refl;
+    told = (none, refl);
+    on = on_same g t.core;
+  }
+
+  -- where memory ran out
+  pub goes_err : {T E : Type 0} (r : Result T E) (old new : Turning S) → Goes g old new → OnErr r (Goes g old new)
+  goes_err (Ok x) old new goes = tt
+  goes_err (Err x) old new goes = goes
+
+  pub goes_err_still : {T E : Type 0} (r : Result T E) (old mid new : Turning S) → Goes g old mid → OnErr r (Goes g mid new) → OnErr r (Goes g old new)
+  goes_err_still (Ok x) old mid new goes more = tt
+  goes_err_still (Err x) old mid new goes more = goes_still old mid new goes more
 
   -- ---- a list
 

@@ -11,11 +11,13 @@ use Rattle.manager_core.specs.declared.outcome.Outcome.TheVariants.{Waits}
 use Rattle.manager_core.specs.Outcomes.{answer_of}
 use Rattle.manager_core.specs.State.{State, entry}
 use Rattle.manager_core.specs.Asked.{IsLater}
+use Rattle.interleavings.specs.Trails.{Trail}
 
--- the opening is the same, and the store no earlier one
+-- the opening is the same, and the store was asked what the entries since then ask
 pub record GoesOn {S : Type 0} (g : Ghosts S) (old new : State S) : Type 0 where
   pub rows : new.rows ≡ old.rows
   pub opened : new.opened ≡ old.opened
+  pub trail : Trail g old.rows old.history old.store new.history new.store
   pub later : IsLater g old.store new.store
 
 -- the history has the line's entry, which was allowed, and behind it the victims that break the cycles of waits

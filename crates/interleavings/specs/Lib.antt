@@ -1,5 +1,6 @@
 pub mod Told
 pub mod Reports
+pub mod Trails
 pub mod Attempts
 pub mod Turning
 pub mod Scheduled

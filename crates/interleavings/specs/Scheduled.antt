@@ -1,8 +1,10 @@
--- What a run of sessions comes to.
+-- What the parts of a run come to.
 use Rattle.std.specs.Prelude.{◌≡◌, ℕ, List}
 use Rattle.serial_spec.specs.Interleaving.{AllAnswered}
 use Rattle.serial_spec.specs.Follows.{Steps, StepOfEach, Round, Rounds}
 use Rattle.durable_top.specs.declared.store.TopStore.{Ghosts}
+use Rattle.txn_history.specs.Turns.{IsUnderWay}
+use Rattle.manager_core.specs.Sound.{IsSound}
 use Rattle.interleavings.specs.Told.{Told}
 use Rattle.interleavings.specs.Attempts.{GoesOn}
 use Rattle.interleavings.specs.Turning.{Turning, IsClosed}
@@ -13,6 +15,17 @@ use Rattle.interleavings.specs.Turning.{Turning, IsClosed}
 pub record Goes {S : Type 0} (g : Ghosts S) (old new : Turning S) : Type 0 where
   pub sessions : new.sessions ≡ old.sessions
   pub on : GoesOn g old.core new.core
+
+-- the sessions are under way, over a manager that is sound
+pub record Stands {S : Type 0} (g : Ghosts S) (t : Turning S) : Type 0 where
+  pub way : IsUnderWay t.core.rows t.sessions t.core.history
+  pub sound : IsSound g t.core
+
+-- they went on for a while
+pub record BreaksOff {S : Type 0} (g : Ghosts S) (old : Turning S) : Type 0 where
+  pub last : Turning S
+  pub goes : Goes g old last
+  pub stands : Stands g last
 
 -- the attempts of this list
 pub record RunsList {S : Type 0} (g : Ghosts S) (list : List ℕ) (old new : Turning S) : Type 0 where

@@ -14,6 +14,7 @@ use Rattle.manager_core.specs.Sound.{IsTrusted, store_refusals}
 use Rattle.manager_core.specs.Opening.{most_rows, IsOpened}
 use Rattle.interleavings.specs.declared.turns.Turn.{Turn}
 use Rattle.interleavings.specs.declared.turns.Turn.TheVariants.{Answered, Parked, OutOfTurn}
+use Rattle.interleavings.specs.Trails.{Trail}
 use Rattle.interleavings.specs.Attempts.{GoesOn}
 use Rattle.interleavings.specs.Told.{Told}
 
@@ -93,7 +94,9 @@ pub record IsClosed {S : Type 0} (g : Ghosts S) (old : Turning S) (r : Told) (le
   pub close : AfterClose old.core.history names r.history
   pub interleaving : IsInterleaving r.opening old.sessions r.history
   pub finished : IsFinished old.sessions r.history
+  -- the close asks nothing of the store
   pub store : left ≡ old.core.store
+  pub trail : Trail g old.core.rows old.core.history old.core.store r.history left
   -- the store has the final table until its device fails, and counted the commits that it refused
   pub stored : IsTrusted g left → g.table left ≡ value_in r.table
   pub refusals : g.faults left ≡ counted (old.core.opened + store_refusals r.history)

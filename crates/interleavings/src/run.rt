@@ -1,7 +1,7 @@
 //! Sessions by a schedule, from a store to the report.
-ghost use Rattle.std.specs.Prelude.{◌≡◌, length, IfErr, IfOk};
+ghost use Rattle.std.specs.Prelude.{◌≡◌, length, IfErr, IfOk, OnErr};
 ghost use Rattle.interleavings.specs.Runs.{HasRunCause, IsRun, TellsStray};
-ghost use Rattle.interleavings.specs.Scheduled.{RunsOut};
+ghost use Rattle.interleavings.specs.Scheduled.{BreaksOff, RunsOut, Stands};
 ghost use Rattle.interleavings.specs.Turning.{IsClosed};
 
 use crate::report::Report;
@@ -13,10 +13,13 @@ use serial_spec::NoMemory;
 use session_text::Sessions;
 use std::alloc::Global;
 
-/// Why a run gave no report. Its store is dropped, and nothing is said of what it holds.
+/// Why a run gave no report. Its store is dropped.
 #[derive(Clone, Copy, Debug, PartialEq, Eq)]
 pub enum RunFault {
+    /// Memory ran out behind the opening. The store was asked what a legal history of these sessions asks, and has the table
+    /// that this history leaves.
     NoMemory,
+    /// The store was not opened.
     Open(OpenFault),
     /// This item of the schedule, counted from 1, is the first that is no session's number. Nothing was run.
     Schedule(usize),
@@ -42,8 +45,10 @@ fn stray(count: u32, schedule: &[u32]) -> Option<usize>
 
 // Drops what was under way.
 fn give_up<S: TopStore>(turns: Turns<'_, S>) -> RunFault
-    ensures { result ≡ RunFault.NoMemory }
+    ensures fault { result ≡ RunFault.NoMemory }
+    ensures stands { Stands S.TopStore turns.entry }
 {
+    turns.has_legal_history();
     drop(turns);
     RunFault::NoMemory
 }
@@ -52,6 +57,7 @@ fn give_up<S: TopStore>(turns: Turns<'_, S>) -> RunFault
 fn close<S: TopStore>(turns: Turns<'_, S>) -> Result<(Report, S), RunFault>
     ensures ok { IfOk result (λ run. IsClosed S.TopStore turns.entry run.0 run.1) }
     ensures err { IfErr result (λ fault. fault ≡ RunFault.NoMemory) }
+    ensures stands { OnErr result (Stands S.TopStore turns.entry) }
 {
     match turns.into_report() {
         Ok(run) => Ok(run),
@@ -63,6 +69,7 @@ fn close<S: TopStore>(turns: Turns<'_, S>) -> Result<(Report, S), RunFault>
 fn run_opened<S: TopStore>(turns: Turns<'_, S>, schedule: &[u32]) -> Result<(Report, S), RunFault>
     ensures ok { IfOk result (λ run. RunsOut S.TopStore schedule.now turns.entry run.0 run.1) }
     ensures err { IfErr result (λ fault. fault ≡ RunFault.NoMemory) }
+    ensures off { OnErr result (BreaksOff S.TopStore turns.entry) }
 {
     let mut turns = turns;
     match run_all(&mut turns, schedule) {

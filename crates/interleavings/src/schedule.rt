@@ -1,6 +1,6 @@
 //! Sessions by a schedule.
-ghost use Rattle.std.specs.Prelude.{OnOk, length};
-ghost use Rattle.interleavings.specs.Scheduled.{RunsAll, RunsEach, RunsList, RunsRound, RunsWhole};
+ghost use Rattle.std.specs.Prelude.{OnErr, OnOk, length};
+ghost use Rattle.interleavings.specs.Scheduled.{Goes, RunsAll, RunsEach, RunsList, RunsRound, RunsWhole};
 
 use crate::turns::Turns;
 use durable_top::TopStore;
@@ -8,7 +8,8 @@ use serial_spec::NoMemory;
 
 // The schedule's attempts.
 fn run_list<S: TopStore>(turns: &mut Turns<S>, schedule: &[u32]) -> Result<(), NoMemory>
-    ensures { OnOk result (RunsList S.TopStore schedule.now turns.old turns.new) }
+    ensures ok { OnOk result (RunsList S.TopStore schedule.now turns.old turns.new) }
+    ensures err { OnErr result (Goes S.TopStore turns.old turns.new) }
 {
     for place in 0..schedule.len() {
         turns.step(schedule[place])?;
@@ -18,7 +19,8 @@ fn run_list<S: TopStore>(turns: &mut Turns<S>, schedule: &[u32]) -> Result<(), N
 
 // An attempt of each session, in order.
 fn run_each<S: TopStore>(turns: &mut Turns<S>) -> Result<(), NoMemory>
-    ensures { OnOk result (RunsEach S.TopStore (length turns.old.sessions) turns.old turns.new) }
+    ensures ok { OnOk result (RunsEach S.TopStore (length turns.old.sessions) turns.old turns.new) }
+    ensures err { OnErr result (Goes S.TopStore turns.old turns.new) }
 {
     for session in 0..turns.count() {
         turns.step(session)?;
@@ -27,7 +29,8 @@ fn run_each<S: TopStore>(turns: &mut Turns<S>) -> Result<(), NoMemory>
 }
 
 fn run_round<S: TopStore>(turns: &mut Turns<S>) -> Result<(), NoMemory>
-    ensures { OnOk result (RunsRound S.TopStore turns.old turns.new) }
+    ensures ok { OnOk result (RunsRound S.TopStore turns.old turns.new) }
+    ensures err { OnErr result (Goes S.TopStore turns.old turns.new) }
 {
     run_each(turns)?;
     turns.stuck()?;
@@ -36,7 +39,8 @@ fn run_round<S: TopStore>(turns: &mut Turns<S>) -> Result<(), NoMemory>
 
 // Rounds, until no line is left. Each of them adds an entry of a line.
 fn run_rounds<S: TopStore>(turns: &mut Turns<S>) -> Result<(), NoMemory>
-    ensures { OnOk result (RunsAll S.TopStore turns.old turns.new) }
+    ensures ok { OnOk result (RunsAll S.TopStore turns.old turns.new) }
+    ensures err { OnErr result (Goes S.TopStore turns.old turns.new) }
 {
     while !turns.finished() {
         run_round(turns)?;
@@ -49,7 +53,8 @@ fn run_rounds<S: TopStore>(turns: &mut Turns<S>) -> Result<(), NoMemory>
 /// and after which the stuck rule is applied once. The only error is that memory runs out; what was done until then stands.
 #[tactic(auto, using(crate::proofs::Closed::runs_whole))]
 pub(crate) fn run_all<S: TopStore>(turns: &mut Turns<S>, schedule: &[u32]) -> Result<(), NoMemory>
-    ensures { OnOk result (RunsWhole S.TopStore schedule.now turns.old turns.new) }
+    ensures ok { OnOk result (RunsWhole S.TopStore schedule.now turns.old turns.new) }
+    ensures err { OnErr result (Goes S.TopStore turns.old turns.new) }
 {
     run_list(turns, schedule)?;
     run_rounds(turns)

@@ -4,6 +4,7 @@ ghost use Rattle.serial_spec.specs.Interleaving.{AllAnswered};
 ghost use Rattle.txn_history.specs.Turns.{IsUnderWay};
 ghost use Rattle.durable_top.specs.Store.{plain};
 ghost use Rattle.manager_core.specs.Opening.{HasCause};
+ghost use Rattle.interleavings.specs.Scheduled.{Stands};
 ghost use Rattle.interleavings.specs.Turning.{IsClosed, IsFirstOpen, IsStart, Stepped, TellsStuck, Unstuck, can_go_on, next_number};
 
 use crate::attempt::attempt;
@@ -61,18 +62,23 @@ impl<'a, S: TopStore> Turns<'a, S> {
         ensures way { IfOk result (λ turns. IsUnderWay turns.core.rows turns.sessions turns.core.history) }
         ensures err { IfErr result (λ fault. HasCause S.TopStore store fault) }
     {
-        let Ok(next) = first_lines(alloc, sessions.len()) else {
-            return Err(OpenFault::NoMemory);
-        };
-        match Manager::open(alloc, store) {
-            Ok(manager) => Ok(Turns {
+        let manager = Manager::open(alloc, store)?;
+        match first_lines(alloc, sessions.len()) {
+            Ok(next) => Ok(Turns {
                 alloc,
                 sessions,
                 manager,
                 next,
             }),
-            Err(fault) => Err(fault),
+            Err(_) => Err(OpenFault::NoMemory),
         }
+    }
+
+    /// The sessions are under way, and the manager is sound. The call does nothing: it tells the prover so.
+    pub fn has_legal_history(&self)
+        ensures { Stands S.TopStore self.now }
+    {
+        self.manager.table();
     }
 
     /// How many sessions there are.

@@ -1,3 +1,4 @@
+use Rattle.std.proofs.Common.{refl}
 use Rattle.serial_spec.specs.declared.event.Event.TheVariants.{Begin, Abort, After}
 use Rattle.interleavings.proofs.Calls.{if_added, if_awaited, if_committed}
 use Rattle.interleavings.proofs.attempt.attempt.Goals as goal
@@ -5,7 +6,7 @@ use Rattle.interleavings.proofs.attempt.attempt.Goals as goal
 pub returns-in-Begin-clause-ok : goal.returns-in-Begin-clause-ok
 returns-in-Begin-clause-ok g c =
     rw c.in-Begin.is
-    (if_added g.S.TopStore c.args.manager.now c.begin.new.self c.args.by (Begin c.in-Begin.name) c.begin.result c.begin.ensures.ok c.begin.ensures.sound)
+    (if_added g.S.TopStore c.args.manager.now c.begin.new.self c.args.by (Begin c.in-Begin.name) (λ a s. refl) c.begin.result c.begin.ensures.ok c.begin.ensures.sound)
 
 pub returns-in-Commit-clause-ok : goal.returns-in-Commit-clause-ok
 returns-in-Commit-clause-ok g c =
@@ -15,9 +16,9 @@ returns-in-Commit-clause-ok g c =
 pub returns-in-Abort-clause-ok : goal.returns-in-Abort-clause-ok
 returns-in-Abort-clause-ok g c =
     rw c.in-Abort.is
-    (if_added g.S.TopStore c.args.manager.now c.abort.new.self c.args.by (Abort c.in-Abort.name) c.abort.result c.abort.ensures.ok c.abort.ensures.sound)
+    (if_added g.S.TopStore c.args.manager.now c.abort.new.self c.args.by (Abort c.in-Abort.name) (λ a s. refl) c.abort.result c.abort.ensures.ok c.abort.ensures.sound)
 
 pub returns-in-After-clause-ok : goal.returns-in-After-clause-ok
 returns-in-After-clause-ok g c =
     rw c.in-After.is
-    (if_awaited g.S.TopStore c.args.manager.now c.after.new.self c.args.by (After c.in-After.name c.in-After.when) c.after.result c.after.ensures.ok c.after.ensures.sound)
+    (if_awaited g.S.TopStore c.args.manager.now c.after.new.self c.args.by (After c.in-After.name c.in-After.when) (λ a s. refl) c.after.result c.after.ensures.ok c.after.ensures.sound)

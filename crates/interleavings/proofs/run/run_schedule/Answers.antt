@@ -1,9 +1,8 @@
-use Rattle.std.proofs.Common.{◌≡◌, subst, sym}
-use Rattle.std.proofs.lemmas.Result.{IfOk-weaker, IfErr-weaker}
-use Rattle.interleavings.specs.Runs.{AllThere, HasRunCause, IsRun}
+use Rattle.std.proofs.Common.{subst}
+use Rattle.std.proofs.lemmas.Result.{IfOk-weaker}
+use Rattle.interleavings.specs.Runs.{AllThere, IsRun}
 use Rattle.interleavings.specs.Scheduled.{RunsOut}
-use Rattle.interleavings.specs.declared.run.RunFault.TheVariants.{NoMemory}
-use Rattle.interleavings.proofs.Closed.{is_run}
+use Rattle.interleavings.proofs.Closed.{is_run, run_off}
 use Rattle.interleavings.proofs.run.run_schedule.Goals as goal
 
 pub returns-in-Ok-clause-ok : goal.returns-in-Ok-clause-ok
@@ -17,6 +16,5 @@ returns-in-Ok-clause-ok g c =
 pub returns-in-Ok-clause-err : goal.returns-in-Ok-clause-err
 returns-in-Ok-clause-err g c =
     let there = subst (λ count. AllThere count c.args.schedule.now) c.count_of.ensures c.in_default.ensures in
-    IfErr-weaker c.run_opened.result (λ fault. fault ≡ NoMemory) (HasRunCause g.S.TopStore c.args.sessions.now c.args.schedule.now c.args.store)
-    (λ fault is. subst (HasRunCause g.S.TopStore c.args.sessions.now c.args.schedule.now c.args.store) (sym is) there)
-    c.run_opened.ensures.err
+    run_off g.S.TopStore c.args.sessions.now c.args.schedule.now c.args.store c.in-Ok.turns c.run_opened.result there c.in-Ok.ensures.ok
+    c.run_opened.ensures.err c.run_opened.ensures.off

@@ -1,8 +1,11 @@
 use Rattle.std.proofs.Common.{take, get_or}
 use Rattle.std.proofs.lemmas.Option.{slice_get-get_or}
 use Rattle.serial_spec.proofs.Taking.{take_next}
-use Rattle.interleavings.proofs.Schedules.{list_more}
+use Rattle.interleavings.proofs.Schedules.{list_more, list_none}
 use Rattle.interleavings.proofs.schedule.run_list.Goals as goal
+
+pub loop-place-init : goal.loop-place-init
+loop-place-init g c = list_none g.S.TopStore c.args.turns.now
 
 pub loop-place-preserved : goal.loop-place-preserved
 loop-place-preserved g c =

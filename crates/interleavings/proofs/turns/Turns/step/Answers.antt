@@ -1,8 +1,10 @@
-use Rattle.std.proofs.Common.{◌+◌, Some, option_copied, length-set, sym, subst, ap, ◌∙◌, arith}
+use Rattle.std.proofs.Common.{◌+◌, Some, is_some, option_copied, length-set, sym, subst, ap, ◌∙◌, arith}
 use Rattle.serial_spec.specs.declared.event.Event.{Event}
 use Rattle.serial_spec.specs.declared.entry.By.TheVariants.{Line}
 use Rattle.interleavings.specs.Attempts.{Attempts}
 use Rattle.interleavings.proofs.Numbers.{few_lines, free_or_waits, next_told, session_there, stepped_answered, stepped_parked, turns_answered, turns_parked}
+use Rattle.interleavings.proofs.Schedules.{stepped_none}
+use Rattle.interleavings.proofs.Stuck.{none_next}
 use Rattle.interleavings.proofs.turns.Turns.step.Goals as goal
 
 pub attempt-requires-clause-next : goal.attempt-requires-clause-next
@@ -108,3 +110,8 @@ returns-in_default-2 g c =
       way = (invariant_of-self-in_default-2 g c).way;
       err = tt;
     }
+
+pub returns-in_default-clause-ok : goal.returns-in_default-clause-ok
+returns-in_default-clause-ok g c =
+    let t = c.args.self.now in
+    stepped_none g.S.TopStore t c.args.session (none_next t.sessions t.core.history c.args.session (ap is_some (sym c.in_default.ensures)))
