@@ -1,14 +1,8 @@
 use Rattle.std.proofs.Common.{◌≡◌, ℕ, ◌+◌, ◌-◌, ◌≤◌, List, length, take, drop, subst, arith, length-drop}
 use Rattle.std.proofs.lemmas.List.{take_rest}
 use Rattle.std.proofs.Math.Seq.{take-add}
-use Rattle.std.specs.Io.KnownBytes.{Appends}
 use Rattle.txn_bytes.proofs.Appending.{then, kept, front_taken}
 use Rattle.txn_bytes.proofs.sink.put.Goals as goal
-
-pub returns-in-Ok-eq0-clause-err : goal.returns-in-Ok-eq0-clause-err
-returns-in-Ok-eq0-clause-err g c =
-    let h : Appends (g.W.Write.contents c.loop-at.out) (g.W.Write.contents c.write.new.self) (take c.in-Ok-eq0.field-0 (take (length c.args.bytes.now - c.loop-at.at) (drop c.loop-at.at c.args.bytes.now))) = c.in-Ok-eq0.ensures.bytes in
-    front_taken _ _ (c.loop-at.at + c.in-Ok-eq0.field-0) _ (omega (arith, c.loop-at-test.true)) (rw take-add (then _ _ _ _ _ c.loop-at.invariant.written (rw take_rest at h)))
 
 pub loop-at-preserved : goal.loop-at-preserved
 loop-at-preserved g c =
@@ -18,8 +12,8 @@ loop-at-preserved g c =
     let n_in : c.in-Ok.n ≤ length (drop k xs) = subst (λ (p : List ℕ). c.in-Ok.n ≤ length p) part c.in-Ok.ensures.bound in
     record {
       within = omega (arith, c.loop-at.invariant.within, n_in, length-drop k xs);
-      written = rw take-add (then _ _ _ _ _ c.loop-at.invariant.written (rw part at c.in-Ok.ensures.bytes));
+      written = rw take-add (then _ _ _ _ _ c.loop-at.invariant.written (rw part at c.in-Ok.ensures.ok));
     }
 
 pub returns-in-Err-clause-err : goal.returns-in-Err-clause-err
-returns-in-Err-clause-err g c = front_taken _ _ c.loop-at.at _ c.loop-at-test.true (kept _ _ _ _ c.loop-at.invariant.written c.in-Err.ensures.bytes)
+returns-in-Err-clause-err g c = front_taken _ _ c.loop-at.at _ c.loop-at-test.true (kept _ _ _ _ c.loop-at.invariant.written c.in-Err.ensures.err)
