@@ -1,7 +1,7 @@
 //! The lines of a report.
 ghost use Rattle.std.specs.Prelude.{ℕ, ℤ, List, [], ◌∷◌, ◌++◌, codes, decimal, reverse, slice_get, unwrap_or, OnErr, OnOk};
 ghost use Rattle.std.specs.Io.KnownBytes.{Appends};
-ghost use Rattle.txn_bytes.specs.Written.{AppendsFront};
+ghost use Rattle.txn_bytes.specs.Written.{AppendsFront, IsStopped};
 ghost use Rattle.txn_names.specs.Text.{spelled_name};
 ghost use Rattle.serial_spec.specs.declared.entry.By.TheVariants.{Line};
 ghost use Rattle.serial_spec.specs.Printing.{spelled_number};
@@ -10,32 +10,34 @@ ghost use Rattle.serial_spec.specs.Report.{line, name_in, spelled_entry, spelled
 
 use crate::spelling::{put_answer, put_count, put_event, put_named, put_number};
 use serial_spec::{Answer, By, Entry, Event, PlainTable};
-use std::io::Write;
-use txn_bytes::{WriteFault, put};
+use txn_bytes::{Sink, WriteFault, put};
 use txn_names::{Key, Label};
 
 // The key, an equals sign and the value.
-fn put_row<W: Write>(out: &mut W, key: &Key, value: i64) -> Result<(), WriteFault>
+fn put_row<W: Sink>(out: &mut W, key: &Key, value: i64) -> Result<(), WriteFault>
     ensures ok { OnOk result (Appends (W.contents out.old) (W.contents out.new) (key.now ++ codes "=" ++ spelled_number value)) }
     ensures err { OnErr result (AppendsFront (W.contents out.old) (W.contents out.new) (key.now ++ codes "=" ++ spelled_number value)) }
+    ensures asked { OnErr result (IsStopped W.takes out.new) }
 {
     put(out, key.as_bytes())?;
     put(out, b"=")?;
     put_number(out, value)
 }
 
-pub(crate) fn put_row_line<W: Write>(out: &mut W, key: &Key, value: i64) -> Result<(), WriteFault>
+pub(crate) fn put_row_line<W: Sink>(out: &mut W, key: &Key, value: i64) -> Result<(), WriteFault>
     ensures ok { OnOk result (Appends (W.contents out.old) (W.contents out.new) (line (key.now ++ codes "=" ++ spelled_number value))) }
     ensures err { OnErr result (AppendsFront (W.contents out.old) (W.contents out.new) (line (key.now ++ codes "=" ++ spelled_number value))) }
+    ensures asked { OnErr result (IsStopped W.takes out.new) }
 {
     put_row(out, key, value)?;
     put(out, b"\n")
 }
 
 // The row at this place, if there is one.
-fn put_row_at<W: Write>(out: &mut W, table: &PlainTable, place: usize) -> Result<(), WriteFault>
+fn put_row_at<W: Sink>(out: &mut W, table: &PlainTable, place: usize) -> Result<(), WriteFault>
     ensures ok { OnOk result (Appends (W.contents out.old) (W.contents out.new) (row_lines (slice_get table.now.rows place))) }
     ensures err { OnErr result (AppendsFront (W.contents out.old) (W.contents out.new) (row_lines (slice_get table.now.rows place))) }
+    ensures asked { OnErr result (IsStopped W.takes out.new) }
 {
     match table.at(place) {
         Some((key, value)) => put_row_line(out, key, value),
@@ -43,9 +45,10 @@ fn put_row_at<W: Write>(out: &mut W, table: &PlainTable, place: usize) -> Result
     }
 }
 
-pub(crate) fn put_table<W: Write>(out: &mut W, table: &PlainTable) -> Result<(), WriteFault>
+pub(crate) fn put_table<W: Sink>(out: &mut W, table: &PlainTable) -> Result<(), WriteFault>
     ensures ok { OnOk result (Appends (W.contents out.old) (W.contents out.new) (spelled_rows table.now.rows)) }
     ensures err { OnErr result (AppendsFront (W.contents out.old) (W.contents out.new) (spelled_rows table.now.rows)) }
+    ensures asked { OnErr result (IsStopped W.takes out.new) }
 {
     for place in 0..table.len() {
         put_row_at(out, table, place)?;
@@ -53,9 +56,10 @@ pub(crate) fn put_table<W: Write>(out: &mut W, table: &PlainTable) -> Result<(),
     Ok(())
 }
 
-fn put_label<W: Write>(out: &mut W, labels: &[Label], session: u32) -> Result<(), WriteFault>
+fn put_label<W: Sink>(out: &mut W, labels: &[Label], session: u32) -> Result<(), WriteFault>
     ensures ok { OnOk result (Appends (W.contents out.old) (W.contents out.new) (unwrap_or (slice_get labels.now session) [])) }
     ensures err { OnErr result (AppendsFront (W.contents out.old) (W.contents out.new) (unwrap_or (slice_get labels.now session) [])) }
+    ensures asked { OnErr result (IsStopped W.takes out.new) }
 {
     match labels.get(session as usize) {
         Some(label) => put(out, label.as_bytes()),
@@ -64,7 +68,7 @@ fn put_label<W: Write>(out: &mut W, labels: &[Label], session: u32) -> Result<()
 }
 
 // The session's label and the number of the line.
-fn put_place<W: Write>(
+fn put_place<W: Sink>(
     out: &mut W,
     labels: &[Label],
     session: u32,
@@ -72,6 +76,7 @@ fn put_place<W: Write>(
 ) -> Result<(), WriteFault>
     ensures ok { OnOk result (Appends (W.contents out.old) (W.contents out.new) (unwrap_or (slice_get labels.now session) [] ++ codes " " ++ decimal number)) }
     ensures err { OnErr result (AppendsFront (W.contents out.old) (W.contents out.new) (unwrap_or (slice_get labels.now session) [] ++ codes " " ++ decimal number)) }
+    ensures asked { OnErr result (IsStopped W.takes out.new) }
 {
     put_label(out, labels, session)?;
     put(out, b" ")?;
@@ -79,7 +84,7 @@ fn put_place<W: Write>(
 }
 
 // A line's answer or wait.
-fn put_answered<W: Write>(
+fn put_answered<W: Sink>(
     out: &mut W,
     labels: &[Label],
     session: u32,
@@ -89,6 +94,7 @@ fn put_answered<W: Write>(
 ) -> Result<(), WriteFault>
     ensures ok { OnOk result (Appends (W.contents out.old) (W.contents out.new) (spelled_entry labels.now (Line session number) event.now answer.now)) }
     ensures err { OnErr result (AppendsFront (W.contents out.old) (W.contents out.new) (spelled_entry labels.now (Line session number) event.now answer.now)) }
+    ensures asked { OnErr result (IsStopped W.takes out.new) }
 {
     put_place(out, labels, session, number)?;
     put(out, b" ")?;
@@ -98,9 +104,10 @@ fn put_answered<W: Write>(
 }
 
 // A word with its space, and the name of an abort.
-fn put_aborted<W: Write>(out: &mut W, word: &[u8], event: &Event) -> Result<(), WriteFault>
+fn put_aborted<W: Sink>(out: &mut W, word: &[u8], event: &Event) -> Result<(), WriteFault>
     ensures ok { OnOk result (Appends (W.contents out.old) (W.contents out.new) (word.now ++ spelled_name (name_in event.now))) }
     ensures err { OnErr result (AppendsFront (W.contents out.old) (W.contents out.new) (word.now ++ spelled_name (name_in event.now))) }
+    ensures asked { OnErr result (IsStopped W.takes out.new) }
 {
     match event {
         Event::Abort(name) => put_named(out, word, name),
@@ -108,9 +115,10 @@ fn put_aborted<W: Write>(out: &mut W, word: &[u8], event: &Event) -> Result<(), 
     }
 }
 
-fn put_entry<W: Write>(out: &mut W, labels: &[Label], entry: &Entry) -> Result<(), WriteFault>
+fn put_entry<W: Sink>(out: &mut W, labels: &[Label], entry: &Entry) -> Result<(), WriteFault>
     ensures ok { OnOk result (Appends (W.contents out.old) (W.contents out.new) (spelled_entry labels.now entry.now.by entry.now.event entry.now.answer)) }
     ensures err { OnErr result (AppendsFront (W.contents out.old) (W.contents out.new) (spelled_entry labels.now entry.now.by entry.now.event entry.now.answer)) }
+    ensures asked { OnErr result (IsStopped W.takes out.new) }
 {
     match entry.by {
         By::Line {
@@ -122,22 +130,24 @@ fn put_entry<W: Write>(out: &mut W, labels: &[Label], entry: &Entry) -> Result<(
     }
 }
 
-fn put_entry_line<W: Write>(out: &mut W, labels: &[Label], entry: &Entry) -> Result<(), WriteFault>
+fn put_entry_line<W: Sink>(out: &mut W, labels: &[Label], entry: &Entry) -> Result<(), WriteFault>
     ensures ok { OnOk result (Appends (W.contents out.old) (W.contents out.new) (entry_line labels.now entry.now)) }
     ensures err { OnErr result (AppendsFront (W.contents out.old) (W.contents out.new) (entry_line labels.now entry.now)) }
+    ensures asked { OnErr result (IsStopped W.takes out.new) }
 {
     put_entry(out, labels, entry)?;
     put(out, b"\n")
 }
 
 /// The entries, the oldest first.
-pub(crate) fn put_history<W: Write>(
+pub(crate) fn put_history<W: Sink>(
     out: &mut W,
     labels: &[Label],
     entries: &[Entry],
 ) -> Result<(), WriteFault>
     ensures ok { OnOk result (Appends (W.contents out.old) (W.contents out.new) (spelled_history labels.now (reverse entries.now))) }
     ensures err { OnErr result (AppendsFront (W.contents out.old) (W.contents out.new) (spelled_history labels.now (reverse entries.now))) }
+    ensures asked { OnErr result (IsStopped W.takes out.new) }
 {
     for entry in entries {
         put_entry_line(out, labels, entry)?;

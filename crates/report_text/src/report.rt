@@ -1,7 +1,7 @@
 //! A report, from its first line to its last.
 ghost use Rattle.std.specs.Prelude.{ℕ, [], ◌∷◌, ◌++◌, codes, OnErr, OnOk};
 ghost use Rattle.std.specs.Io.KnownBytes.{Appends};
-ghost use Rattle.txn_bytes.specs.Written.{AppendsFront};
+ghost use Rattle.txn_bytes.specs.Written.{AppendsFront, IsStopped};
 ghost use Rattle.serial_spec.specs.Report.{report, spelled_rows};
 ghost use Rattle.durable_top.specs.Store.{plain};
 ghost use Rattle.report_text.specs.Lines.{row_line};
@@ -9,19 +9,20 @@ ghost use Rattle.report_text.specs.Lines.{row_line};
 use crate::entries::{put_history, put_row_line, put_table};
 use durable_top::Row;
 use interleavings::Report;
-use std::io::Write;
-use txn_bytes::{WriteFault, put};
+use txn_bytes::{Sink, WriteFault, put};
 
-fn put_opening_row<W: Write>(out: &mut W, row: &Row) -> Result<(), WriteFault>
+fn put_opening_row<W: Sink>(out: &mut W, row: &Row) -> Result<(), WriteFault>
     ensures ok { OnOk result (Appends (W.contents out.old) (W.contents out.new) (row_line (row.now.key, row.now.value))) }
     ensures err { OnErr result (AppendsFront (W.contents out.old) (W.contents out.new) (row_line (row.now.key, row.now.value))) }
+    ensures asked { OnErr result (IsStopped W.takes out.new) }
 {
     put_row_line(out, &row.key, row.value)
 }
 
-fn put_opening<W: Write>(out: &mut W, rows: &[Row]) -> Result<(), WriteFault>
+fn put_opening<W: Sink>(out: &mut W, rows: &[Row]) -> Result<(), WriteFault>
     ensures ok { OnOk result (Appends (W.contents out.old) (W.contents out.new) (spelled_rows (plain rows.now))) }
     ensures err { OnErr result (AppendsFront (W.contents out.old) (W.contents out.new) (spelled_rows (plain rows.now))) }
+    ensures asked { OnErr result (IsStopped W.takes out.new) }
 {
     for row in rows {
         put_opening_row(out, row)?;
@@ -31,9 +32,10 @@ fn put_opening<W: Write>(out: &mut W, rows: &[Row]) -> Result<(), WriteFault>
 
 /// Writes the report: the opening rows, each entry of the history, and the final table. It takes no memory. After
 /// a fault, the only one, the writer has taken a beginning of it.
-pub fn write_report<W: Write>(told: &Report, out: &mut W) -> Result<(), WriteFault>
+pub fn write_report<W: Sink>(told: &Report, out: &mut W) -> Result<(), WriteFault>
     ensures ok { OnOk result (Appends (W.contents out.old) (W.contents out.new) (report told.now.opening told.now.labels told.now.history told.now.table)) }
     ensures err { OnErr result (AppendsFront (W.contents out.old) (W.contents out.new) (report told.now.opening told.now.labels told.now.history told.now.table)) }
+    ensures asked { OnErr result (IsStopped W.takes out.new) }
 {
     put(out, b"open\n")?;
     put_opening(out, told.opening())?;

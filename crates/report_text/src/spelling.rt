@@ -2,45 +2,48 @@
 //! beginning of the spelling.
 ghost use Rattle.std.specs.Prelude.{ℕ, [], ◌∷◌, ◌++◌, codes, decimal, OnErr, OnOk};
 ghost use Rattle.std.specs.Io.KnownBytes.{Appends};
-ghost use Rattle.txn_bytes.specs.Written.{AppendsFront};
+ghost use Rattle.txn_bytes.specs.Written.{AppendsFront, IsStopped};
 ghost use Rattle.txn_names.specs.Text.{spelled_name};
 ghost use Rattle.serial_spec.specs.Printing.{spelled_access, spelled_answer, spelled_event, spelled_number, spelled_refusal, spelled_reply, spelled_when};
 
 use itoa::Buffer;
 use serial_spec::{Answer, Event, Op, Refusal, Reply, When};
-use std::io::Write;
-use txn_bytes::{WriteFault, put};
+use txn_bytes::{Sink, WriteFault, put};
 use txn_names::{Key, Name};
 
-pub(crate) fn put_number<W: Write>(out: &mut W, number: i64) -> Result<(), WriteFault>
+pub(crate) fn put_number<W: Sink>(out: &mut W, number: i64) -> Result<(), WriteFault>
     ensures ok { OnOk result (Appends (W.contents out.old) (W.contents out.new) (spelled_number number)) }
     ensures err { OnErr result (AppendsFront (W.contents out.old) (W.contents out.new) (spelled_number number)) }
+    ensures asked { OnErr result (IsStopped W.takes out.new) }
 {
     let mut buffer = Buffer::new();
     put(out, buffer.format(number).as_bytes())
 }
 
-pub(crate) fn put_count<W: Write>(out: &mut W, count: u32) -> Result<(), WriteFault>
+pub(crate) fn put_count<W: Sink>(out: &mut W, count: u32) -> Result<(), WriteFault>
     ensures ok { OnOk result (Appends (W.contents out.old) (W.contents out.new) (decimal count)) }
     ensures err { OnErr result (AppendsFront (W.contents out.old) (W.contents out.new) (decimal count)) }
+    ensures asked { OnErr result (IsStopped W.takes out.new) }
 {
     let mut buffer = Buffer::new();
     put(out, buffer.format(count).as_bytes())
 }
 
 // A word with its space, and a name.
-pub(crate) fn put_named<W: Write>(out: &mut W, word: &[u8], name: &Name) -> Result<(), WriteFault>
+pub(crate) fn put_named<W: Sink>(out: &mut W, word: &[u8], name: &Name) -> Result<(), WriteFault>
     ensures ok { OnOk result (Appends (W.contents out.old) (W.contents out.new) (word.now ++ spelled_name name.now)) }
     ensures err { OnErr result (AppendsFront (W.contents out.old) (W.contents out.new) (word.now ++ spelled_name name.now)) }
+    ensures asked { OnErr result (IsStopped W.takes out.new) }
 {
     put(out, word)?;
     name.write_to(out)
 }
 
 // A word with its space, a name and a key.
-fn put_keyed<W: Write>(out: &mut W, word: &[u8], name: &Name, key: &Key) -> Result<(), WriteFault>
+fn put_keyed<W: Sink>(out: &mut W, word: &[u8], name: &Name, key: &Key) -> Result<(), WriteFault>
     ensures ok { OnOk result (Appends (W.contents out.old) (W.contents out.new) (word.now ++ spelled_name name.now ++ codes " " ++ key.now)) }
     ensures err { OnErr result (AppendsFront (W.contents out.old) (W.contents out.new) (word.now ++ spelled_name name.now ++ codes " " ++ key.now)) }
+    ensures asked { OnErr result (IsStopped W.takes out.new) }
 {
     put_named(out, word, name)?;
     put(out, b" ")?;
@@ -48,7 +51,7 @@ fn put_keyed<W: Write>(out: &mut W, word: &[u8], name: &Name, key: &Key) -> Resu
 }
 
 // A word with its space, a name, a key and a number.
-fn put_valued<W: Write>(
+fn put_valued<W: Sink>(
     out: &mut W,
     word: &[u8],
     name: &Name,
@@ -57,15 +60,17 @@ fn put_valued<W: Write>(
 ) -> Result<(), WriteFault>
     ensures ok { OnOk result (Appends (W.contents out.old) (W.contents out.new) (word.now ++ spelled_name name.now ++ codes " " ++ key.now ++ codes " " ++ spelled_number number)) }
     ensures err { OnErr result (AppendsFront (W.contents out.old) (W.contents out.new) (word.now ++ spelled_name name.now ++ codes " " ++ key.now ++ codes " " ++ spelled_number number)) }
+    ensures asked { OnErr result (IsStopped W.takes out.new) }
 {
     put_keyed(out, word, name, key)?;
     put(out, b" ")?;
     put_number(out, number)
 }
 
-fn put_access<W: Write>(out: &mut W, name: &Name, key: &Key, op: Op) -> Result<(), WriteFault>
+fn put_access<W: Sink>(out: &mut W, name: &Name, key: &Key, op: Op) -> Result<(), WriteFault>
     ensures ok { OnOk result (Appends (W.contents out.old) (W.contents out.new) (spelled_access name.now key.now op)) }
     ensures err { OnErr result (AppendsFront (W.contents out.old) (W.contents out.new) (spelled_access name.now key.now op)) }
+    ensures asked { OnErr result (IsStopped W.takes out.new) }
 {
     match op {
         Op::Get => put_keyed(out, b"get ", name, key),
@@ -75,9 +80,10 @@ fn put_access<W: Write>(out: &mut W, name: &Name, key: &Key, op: Op) -> Result<(
     }
 }
 
-fn put_when<W: Write>(out: &mut W, when: When) -> Result<(), WriteFault>
+fn put_when<W: Sink>(out: &mut W, when: When) -> Result<(), WriteFault>
     ensures ok { OnOk result (Appends (W.contents out.old) (W.contents out.new) (spelled_when when)) }
     ensures err { OnErr result (AppendsFront (W.contents out.old) (W.contents out.new) (spelled_when when)) }
+    ensures asked { OnErr result (IsStopped W.takes out.new) }
 {
     match when {
         When::Begun => put(out, b"begun"),
@@ -85,18 +91,20 @@ fn put_when<W: Write>(out: &mut W, when: When) -> Result<(), WriteFault>
     }
 }
 
-fn put_after<W: Write>(out: &mut W, name: &Name, when: When) -> Result<(), WriteFault>
+fn put_after<W: Sink>(out: &mut W, name: &Name, when: When) -> Result<(), WriteFault>
     ensures ok { OnOk result (Appends (W.contents out.old) (W.contents out.new) (codes "after " ++ spelled_name name.now ++ codes " " ++ spelled_when when)) }
     ensures err { OnErr result (AppendsFront (W.contents out.old) (W.contents out.new) (codes "after " ++ spelled_name name.now ++ codes " " ++ spelled_when when)) }
+    ensures asked { OnErr result (IsStopped W.takes out.new) }
 {
     put_named(out, b"after ", name)?;
     put(out, b" ")?;
     put_when(out, when)
 }
 
-pub(crate) fn put_event<W: Write>(out: &mut W, event: &Event) -> Result<(), WriteFault>
+pub(crate) fn put_event<W: Sink>(out: &mut W, event: &Event) -> Result<(), WriteFault>
     ensures ok { OnOk result (Appends (W.contents out.old) (W.contents out.new) (spelled_event event.now)) }
     ensures err { OnErr result (AppendsFront (W.contents out.old) (W.contents out.new) (spelled_event event.now)) }
+    ensures asked { OnErr result (IsStopped W.takes out.new) }
 {
     match event {
         Event::Begin(name) => put_named(out, b"begin ", name),
@@ -107,9 +115,10 @@ pub(crate) fn put_event<W: Write>(out: &mut W, event: &Event) -> Result<(), Writ
     }
 }
 
-fn put_reply<W: Write>(out: &mut W, reply: Reply) -> Result<(), WriteFault>
+fn put_reply<W: Sink>(out: &mut W, reply: Reply) -> Result<(), WriteFault>
     ensures ok { OnOk result (Appends (W.contents out.old) (W.contents out.new) (spelled_reply reply)) }
     ensures err { OnErr result (AppendsFront (W.contents out.old) (W.contents out.new) (spelled_reply reply)) }
+    ensures asked { OnErr result (IsStopped W.takes out.new) }
 {
     match reply {
         Reply::Ok => put(out, b"ok"),
@@ -121,17 +130,19 @@ fn put_reply<W: Write>(out: &mut W, reply: Reply) -> Result<(), WriteFault>
 }
 
 // A word with its space, and a number.
-fn put_told<W: Write>(out: &mut W, word: &[u8], number: i64) -> Result<(), WriteFault>
+fn put_told<W: Sink>(out: &mut W, word: &[u8], number: i64) -> Result<(), WriteFault>
     ensures ok { OnOk result (Appends (W.contents out.old) (W.contents out.new) (word.now ++ spelled_number number)) }
     ensures err { OnErr result (AppendsFront (W.contents out.old) (W.contents out.new) (word.now ++ spelled_number number)) }
+    ensures asked { OnErr result (IsStopped W.takes out.new) }
 {
     put(out, word)?;
     put_number(out, number)
 }
 
-fn put_refusal<W: Write>(out: &mut W, refusal: &Refusal) -> Result<(), WriteFault>
+fn put_refusal<W: Sink>(out: &mut W, refusal: &Refusal) -> Result<(), WriteFault>
     ensures ok { OnOk result (Appends (W.contents out.old) (W.contents out.new) (spelled_refusal refusal.now)) }
     ensures err { OnErr result (AppendsFront (W.contents out.old) (W.contents out.new) (spelled_refusal refusal.now)) }
+    ensures asked { OnErr result (IsStopped W.takes out.new) }
 {
     match refusal {
         Refusal::Unknown => put(out, b"refused unknown"),
@@ -146,9 +157,10 @@ fn put_refusal<W: Write>(out: &mut W, refusal: &Refusal) -> Result<(), WriteFaul
     }
 }
 
-pub(crate) fn put_answer<W: Write>(out: &mut W, answer: &Answer) -> Result<(), WriteFault>
+pub(crate) fn put_answer<W: Sink>(out: &mut W, answer: &Answer) -> Result<(), WriteFault>
     ensures ok { OnOk result (Appends (W.contents out.old) (W.contents out.new) (spelled_answer answer.now)) }
     ensures err { OnErr result (AppendsFront (W.contents out.old) (W.contents out.new) (spelled_answer answer.now)) }
+    ensures asked { OnErr result (IsStopped W.takes out.new) }
 {
     match answer {
         Answer::Done(reply) => put_reply(out, *reply),
