@@ -1,0 +1,11 @@
+pub mod Renamed
+pub mod Turns
+pub mod Doing
+pub mod Values
+pub mod Answers
+pub mod Places
+pub mod Entries
+pub mod Following
+pub mod Reading
+pub mod Lines
+pub mod Accepted
