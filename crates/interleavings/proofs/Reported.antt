@@ -1,6 +1,7 @@
 -- What a sound manager whose top-level transactions have ended has to report.
 use Rattle.std.proofs.Common.{ℕ, ◌≤◌, List, [], ◌∷◌, length, sym}
 use Rattle.std.specs.Prelude.{IsFalse}
+use Rattle.std.specs.List.{AllByRecursion}
 use Rattle.serial_spec.specs.History.{is_live}
 use Rattle.serial_spec.specs.Rows.{IsRising}
 use Rattle.txn_history.proofs.Theorems.{finished_correctness, table_correctness, table_few, legal_allowed}
@@ -8,12 +9,12 @@ use Rattle.durable_top.specs.declared.store.TopStore.{Ghosts}
 use Rattle.manager_core.specs.State.{State}
 use Rattle.manager_core.specs.Opening.{most_rows}
 use Rattle.manager_core.specs.Sound.{IsSound}
-use Rattle.interleavings.specs.Reports.{IsOfSessions, IsReport}
+use Rattle.interleavings.specs.Reports.{IsOfSessions, IsReport, IsRow}
 
-pub reported : {S : Type 0} (g : Ghosts S) (m : State S) (labels : List (List ℕ)) → IsSound g m → length m.rows ≤ most_rows → IsRising m.table
+pub reported : {S : Type 0} (g : Ghosts S) (m : State S) (labels : List (List ℕ)) → IsSound g m → length m.rows ≤ most_rows → IsRising m.table → AllByRecursion IsRow m.rows
     → IsOfSessions (record { opening = m.rows; labels = labels; history = m.history; table = m.table }) → ((l : List ℕ) → IsFalse (is_live m.history (l ∷ [])))
     → IsReport (record { opening = m.rows; labels = labels; history = m.history; table = m.table })
-reported g m labels sound few in_order of_sessions ended =
+reported g m labels sound few in_order rows of_sessions ended =
     let allowed = legal_allowed m.rows m.history sound.legal in
     record {
       of_sessions = of_sessions;
@@ -21,6 +22,7 @@ reported g m labels sound few in_order of_sessions ended =
       few_left = table_few m.rows m.history allowed few m.table in_order sound.stored;
       rising = sound.rising;
       in_order = in_order;
+      rows = rows;
       legal = sound.legal;
       quiet = sound.quiet;
       right = sound.right;

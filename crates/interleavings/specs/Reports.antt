@@ -1,5 +1,8 @@
 -- What every report says.
-use Rattle.std.specs.Prelude.{◌≡◌, IsTrue, IsFalse, List, [], map, ◌≤◌, length}
+use Rattle.std.specs.Prelude.{◌≡◌, ℕ, ℤ, IsTrue, IsFalse, List, [], map, ◌≤◌, length}
+use Rattle.std.specs.List.{AllByRecursion}
+use Rattle.txn_names.specs.Text.{IsKey}
+use Rattle.serial_spec.specs.Operations.{is_i64}
 use Rattle.serial_spec.specs.History.{Name, has_begun, is_orphan, is_committed, status}
 use Rattle.serial_spec.specs.Items.{items}
 use Rattle.serial_spec.specs.Serial.{Right, Runs}
@@ -22,6 +25,11 @@ pub record IsOfSessions (r : Told) : Type 0 where
   pub in_turn : IsInterleaving r.opening sessions r.history
   pub finished : IsFinished sessions r.history
 
+-- the key is one of the grammar, and the value an i64
+pub record IsRow (r : List ℕ × ℤ) : Type 0 where
+  pub key : IsKey r.0
+  pub value : IsTrue (is_i64 r.1)
+
 pub record IsReport (r : Told) : Type 0 where
   pub of_sessions : IsOfSessions r
   -- both tables are small, and stand in byte order
@@ -29,6 +37,8 @@ pub record IsReport (r : Told) : Type 0 where
   pub few_left : length r.table ≤ most_keys
   pub rising : IsRising r.opening
   pub in_order : IsRising r.table
+  -- the opening rows can be spelled
+  pub rows : AllByRecursion IsRow r.opening
   -- each entry was allowed where it stands, and no cycle of waits is left
   pub legal : Legal r.opening r.history
   pub quiet : Quiet r.history

@@ -1,10 +1,12 @@
 //! The report of a finished run.
 ghost use Rattle.std.specs.Prelude.{◌≡◌, ◌≤◌, ℕ, length, List, [], ◌∷◌, map, reverse, IfOk, IsFalse};
+ghost use Rattle.std.specs.List.{AllByRecursion};
 ghost use Rattle.serial_spec.specs.History.{is_live};
 ghost use Rattle.serial_spec.specs.Interleaving.{IsFinished, IsInterleaving};
 ghost use Rattle.durable_top.specs.Store.{plain};
 ghost use Rattle.manager_core.specs.Opening.{most_rows};
 ghost use Rattle.manager_core.specs.Sound.{IsSound};
+ghost use Rattle.interleavings.specs.Reports.{IsRow};
 
 use durable_top::{Row, TopStore};
 use manager_core::Manager;
@@ -96,6 +98,16 @@ pub(crate) fn labels_of(alloc: Global, sessions: &Sessions) -> Result<Vec<Label>
     Ok(labels)
 }
 
+// The keys are such, and so are the values. The call does nothing: it tells the prover so.
+fn know_rows(rows: &[Row])
+    ensures { AllByRecursion IsRow (plain rows.now) }
+{
+    for row in rows {
+        let _key = row.key.as_bytes();
+        let _value = row.value;
+    }
+}
+
 /// The report of a manager that answered all lines of these sessions and whose top-level transactions have ended, and its store.
 pub(crate) fn report_of<S: TopStore>(
     manager: Manager<S>,
@@ -116,6 +128,7 @@ pub(crate) fn report_of<S: TopStore>(
     let parts = manager.into_parts();
     // What is known of a table comes with its length: that its keys rise.
     let _rows = parts.table.len();
+    know_rows(&parts.opening);
     let report = Report {
         opening: parts.opening,
         labels,
