@@ -4,6 +4,8 @@ ghost use Rattle.std.specs.Io.KnownBytes.{Appends};
 ghost use Rattle.txn_bytes.specs.Written.{AppendsFront, IsStopped};
 ghost use Rattle.serial_spec.specs.Report.{report, spelled_rows};
 ghost use Rattle.durable_top.specs.Store.{plain};
+ghost use Rattle.report_check.specs.Verdicts.{HasVerdict};
+ghost use Rattle.report_check.specs.declared.verdict.Verdict.TheVariants.{Yes};
 ghost use Rattle.report_text.specs.Lines.{row_line};
 
 use crate::entries::{put_history, put_row_line, put_table};
@@ -30,10 +32,11 @@ fn put_opening<W: Sink>(out: &mut W, rows: &[Row]) -> Result<(), WriteFault>
     Ok(())
 }
 
-/// Writes the report: the opening rows, each entry of the history, and the final table. It takes no memory. After
-/// a fault, the only one, the writer has taken a beginning of it.
+/// Writes the report: the opening rows, each entry of the history, and the final table. It takes no memory. What was
+/// written is accepted by whoever checks reports. After a fault, the only one, the writer has taken a beginning of it.
 pub fn write_report<W: Sink>(told: &Report, out: &mut W) -> Result<(), WriteFault>
     ensures ok { OnOk result (Appends (W.contents out.old) (W.contents out.new) (report told.now.opening told.now.labels told.now.history told.now.table)) }
+    ensures accepted { OnOk result (HasVerdict (report told.now.opening told.now.labels told.now.history told.now.table) Yes) }
     ensures err { OnErr result (AppendsFront (W.contents out.old) (W.contents out.new) (report told.now.opening told.now.labels told.now.history told.now.table)) }
     ensures asked { OnErr result (IsStopped W.takes out.new) }
 {

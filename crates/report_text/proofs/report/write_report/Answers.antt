@@ -2,6 +2,7 @@ use Rattle.std.proofs.Common.{List, ℕ, ◌++◌}
 use Rattle.std.specs.Prelude.{codes}
 use Rattle.serial_spec.specs.Report.{line, spelled_history, spelled_rows}
 use Rattle.txn_bytes.proofs.Appending.{front_of, on_err, then, then_front, then_on_err}
+use Rattle.report_text.proofs.Accepted.{accepted, on_ok}
 use Rattle.report_text.proofs.report.write_report.Goals as goal
 
 pub returns-in_err-put-clause-err : goal.returns-in_err-put-clause-err
@@ -49,3 +50,6 @@ returns-clause-err g c =
     let head = then _ _ _ _ (line (codes "table")) entries c.in_ok-put-2.ensures.ok in
     let table = then _ _ _ _ _ head (rw c.table.ensures.table at c.in_ok-put_table.ensures.ok) in
     then_on_err _ _ _ _ (line (codes "end")) _ table c.put-3.ensures.err
+
+pub returns-clause-accepted : goal.returns-clause-accepted
+returns-clause-accepted g c = on_ok c.put-3.result (accepted c.args.told.now c.table.ensures.report)
