@@ -9,3 +9,5 @@ pub mod Upserts
 pub mod Loaded
 pub mod Doubts
 pub mod Apart
+pub mod Calm
+pub mod Causes

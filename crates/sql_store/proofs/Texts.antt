@@ -1,5 +1,9 @@
 -- What the texts mean.
-use Rattle.std.proofs.Common.{◌≡◌, ℕ, List, [], ◌∷◌, ◌++◌, codes, None, Some, Ok, refl, ap, arith, false, pos, negsuc}
+use Rattle.std.proofs.Common.{◌≡◌, ◌≤◌, ℕ, List, [], ◌∷◌, ◌++◌, length, codes, None, Some, Result, Ok, Err, refl, ap, arith, lit≤, false, pos, negsuc}
+use Rattle.sqlite.specs.Schema.{Schema}
+use Rattle.sqlite.specs.declared.types.Value.{Value}
+use Rattle.sqlite_resolve.specs.declared.compiled.Compiled.{Compiled}
+use Rattle.sqlite_resolve.specs.declared.error.CompileError.{CompileError}
 use Rattle.std.proofs.lemmas.Fmt.{decimal_digit}
 use Rattle.sqlite.specs.Term.{Term}
 use Rattle.sqlite.specs.Query.{Query}
@@ -28,6 +32,18 @@ upsert_text = codes "INSERT INTO results (k, v) VALUES (?1, ?2) ON CONFLICT (k) 
 
 abbrev pub delete_text : List ℕ
 delete_text = codes "DELETE FROM results WHERE k = ?1"
+
+abbrev pub probe_text : List ℕ
+probe_text = codes "SELECT 1"
+
+-- the text of the probe is one statement, without parameters and without the time
+abbrev pub Fits : Result Compiled CompileError → Type 0
+Fits (Ok c) = (length probe_text ≤ c.tail) × (length {A = Value} [] ≡ length c.names) × (c.formats ≡ [])
+Fits (Err e) = ⊥
+
+pub probe_fits : (schema : Schema) → Fits (understood schema probe_text)
+unfolding understood everything
+probe_fits schema = (lit≤ tt, refl, refl)
 
 pub create_table : table_defined_by create_text ≡ Ok results
 unfolding understood everything

@@ -1,5 +1,5 @@
 -- A store over a connection, as contracts see it.
-use Rattle.std.specs.Prelude.{◌≡◌, ℕ, ◌+◌, Bool, true, if◌then◌else◌, List, [], None, Result, Err, IsTrue, is_err, refl}
+use Rattle.std.specs.Prelude.{◌≡◌, ℕ, ◌+◌, Bool, true, false, if◌then◌else◌, List, [], None, Result, Err, IsTrue, IsErrOf, OnErr, is_err, refl}
 use Rattle.std.specs.Coded.{Coded, code_by, coded×, coded_ℕ, coded_bool}
 use Rattle.sqlite.specs.Store.{Ghosts}
 use Rattle.sqlite.specs.Tree.{Trees}
@@ -8,7 +8,7 @@ use Rattle.sqlite.specs.Order.{Row as Shown}
 use Rattle.sqlite.specs.Query.{IsAnswer}
 use Rattle.sqlite.specs.Program.{overlay}
 use Rattle.sqlite.specs.Effect.{Database}
-use Rattle.sqlite.specs.State.{HasCleanDisk}
+use Rattle.sqlite.specs.State.{HasCleanDisk, KeepsCommit}
 use Rattle.sqlite_trees.specs.View.{doubt}
 use Rattle.txn_names.specs.declared.change.Change.{Change}
 use Rattle.serial_spec.specs.Serial.{Map}
@@ -16,6 +16,7 @@ use Rattle.durable_top.specs.declared.store.Row.{Row}
 use Rattle.durable_top.specs.declared.store.StoreFault.{StoreFault}
 use Rattle.durable_top.specs.declared.store.StoreFault.TheVariants.{Failed}
 use Rattle.durable_top.specs.Store.{faults_after}
+use Rattle.sql_store.specs.Faults.{HasFailed}
 use Rattle.sql_store.specs.Ids.{rises}
 use Rattle.sql_store.specs.Load.{ids_query}
 use Rattle.sql_store.specs.Table.{map_of, table_of, IsReady}
@@ -59,8 +60,12 @@ module _ {S : Type 0} (g : Ghosts S) where
     pub failed : old.has_failed ≡ true → (result ≡ Err Failed) × (new ≡ old)
     pub faults : new.faults ≡ old.faults
     pub known : new.is_known ≡ old.is_known
+    pub cause : HasCleanDisk (state g new.connection) → old.has_failed ≡ false → IsErrOf result Failed → HasFailed g old.connection new.connection
 
   pub record SqlCommits (old new : Stored S) (changes : List Change) (result : Result (Unit {0}) StoreFault) : Type 0 where
     pub failed : old.has_failed ≡ true → (result ≡ Err Failed) × (new.connection ≡ old.connection)
     pub faults : new.faults ≡ faults_after (is_err result) old.faults
     pub known : new.is_known ≡ old.is_known
+    pub cause : HasCleanDisk (state g new.connection) → old.has_failed ≡ false → IsErrOf result Failed → HasFailed g old.connection new.connection
+    -- whichever the fault is, nothing was committed
+    pub kept : HasCleanDisk (state g new.connection) → OnErr result (KeepsCommit (state g old.connection) (state g new.connection))

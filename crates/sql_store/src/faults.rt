@@ -1,8 +1,8 @@
 //! What an error of the database says of the store.
-ghost use Rattle.std.specs.Prelude.{◌≡◌};
+ghost use Rattle.std.specs.Prelude.{◌≡◌, ◌⊎◌};
 ghost use Rattle.sqlite.specs.Held.{state};
 ghost use Rattle.sqlite.specs.State.{HasCleanDisk, Survives, KeepsCommit, IsUnchanged};
-ghost use Rattle.sql_store.specs.Faults.{fault_of};
+ghost use Rattle.sql_store.specs.Faults.{fault_of, HasFailed};
 
 use crate::statements::probe;
 use durable_top::StoreFault;
@@ -30,6 +30,7 @@ pub(crate) fn settle<S: Alter>(conn: &mut Connection<S>, error: Error) -> StoreF
     ensures open { HasCleanDisk (state S.Store conn.new) → (result ≡ StoreFault.Failed → ⊥) → IsUnchanged (state S.Store conn.old) (state S.Store conn.new) }
     ensures kept { HasCleanDisk (state S.Store conn.new) → KeepsCommit (state S.Store conn.old) (state S.Store conn.new) }
     ensures survives { Survives (state S.Store conn.old) (state S.Store conn.new) (λ _. ⊥) }
+    ensures cause { HasCleanDisk (state S.Store conn.new) → result ≡ StoreFault.Failed → (fault_of error ≡ StoreFault.Failed) ⊎ HasFailed S.Store conn.old conn.new }
 {
     match probe(conn) {
         Ok(()) => fault_of(error),

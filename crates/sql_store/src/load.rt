@@ -10,6 +10,7 @@ ghost use Rattle.serial_spec.specs.Rows.{IsRising, value_in};
 ghost use Rattle.durable_top.specs.Store.{plain};
 ghost use Rattle.sql_store.specs.Load.{load_query};
 ghost use Rattle.sql_store.specs.Table.{IsKnown, table_of};
+ghost use Rattle.sql_store.specs.Faults.{IsCaused, Lasts, HasFailed};
 
 use crate::faults::settle;
 use crate::reading::sorted;
@@ -25,6 +26,8 @@ fn fetch<S: Alter>(conn: &mut Connection<S>) -> Result<Vec<sqlite::Row>, Error>
     ensures kept { HasCleanDisk (state S.Store conn.new) → IsKnown (state S.Store conn.old) → KeepsCommit (state S.Store conn.old) (state S.Store conn.new) }
     ensures clean { doubt (state S.Store conn.old).is_clean ≤ doubt (state S.Store conn.new).is_clean }
     ensures crash { HasCleanDisk (state S.Store conn.new) → IsKnown (state S.Store conn.old) → (db : Trees) → (state S.Store conn.new).may_leave db → (state S.Store conn.old).may_leave db }
+    ensures cause { HasCleanDisk (state S.Store conn.new) → IfErr result (IsCaused (state S.Store conn.old) (state S.Store conn.new)) }
+    ensures lasts { Lasts (state S.Store conn.old) (state S.Store conn.new) }
 {
     probe(conn)?;
     select(conn)
@@ -41,6 +44,7 @@ pub(crate) fn load_rows<S: Alter>(
     ensures kept { HasCleanDisk (state S.Store conn.new) → IsKnown (state S.Store conn.old) → KeepsCommit (state S.Store conn.old) (state S.Store conn.new) }
     ensures clean { doubt (state S.Store conn.old).is_clean ≤ doubt (state S.Store conn.new).is_clean }
     ensures crash { HasCleanDisk (state S.Store conn.new) → IsKnown (state S.Store conn.old) → (db : Trees) → (state S.Store conn.new).may_leave db → (state S.Store conn.old).may_leave db }
+    ensures cause { HasCleanDisk (state S.Store conn.new) → IsErrOf result StoreFault.Failed → HasFailed S.Store conn.old conn.new }
 {
     match fetch(conn) {
         Ok(rows) => sorted(alloc, rows.as_slice()),

@@ -1,5 +1,5 @@
 //! How a database is made ready.
-ghost use Rattle.std.specs.Prelude.{◌≡◌, ◌≤◌, IfOk, IfErr, IsTrue, OnOk, [], List, None, false};
+ghost use Rattle.std.specs.Prelude.{◌≡◌, ◌≤◌, IfOk, IfErr, IsTrue, OnOk, [], List, None, false, IsErrOf};
 ghost use Rattle.sqlite_trees.specs.View.{doubt};
 ghost use Rattle.sqlite.specs.Held.{state};
 ghost use Rattle.sqlite.specs.State.{HasCleanDisk, IsUnchanged};
@@ -11,6 +11,7 @@ ghost use Rattle.sql_store.specs.Load.{ids_query};
 ghost use Rattle.sql_store.specs.Results.{no_schema, results_schema};
 ghost use Rattle.sql_store.specs.Stored.{IsKept, IsDecided, table};
 ghost use Rattle.sql_store.specs.Table.{map_of, IsReady};
+ghost use Rattle.sql_store.specs.Faults.{IsCaused, Lasts, HasFailed};
 
 use crate::faults::settle;
 use crate::reading::are_apart;
@@ -25,6 +26,8 @@ fn has_apart<S: Alter>(conn: &mut Connection<S>) -> Result<bool, Error>
     ensures ready { HasCleanDisk (state S.Store conn.new) → (state S.Store conn.old).now.schema ≡ results_schema → IfOk result (λ apart. IsTrue apart → IsReady (state S.Store conn.old).now) }
     ensures open { HasCleanDisk (state S.Store conn.new) → (state S.Store conn.old).now.schema ≡ results_schema → OnOk result (IsUnchanged (state S.Store conn.old) (state S.Store conn.new)) }
     ensures clean { doubt (state S.Store conn.old).is_clean ≤ doubt (state S.Store conn.new).is_clean }
+    ensures cause { HasCleanDisk (state S.Store conn.new) → IfErr result (IsCaused (state S.Store conn.old) (state S.Store conn.new)) }
+    ensures lasts { Lasts (state S.Store conn.old) (state S.Store conn.new) }
 {
     let ids = select_ids(conn)?;
     Ok(are_apart(ids.as_slice()))
@@ -36,6 +39,8 @@ fn is_known<S: Alter>(conn: &mut Connection<S>) -> Result<bool, Error>
     ensures ready { HasCleanDisk (state S.Store conn.new) → IfOk result (λ known. IsTrue known → IsReady (state S.Store conn.old).now × IsUnchanged (state S.Store conn.old) (state S.Store conn.new)) }
     ensures open { HasCleanDisk (state S.Store conn.new) → (state S.Store conn.old).now.schema ≡ results_schema → OnOk result (IsUnchanged (state S.Store conn.old) (state S.Store conn.new)) }
     ensures clean { doubt (state S.Store conn.old).is_clean ≤ doubt (state S.Store conn.new).is_clean }
+    ensures cause { HasCleanDisk (state S.Store conn.new) → IfErr result (IsCaused (state S.Store conn.old) (state S.Store conn.new)) }
+    ensures lasts { Lasts (state S.Store conn.old) (state S.Store conn.new) }
 {
     if is_results(conn.schema()) {
         has_apart(conn)
@@ -50,6 +55,8 @@ fn is_known_unless<S: Alter>(is_new: bool, conn: &mut Connection<S>) -> Result<b
     ensures decided { HasCleanDisk (state S.Store conn.new) → (is_new ≡ false) → (state S.Store conn.old).now.schema ≡ results_schema → IfOk result (IsDecided (state S.Store conn.old).now) × OnOk result (IsUnchanged (state S.Store conn.old) (state S.Store conn.new)) }
     ensures ready { HasCleanDisk (state S.Store conn.new) → (is_new ≡ false) → IfOk result (λ known. IsTrue known → IsReady (state S.Store conn.old).now × IsUnchanged (state S.Store conn.old) (state S.Store conn.new)) }
     ensures clean { doubt (state S.Store conn.old).is_clean ≤ doubt (state S.Store conn.new).is_clean }
+    ensures cause { HasCleanDisk (state S.Store conn.new) → IfErr result (IsCaused (state S.Store conn.old) (state S.Store conn.new)) }
+    ensures lasts { Lasts (state S.Store conn.old) (state S.Store conn.new) }
 {
     if is_new { Ok(true) } else { is_known(conn) }
 }
@@ -62,6 +69,8 @@ fn make_table<S: Alter>(conn: &mut Connection<S>) -> Result<bool, Error>
     ensures decided { HasCleanDisk (state S.Store conn.new) → (state S.Store conn.old).now.schema ≡ results_schema → IfOk result (IsDecided (state S.Store conn.old).now) }
     ensures same { HasCleanDisk (state S.Store conn.new) → (state S.Store conn.old).now.schema ≡ results_schema → OnOk result (table S.Store conn.new ≡ table S.Store conn.old) }
     ensures clean { doubt (state S.Store conn.old).is_clean ≤ doubt (state S.Store conn.new).is_clean }
+    ensures cause { HasCleanDisk (state S.Store conn.new) → IfErr result (IsCaused (state S.Store conn.old) (state S.Store conn.new)) }
+    ensures lasts { Lasts (state S.Store conn.old) (state S.Store conn.new) }
 {
     let is_new = is_empty(conn.schema());
     create(conn)?;
@@ -86,6 +95,7 @@ pub(crate) fn prepare<S: Alter>(conn: &mut Connection<S>) -> Result<bool, StoreF
     ensures busy { IsTrue (state S.Store conn.old).in_transaction → (result ≡ Err StoreFault.Refused) × (conn.new ≡ conn.old) }
     ensures open { HasCleanDisk (state S.Store conn.new) → (state S.Store conn.old).in_transaction ≡ false → IfErr result (λ fault. (fault ≡ StoreFault.Failed → ⊥) → IsTrue (state S.Store conn.new).is_open) }
     ensures clean { doubt (state S.Store conn.old).is_clean ≤ doubt (state S.Store conn.new).is_clean }
+    ensures cause { HasCleanDisk (state S.Store conn.new) → IsErrOf result StoreFault.Failed → HasFailed S.Store conn.old conn.new }
 {
     if !conn.is_autocommit() {
         return Err(StoreFault::Refused);

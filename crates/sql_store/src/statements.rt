@@ -1,5 +1,5 @@
 //! The statements, one a function.
-ghost use Rattle.std.specs.Prelude.{◌≡◌, ◌≤◌, [], ◌∷◌, Some, None, OnOk, IfOk, IsTrue};
+ghost use Rattle.std.specs.Prelude.{◌≡◌, ◌≤◌, [], ◌∷◌, Some, None, OnOk, IfOk, IfErr, IsTrue, IsErr};
 ghost use Rattle.sqlite_trees.specs.View.{doubt};
 ghost use Rattle.sqlite.specs.Values.{bound};
 ghost use Rattle.sqlite.specs.declared.types.Value.TheVariants.{Text, Int};
@@ -7,6 +7,7 @@ ghost use Rattle.sqlite.specs.Held.{state};
 ghost use Rattle.sqlite.specs.State.{HasCleanDisk, Survives, KeepsCommit, IsUnchanged};
 ghost use Rattle.sqlite.specs.Query.{IsAnswer};
 ghost use Rattle.sqlite.specs.Program.{overlay};
+ghost use Rattle.sql_store.specs.Faults.{IsCaused, Lasts, HasFailed};
 ghost use Rattle.sql_store.specs.Results.{results_schema, no_schema};
 ghost use Rattle.sql_store.specs.Load.{load_query, ids_query};
 ghost use Rattle.sql_store.specs.Table.{Makes};
@@ -34,6 +35,7 @@ pub(crate) fn remove<S: Alter>(tx: &mut Transaction<'_, S>, key: &Key) -> Result
     ensures made { HasCleanDisk (state S.Store tx.new.conn.now) → IsTrue (state S.Store tx.old.conn.now).in_transaction → OnOk result (Makes key.now None (state S.Store tx.old.conn.now) (state S.Store tx.new.conn.now)) }
     ensures kept { HasCleanDisk (state S.Store tx.new.conn.now) → IsTrue (state S.Store tx.old.conn.now).in_transaction → KeepsCommit (state S.Store tx.old.conn.now) (state S.Store tx.new.conn.now) }
     ensures survives { Survives (state S.Store tx.old.conn.now) (state S.Store tx.new.conn.now) (λ _. ⊥) }
+    ensures cause { HasCleanDisk (state S.Store tx.new.conn.now) → IsTrue (state S.Store tx.old.conn.now).in_transaction → IfErr result (IsCaused (state S.Store tx.old.conn.now) (state S.Store tx.new.conn.now)) }
 {
     tx.execute("DELETE FROM results WHERE k = ?1", &of_key(key))?;
     Ok(())
@@ -45,6 +47,7 @@ pub(crate) fn put<S: Alter>(tx: &mut Transaction<'_, S>, row: &Row) -> Result<()
     ensures made { HasCleanDisk (state S.Store tx.new.conn.now) → IsTrue (state S.Store tx.old.conn.now).in_transaction → OnOk result (Makes row.now.key (Some row.now.value) (state S.Store tx.old.conn.now) (state S.Store tx.new.conn.now)) }
     ensures kept { HasCleanDisk (state S.Store tx.new.conn.now) → IsTrue (state S.Store tx.old.conn.now).in_transaction → KeepsCommit (state S.Store tx.old.conn.now) (state S.Store tx.new.conn.now) }
     ensures survives { Survives (state S.Store tx.old.conn.now) (state S.Store tx.new.conn.now) (λ _. ⊥) }
+    ensures cause { HasCleanDisk (state S.Store tx.new.conn.now) → IsTrue (state S.Store tx.old.conn.now).in_transaction → IfErr result (IsCaused (state S.Store tx.old.conn.now) (state S.Store tx.new.conn.now)) }
 {
     tx.execute(
         "INSERT INTO results (k, v) VALUES (?1, ?2) ON CONFLICT (k) DO UPDATE SET v = excluded.v",
@@ -59,6 +62,8 @@ pub(crate) fn create<S: Alter>(conn: &mut Connection<S>) -> Result<(), Error>
     ensures empty { HasCleanDisk (state S.Store conn.new) → OnOk result ((state S.Store conn.old).now.schema ≡ no_schema → (state S.Store conn.new).now.trees 0 ≡ []) }
     ensures same { HasCleanDisk (state S.Store conn.new) → OnOk result ((state S.Store conn.old).now.schema ≡ results_schema → IsUnchanged (state S.Store conn.old) (state S.Store conn.new)) }
     ensures clean { doubt (state S.Store conn.old).is_clean ≤ doubt (state S.Store conn.new).is_clean }
+    ensures cause { HasCleanDisk (state S.Store conn.new) → IfErr result (IsCaused (state S.Store conn.old) (state S.Store conn.new)) }
+    ensures lasts { Lasts (state S.Store conn.old) (state S.Store conn.new) }
 {
     conn.execute(
         "CREATE TABLE IF NOT EXISTS results (k TEXT NOT NULL PRIMARY KEY, v INTEGER NOT NULL) STRICT",
@@ -74,6 +79,8 @@ pub(crate) fn select<S: Alter>(conn: &mut Connection<S>) -> Result<Vec<sqlite::R
     ensures kept { HasCleanDisk (state S.Store conn.new) → (state S.Store conn.old).now.schema ≡ results_schema → KeepsCommit (state S.Store conn.old) (state S.Store conn.new) }
     ensures clean { doubt (state S.Store conn.old).is_clean ≤ doubt (state S.Store conn.new).is_clean }
     ensures survives { (state S.Store conn.old).now.schema ≡ results_schema → Survives (state S.Store conn.old) (state S.Store conn.new) (λ _. ⊥) }
+    ensures cause { HasCleanDisk (state S.Store conn.new) → IfErr result (IsCaused (state S.Store conn.old) (state S.Store conn.new)) }
+    ensures lasts { Lasts (state S.Store conn.old) (state S.Store conn.new) }
 {
     conn.query_all("SELECT k, v FROM results ORDER BY k", &[])
 }
@@ -83,6 +90,8 @@ pub(crate) fn select_ids<S: Alter>(conn: &mut Connection<S>) -> Result<Vec<sqlit
     ensures rows { HasCleanDisk (state S.Store conn.new) → (state S.Store conn.old).now.schema ≡ results_schema → IfOk result (λ rows. IsAnswer ids_query (overlay (state S.Store conn.old).now.trees []) [] rows.items) }
     ensures open { HasCleanDisk (state S.Store conn.new) → (state S.Store conn.old).now.schema ≡ results_schema → OnOk result (IsUnchanged (state S.Store conn.old) (state S.Store conn.new)) }
     ensures clean { doubt (state S.Store conn.old).is_clean ≤ doubt (state S.Store conn.new).is_clean }
+    ensures cause { HasCleanDisk (state S.Store conn.new) → IfErr result (IsCaused (state S.Store conn.old) (state S.Store conn.new)) }
+    ensures lasts { Lasts (state S.Store conn.old) (state S.Store conn.new) }
 {
     conn.query_all("SELECT rowid FROM results ORDER BY rowid", &[])
 }
@@ -92,6 +101,8 @@ pub(crate) fn probe<S: Alter>(conn: &mut Connection<S>) -> Result<(), Error>
     ensures open { HasCleanDisk (state S.Store conn.new) → OnOk result (IsUnchanged (state S.Store conn.old) (state S.Store conn.new)) }
     ensures kept { HasCleanDisk (state S.Store conn.new) → KeepsCommit (state S.Store conn.old) (state S.Store conn.new) }
     ensures survives { Survives (state S.Store conn.old) (state S.Store conn.new) (λ _. ⊥) }
+    ensures cause { HasCleanDisk (state S.Store conn.new) → IfErr result (IsCaused (state S.Store conn.old) (state S.Store conn.new)) }
+    ensures stops { HasCleanDisk (state S.Store conn.new) → IsErr result → HasFailed S.Store conn.old conn.new }
 {
     let _select = conn.prepare("SELECT 1")?;
     Ok(())
@@ -102,6 +113,7 @@ pub(crate) fn compile<S: Alter>(conn: &mut Connection<S>) -> Result<(), Error>
     ensures open { HasCleanDisk (state S.Store conn.new) → OnOk result (IsUnchanged (state S.Store conn.old) (state S.Store conn.new)) }
     ensures kept { HasCleanDisk (state S.Store conn.new) → KeepsCommit (state S.Store conn.old) (state S.Store conn.new) }
     ensures survives { Survives (state S.Store conn.old) (state S.Store conn.new) (λ _. ⊥) }
+    ensures cause { HasCleanDisk (state S.Store conn.new) → IfErr result (IsCaused (state S.Store conn.old) (state S.Store conn.new)) }
 {
     let _select = conn.prepare("SELECT k, v FROM results ORDER BY k")?;
     Ok(())

@@ -8,7 +8,7 @@ ghost use Rattle.serial_spec.specs.Rows.{IsRising, value_in};
 ghost use Rattle.serial_spec.specs.Serial.{Map};
 ghost use Rattle.durable_top.specs.Store.{plain, told, faults_after, TellsFailure};
 ghost use Rattle.sqlite.specs.Steps.{over_memory};
-ghost use Rattle.sql_store.specs.Faults.{fault_of};
+ghost use Rattle.sql_store.specs.Faults.{fault_of, HasFailed};
 ghost use Rattle.sql_store.specs.Results.{no_schema, results_schema};
 ghost use Rattle.sql_store.specs.Table.{map_of};
 ghost use Rattle.sql_store.specs.Stored.{table, doubt_of, may_leave, IsKept, IsDecided, SqlLoads, SqlCommits};
@@ -64,6 +64,7 @@ impl<S: Alter + Drop> SqlStore<S> {
         ensures empty { (state S.Store connection).now.schema ≡ no_schema → IfOk result (λ store. HasCleanDisk (state S.Store store.connection) → table S.Store store.connection ≡ map_of []) }
         ensures faults { IfOk result (λ store. store.faults ≡ 0) }
         ensures sound { IfOk result (λ store. store.has_failed ≡ false) }
+        ensures cause { IfErr result (λ left. HasCleanDisk (state S.Store left.1) → left.0 ≡ StoreFault.Failed → HasFailed S.Store connection left.1) }
     {
         match prepare(&mut connection) {
             Ok(is_known) => Ok(SqlStore {
@@ -153,6 +154,7 @@ fn load_settled<S: Alter>(conn: &mut Connection<S>, alloc: Global) -> Result<Vec
     ensures still { IsKept S.Store true conn.old → IsKept S.Store true conn.new }
     ensures clean { doubt (state S.Store conn.old).is_clean ≤ doubt (state S.Store conn.new).is_clean }
     ensures crash { HasCleanDisk (state S.Store conn.new) → IsKept S.Store true conn.old → (left : Map) → may_leave S.Store conn.new left → may_leave S.Store conn.old left }
+    ensures cause { HasCleanDisk (state S.Store conn.new) → IsErrOf result StoreFault.Failed → HasFailed S.Store conn.old conn.new }
 {
     if conn.is_autocommit() {
         load_rows(conn, alloc)
@@ -174,6 +176,8 @@ fn commit_unless<S: Alter>(
     ensures clean { doubt (state S.Store conn.old).is_clean ≤ doubt (state S.Store conn.new).is_clean }
     ensures crash { HasCleanDisk (state S.Store conn.new) → IsKept S.Store true conn.old → (left : Map) → may_leave S.Store conn.new left → may_leave S.Store conn.old left ⊎ (left ≡ overlay changes.now (table S.Store conn.old)) }
     ensures settled { HasCleanDisk (state S.Store conn.new) → IsKept S.Store true conn.old → OnOk result ((left : Map) → may_leave S.Store conn.new left → left ≡ overlay changes.now (table S.Store conn.old)) }
+    ensures cause { HasCleanDisk (state S.Store conn.new) → has_failed ≡ false → IsErrOf result StoreFault.Failed → HasFailed S.Store conn.old conn.new }
+    ensures kept { HasCleanDisk (state S.Store conn.new) → OnErr result (KeepsCommit (state S.Store conn.old) (state S.Store conn.new)) }
 {
     if has_failed {
         return Err(StoreFault::Failed);

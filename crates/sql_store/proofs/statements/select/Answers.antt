@@ -1,9 +1,10 @@
 use Rattle.std.proofs.Common.{[]}
-use Rattle.std.proofs.lemmas.Result.{IfOk-weaker}
+use Rattle.std.proofs.lemmas.Result.{IfOk-weaker, IfErr-weaker}
 use Rattle.sqlite.specs.Held.{state}
 use Rattle.sql_store.proofs.Loads.{loads, stays, same_commit, query_keeps, reads_only}
 use Rattle.sql_store.proofs.Steps.{at_both}
 use Rattle.sql_store.specs.Load.{load_text}
+use Rattle.sql_store.proofs.Causes.{query_caused, lasts_by}
 use Rattle.sql_store.proofs.statements.select.Goals as goal
 
 pub returns-clause-rows : goal.returns-clause-rows
@@ -21,3 +22,10 @@ returns-clause-kept g c clean has =
 
 pub returns-clause-survives : goal.returns-clause-survives
 returns-clause-survives g c has = reads_only (state g.S.Store c.args.conn.now) (state g.S.Store c.query_all.new.self) has c.query_all.ensures.survives
+
+pub returns-clause-cause : goal.returns-clause-cause
+returns-clause-cause g c clean =
+    IfErr-weaker c.query_all.result _ _ (λ e h. query_caused load_text [] (state g.S.Store c.args.conn.now) (state g.S.Store c.query_all.new.self) e h) (c.query_all.ensures.err clean)
+
+pub returns-clause-lasts : goal.returns-clause-lasts
+returns-clause-lasts g c = lasts_by (state g.S.Store c.args.conn.now) (state g.S.Store c.query_all.new.self) _ c.query_all.ensures.survives

@@ -1,6 +1,9 @@
-use Rattle.std.proofs.lemmas.Result.{IfOk-weaker}
+use Rattle.std.proofs.Common.{[]}
+use Rattle.std.proofs.lemmas.Result.{IfOk-weaker, IfErr-weaker}
 use Rattle.sqlite.specs.Held.{state}
 use Rattle.sql_store.proofs.Loads.{shows_ids, ids_stay}
+use Rattle.sql_store.proofs.Causes.{query_caused, lasts_by}
+use Rattle.sql_store.specs.Load.{ids_text}
 use Rattle.sql_store.proofs.statements.select_ids.Goals as goal
 
 pub returns-clause-rows : goal.returns-clause-rows
@@ -10,3 +13,10 @@ returns-clause-rows g c clean has =
 pub returns-clause-open : goal.returns-clause-open
 returns-clause-open g c clean has =
     IfOk-weaker c.query_all.result _ _ (λ rows h. ids_stay (state g.S.Store c.args.conn.now) (state g.S.Store c.query_all.new.self) rows.items has h) (c.query_all.ensures.ok clean)
+
+pub returns-clause-cause : goal.returns-clause-cause
+returns-clause-cause g c clean =
+    IfErr-weaker c.query_all.result _ _ (λ e h. query_caused ids_text [] (state g.S.Store c.args.conn.now) (state g.S.Store c.query_all.new.self) e h) (c.query_all.ensures.err clean)
+
+pub returns-clause-lasts : goal.returns-clause-lasts
+returns-clause-lasts g c = lasts_by (state g.S.Store c.args.conn.now) (state g.S.Store c.query_all.new.self) _ c.query_all.ensures.survives
