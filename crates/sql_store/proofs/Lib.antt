@@ -11,3 +11,4 @@ pub mod Doubts
 pub mod Apart
 pub mod Calm
 pub mod Causes
+pub mod Transactions

@@ -1,7 +1,11 @@
 -- One statement in a transaction, and several.
 use Rattle.std.proofs.Common.{ℕ, List, Ok, Err, Result, OnOk, OnErr, IfOk, IfErr, inl, inr}
-use Rattle.sqlite.specs.Order.{Row}
+use Rattle.std.specs.Global.{Vec}
+use Rattle.sqlite.specs.Order.{Row as Values}
 use Rattle.sqlite.specs.declared.error.Error.{Error}
+use Rattle.durable_top.specs.declared.store.Row.{Row}
+use Rattle.durable_top.specs.declared.store.StoreFault.{StoreFault}
+use Rattle.durable_top.specs.Store.{told}
 use Rattle.sqlite.specs.State.{State, ExecutesInside, KeepsCommit}
 
 -- what holds anyway holds at an error
@@ -9,7 +13,7 @@ pub on_err : {T E Q : Type 0} (r : Result T E) → Q → OnErr r Q
 on_err (Ok x) q = tt
 on_err (Err e) q = q
 
-pub kept_by : (sql : List ℕ) (params : Row) (old new : State) (r : Result ℕ Error) → ExecutesInside 0 sql params old new r → KeepsCommit old new
+pub kept_by : (sql : List ℕ) (params : Values) (old new : State) (r : Result ℕ Error) → ExecutesInside 0 sql params old new r → KeepsCommit old new
 kept_by sql params old new (Ok n) h = record { was_open = λ _. h.1.was_open; committed = λ _. h.1.committed_is }
 kept_by sql params old new (Err e) (inl (ran, inl same)) = record { was_open = λ _. same.0.was_open; committed = λ _. same.0.committed_is }
 kept_by sql params old new (Err e) (inl (ran, inr back)) = record { was_open = back.was_open; committed = λ h. (back.undone h).1 }
@@ -26,3 +30,8 @@ on_ok_then (Err e) f h = tt
 pub if_ok_both : {T E : Type 0} (r : Result T E) (P Q R : T → Type 0) → IfOk r P → IfOk r Q → ((x : T) → P x → Q x → R x) → IfOk r R
 if_ok_both (Ok x) P Q R p q f = f x p q
 if_ok_both (Err e) P Q R p q f = tt
+
+-- what holds of the rows holds of the answer that is told
+pub told_if : (r : Result (Vec Row) StoreFault) (P : List Row → Type 0) → IfOk r (λ rows. P rows.items) → IfOk (told r) P
+told_if (Ok rows) P h = h
+told_if (Err fault) P h = tt

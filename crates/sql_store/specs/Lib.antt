@@ -5,4 +5,5 @@ pub mod Ids
 pub mod Writes
 pub mod Faults
 pub mod Reading
+pub mod Asked
 pub mod Stored

@@ -1,5 +1,5 @@
 -- A store over a connection, as contracts see it.
-use Rattle.std.specs.Prelude.{◌≡◌, ℕ, ◌+◌, Bool, true, false, if◌then◌else◌, List, [], None, Result, Err, IsTrue, IsErrOf, OnErr, is_err, refl}
+use Rattle.std.specs.Prelude.{◌≡◌, ℕ, ◌+◌, Bool, true, false, if◌then◌else◌, List, [], None, Result, Err, IsTrue, IsErrOf, IfOk, OnOk, OnErr, is_err, refl}
 use Rattle.std.specs.Coded.{Coded, code_by, coded×, coded_ℕ, coded_bool}
 use Rattle.sqlite.specs.Store.{Ghosts}
 use Rattle.sqlite.specs.Tree.{Trees}
@@ -16,9 +16,11 @@ use Rattle.durable_top.specs.declared.store.Row.{Row}
 use Rattle.durable_top.specs.declared.store.StoreFault.{StoreFault}
 use Rattle.durable_top.specs.declared.store.StoreFault.TheVariants.{Failed}
 use Rattle.durable_top.specs.Store.{faults_after}
+use Rattle.sql_store.specs.Asked.{Loaded, Committed}
 use Rattle.sql_store.specs.Faults.{HasFailed}
 use Rattle.sql_store.specs.Ids.{rises}
 use Rattle.sql_store.specs.Load.{ids_query}
+use Rattle.sql_store.specs.Results.{results_schema}
 use Rattle.sql_store.specs.Table.{map_of, table_of, IsReady}
 
 pub record Stored (S : Type 0) : Type 0 where
@@ -38,6 +40,10 @@ stored_code {S} store =
 -- whether a table of results is known: the rowids that a query shows of it rise
 abbrev pub IsDecided : Database → Bool → Type 0
 IsDecided db known = (rows : List Shown) × IsAnswer ids_query (overlay db.trees []) [] rows × (known ≡ rises None rows)
+
+-- where there is the table of results alone, it is unknown only if the rowids that a query shows of it do not rise
+abbrev pub IsDoubted : Database → Bool → Type 0
+IsDoubted db known = db.schema ≡ results_schema → known ≡ false → IsDecided db false
 
 module _ {S : Type 0} (g : Ghosts S) where
   -- what the last commit left
@@ -61,11 +67,15 @@ module _ {S : Type 0} (g : Ghosts S) where
     pub faults : new.faults ≡ old.faults
     pub known : new.is_known ≡ old.is_known
     pub cause : HasCleanDisk (state g new.connection) → old.has_failed ≡ false → IsErrOf result Failed → HasFailed g old.connection new.connection
+    -- what was read, of a database that is not known too
+    pub asked : HasCleanDisk (state g new.connection) → IfOk result (Loaded g old.connection new.connection)
 
   pub record SqlCommits (old new : Stored S) (changes : List Change) (result : Result (Unit {0}) StoreFault) : Type 0 where
     pub failed : old.has_failed ≡ true → (result ≡ Err Failed) × (new.connection ≡ old.connection)
     pub faults : new.faults ≡ faults_after (is_err result) old.faults
     pub known : new.is_known ≡ old.is_known
     pub cause : HasCleanDisk (state g new.connection) → old.has_failed ≡ false → IsErrOf result Failed → HasFailed g old.connection new.connection
+    -- what was committed, to a database that is not known too
+    pub asked : HasCleanDisk (state g new.connection) → OnOk result (Committed g changes old.connection new.connection)
     -- whichever the fault is, nothing was committed
     pub kept : HasCleanDisk (state g new.connection) → OnErr result (KeepsCommit (state g old.connection) (state g new.connection))

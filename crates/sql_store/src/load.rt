@@ -11,6 +11,7 @@ ghost use Rattle.durable_top.specs.Store.{plain};
 ghost use Rattle.sql_store.specs.Load.{load_query};
 ghost use Rattle.sql_store.specs.Table.{IsKnown, table_of};
 ghost use Rattle.sql_store.specs.Faults.{IsCaused, Lasts, HasFailed};
+ghost use Rattle.sql_store.specs.Asked.{Fetched, Loaded};
 
 use crate::faults::settle;
 use crate::reading::sorted;
@@ -28,6 +29,7 @@ fn fetch<S: Alter>(conn: &mut Connection<S>) -> Result<Vec<sqlite::Row>, Error>
     ensures crash { HasCleanDisk (state S.Store conn.new) → IsKnown (state S.Store conn.old) → (db : Trees) → (state S.Store conn.new).may_leave db → (state S.Store conn.old).may_leave db }
     ensures cause { HasCleanDisk (state S.Store conn.new) → IfErr result (IsCaused (state S.Store conn.old) (state S.Store conn.new)) }
     ensures lasts { Lasts (state S.Store conn.old) (state S.Store conn.new) }
+    ensures asked { HasCleanDisk (state S.Store conn.new) → IfOk result (λ rows. Fetched S.Store conn.old conn.new rows.items) }
 {
     probe(conn)?;
     select(conn)
@@ -45,6 +47,7 @@ pub(crate) fn load_rows<S: Alter>(
     ensures clean { doubt (state S.Store conn.old).is_clean ≤ doubt (state S.Store conn.new).is_clean }
     ensures crash { HasCleanDisk (state S.Store conn.new) → IsKnown (state S.Store conn.old) → (db : Trees) → (state S.Store conn.new).may_leave db → (state S.Store conn.old).may_leave db }
     ensures cause { HasCleanDisk (state S.Store conn.new) → IsErrOf result StoreFault.Failed → HasFailed S.Store conn.old conn.new }
+    ensures asked { HasCleanDisk (state S.Store conn.new) → IfOk result (λ rows. Loaded S.Store conn.old conn.new rows.items) }
 {
     match fetch(conn) {
         Ok(rows) => sorted(alloc, rows.as_slice()),

@@ -9,7 +9,7 @@ ghost use Rattle.sqlite.specs.Program.{overlay};
 ghost use Rattle.sql_store.specs.Ids.{rises};
 ghost use Rattle.sql_store.specs.Load.{ids_query};
 ghost use Rattle.sql_store.specs.Results.{no_schema, results_schema};
-ghost use Rattle.sql_store.specs.Stored.{IsKept, IsDecided, table};
+ghost use Rattle.sql_store.specs.Stored.{IsKept, IsDecided, table, IsDoubted};
 ghost use Rattle.sql_store.specs.Table.{map_of, IsReady};
 ghost use Rattle.sql_store.specs.Faults.{IsCaused, Lasts, HasFailed};
 
@@ -41,6 +41,7 @@ fn is_known<S: Alter>(conn: &mut Connection<S>) -> Result<bool, Error>
     ensures clean { doubt (state S.Store conn.old).is_clean ≤ doubt (state S.Store conn.new).is_clean }
     ensures cause { HasCleanDisk (state S.Store conn.new) → IfErr result (IsCaused (state S.Store conn.old) (state S.Store conn.new)) }
     ensures lasts { Lasts (state S.Store conn.old) (state S.Store conn.new) }
+    ensures doubted { HasCleanDisk (state S.Store conn.new) → IfOk result (IsDoubted (state S.Store conn.new).now) }
 {
     if is_results(conn.schema()) {
         has_apart(conn)
@@ -57,6 +58,7 @@ fn is_known_unless<S: Alter>(is_new: bool, conn: &mut Connection<S>) -> Result<b
     ensures clean { doubt (state S.Store conn.old).is_clean ≤ doubt (state S.Store conn.new).is_clean }
     ensures cause { HasCleanDisk (state S.Store conn.new) → IfErr result (IsCaused (state S.Store conn.old) (state S.Store conn.new)) }
     ensures lasts { Lasts (state S.Store conn.old) (state S.Store conn.new) }
+    ensures doubted { HasCleanDisk (state S.Store conn.new) → IfOk result (IsDoubted (state S.Store conn.new).now) }
 {
     if is_new { Ok(true) } else { is_known(conn) }
 }
@@ -71,6 +73,7 @@ fn make_table<S: Alter>(conn: &mut Connection<S>) -> Result<bool, Error>
     ensures clean { doubt (state S.Store conn.old).is_clean ≤ doubt (state S.Store conn.new).is_clean }
     ensures cause { HasCleanDisk (state S.Store conn.new) → IfErr result (IsCaused (state S.Store conn.old) (state S.Store conn.new)) }
     ensures lasts { Lasts (state S.Store conn.old) (state S.Store conn.new) }
+    ensures doubted { HasCleanDisk (state S.Store conn.new) → IfOk result (IsDoubted (state S.Store conn.new).now) }
 {
     let is_new = is_empty(conn.schema());
     create(conn)?;
@@ -96,6 +99,7 @@ pub(crate) fn prepare<S: Alter>(conn: &mut Connection<S>) -> Result<bool, StoreF
     ensures open { HasCleanDisk (state S.Store conn.new) → (state S.Store conn.old).in_transaction ≡ false → IfErr result (λ fault. (fault ≡ StoreFault.Failed → ⊥) → IsTrue (state S.Store conn.new).is_open) }
     ensures clean { doubt (state S.Store conn.old).is_clean ≤ doubt (state S.Store conn.new).is_clean }
     ensures cause { HasCleanDisk (state S.Store conn.new) → IsErrOf result StoreFault.Failed → HasFailed S.Store conn.old conn.new }
+    ensures doubted { HasCleanDisk (state S.Store conn.new) → IfOk result (IsDoubted (state S.Store conn.new).now) }
 {
     if !conn.is_autocommit() {
         return Err(StoreFault::Refused);

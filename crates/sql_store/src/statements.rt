@@ -4,13 +4,14 @@ ghost use Rattle.sqlite_trees.specs.View.{doubt};
 ghost use Rattle.sqlite.specs.Values.{bound};
 ghost use Rattle.sqlite.specs.declared.types.Value.TheVariants.{Text, Int};
 ghost use Rattle.sqlite.specs.Held.{state};
-ghost use Rattle.sqlite.specs.State.{HasCleanDisk, Survives, KeepsCommit, IsUnchanged};
+ghost use Rattle.sqlite.specs.State.{HasCleanDisk, Survives, KeepsCommit, IsUnchanged, Shown};
 ghost use Rattle.sqlite.specs.Query.{IsAnswer};
 ghost use Rattle.sqlite.specs.Program.{overlay};
 ghost use Rattle.sql_store.specs.Faults.{IsCaused, Lasts, HasFailed};
 ghost use Rattle.sql_store.specs.Results.{results_schema, no_schema};
-ghost use Rattle.sql_store.specs.Load.{load_query, ids_query};
+ghost use Rattle.sql_store.specs.Load.{load_query, ids_query, load_text};
 ghost use Rattle.sql_store.specs.Table.{Makes};
+ghost use Rattle.sql_store.specs.Asked.{upsert_text, delete_text, Executed};
 
 use durable_top::Row;
 use sqlite::types::ValueRef;
@@ -36,6 +37,7 @@ pub(crate) fn remove<S: Alter>(tx: &mut Transaction<'_, S>, key: &Key) -> Result
     ensures kept { HasCleanDisk (state S.Store tx.new.conn.now) → IsTrue (state S.Store tx.old.conn.now).in_transaction → KeepsCommit (state S.Store tx.old.conn.now) (state S.Store tx.new.conn.now) }
     ensures survives { Survives (state S.Store tx.old.conn.now) (state S.Store tx.new.conn.now) (λ _. ⊥) }
     ensures cause { HasCleanDisk (state S.Store tx.new.conn.now) → IsTrue (state S.Store tx.old.conn.now).in_transaction → IfErr result (IsCaused (state S.Store tx.old.conn.now) (state S.Store tx.new.conn.now)) }
+    ensures asked { HasCleanDisk (state S.Store tx.new.conn.now) → IsTrue (state S.Store tx.old.conn.now).in_transaction → OnOk result (Executed S.Store delete_text (Text key.now ∷ []) tx.old.conn.now tx.new.conn.now) }
 {
     tx.execute("DELETE FROM results WHERE k = ?1", &of_key(key))?;
     Ok(())
@@ -48,6 +50,7 @@ pub(crate) fn put<S: Alter>(tx: &mut Transaction<'_, S>, row: &Row) -> Result<()
     ensures kept { HasCleanDisk (state S.Store tx.new.conn.now) → IsTrue (state S.Store tx.old.conn.now).in_transaction → KeepsCommit (state S.Store tx.old.conn.now) (state S.Store tx.new.conn.now) }
     ensures survives { Survives (state S.Store tx.old.conn.now) (state S.Store tx.new.conn.now) (λ _. ⊥) }
     ensures cause { HasCleanDisk (state S.Store tx.new.conn.now) → IsTrue (state S.Store tx.old.conn.now).in_transaction → IfErr result (IsCaused (state S.Store tx.old.conn.now) (state S.Store tx.new.conn.now)) }
+    ensures asked { HasCleanDisk (state S.Store tx.new.conn.now) → IsTrue (state S.Store tx.old.conn.now).in_transaction → OnOk result (Executed S.Store upsert_text (Text row.now.key ∷ Int row.now.value ∷ []) tx.old.conn.now tx.new.conn.now) }
 {
     tx.execute(
         "INSERT INTO results (k, v) VALUES (?1, ?2) ON CONFLICT (k) DO UPDATE SET v = excluded.v",
@@ -81,6 +84,7 @@ pub(crate) fn select<S: Alter>(conn: &mut Connection<S>) -> Result<Vec<sqlite::R
     ensures survives { (state S.Store conn.old).now.schema ≡ results_schema → Survives (state S.Store conn.old) (state S.Store conn.new) (λ _. ⊥) }
     ensures cause { HasCleanDisk (state S.Store conn.new) → IfErr result (IsCaused (state S.Store conn.old) (state S.Store conn.new)) }
     ensures lasts { Lasts (state S.Store conn.old) (state S.Store conn.new) }
+    ensures asked { HasCleanDisk (state S.Store conn.new) → IfOk result (λ rows. Shown load_text [] (state S.Store conn.old) (state S.Store conn.new) rows.items) }
 {
     conn.query_all("SELECT k, v FROM results ORDER BY k", &[])
 }

@@ -11,7 +11,9 @@ ghost use Rattle.sqlite.specs.Steps.{over_memory};
 ghost use Rattle.sql_store.specs.Faults.{fault_of, HasFailed};
 ghost use Rattle.sql_store.specs.Results.{no_schema, results_schema};
 ghost use Rattle.sql_store.specs.Table.{map_of};
-ghost use Rattle.sql_store.specs.Stored.{table, doubt_of, may_leave, IsKept, IsDecided, SqlLoads, SqlCommits};
+ghost use Rattle.sql_store.specs.Stored.{table, doubt_of, may_leave, IsKept, IsDecided, SqlLoads, SqlCommits, IsDoubted};
+ghost use Rattle.sql_store.specs.Asked.{Loaded, Committed};
+ghost use Rattle.sqlite.specs.Files.{file_state};
 
 use crate::faults::fault_of;
 use crate::load::load_rows;
@@ -65,6 +67,7 @@ impl<S: Alter + Drop> SqlStore<S> {
         ensures faults { IfOk result (λ store. store.faults ≡ 0) }
         ensures sound { IfOk result (λ store. store.has_failed ≡ false) }
         ensures cause { IfErr result (λ left. HasCleanDisk (state S.Store left.1) → left.0 ≡ StoreFault.Failed → HasFailed S.Store connection left.1) }
+        ensures doubted { IfOk result (λ store. HasCleanDisk (state S.Store store.connection) → IsDoubted (state S.Store store.connection).now store.is_known) }
     {
         match prepare(&mut connection) {
             Ok(is_known) => Ok(SqlStore {
@@ -115,6 +118,7 @@ impl SqlStore<FileStore<File>> {
         ensures memory { path.now ≡ codes ":memory:" → result ≡ Err StoreFault.Refused }
         ensures faults { IfOk result (λ store. store.faults ≡ 0) }
         ensures sound { IfOk result (λ store. store.has_failed ≡ false) }
+        ensures doubted { IfOk result (λ store. HasCleanDisk (file_state store.connection) → IsDoubted (file_state store.connection).now store.is_known) }
     {
         adopted_from(Connection::open(rt, path))
     }
@@ -125,6 +129,7 @@ fn adopted<S: Alter + Drop>(connection: Connection<S>) -> Result<SqlStore<S>, St
     ensures empty { (state S.Store connection).now.schema ≡ no_schema → IfOk result (λ store. HasCleanDisk (state S.Store store.connection) → table S.Store store.connection ≡ map_of []) }
     ensures faults { IfOk result (λ store. store.faults ≡ 0) }
     ensures sound { IfOk result (λ store. store.has_failed ≡ false) }
+    ensures doubted { IfOk result (λ store. HasCleanDisk (state S.Store store.connection) → IsDoubted (state S.Store store.connection).now store.is_known) }
 {
     match SqlStore::adopt(connection) {
         Ok(store) => Ok(store),
@@ -139,6 +144,7 @@ fn adopted_from<S: Alter + Drop>(
     ensures cause { IfErr opened (λ error. result ≡ Err (fault_of error)) }
     ensures faults { IfOk result (λ store. store.faults ≡ 0) }
     ensures sound { IfOk result (λ store. store.has_failed ≡ false) }
+    ensures doubted { IfOk result (λ store. HasCleanDisk (state S.Store store.connection) → IsDoubted (state S.Store store.connection).now store.is_known) }
 {
     match opened {
         Ok(connection) => adopted(connection),
@@ -155,6 +161,7 @@ fn load_settled<S: Alter>(conn: &mut Connection<S>, alloc: Global) -> Result<Vec
     ensures clean { doubt (state S.Store conn.old).is_clean ≤ doubt (state S.Store conn.new).is_clean }
     ensures crash { HasCleanDisk (state S.Store conn.new) → IsKept S.Store true conn.old → (left : Map) → may_leave S.Store conn.new left → may_leave S.Store conn.old left }
     ensures cause { HasCleanDisk (state S.Store conn.new) → IsErrOf result StoreFault.Failed → HasFailed S.Store conn.old conn.new }
+    ensures asked { HasCleanDisk (state S.Store conn.new) → IfOk result (λ rows. Loaded S.Store conn.old conn.new rows.items) }
 {
     if conn.is_autocommit() {
         load_rows(conn, alloc)
@@ -178,6 +185,7 @@ fn commit_unless<S: Alter>(
     ensures settled { HasCleanDisk (state S.Store conn.new) → IsKept S.Store true conn.old → OnOk result ((left : Map) → may_leave S.Store conn.new left → left ≡ overlay changes.now (table S.Store conn.old)) }
     ensures cause { HasCleanDisk (state S.Store conn.new) → has_failed ≡ false → IsErrOf result StoreFault.Failed → HasFailed S.Store conn.old conn.new }
     ensures kept { HasCleanDisk (state S.Store conn.new) → OnErr result (KeepsCommit (state S.Store conn.old) (state S.Store conn.new)) }
+    ensures asked { HasCleanDisk (state S.Store conn.new) → OnOk result (Committed S.Store changes.now conn.old conn.new) }
 {
     if has_failed {
         return Err(StoreFault::Failed);

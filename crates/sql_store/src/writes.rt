@@ -5,6 +5,7 @@ ghost use Rattle.sqlite.specs.State.{HasCleanDisk, Survives, KeepsCommit};
 ghost use Rattle.sql_store.specs.Table.{Makes, IsReady};
 ghost use Rattle.sql_store.specs.Writes.{MakesAll, Stores, IsStored};
 ghost use Rattle.sql_store.specs.Faults.{IsCaused, HasFailed};
+ghost use Rattle.sql_store.specs.Asked.{text_for, params_for, Executed, ExecutedEach, Transacted, Committed};
 
 use crate::faults::settle;
 use crate::statements::{probe, put, remove};
@@ -21,6 +22,7 @@ fn make<S: Alter>(tx: &mut Transaction<'_, S>, change: &Change) -> Result<(), Er
     ensures kept { HasCleanDisk (state S.Store tx.new.conn.now) → IsTrue (state S.Store tx.old.conn.now).in_transaction → KeepsCommit (state S.Store tx.old.conn.now) (state S.Store tx.new.conn.now) }
     ensures survives { Survives (state S.Store tx.old.conn.now) (state S.Store tx.new.conn.now) (λ _. ⊥) }
     ensures cause { HasCleanDisk (state S.Store tx.new.conn.now) → IsTrue (state S.Store tx.old.conn.now).in_transaction → IfErr result (IsCaused (state S.Store tx.old.conn.now) (state S.Store tx.new.conn.now)) }
+    ensures asked { HasCleanDisk (state S.Store tx.new.conn.now) → IsTrue (state S.Store tx.old.conn.now).in_transaction → OnOk result (Executed S.Store (text_for change.now.value) (params_for change.now.key change.now.value) tx.old.conn.now tx.new.conn.now) }
 {
     match change.value {
         Some(value) => put(
@@ -43,6 +45,7 @@ fn make_all<S: Alter>(tx: &mut Transaction<'_, S>, changes: &[Change]) -> Result
     ensures kept { HasCleanDisk (state S.Store tx.new.conn.now) → KeepsCommit (state S.Store tx.old.conn.now) (state S.Store tx.new.conn.now) }
     ensures survives { Survives (state S.Store tx.old.conn.now) (state S.Store tx.new.conn.now) (λ _. ⊥) }
     ensures cause { HasCleanDisk (state S.Store tx.new.conn.now) → IfErr result (IsCaused (state S.Store tx.old.conn.now) (state S.Store tx.new.conn.now)) }
+    ensures asked { HasCleanDisk (state S.Store tx.new.conn.now) → OnOk result (ExecutedEach S.Store changes.now tx.old.conn.now tx.new.conn.now) }
 {
     for change in changes {
         make(tx, change)?;
@@ -59,6 +62,7 @@ fn commit_some<S: Alter>(conn: &mut Connection<S>, changes: &[Change]) -> Result
     ensures kept { HasCleanDisk (state S.Store conn.new) → OnErr result (KeepsCommit (state S.Store conn.old) (state S.Store conn.new)) }
     ensures survives { Survives (state S.Store conn.old) (state S.Store conn.new) (IsStored changes.now (state S.Store conn.old)) }
     ensures cause { HasCleanDisk (state S.Store conn.new) → IfErr result (IsCaused (state S.Store conn.old) (state S.Store conn.new)) }
+    ensures asked { HasCleanDisk (state S.Store conn.new) → OnOk result (Transacted S.Store changes.now conn.old conn.new) }
 {
     let mut tx = conn.transaction();
     make_all(&mut tx, changes)?;
@@ -72,6 +76,7 @@ pub(crate) fn write_all<S: Alter>(conn: &mut Connection<S>, changes: &[Change]) 
     ensures kept { HasCleanDisk (state S.Store conn.new) → OnErr result (KeepsCommit (state S.Store conn.old) (state S.Store conn.new)) }
     ensures survives { Survives (state S.Store conn.old) (state S.Store conn.new) (IsStored changes.now (state S.Store conn.old)) }
     ensures cause { HasCleanDisk (state S.Store conn.new) → IfErr result (IsCaused (state S.Store conn.old) (state S.Store conn.new)) }
+    ensures asked { HasCleanDisk (state S.Store conn.new) → OnOk result (Committed S.Store changes.now conn.old conn.new) }
 {
     if changes.is_empty() {
         return probe(conn);
@@ -93,6 +98,7 @@ pub(crate) fn store_changes<S: Alter>(
     ensures open { HasCleanDisk (state S.Store conn.new) → IfErr result (λ fault. (fault ≡ StoreFault.Failed → ⊥) → IsTrue (state S.Store conn.new).is_open) }
     ensures survives { Survives (state S.Store conn.old) (state S.Store conn.new) (IsStored changes.now (state S.Store conn.old)) }
     ensures cause { HasCleanDisk (state S.Store conn.new) → IsErrOf result StoreFault.Failed → HasFailed S.Store conn.old conn.new }
+    ensures asked { HasCleanDisk (state S.Store conn.new) → OnOk result (Committed S.Store changes.now conn.old conn.new) }
 {
     match write_all(conn, changes) {
         Ok(()) => Ok(()),

@@ -1,3 +1,4 @@
+use Rattle.std.proofs.lemmas.Result.{IfOk-weaker}
 use Rattle.sqlite.specs.Held.{state}
 use Rattle.sql_store.proofs.Steps.{if_ok_both}
 use Rattle.sql_store.proofs.Loaded.{answered, same_map}
@@ -8,3 +9,7 @@ returns-in-Ok-clause-rows g c clean known =
     let db = (state g.S.Store c.args.conn.now).now.trees in
     if_ok_both c.sorted.result _ _ _ c.sorted.ensures.read c.sorted.ensures.rising
     (λ read is rising. same_map (db 0) c.in-Ok.rows.items read.items (answered db c.in-Ok.rows.items (c.in-Ok.ensures.rows clean known)) (rw c.as_slice.ensures.value at is) rising)
+
+pub returns-in-Ok-clause-asked : goal.returns-in-Ok-clause-asked
+returns-in-Ok-clause-asked g c clean =
+    IfOk-weaker c.sorted.result _ _ (λ read is. (c.in-Ok.rows.items, c.in-Ok.ensures.asked clean, rw c.as_slice.ensures.value at is)) c.sorted.ensures.read

@@ -24,3 +24,6 @@ returns-in_err-execute-clause-cause g c clean inside =
     let e = c.in_err-execute.field-0.0 in
     let same : c.from_residual.result ≡ Err e = search rules in
     rw same (inside_caused upsert_text (Text c.args.row.now.key ∷ Int c.args.row.now.value ∷ []) (state g.S.Store c.args.tx.now.conn.now) (state g.S.Store c.execute.new.self.conn.now) e (rw c.of_row.ensures at (c.in_err-execute.ensures.runs clean inside)))
+
+pub returns-clause-asked : goal.returns-clause-asked
+returns-clause-asked g c clean inside = (c.in_ok-execute.field-0, rw c.of_row.ensures at (c.in_ok-execute.ensures.runs clean inside))

@@ -6,6 +6,7 @@ use Rattle.sqlite.proofs.Callers.{survives_begin}
 use Rattle.sql_store.specs.Table.{IsReady}
 use Rattle.sql_store.specs.Writes.{IsStored}
 use Rattle.sql_store.proofs.Composed.{stored_by}
+use Rattle.sql_store.specs.Asked.{Transacted}
 use Rattle.sql_store.proofs.writes.commit_some.Goals as goal
 
 pub returns-in_err-commit-clause-survives : goal.returns-in_err-commit-clause-survives
@@ -35,3 +36,18 @@ returns-clause-survives g c =
     (survives_begin g.S.Store old (state g.S.Store last) _ (rw begun at c.make_all.ensures.survives)) c.commit.ensures.survives in
     let same : c.commit.new.self.0 ≡ c.conn-2-1.given.0 = search rules in
     subst (λ h. Survives (state g.S.Store old) (state g.S.Store h) P) same whole
+
+pub returns-clause-asked : goal.returns-clause-asked
+returns-clause-asked g c clean =
+    let old = c.args.conn.now in
+    let last = c.make_all.new.tx.conn.now in
+    let same : c.commit.new.self.0 ≡ c.conn-2-1.given.0 = search rules in
+    let sound : HasCleanDisk (state g.S.Store c.commit.new.self.0) = rw same clean in
+    let was : HasCleanDisk (state g.S.Store last) = omega (arith, c.commit.ensures.survives.clean, sound) in
+    let whole : Transacted g.S.Store c.args.changes.now old c.commit.new.self.0 = record {
+      outside = c.requires.outside;
+      last = last;
+      executed = rw c.transaction-tx.ensures.begun at (c.in_ok-make_all.ensures.asked was);
+      committed = (c.in_ok-commit.ensures.ok sound).1;
+    } in
+    subst (λ h. Transacted g.S.Store c.args.changes.now old h) same whole

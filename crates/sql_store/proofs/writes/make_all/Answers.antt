@@ -4,6 +4,8 @@ use Rattle.sqlite.specs.Held.{state}
 use Rattle.sqlite.specs.State.{HasCleanDisk}
 use Rattle.sqlite.proofs.StateLemmas.{survives_then}
 use Rattle.txn_names.specs.declared.change.Change.{Change}
+use Rattle.sql_store.specs.Asked.{ExecutedEach}
+use Rattle.sql_store.proofs.Transactions.{executed_more}
 use Rattle.sql_store.specs.Writes.{MakesAll}
 use Rattle.sql_store.proofs.Composed.{makes_more, keeps_then}
 use Rattle.sql_store.proofs.writes.make_all.Goals as goal
@@ -23,6 +25,9 @@ loop-change-preserved g c =
       made = λ clean ready.
           let all = c.loop-change.invariant.made (was clean) ready in
           subst (λ cs. MakesAll cs x z) (sym more) (makes_more (take i changes) d x y z all (c.in_ok-make.ensures.made clean (c.loop-change.invariant.inside (was clean)) all.ready));
+      asked = λ clean.
+          subst (λ cs. ExecutedEach g.S.Store cs c.args.tx.now.conn.now c.make.new.tx.conn.now) (sym more)
+          (executed_more g.S.Store (take i changes) d c.args.tx.now.conn.now c.loop-change.tx.conn.now c.make.new.tx.conn.now (c.loop-change.invariant.asked (was clean)) (c.in_ok-make.ensures.asked clean (c.loop-change.invariant.inside (was clean))));
       opened = λ clean some. (c.loop-change.invariant.kept (was clean)).was_open (c.in_ok-make.ensures.opened clean (c.loop-change.invariant.inside (was clean)));
       inside = λ clean. c.in_ok-make.ensures.inside clean (c.loop-change.invariant.inside (was clean));
       kept = λ clean. keeps_then x y z (c.loop-change.invariant.kept (was clean)) (c.make.ensures.kept clean (c.loop-change.invariant.inside (was clean)));

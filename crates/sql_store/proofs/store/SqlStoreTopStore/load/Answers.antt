@@ -1,4 +1,8 @@
-use Rattle.std.proofs.Common.{subst}
+use Rattle.std.proofs.Common.{subst, rules}
+use Rattle.std.specs.Prelude.{IfOk}
+use Rattle.durable_top.specs.Store.{told}
+use Rattle.sql_store.specs.Asked.{Loaded}
+use Rattle.sql_store.proofs.Steps.{told_if}
 use Rattle.sql_store.specs.Stored.{Stored, may_leave}
 use Rattle.sql_store.proofs.Doubts.{no_doubt}
 use Rattle.sql_store.proofs.store.SqlStoreTopStore.load.Goals as goal
@@ -7,3 +11,14 @@ pub returns-clause-crash : goal.returns-clause-crash
 returns-clause-crash g c none left may =
     let sure = no_doubt _ c.self.inside.is_known none in
     subst (λ (v : Stored _). may_leave g.S.Store v.connection left) c.self.view_is (c.load_settled-answer.ensures.crash sure.0 (λ _. c.self.invariant sure.1) left may)
+
+pub returns-clause-asked : goal.returns-clause-asked
+returns-clause-asked g c = record {
+  failed = search rules;
+  faults = search rules;
+  known = search rules;
+  cause = search rules;
+  asked = λ clean.
+      subst (λ (v : Stored _). IfOk (told c.load_settled-answer.result) (Loaded g.S.Store v.connection c.load_settled-answer.new.conn)) c.self.view_is
+      (told_if c.load_settled-answer.result _ (c.load_settled-answer.ensures.asked clean));
+}
