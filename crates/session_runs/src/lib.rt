@@ -11,7 +11,7 @@ mod way;
 
 pub use fault::{Fault, fault_of};
 pub use replay::{ReplayFault, replay_text};
-pub use reporting::{DONE, FAILED, replay_over, report_opened, report_over, tell};
+pub use reporting::{DONE, Ended, FAILED, replay_over, report_opened, report_over, tell};
 pub use schedule::{attempts_of, schedule_of};
 pub use serve::{OpenGate, run_text};
 pub use way::{Way, workers_of};

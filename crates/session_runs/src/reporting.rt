@@ -1,11 +1,11 @@
 //! A run of a text over a store that is there, from the text's bytes to a report or a fault line, and an exit status.
-ghost use Rattle.std.specs.Prelude.{◌≡◌, ◌≢◌, ◌≤◌, IfErr, IfOk, OnErr};
+ghost use Rattle.std.specs.Prelude.{◌≡◌, ◌≢◌, ◌≤◌, IsNone, IfErr, IfOk, OnErr};
 ghost use Rattle.std.specs.Io.KnownBytes.{Keeps};
 ghost use Rattle.session_runs.specs.Printing.{IsMissed, IsPrinted};
 ghost use Rattle.session_runs.specs.Ways.{AreFew, IsServable, way_of, Scheduled, ByWorkers};
 
 use crate::fault::{Fault, fault_of};
-use crate::replay::replay_text;
+use crate::replay::{ReplayFault, replay_text};
 use crate::serve::{OpenGate, run_text};
 use crate::way::Way;
 use durable_top::{StoreFault, TopStore};
@@ -21,8 +21,17 @@ pub const DONE: u8 = 0;
 /// The exit status where one line on the error writer says why not.
 pub const FAILED: u8 = 1;
 
-/// Runs this text over this store in this way, and answers the exit status. The report goes to `out`, and only where the whole
-/// run was done; a fault goes to `err`, in one line. The store is dropped.
+/// How a run of a text has ended.
+#[derive(Drop)]
+pub struct Ended<S> {
+    /// The exit status.
+    pub status: u8,
+    /// The store, where the run gave it back. A fault of the run drops it, and so does a writer that fails on the way.
+    pub left: Option<S>,
+}
+
+/// Runs this text over this store in this way, and answers the exit status with the store that the run left. The report goes
+/// to `out`, and only where the whole run was done; a fault goes to `err`, in one line.
 pub fn report_over<R: Threads + Wait + Clock + Sync, S: TopStore + Send, W: Write, E: Write>(
     threads: &R,
     alloc: Global,
@@ -31,11 +40,11 @@ pub fn report_over<R: Threads + Wait + Clock + Sync, S: TopStore + Send, W: Writ
     store: S,
     out: &mut W,
     err: &mut E,
-) -> u8
+) -> Ended<S>
     requires { IsServable way.now }
-    ensures done { result ≡ DONE → IsPrinted S.TopStore (W.contents out.old) (W.contents out.new) text.now (way_of way.now) store }
-    ensures undone { result ≢ DONE → IsMissed S.TopStore (W.contents out.old) (W.contents out.new) text.now (way_of way.now) store }
-    ensures status { result ≤ FAILED }
+    ensures done { result.status ≡ DONE → IsPrinted S.TopStore (W.contents out.old) (W.contents out.new) text.now (way_of way.now) store result.left }
+    ensures undone { result.status ≢ DONE → IsMissed S.TopStore (W.contents out.old) (W.contents out.new) text.now (way_of way.now) store result.left }
+    ensures status { result.status ≤ FAILED }
 {
     match way {
         Way::Schedule(list) => replay_over(alloc, text, list.as_slice(), store, out, err),
@@ -52,22 +61,25 @@ pub fn report_opened<R: Threads + Wait + Clock + Sync, S: TopStore + Send, W: Wr
     opened: Result<S, StoreFault>,
     out: &mut W,
     err: &mut E,
-) -> u8
+) -> Ended<S>
     requires { IsServable way.now }
-    ensures done { IfOk opened (λ store. result ≡ DONE → IsPrinted S.TopStore (W.contents out.old) (W.contents out.new) text.now (way_of way.now) store) }
-    ensures undone { IfOk opened (λ store. result ≢ DONE → IsMissed S.TopStore (W.contents out.old) (W.contents out.new) text.now (way_of way.now) store) }
-    ensures unopened { IfErr opened (λ fault. result ≡ FAILED) }
+    ensures done { IfOk opened (λ store. result.status ≡ DONE → IsPrinted S.TopStore (W.contents out.old) (W.contents out.new) text.now (way_of way.now) store result.left) }
+    ensures undone { IfOk opened (λ store. result.status ≢ DONE → IsMissed S.TopStore (W.contents out.old) (W.contents out.new) text.now (way_of way.now) store result.left) }
+    ensures unopened { IfErr opened (λ fault. (result.status ≡ FAILED) × IsNone result.left) }
     ensures unwritten { OnErr opened (out.new ≡ out.old) }
-    ensures status { result ≤ FAILED }
+    ensures status { result.status ≤ FAILED }
 {
     match opened {
         Ok(store) => report_over(threads, alloc, text, way, store, out, err),
-        Err(_) => tell(err, Fault::CannotOpen),
+        Err(_) => Ended {
+            status: tell(err, Fault::CannotOpen),
+            left: None,
+        },
     }
 }
 
-/// Replays this text over this store by this schedule, and answers the exit status. The report goes to `out`, and only where the
-/// whole run was done; a fault goes to `err`, in one line. The store is dropped.
+/// Replays this text over this store by this schedule, and answers the exit status with the store that the run left. The report
+/// goes to `out`, and only where the whole run was done; a fault goes to `err`, in one line.
 pub fn replay_over<S: TopStore, W: Write, E: Write>(
     alloc: Global,
     text: &[u8],
@@ -75,15 +87,13 @@ pub fn replay_over<S: TopStore, W: Write, E: Write>(
     store: S,
     out: &mut W,
     err: &mut E,
-) -> u8
-    ensures done { result ≡ DONE → IsPrinted S.TopStore (W.contents out.old) (W.contents out.new) text.now (Scheduled schedule.now) store }
-    ensures undone { result ≢ DONE → IsMissed S.TopStore (W.contents out.old) (W.contents out.new) text.now (Scheduled schedule.now) store }
-    ensures status { result ≤ FAILED }
+) -> Ended<S>
+    ensures done { result.status ≡ DONE → IsPrinted S.TopStore (W.contents out.old) (W.contents out.new) text.now (Scheduled schedule.now) store result.left }
+    ensures undone { result.status ≢ DONE → IsMissed S.TopStore (W.contents out.old) (W.contents out.new) text.now (Scheduled schedule.now) store result.left }
+    ensures status { result.status ≤ FAILED }
 {
-    match replay_text(alloc, text, schedule, store, out) {
-        Ok(_left) => finish(out, err),
-        Err(fault) => tell(err, fault_of(fault)),
-    }
+    let ran = replay_text(alloc, text, schedule, store, out);
+    end_run(ran, out, err)
 }
 
 // The same by so many workers.
@@ -95,15 +105,37 @@ fn serve_over<R: Threads + Wait + Clock + Sync, S: TopStore + Send, W: Write, E:
     store: S,
     out: &mut W,
     err: &mut E,
-) -> u8
+) -> Ended<S>
     requires { AreFew workers }
-    ensures done { result ≡ DONE → IsPrinted S.TopStore (W.contents out.old) (W.contents out.new) text.now ByWorkers store }
-    ensures undone { result ≢ DONE → IsMissed S.TopStore (W.contents out.old) (W.contents out.new) text.now ByWorkers store }
-    ensures status { result ≤ FAILED }
+    ensures done { result.status ≡ DONE → IsPrinted S.TopStore (W.contents out.old) (W.contents out.new) text.now ByWorkers store result.left }
+    ensures undone { result.status ≢ DONE → IsMissed S.TopStore (W.contents out.old) (W.contents out.new) text.now ByWorkers store result.left }
+    ensures status { result.status ≤ FAILED }
 {
-    match run_text(threads, alloc, text, store, workers, &OpenGate, out) {
-        Ok(_left) => finish(out, err),
-        Err(fault) => tell(err, fault_of(fault)),
+    let ran = run_text(threads, alloc, text, store, workers, &OpenGate, out);
+    end_run(ran, out, err)
+}
+
+// The end of a run, which gave its store back or met a fault.
+fn end_run<S: Drop, W: Write, E: Write>(
+    ran: Result<S, ReplayFault>,
+    out: &mut W,
+    err: &mut E,
+) -> Ended<S>
+    ensures left { IfOk ran (λ left. result.left ≡ Some left) }
+    ensures kept { IfOk ran (λ left. Keeps (W.contents out.old) (W.contents out.new)) }
+    ensures dropped { IfErr ran (λ fault. (result.status ≡ FAILED) × IsNone result.left) }
+    ensures unwritten { IfErr ran (λ fault. out.new ≡ out.old) }
+    ensures status { result.status ≤ FAILED }
+{
+    match ran {
+        Ok(left) => Ended {
+            status: finish(out, err),
+            left: Some(left),
+        },
+        Err(fault) => Ended {
+            status: tell(err, fault_of(fault)),
+            left: None,
+        },
     }
 }
 

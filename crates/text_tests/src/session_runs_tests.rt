@@ -59,8 +59,12 @@ impl Told {
 fn replayed<S: TopStore>(alloc: Global, text: &[u8], store: S) -> Told {
     let mut out = Vec::new(alloc);
     let mut err = Vec::new(alloc);
-    let status = replay_over(alloc, text, &[], store, &mut out, &mut err);
-    Told { status, out, err }
+    let ended = replay_over(alloc, text, &[], store, &mut out, &mut err);
+    Told {
+        status: ended.status,
+        out,
+        err,
+    }
 }
 
 fn empty(rt: &impl Abort, alloc: Global) -> MemStore {
@@ -136,9 +140,9 @@ fn is_narrow(rt: &impl Abort, alloc: Global, left: usize, flushes: bool) -> bool
         flushes,
     };
     let mut err = Vec::new(alloc);
-    let status = replay_over(alloc, FIRST, &[], empty(rt, alloc), &mut out, &mut err);
+    let ended = replay_over(alloc, FIRST, &[], empty(rt, alloc), &mut out, &mut err);
     let taken = out.taken.as_slice();
-    status == 1
+    ended.status == 1
         && err.as_slice() == b"tx: cannot write\n".as_slice()
         && taken.len() == left
         && FIRST_REPORT.starts_with(taken)

@@ -1,6 +1,6 @@
 -- What a run of a text says of the program.
 use Rattle.std.proofs.Common.{◌≡◌, ℕ, List, Option, Some, None, refl, sym, subst, inl, inr, arith}
-use Rattle.std.specs.Prelude.{◌≢◌, Result, Ok, Err, IfErr, IfOk, OnErr}
+use Rattle.std.specs.Prelude.{◌≢◌, Result, Ok, Err, IfErr, IfOk, OnErr, IsNone}
 use Rattle.std.specs.Io.KnownBytes.{Keeps}
 use Rattle.durable_top.specs.declared.store.TopStore.{Ghosts}
 use Rattle.session_runs.specs.Ways.{Way}
@@ -12,28 +12,20 @@ pub same_kept : (w : Option (List ℕ)) → Keeps w w
 same_kept None = tt
 same_kept (Some xs) = refl
 
-pub prints : {S : Type 0} (g : Ghosts S) (old new : Option (List ℕ)) (text : List ℕ) (way : Way) (store : S) (status : ℕ) → ((k : List ℕ) → g.table store k ≡ None) → (status ≡ 0 → IsPrinted g old new text way store) → status ≡ 0 → Prints g old new
-prints g old new text way store status empty h done = record { text = text; way = way; store = store; empty = empty; printed = h done }
+pub prints : {S : Type 0} (g : Ghosts S) (old new : Option (List ℕ)) (text : List ℕ) (way : Way) (store : S) (left : Option S) (status : ℕ) → ((k : List ℕ) → g.table store k ≡ None) → (status ≡ 0 → IsPrinted g old new text way store left) → status ≡ 0 → Prints g old new
+prints g old new text way store left status empty h done = record { text = text; way = way; store = store; empty = empty; left = left; printed = h done }
 
-pub misses : {S : Type 0} (g : Ghosts S) (old new : Option (List ℕ)) (text : List ℕ) (way : Way) (store : S) → ((k : List ℕ) → g.table store k ≡ None) → IsMissed g old new text way store → Misses g old new
-misses g old new text way store empty (inl k) = inl k
-misses g old new text way store empty (inr u) = inr (record { text = text; way = way; store = store; empty = empty; unpassed = u })
-
-pub prints_from : {S : Type 0} (g : Ghosts S) (old new : Option (List ℕ)) (text : List ℕ) (way : Way) (store : S) (status : ℕ) → (status ≡ 0 → IsPrinted g old new text way store) → status ≡ 0 → PrintsFrom g old new
-prints_from g old new text way store status h done = record { text = text; way = way; store = store; printed = h done }
-
-pub misses_from : {S : Type 0} (g : Ghosts S) (old new : Option (List ℕ)) (text : List ℕ) (way : Way) (store : S) → IsMissed g old new text way store → MissesFrom g old new
-misses_from g old new text way store (inl k) = inl k
-misses_from g old new text way store (inr u) = inr (record { text = text; way = way; store = store; unpassed = u })
+pub misses : {S : Type 0} (g : Ghosts S) (old new : Option (List ℕ)) (text : List ℕ) (way : Way) (store : S) (left : Option S) → ((k : List ℕ) → g.table store k ≡ None) → IsMissed g old new text way store left → Misses g old new
+misses g old new text way store left empty m = inr (record { text = text; way = way; store = store; empty = empty; left = left; missed = m })
 
 -- the same over a store that was opened, or was not
-pub prints_opened : {S F : Type 0} (g : Ghosts S) (old new : Option (List ℕ)) (text : List ℕ) (way : Way) (status : ℕ) (opened : Result S F)
-    → IfOk opened (λ store. status ≡ 0 → IsPrinted g old new text way store) → IfErr opened (λ fault. status ≡ 1) → status ≡ 0 → PrintsFrom g old new
-prints_opened g old new text way status (Ok store) h failed done = prints_from g old new text way store status h done
-prints_opened g old new text way status (Err fault) h failed done = absurd (omega (arith, failed, done))
+pub prints_opened : {S F : Type 0} (g : Ghosts S) (old new : Option (List ℕ)) (text : List ℕ) (way : Way) (left : Option S) (status : ℕ) (opened : Result S F)
+    → IfOk opened (λ store. status ≡ 0 → IsPrinted g old new text way store left) → IfErr opened (λ fault. (status ≡ 1) × IsNone left) → status ≡ 0 → PrintsFrom g old new
+prints_opened g old new text way left status (Ok store) h failed done = record { text = text; way = way; store = store; left = left; printed = h done }
+prints_opened g old new text way left status (Err fault) h failed done = absurd (omega (arith, failed.0, done))
 
-pub misses_opened : {S F W : Type 0} (g : Ghosts S) (contents : W → Option (List ℕ)) (old new : W) (text : List ℕ) (way : Way) (status : ℕ) (opened : Result S F)
-    → IfOk opened (λ store. status ≢ 0 → IsMissed g (contents old) (contents new) text way store) → OnErr opened (new ≡ old) → status ≢ 0
+pub misses_opened : {S F W : Type 0} (g : Ghosts S) (contents : W → Option (List ℕ)) (old new : W) (text : List ℕ) (way : Way) (left : Option S) (status : ℕ) (opened : Result S F)
+    → IfOk opened (λ store. status ≢ 0 → IsMissed g (contents old) (contents new) text way store left) → OnErr opened (new ≡ old) → status ≢ 0
     → MissesFrom g (contents old) (contents new)
-misses_opened g contents old new text way status (Ok store) h same undone = misses_from g (contents old) (contents new) text way store (h undone)
-misses_opened g contents old new text way status (Err fault) h same undone = inl (subst (λ w. Keeps (contents old) (contents w)) (sym same) (same_kept (contents old)))
+misses_opened g contents old new text way left status (Ok store) h same undone = inr (record { text = text; way = way; store = store; left = left; missed = h undone })
+misses_opened g contents old new text way left status (Err fault) h same undone = inl (subst (λ w. Keeps (contents old) (contents w)) (sym same) (same_kept (contents old)))

@@ -197,7 +197,8 @@ fn report_file<F: Files + AllocGlobal, R: Threads + Wait + Clock + Sync, W: Writ
     let Ok(store) = MemoryStore::new(alloc) else {
         return tell(err, Fault::NoMemory);
     };
-    report_over(threads, alloc, text.as_slice(), way, store, out, err)
+    let ended = report_over(threads, alloc, text.as_slice(), way, store, out, err);
+    ended.status
 }
 
 // The same over the database at this path, which is made where there is none.
@@ -245,5 +246,6 @@ fn report_pages<F: Alter + Drop + Send, R: Threads + Wait + Clock + Sync, W: Wri
     ensures undone { result ≢ DONE → MissesFrom ⟦<SqlStore<F> as TopStore>⟧ (W.contents out.old) (W.contents out.new) }
     ensures status { result ≤ FAILED }
 {
-    report_opened(threads, alloc, text, way, opened, out, err)
+    let ended = report_opened(threads, alloc, text, way, opened, out, err);
+    ended.status
 }
