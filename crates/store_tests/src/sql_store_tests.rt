@@ -95,12 +95,34 @@ fn is_left(rt: &impl Abort, alloc: Global, connection: Connection<MemStore>, row
 }
 
 // Whether the rows that the commits leave are there for the next store over the connection.
-fn leaves(rt: &impl Abort, alloc: Global, script: &str, rows: &str) -> bool {
-    let Ok(mut store) = SqlStore::in_memory(alloc) else {
+fn leaves(
+    rt: &impl Abort,
+    alloc: Global,
+    store: Option<SqlStore<MemStore>>,
+    script: &str,
+    rows: &str,
+) -> bool {
+    let Some(mut store) = store else {
         return false;
     };
     let served = serves(rt, alloc, &mut store, "", script);
     served && is_left(rt, alloc, store.into_connection(), rows)
+}
+
+// A store over an empty database.
+fn alone(alloc: Global) -> Option<SqlStore<MemStore>> {
+    match SqlStore::in_memory(alloc) {
+        Ok(store) => Some(store),
+        Err(_) => None,
+    }
+}
+
+// A store over a database that has another table too, and so is not known.
+fn beside(alloc: Global) -> Option<SqlStore<MemStore>> {
+    match database(alloc, "CREATE TABLE other (a INTEGER) STRICT") {
+        Ok(connection) => adopted(connection),
+        Err(_) => None,
+    }
 }
 
 // A trial run refuses one growth, and so stands in the way of one of two stores.
@@ -108,8 +130,27 @@ fn leaves(rt: &impl Abort, alloc: Global, script: &str, rows: &str) -> bool {
 fn rows_stay_for_the_next_store(rt: HostRuntime) {
     let script = "b=2 c=-9223372036854775808 a=9223372036854775807 b=3 c d e.f_g-0=0";
     let rows = "a=9223372036854775807 b=3 e.f_g-0=0";
-    let first = leaves(&rt, rt.alloc(), script, rows);
-    let second = leaves(&rt, rt.alloc(), script, rows);
+    let first = leaves(&rt, rt.alloc(), alone(rt.alloc()), script, rows);
+    let second = leaves(&rt, rt.alloc(), alone(rt.alloc()), script, rows);
+    assert!(rt; first || second);
+}
+
+#[test]
+fn rows_stay_beside_another_table(rt: HostRuntime) {
+    let first = leaves(
+        &rt,
+        rt.alloc(),
+        beside(rt.alloc()),
+        "b=2 a=1 c=3 b",
+        "a=1 c=3",
+    );
+    let second = leaves(
+        &rt,
+        rt.alloc(),
+        beside(rt.alloc()),
+        "b=2 a=1 c=3 b",
+        "a=1 c=3",
+    );
     assert!(rt; first || second);
 }
 
