@@ -5,6 +5,7 @@ ghost use Rattle.serial_spec.specs.Interleaving.{AllAnswered};
 ghost use Rattle.txn_history.specs.Turns.{IsUnderWay};
 ghost use Rattle.durable_top.specs.Store.{plain};
 ghost use Rattle.manager_core.specs.Opening.{HasCause};
+ghost use Rattle.interleavings.specs.Scheduled.{Stands};
 ghost use Rattle.interleavings.specs.Turning.{IsClosed, IsStart, Unstuck, next_number};
 ghost use Rattle.shared_book.specs.Attempting.{Attempted, IsNext};
 
@@ -54,6 +55,13 @@ impl<'a, S: TopStore> Book<'a, S> {
             }),
             Err(fault) => Err(fault),
         }
+    }
+
+    /// The sessions are under way, and the manager is sound. The call does nothing: it tells the prover so.
+    pub fn has_legal_history(&self)
+        ensures { Stands S.TopStore self.now }
+    {
+        self.turns.has_legal_history();
     }
 
     /// The number of the session's next line, where there is such a session and it has a line left.
