@@ -12,7 +12,7 @@ use Rattle.session_runs.specs.declared.replay.ReplayFault.TheVariants.{Text, Run
 
 -- a writer that keeps what it got after the whole report
 pub replayed_kept : {S : Type 0} (g : Ghosts S) (old mid new : Option (List ℕ)) (text : List ℕ) (way : Way) (store left : S) → IsReplayed g old mid text way store left → Keeps mid new → IsReplayed g old new text way store left
-replayed_kept g old mid new text way store left h k = record { told = h.told; holds = h.holds; written = kept old mid new (spelled_report h.told) h.written k }
+replayed_kept g old mid new text way store left h k = record { told = h.told; holds = h.holds; written = kept old mid new (spelled_report h.told) h.written k; accepted = h.accepted }
 
 -- a writer that got nothing
 pub same_kept : (w : Option (List ℕ)) → Keeps w w

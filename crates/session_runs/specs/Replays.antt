@@ -10,6 +10,8 @@ use Rattle.interleavings.specs.Told.{Told}
 use Rattle.interleavings.specs.Reports.{IsReport}
 use Rattle.interleavings.specs.Runs.{HasRunCause}
 use Rattle.interleavings.specs.declared.run.RunFault.{RunFault}
+use Rattle.report_check.specs.Verdicts.{HasVerdict}
+use Rattle.report_check.specs.declared.verdict.Verdict.TheVariants.{Yes}
 use Rattle.worker_pool.specs.Served.{HasServeCause}
 use Rattle.worker_pool.specs.declared.serving.ServeFault.{ServeFault}
 use Rattle.session_runs.specs.Ways.{Way, Scheduled, ByWorkers, IsRunBy}
@@ -34,6 +36,8 @@ pub record IsReplayed {S : Type 0} (g : Ghosts S) (old new : Option (List ℕ)) 
   pub told : Told
   pub holds : IsTold g text way store left told
   pub written : Appends old new (spelled_report told)
+  -- and whoever checks them accepts them
+  pub accepted : HasVerdict (spelled_report told) Yes
 
 -- the writer failed, after a beginning of that report
 pub record IsCutShort {S : Type 0} (g : Ghosts S) (old new : Option (List ℕ)) (text : List ℕ) (way : Way) (store : S) : Type 0 where

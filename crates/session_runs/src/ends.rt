@@ -3,6 +3,8 @@ ghost use Rattle.std.specs.Prelude.{◌≡◌, Ok, IfErr, IfOk, OnOk};
 ghost use Rattle.session_text.specs.Texts.{sessions_of};
 ghost use Rattle.txn_bytes.specs.Written.{AppendsFront};
 ghost use Rattle.std.specs.Io.KnownBytes.{Appends};
+ghost use Rattle.report_check.specs.Verdicts.{HasVerdict};
+ghost use Rattle.report_check.specs.declared.verdict.Verdict.TheVariants.{Yes};
 ghost use Rattle.session_runs.specs.Replays.{IsUnended, IsUnread, spelled_report};
 
 use crate::replay::ReplayFault;
@@ -23,9 +25,10 @@ pub(crate) fn read_sessions(alloc: Global, text: &[u8]) -> Result<Sessions, Repl
     }
 }
 
-/// Writes the report. After the fault, which is the writer's, `out` has taken a beginning of it.
+/// Writes the report, which has the verdict yes. After the fault, which is the writer's, `out` has taken a beginning of it.
 pub(crate) fn put_report<W: Write>(report: &Report, out: &mut W) -> Result<(), ReplayFault>
     ensures ok { OnOk result (Appends (W.contents out.old) (W.contents out.new) (spelled_report report.now)) }
+    ensures accepted { OnOk result (HasVerdict (spelled_report report.now) Yes) }
     ensures err { IfErr result (λ fault. IsUnended (W.contents out.old) (W.contents out.new) report.now fault) }
 {
     match write_report(report, out) {
