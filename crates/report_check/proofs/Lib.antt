@@ -3,3 +3,4 @@ pub mod Served
 pub mod Spelled
 pub mod Grown
 pub mod Sound
+pub mod Faults

@@ -1,14 +1,21 @@
 -- Where the verdict is yes, the bytes are a report whose committed top-level transactions are a serial run.
-use Rattle.std.proofs.Common.{◌≡◌, ℕ, ℤ, zero, suc, ◌≤◌, ◌+◌, List, [], ◌∷◌, length, true, false, Bool, cond, Option, Some, None, Result, Ok, Err, refl, sym, ap, ap₂, ◌∙◌, subst, arith, ⊎_elim, length-take-le, ◌-◌}
-use Rattle.std.specs.Prelude.{◌||◌, ◌&&◌, codes, is_none, is_some}
+use Rattle.std.proofs.Common.{◌≡◌, ℕ, ℤ, zero, suc, ◌<◌, ◌≤◌, ◌+◌, List, [], ◌∷◌, ◌++◌, length, map, true, false, Bool, cond, not, nat_eq, Option, Some, None, Result, Ok, Err, refl, sym, ap, ap₂, ◌∙◌, subst, arith, ⊎_elim, length-take-le, ◌-◌}
+use Rattle.std.specs.Prelude.{◌||◌, ◌&&◌, codes, is_none, is_some, nat_lt}
 use Rattle.std.specs.List.{list_any}
 use Rattle.std.specs.Option.{ok_or}
 use Rattle.std.specs.Ordering.{int_eq}
 use Rattle.std.specs.Str.{bytes_eq}
-use Rattle.std.proofs.lemmas.Bool.{and_parts, true≢false}
-use Rattle.std.proofs.lemmas.Bool.Decides.{Decides-int_eq}
+use Rattle.std.proofs.lemmas.Bool.{and_parts, eqb-true, not-true, true≢false}
+use Rattle.std.specs.Cmp.Lexicographic.{slice_cmp}
+use Rattle.std.specs.Ordering.{is_lt, nat_cmp}
+use Rattle.std.specs.declared.cmp.Ordering.{Ordering}
+use Rattle.std.specs.declared.cmp.Ordering.TheVariants.{Less, Equal, Greater}
+use Rattle.std.proofs.lemmas.Bool.Decides.{Decides-int_eq, nat_tests}
 use Rattle.txn_names.specs.Path.{label_eq, parent}
-use Rattle.txn_names.proofs.Names.{same_label}
+use Rattle.txn_names.proofs.Names.{on_test, same_label}
+use Rattle.serial_spec.specs.declared.limits.TheConstants.{MOST_ROWS, MOST_SESSIONS}
+use Rattle.serial_spec.specs.declared.entry.By.{By}
+use Rattle.serial_spec.specs.declared.entry.By.TheVariants as by
 use Rattle.serial_spec.specs.declared.entry.Answer.{Answer}
 use Rattle.serial_spec.specs.declared.entry.Answer.TheVariants.{Done, Waits, Stuck, Refused}
 use Rattle.serial_spec.specs.declared.entry.Entry.{Entry}
@@ -17,10 +24,15 @@ use Rattle.serial_spec.specs.declared.event.Event.TheVariants.{Begin, Access, Co
 use Rattle.serial_spec.specs.declared.operation.Reply.TheVariants as reply
 use Rattle.serial_spec.specs.History.{History, Name, Status, Absent, Live, Committed, Aborted, effect, effect_of, begun, has_aborted, has_begun, has_committed, is_committed, is_live, is_live_status, is_orphan, or_else, status, top_aborted}
 use Rattle.serial_spec.specs.Legal.{first_live, is_top_level}
-use Rattle.serial_spec.specs.Rows.{Rows, value_in}
+use Rattle.serial_spec.specs.Interleaving.{answered}
+use Rattle.serial_spec.specs.Places.{is_below}
+use Rattle.serial_spec.specs.Printing.{spelled_event}
+use Rattle.serial_spec.specs.Rows.{IsRising, Rows, value_in}
+use Rattle.serial_spec.specs.Waits.{is_waits}
+use Rattle.serial_spec.proofs.Ordered.{above_all}
 use Rattle.session_text.specs.Grammar.{IsEvent}
 use Rattle.session_text.specs.Words.{cut_at}
-use Rattle.session_text.proofs.Reading.{bind_ok, pick}
+use Rattle.session_text.proofs.Reading.{bind_ok, is_word, pick}
 use Rattle.txn_history.proofs.Begun.{none_begun}
 use Rattle.txn_history.proofs.StatusTests.{status_committed}
 use Rattle.txn_history.proofs.Tops.{top_by_parent}
@@ -29,8 +41,8 @@ use Rattle.report_lines.specs.Reading.{entry_of, row_of}
 use Rattle.report_lines.specs.declared.entry.ReportEntry.{ReportEntry}
 use Rattle.report_lines.specs.declared.entry.ReportEntry.TheVariants as told
 use Rattle.report_lines.proofs.Entries.{entries_read_back}
-use Rattle.report_check.specs.Laws.{IsServed, YesIsSound}
-use Rattle.report_check.specs.Passing.{Part, Start, Opening, Entries, Final, Ended, Read, at_part, entry_in, entry_next, final_next, has_ended, is_in_time, is_next, may_add_row, may_close, may_do, may_end, may_follow, middle_next, next, next_at, none_waits, opening_next, read, read_from, unread, with_entry, with_opening, with_row}
+use Rattle.report_check.specs.Laws.{AreInOrder, IsInOrder, IsServed, YesIsSound}
+use Rattle.report_check.specs.Passing.{Part, Start, Opening, Entries, Final, Ended, Read, at_part, entry_in, entry_next, final_next, goes_on, has_ended, is_close, is_in_time, is_next, is_past, may_add_row, may_close, may_do, may_end, may_follow, middle_next, next, next_at, none_waits, opening_next, read, read_from, unread, waiting, with_entry, with_opening, with_row}
 use Rattle.report_check.specs.Serving.{map_behind}
 use Rattle.report_check.specs.Verdicts.{IsJudged, IsRun, compared, first_wrong, same_row, served}
 use Rattle.report_check.specs.declared.verdict.Verdict.TheVariants.{Yes, No}
@@ -38,19 +50,56 @@ use Rattle.report_check.proofs.Grown.{IsGrown, IsNamed, grown_more, grown_none}
 use Rattle.report_check.proofs.Served.{accesses_are_items}
 use Rattle.report_check.proofs.Spelled.{no_read, read_is_report, same_ok, some_read, was_some}
 
+-- ---- rows
+
+below : (a b : List ℕ) → is_below a b ≡ true → slice_cmp nat_cmp a b ≡ Less
+below a b h = by (slice_cmp nat_cmp a b) h
+  where
+    by : (o : Ordering) → is_lt o ≡ true → o ≡ Less
+    by Less e = refl
+    by Equal e = cc
+    by Greater e = cc
+
+rising_more : (rows : Rows) (r : List ℕ × ℤ) → IsRising rows → is_past rows r.0 ≡ true → IsRising (rows ++ r ∷ [])
+rising_more [] r rising past = (tt, tt)
+rising_more (a ∷ []) r rising past = ((below a.0 r.0 past, tt), (tt, tt))
+rising_more (a ∷ b ∷ rows) r rising past =
+    let rest = rising_more (b ∷ rows) r rising.1 past in
+    ((rising.0.0, above_all a.0 b.0 (map (λ q. q.0) (rows ++ r ∷ [])) rising.0.0 rest.0), rest)
+
 -- ---- what holds of what was read so far
 
--- behind the line `table` no top-level transaction is live
-abbrev IsOver : Part → History → Type 0
-IsOver Start h = Unit {0}
-IsOver Opening h = Unit {0}
-IsOver Entries h = Unit {0}
-IsOver Final h = first_live h (begun h) ≡ None
-IsOver Ended h = first_live h (begun h) ≡ None
+pub record IsKept (r : Read) : Type 0 where
+  pub grown : IsGrown r.history
+  pub order : AreInOrder r.history
+  pub rows : IsRising r.opening
+  pub last : IsRising r.table
+
+-- behind the line `table` no top-level transaction is live, and no line waits
+abbrev IsOver : Part → Read → Type 0
+IsOver Start r = Unit {0}
+IsOver Opening r = Unit {0}
+IsOver Entries r = Unit {0}
+IsOver Final r = may_end r ≡ true
+IsOver Ended r = may_end r ≡ true
 
 record IsHeld (r : Read) : Type 0 where
-  grown : IsGrown r.history
-  over : IsOver r.part r.history
+  kept : IsKept r
+  over : IsOver r.part r
+
+-- an entry that may follow is in order
+order_by : (h : History) (b : By) (e : Event) (a : Answer) → is_in_time h b ≡ true → is_next h b e a ≡ true → IsInOrder h b e a
+order_by h (by.Line s n) e a time next =
+    let p = and_parts (nat_lt s MOST_SESSIONS && nat_eq n (suc (answered h s))) (goes_on (waiting h s) e a) next in
+    let q = and_parts (nat_lt s MOST_SESSIONS) (nat_eq n (suc (answered h s))) p.0 in
+    (eqb-true n (suc (answered h s)) q.1, answers p.1, not-true (list_any (λ x. is_close x.by) h) time)
+  where
+    answers : goes_on (waiting h s) e a ≡ true → (w : Event) → waiting h s ≡ Some w → (spelled_event w ≡ spelled_event e) × (is_waits a ≡ false)
+    answers goes w is =
+        let t = and_parts (bytes_eq (spelled_event w) (spelled_event e)) (not (is_waits a)) (ap (λ o. goes_on o e a) (sym is) ∙ goes) in
+        (is_word (spelled_event w) (spelled_event e) t.0, not-true (is_waits a) t.1)
+order_by h by.Victim e a time next = not-true (list_any (λ x. is_close x.by) h) time
+order_by h by.Close e a time next = tt
 
 named_event : (e : Event) (a : Answer) → IsEvent e → IsNamed (effect_of e a)
 named_event (Begin t) (Done reply.Ok) h = h.some
@@ -93,79 +142,115 @@ named_entry labels (told.Close t) h = tt
 
 -- ---- one line more
 
-entry_held : (r s : Read) (p : List ℕ) (o : Option ReportEntry) → IsGrown r.history → entry_of p ≡ o → entry_next r o ≡ Some s → IsHeld s
-entry_held r s p None g e h = no_read s h
-entry_held r s p (Some x) g e h =
+entry_held : (r s : Read) (p : List ℕ) (o : Option ReportEntry) → IsKept r → entry_of p ≡ o → entry_next r o ≡ Some s → IsHeld s
+entry_held r s p None k e h = no_read s h
+entry_held r s p (Some x) k e h =
     pick (may_follow r.history (entry_in r.labels x)) (Some (with_entry r x)) None (Some s) h
     (λ may same.
     let f : Entry = entry_in r.labels x in
     let front = and_parts (is_in_time r.history f.by && is_next r.history f.by f.event f.answer && may_do r.history (effect f)) (may_close f.by f.event) may in
     let done = and_parts (is_in_time r.history f.by && is_next r.history f.by f.event f.answer) (may_do r.history (effect f)) front.0 in
+    let turn = and_parts (is_in_time r.history f.by) (is_next r.history f.by f.event f.answer) done.0 in
     subst IsHeld (some_read (with_entry r x) s same)
-    (record { grown = grown_more r.history f g done.1 (named_entry r.labels x ((entries_read_back p x).0 e).0); over = tt }))
+    (record {
+      kept = record {
+        grown = grown_more r.history f k.grown done.1 (named_entry r.labels x ((entries_read_back p x).0 e).0);
+        order = (k.order, order_by r.history f.by f.event f.answer turn.0 turn.1);
+        rows = k.rows;
+        last = k.last;
+      };
+      over = tt;
+    }))
     (λ _ none. no_read s none)
 
-was_none : (o : Option Name) → is_none o ≡ true → o ≡ None
-was_none None h = refl
-was_none (Some t) h = cc
+moved_on : (q : Part) (r : Read) → IsKept r → IsOver q r → IsHeld (at_part q r)
+moved_on Start r k over = record { kept = record { grown = k.grown; order = k.order; rows = k.rows; last = k.last }; over = tt }
+moved_on Opening r k over = record { kept = record { grown = k.grown; order = k.order; rows = k.rows; last = k.last }; over = tt }
+moved_on Entries r k over = record { kept = record { grown = k.grown; order = k.order; rows = k.rows; last = k.last }; over = tt }
+moved_on Final r k over = record { kept = record { grown = k.grown; order = k.order; rows = k.rows; last = k.last }; over = over }
+moved_on Ended r k over = record { kept = record { grown = k.grown; order = k.order; rows = k.rows; last = k.last }; over = over }
 
-middle_held : (r s : Read) (p : List ℕ) → IsGrown r.history → middle_next r p ≡ Some s → IsHeld s
-middle_held r s p g h =
+middle_held : (r s : Read) (p : List ℕ) → IsKept r → middle_next r p ≡ Some s → IsHeld s
+middle_held r s p k h =
     pick (bytes_eq p (codes "table")) (cond (may_end r) (Some (at_part Final r)) None) (entry_next r (entry_of p)) (Some s) h
     (λ _ h2. pick (may_end r) (Some (at_part Final r)) None (Some s) h2
-    (λ may same. subst IsHeld (some_read (at_part Final r) s same)
-    (record { grown = g; over = was_none _ (and_parts (is_none (first_live r.history (begun r.history))) (none_waits r.history (length r.labels)) may).0 }))
+    (λ may same. subst IsHeld (some_read (at_part Final r) s same) (moved_on Final r k may))
     (λ _ none. no_read s none))
-    (λ _ h2. entry_held r s p (entry_of p) g refl h2)
+    (λ _ h2. entry_held r s p (entry_of p) k refl h2)
 
-opening_held : (r s : Read) (p : List ℕ) (o : Option (List ℕ × ℤ)) → IsGrown r.history → opening_next r p o ≡ Some s → IsHeld s
-opening_held r s p None g h = middle_held r s p g h
-opening_held r s p (Some row) g h =
+opening_held : (r s : Read) (p : List ℕ) (o : Option (List ℕ × ℤ)) → IsKept r → opening_next r p o ≡ Some s → IsHeld s
+opening_held r s p None k h = middle_held r s p k h
+opening_held r s p (Some row) k h =
     pick (may_add_row r.opening row.0) (Some (with_opening r row)) None (Some s) h
-    (λ _ same. subst IsHeld (some_read (with_opening r row) s same) (record { grown = g; over = tt })) (λ _ none. no_read s none)
+    (λ may same. subst IsHeld (some_read (with_opening r row) s same)
+    (record {
+      kept = record {
+        grown = k.grown;
+        order = k.order;
+        rows = rising_more r.opening row k.rows (and_parts (nat_lt (length r.opening) MOST_ROWS) (is_past r.opening row.0) may).1;
+        last = k.last;
+      };
+      over = tt;
+    }))
+    (λ _ none. no_read s none)
 
-final_held : (r s : Read) (o : Option (List ℕ × ℤ)) → IsGrown r.history → first_live r.history (begun r.history) ≡ None → final_next r o ≡ Some s → IsHeld s
-final_held r s None g over h = no_read s h
-final_held r s (Some row) g over h =
+final_held : (r s : Read) (o : Option (List ℕ × ℤ)) → IsKept r → may_end r ≡ true → final_next r o ≡ Some s → IsHeld s
+final_held r s None k over h = no_read s h
+final_held r s (Some row) k over h =
     pick (may_add_row r.table row.0) (Some (with_row r row)) None (Some s) h
-    (λ _ same. subst IsHeld (some_read (with_row r row) s same) (record { grown = g; over = over })) (λ _ none. no_read s none)
+    (λ may same. subst IsHeld (some_read (with_row r row) s same) (record { kept = record { grown = k.grown; order = k.order; rows = k.rows; last = rising_more r.table row k.last (and_parts (nat_lt (length r.table) MOST_ROWS) (is_past r.table row.0) may).1 }; over = over }))
+    (λ _ none. no_read s none)
 
-held_at : (q : Part) (r s : Read) (p : List ℕ) → IsGrown r.history → IsOver q r.history → next_at q r p ≡ Some s → IsHeld s
-held_at Start r s p g over h =
+held_at : (q : Part) (r s : Read) (p : List ℕ) → IsKept r → IsOver q r → next_at q r p ≡ Some s → IsHeld s
+held_at Start r s p k over h =
     pick (bytes_eq p (codes "open")) (Some (at_part Opening r)) None (Some s) h
-    (λ _ same. subst IsHeld (some_read (at_part Opening r) s same) (record { grown = g; over = tt })) (λ _ none. no_read s none)
-held_at Opening r s p g over h = opening_held r s p (row_of p) g h
-held_at Entries r s p g over h = middle_held r s p g h
-held_at Final r s p g over h =
+    (λ _ same. subst IsHeld (some_read (at_part Opening r) s same) (moved_on Opening r k tt)) (λ _ none. no_read s none)
+held_at Opening r s p k over h = opening_held r s p (row_of p) k h
+held_at Entries r s p k over h = middle_held r s p k h
+held_at Final r s p k over h =
     pick (bytes_eq p (codes "end")) (Some (at_part Ended r)) (final_next r (row_of p)) (Some s) h
-    (λ _ same. subst IsHeld (some_read (at_part Ended r) s same) (record { grown = g; over = over })) (λ _ h2. final_held r s (row_of p) g over h2)
-held_at Ended r s p g over h = no_read s h
+    (λ _ same. subst IsHeld (some_read (at_part Ended r) s same) (moved_on Ended r k over)) (λ _ h2. final_held r s (row_of p) k over h2)
+held_at Ended r s p k over h = no_read s h
 
 -- ---- all lines
 
-record IsDone (s : Read) : Type 0 where
-  grown : IsGrown s.history
-  over : first_live s.history (begun s.history) ≡ None
+pub record IsDone (s : Read) : Type 0 where
+  pub kept : IsKept s
+  pub over : may_end s ≡ true
 
-ended_over : (q : Part) (h : History) → has_ended q ≡ true → IsOver q h → first_live h (begun h) ≡ None
-ended_over Start h e over = cc
-ended_over Opening h e over = cc
-ended_over Entries h e over = cc
-ended_over Final h e over = over
-ended_over Ended h e over = over
+ended_over : (q : Part) (r : Read) → has_ended q ≡ true → IsOver q r → may_end r ≡ true
+ended_over Start r e over = cc
+ended_over Opening r e over = cc
+ended_over Entries r e over = cc
+ended_over Final r e over = over
+ended_over Ended r e over = over
 
 done_from : (n : ℕ) (r s : Read) (ps : List (List ℕ)) → IsHeld r → read_from n r ps ≡ Ok s → IsDone s
 done_from n r s [] held h = cc
 done_from n r s (p ∷ []) held h =
     pick _ (Ok r) (Err n) (Ok s) h
-    (λ b same. subst IsDone (same_ok r s same) (record { grown = held.grown; over = ended_over r.part r.history (and_parts _ _ b).1 held.over }))
+    (λ b same. subst IsDone (same_ok r s same) (record { kept = held.kept; over = ended_over r.part r (and_parts _ _ b).1 held.over }))
     (λ _ no2. cc)
 done_from n r s (p ∷ q ∷ ps) held h =
     let m = bind_ok (ok_or (next r p) n) (λ more. read_from (n + 1) more (q ∷ ps)) s h in
-    done_from (n + 1) m.0 s (q ∷ ps) (held_at r.part r m.0 p held.grown held.over (was_some (next r p) n m.0 m.1)) m.2
+    done_from (n + 1) m.0 s (q ∷ ps) (held_at r.part r m.0 p held.kept held.over (was_some (next r p) n m.0 m.1)) m.2
 
-read_done : (bs : List ℕ) (s : Read) → read bs ≡ Ok s → IsDone s
-read_done bs s h = done_from 1 unread s (cut_at 10 bs) (record { grown = grown_none; over = tt }) h
+pub read_done : (bs : List ℕ) (s : Read) → read bs ≡ Ok s → IsDone s
+read_done bs s h = done_from 1 unread s (cut_at 10 bs) (record { kept = record { grown = grown_none; order = tt; rows = tt; last = tt }; over = tt }) h
+
+was_none : {X : Type 0} (o : Option X) → is_none o ≡ true → o ≡ None
+was_none None h = refl
+was_none (Some t) h = cc
+
+none_at : (h : History) (n s : ℕ) → none_waits h n ≡ true → s < n → waiting h s ≡ None
+none_at h zero s all below = absurd (omega (arith, below))
+none_at h (suc n) s all below =
+    let p = and_parts (is_none (waiting h n)) (none_waits h n) all in
+    on_test (nat_eq s n) (λ _. waiting h s ≡ None) (λ e. ap (waiting h) (eqb-true s n e) ∙ was_none (waiting h n) p.0)
+    (λ e. none_at h n s p.1 (differs s n e below))
+  where
+    differs : (x y : ℕ) → nat_eq x y ≡ false → x < suc y → x < y
+    differs x y e lt = grind (arith, nat_tests)
 
 -- ---- who has committed
 
@@ -242,17 +327,25 @@ sound_run : (bs : List ℕ) (r : Read) (o : Option ℕ) → read bs ≡ Ok r →
 sound_run bs r (Some n) e w v = cc
 sound_run bs r None e w v =
     let done = read_done bs r e in
+    let over = and_parts (is_none (first_live r.history (begun r.history))) (none_waits r.history (length r.labels)) done.over in
+    let ended = was_none (first_live r.history (begun r.history)) over.0 in
     let law = accesses_are_items (1 + length r.opening) r.history [] (value_in r.opening) in
-    let table : value_in r.table ≡ map_behind (value_in r.opening) (served r) = ap value_in (same_rows _ r.table v.due v.verdict) ∙ v.left in
+    let same = same_rows _ r.table v.due v.verdict in
+    let table : value_in r.table ≡ map_behind (value_in r.opening) (served r) = ap value_in same ∙ v.left in
     record {
       opening = r.opening;
       labels = r.labels;
       history = r.history;
       table = r.table;
       bytes = read_is_report bs r e;
+      rising = done.kept.rows;
+      rising_left = subst IsRising (sym same) v.rising;
+      in_order = done.kept.order;
+      answered_all = λ s below. none_at r.history (length r.labels) s over.1 below;
+      ended = ended;
       runs = (law.1.0 w, sym law.0 ∙ sym table);
-      below = done.grown.down;
-      committed = λ t b o. all_committed r.history done.grown done.over (length t) t (omega arith) b o;
+      below = done.kept.grown.down;
+      committed = λ t b o. all_committed r.history done.kept.grown ended (length t) t (omega arith) b o;
     }
 
 sound_by : (bs : List ℕ) (j : Result Read ℕ) → read bs ≡ j → IsJudged j Yes → IsServed bs
