@@ -1,42 +1,42 @@
 -- The bytes of every report have the verdict yes: each of the three passes finds nothing.
-use Rattle.std.proofs.Common.{◌≡◌, ℕ, zero, suc, ◌+◌, ◌<◌, ◌≤◌, ◌⊎◌, inl, inr, List, [], ◌∷◌, ◌++◌, append-nil, cond, length, true, Option, Some, None, Ok, refl, sym, ap, ◌∙◌, subst, arith}
+use Rattle.std.proofs.Common.{◌≡◌, ℕ, zero, suc, ◌<◌, ◌≤◌, ◌⊎◌, inl, inr, List, [], ◌∷◌, ◌++◌, append-nil, length, true, Option, Some, None, Result, Ok, refl, sym, ap, ap₂, ◌∙◌, subst, arith}
 use Rattle.std.specs.Prelude.{codes, is_none}
 use Rattle.std.specs.List.{AllByRecursion}
-use Rattle.std.specs.Ordering.{int_eq}
 use Rattle.std.proofs.lemmas.Bool.{and_from}
-use Rattle.std.proofs.lemmas.Bool.Decides.{Decides-int_eq}
-use Rattle.txn_names.specs.Path.{label_eq}
-use Rattle.txn_names.proofs.Names.{label_eq_self}
+use Rattle.std.proofs.lemmas.Option.{unwrap_or-slice_get}
 use Rattle.serial_spec.specs.declared.limits.TheConstants.{MOST_SESSIONS}
 use Rattle.serial_spec.specs.declared.entry.By.{By}
 use Rattle.serial_spec.specs.declared.entry.By.TheVariants as by
+use Rattle.serial_spec.specs.declared.entry.Answer.{Answer}
 use Rattle.serial_spec.specs.declared.entry.Entry.{Entry}
 use Rattle.serial_spec.specs.declared.event.Event.{Event}
-use Rattle.serial_spec.specs.History.{History}
-use Rattle.serial_spec.specs.Items.{items}
+use Rattle.serial_spec.specs.History.{History, Name}
+use Rattle.serial_spec.specs.Items.{Items, items}
 use Rattle.serial_spec.specs.Legal.{AreAllowed, Legal}
 use Rattle.serial_spec.specs.Interleaving.{IsFinished, IsInterleaving, Session}
 use Rattle.serial_spec.specs.Report.{report, spelled_entry}
 use Rattle.serial_spec.specs.Rows.{Rows, value_in}
-use Rattle.serial_spec.specs.Serial.{Replies, map_after}
+use Rattle.serial_spec.specs.Serial.{Runs}
 use Rattle.session_text.specs.Grammar.{IsText}
 use Rattle.session_text.specs.Words.{cut_at}
 use Rattle.session_text.proofs.Bytes.{Lacks}
 use Rattle.txn_history.proofs.Theorems.{legal_allowed}
 use Rattle.report_lines.specs.Laws.{IsReportEntry}
 use Rattle.report_lines.specs.declared.entry.ReportEntry.{ReportEntry}
+use Rattle.report_lines.specs.declared.entry.ReportEntry.TheVariants as told
 use Rattle.report_lines.proofs.Entries.{entries_read_back}
 use Rattle.report_check.specs.Passing.{Part, Opening, Entries, Final, Ended, Read, at_part, entry_in, may_end, may_follow, none_waits, read, read_from, session_of, unread, waiting}
-use Rattle.report_check.specs.Verdicts.{HasVerdict, IsJudged, IsRun, compared, first_wrong}
-use Rattle.report_check.specs.declared.verdict.Verdict.TheVariants.{Yes, No}
-use Rattle.report_check.proofs.Served.{accesses_are_items}
-use Rattle.report_laws.specs.Laws.{EveryReportIsAccepted}
+use Rattle.report_check.specs.Verdicts.{HasVerdict}
+use Rattle.report_check.specs.declared.verdict.Verdict.TheVariants.{Yes}
+use Rattle.report_check.proofs.Faults.{served_is_accepted}
+use Rattle.report_laws.specs.Laws.{AnswersMayStand, EveryReportIsAccepted, ReportsTellTheSame, entries_told, told_by}
 use Rattle.report_laws.specs.Whole.{IsRow, IsWhole}
-use Rattle.report_laws.proofs.Entries.{events_are, label_in, labels_of, told_by, told_is, told_spelled}
+use Rattle.report_laws.proofs.Answers.{allowed_fits}
+use Rattle.report_laws.proofs.Entries.{events_are, label_in, labels_of, told_is, told_spelled}
 use Rattle.report_laws.proofs.Following.{IsFound, IsOwn, all_found, alone, follows, in_sessions, managed, named, named_few, numbered, told_entry}
 use Rattle.report_laws.proofs.Lines.{EntriesLack, cut_lines, entry_lacks, entry_texts, lines_lack, report_joined, report_lines}
 use Rattle.report_laws.proofs.Reading.{IsMiddle, Leads, end_leads, entry_leads, final_leads, leads_both, leads_none, leads_one, opened, opening_leads, table_leads, with_table}
-use Rattle.report_laws.proofs.Renamed.{Holds, first_same, items_same, moved_entry, renamed, waiting_same, waits_or_numbered}
+use Rattle.report_laws.proofs.Renamed.{Holds, first_same, items_same, moved, moved_entry, renamed, waiting_same, waits_or_numbered}
 use Rattle.report_laws.proofs.Turns.{waits_next}
 use Rattle.report_laws.proofs.Values.{HasRows, after_rows, all_rows, items_ops, rows_have}
 
@@ -131,12 +131,6 @@ module _ (opening : Rows) (ss : List Session) (text : IsText ss) (has : HasRows 
     ends : may_end (entered h) ≡ true
     ends = and_from _ _ (ap is_none (first_same at h ∙ finished.closed)) (none_of (length (named ls h)))
 
--- ---- the table
-
-same_as : (n : ℕ) (rows : Rows) → Yes ≡ compared n rows rows
-same_as n [] = refl
-same_as n (r ∷ rows) = same_as (suc n) rows ∙ sym (ap (λ b. cond b (compared (suc n) rows rows) (No n)) (and_from (label_eq r.0 r.0) (int_eq r.1 r.1) (label_eq_self r.0) ((Decides-int_eq r.1 r.1).1 refl)))
-
 -- ---- all together
 
 module _ (opening table : Rows) (labels : List (List ℕ)) (h : History) (w : IsWhole opening labels h table) where
@@ -188,21 +182,44 @@ module _ (opening table : Rows) (labels : List (List ℕ)) (h : History) (w : Is
       let last = lines_lead.goes 1 ([] ∷ []) (omega arith) in
       ap (λ bs. read_from 1 unread (cut_at 10 bs)) (sym (report_joined opening ls h table)) ∙ ap (read_from 1 unread) (cut_lines (report_lines opening ls h table) lines) ∙ last.1
 
-  replies : Replies (value_in opening) (items (renamed (λ s. session_of all (label_in (labels_of w.sessions) s)) h) [])
-  replies = subst (λ (own : _). Replies (value_in opening) (own [])) (sym (items_same (λ s. session_of all (label_in (labels_of w.sessions) s)) h)) w.runs.0
-
-  is_run : IsRun whole (first_wrong whole) Yes
-  is_run =
-      let law = accesses_are_items (1 + length opening) whole.history [] (value_in opening) in
-      subst (λ o. IsRun whole o Yes) (sym (law.1.1 replies))
-      (record {
-        due = table;
-        rising = w.last.rising;
-        left = sym w.runs.1 ∙ ap (λ own. map_after (value_in opening) (own [])) (sym (items_same (λ s. session_of all (label_in (labels_of w.sessions) s)) h)) ∙ sym law.0;
-        verdict = same_as (3 + length opening + length whole.history) table;
-      })
+  runs : Runs (value_in opening) (items whole.history []) (value_in table)
+  runs = subst (λ (own : Name → Items). Runs (value_in opening) (own []) (value_in table)) (sym (items_same (λ s. session_of all (label_in (labels_of w.sessions) s)) h)) w.runs
 
 pub every_report_is_accepted : EveryReportIsAccepted
 every_report_is_accepted opening labels h table w =
     subst (λ ls. HasVerdict (report opening ls h table) Yes) (sym w.labelled)
-    (subst (λ j. IsJudged j Yes) (sym (bytes_read opening table labels h w)) (is_run opening table labels h w))
+    (served_is_accepted (report opening (labels_of w.sessions) h table) (whole opening table labels h w) (bytes_read opening table labels h w) (runs opening table labels h w))
+
+pub answers_may_stand : AnswersMayStand
+answers_may_stand rows h s n e a all events allowed may =
+    let fit = allowed_fits rows h allowed (rows_have rows all) events (by.Line s n) e a may in
+    (fit.fits, fit.answer)
+
+-- ---- what reports of the same bytes tell
+
+-- by the numbers of the labels as they are named, it is told the same
+one_told : (all labels : List (List ℕ)) (b : By) (e : Event) (a : Answer) → Holds (IsFound all labels) b
+    → told_by all (moved (λ s. session_of all (label_in labels s)) b) e a ≡ told_by labels b e a
+one_told all labels (by.Line s n) e a found = ap (λ l. told.Line l n e a) (unwrap_or-slice_get all (session_of all (label_in labels s)) [] ∙ found.1)
+one_told all labels by.Victim e a found = refl
+one_told all labels by.Close e a found = refl
+
+told_renamed : (all labels : List (List ℕ)) (h : History) → AllByRecursion (λ e. Holds (IsFound all labels) e.by) h
+    → entries_told all (renamed (λ s. session_of all (label_in labels s)) h) ≡ entries_told labels h
+told_renamed all labels [] found = refl
+told_renamed all labels (e ∷ h) found = ap₂ (λ (x : ReportEntry) xs. x ∷ xs) (one_told all labels e.by e.event e.answer found.0) (told_renamed all labels h found.1)
+
+told_whole : (opening table : Rows) (labels : List (List ℕ)) (h : History) (w : IsWhole opening labels h table)
+    → entries_told (whole opening table labels h w).labels (whole opening table labels h w).history ≡ entries_told labels h
+told_whole opening table labels h w =
+    let all : List (List ℕ) = named (labels_of w.sessions) h in
+    told_renamed all (labels_of w.sessions) h (all_found all (labels_of w.sessions) h [] (sym (append-nil all))) ∙ ap (λ ls. entries_told ls h) (sym w.labelled)
+
+same_read : (r s : Read) → ◌≡◌ {A = Result Read ℕ} (Ok r) (Ok s) → r ≡ s
+same_read r s e = cc
+
+pub reports_tell_the_same : ReportsTellTheSame
+reports_tell_the_same opening opening2 labels labels2 h h2 table table2 w w2 same =
+    let bytes = ap (λ ls. report opening ls h table) (sym w.labelled) ∙ same ∙ ap (λ ls. report opening2 ls h2 table2) w2.labelled in
+    let one = same_read _ _ (sym (bytes_read opening table labels h w) ∙ ap read bytes ∙ bytes_read opening2 table2 labels2 h2 w2) in
+    (ap (λ (r : Read). r.opening) one, sym (told_whole opening table labels h w) ∙ ap (λ (r : Read). entries_told r.labels r.history) one ∙ told_whole opening2 table2 labels2 h2 w2, ap (λ (r : Read). r.table) one)

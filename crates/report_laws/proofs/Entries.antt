@@ -23,20 +23,13 @@ use Rattle.txn_history.proofs.Causes.{abort_of}
 use Rattle.txn_history.proofs.Ends.{AbortOf}
 use Rattle.txn_history.proofs.Statuses.{told}
 use Rattle.report_lines.specs.Laws.{IsReportEntry, spelled_report_entry}
-use Rattle.report_lines.specs.declared.entry.ReportEntry.{ReportEntry}
-use Rattle.report_lines.specs.declared.entry.ReportEntry.TheVariants as told_as
+use Rattle.report_laws.specs.Laws.{told_by}
 use Rattle.report_laws.proofs.Answers.{allowed_fits, begun_named}
 use Rattle.report_laws.proofs.Turns.{with_parts}
 use Rattle.report_laws.proofs.Values.{AreEvents, HasRows}
 
 abbrev pub label_in : List (List ℕ) → ℕ → List ℕ
 label_in labels s = unwrap_or (slice_get labels s) []
-
--- the entry with its session's label
-abbrev pub told_by : List (List ℕ) → By → Event → Answer → ReportEntry
-told_by labels (by.Line s n) e a = told_as.Line (label_in labels s) n e a
-told_by labels by.Victim e a = told_as.Victim (name_in e)
-told_by labels by.Close e a = told_as.Close (name_in e)
 
 pub told_spelled : (labels : List (List ℕ)) (b : By) (e : Event) (a : Answer) → spelled_entry labels b e a ≡ spelled_report_entry (told_by labels b e a)
 told_spelled labels (by.Line s n) e a = refl

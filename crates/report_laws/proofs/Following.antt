@@ -27,8 +27,9 @@ use Rattle.txn_history.proofs.Causes.{abort_of}
 use Rattle.txn_history.proofs.Tests.{clash}
 use Rattle.txn_history.proofs.Theorems.{legal_allowed}
 use Rattle.report_check.specs.Passing.{entry_in, goes_on, is_in_time, is_next, labels_after, may_close, may_follow, session_of}
+use Rattle.report_laws.specs.Laws.{told_by}
 use Rattle.report_laws.proofs.Doing.{may_close_next, may_do_next}
-use Rattle.report_laws.proofs.Entries.{label_in, labels_of, line_of, told_by}
+use Rattle.report_laws.proofs.Entries.{label_in, labels_of, line_of}
 use Rattle.report_laws.proofs.Places.{placed, still_among, still_distinct}
 use Rattle.report_laws.proofs.Renamed.{AreAlone, Holds, answered_same, closes_same, may_do_same, moved, moved_entry, renamed, waiting_same}
 use Rattle.report_laws.proofs.Turns.{goes_on_next, in_time, with_parts}
