@@ -1,6 +1,7 @@
 //! The table of results in SQLite, as a store of top-level transactions.
 #![tactic(auto)]
 
+mod close;
 mod faults;
 mod load;
 mod memory;

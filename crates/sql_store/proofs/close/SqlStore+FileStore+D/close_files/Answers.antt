@@ -1,0 +1,4 @@
+use Rattle.sql_store.proofs.close.SqlStore+FileStore+D.close_files.Goals as goal
+
+pub returns-clause-failed : goal.returns-clause-failed
+returns-clause-failed g c = rw c.into_connection.ensures at c.close_files.ensures.err
