@@ -1,0 +1,10 @@
+pub mod Appending
+pub mod Climbing
+pub mod Doing
+pub mod Leading
+pub mod Numbered
+pub mod Running
+pub mod Speaking
+pub mod Matching
+pub mod Trees
+pub mod Walking
