@@ -29,6 +29,14 @@ pub(crate) fn put_count<W: Sink>(out: &mut W, count: u32) -> Result<(), WriteFau
     put(out, buffer.format(count).as_bytes())
 }
 
+pub(crate) fn put_size<W: Write>(out: &mut W, size: usize) -> Result<(), WriteFault>
+    ensures ok { OnOk result (Appends (W.contents out.old) (W.contents out.new) (decimal size)) }
+    ensures err { OnErr result (AppendsFront (W.contents out.old) (W.contents out.new) (decimal size)) }
+{
+    let mut buffer = Buffer::new();
+    put(out, buffer.format(size).as_bytes())
+}
+
 // A word with its space, and a name.
 pub(crate) fn put_named<W: Sink>(out: &mut W, word: &[u8], name: &Name) -> Result<(), WriteFault>
     ensures ok { OnOk result (Appends (W.contents out.old) (W.contents out.new) (word.now ++ spelled_name name.now)) }

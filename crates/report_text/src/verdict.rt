@@ -1,0 +1,32 @@
+//! The text of a verdict.
+ghost use Rattle.std.specs.Prelude.{ℕ, [], ◌∷◌, ◌++◌, codes, decimal, OnErr, OnOk};
+ghost use Rattle.std.specs.Io.KnownBytes.{Appends};
+ghost use Rattle.txn_bytes.specs.Written.{AppendsFront};
+ghost use Rattle.serial_spec.specs.Report.{line};
+ghost use Rattle.report_text.specs.Verdicts.{spelled_verdict};
+
+use crate::spelling::put_size;
+use report_check::Verdict;
+use std::io::Write;
+use txn_bytes::{WriteFault, put};
+
+fn put_no<W: Write>(out: &mut W, number: usize) -> Result<(), WriteFault>
+    ensures ok { OnOk result (Appends (W.contents out.old) (W.contents out.new) (line (codes "no " ++ decimal number))) }
+    ensures err { OnErr result (AppendsFront (W.contents out.old) (W.contents out.new) (line (codes "no " ++ decimal number))) }
+{
+    put(out, b"no ")?;
+    put_size(out, number)?;
+    put(out, b"\n")
+}
+
+/// Writes the verdict as a line: `yes`, or `no` and the number of the line that has the first fault. It takes no memory. After
+/// a fault, the only one, the writer has taken a beginning of that line.
+pub fn write_verdict<W: Write>(verdict: Verdict, out: &mut W) -> Result<(), WriteFault>
+    ensures ok { OnOk result (Appends (W.contents out.old) (W.contents out.new) (spelled_verdict verdict)) }
+    ensures err { OnErr result (AppendsFront (W.contents out.old) (W.contents out.new) (spelled_verdict verdict)) }
+{
+    match verdict {
+        Verdict::Yes => put(out, b"yes\n"),
+        Verdict::No(number) => put_no(out, number),
+    }
+}
