@@ -56,7 +56,7 @@ pub record IsUnrun {S : Type 0} (g : Ghosts S) (text schedule : List ℕ) (store
 pub record IsUnserved {S : Type 0} (g : Ghosts S) (text : List ℕ) (store : S) (fault : ServeFault) : Type 0 where
   pub sessions : List Session
   pub read : sessions_of text ≡ Ok sessions
-  pub cause : HasServeCause g store fault
+  pub cause : HasServeCause g sessions store fault
 
 -- Why a text was not run. Which way it was to be run tells which kinds of fault there are
 abbrev pub HasReplayCause : {S : Type 0} → Ghosts S → Option (List ℕ) → Option (List ℕ) → List ℕ → Way → S → ReplayFault → Type 0

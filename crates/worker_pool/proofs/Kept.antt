@@ -1,37 +1,39 @@
 -- What each holder of the lock keeps of the opening.
-use Rattle.std.proofs.Common.{◌≡◌, ℕ, Option, Result, Ok, Err, IfOk, OnErr, refl, sym, subst, ◌∙◌, arith}
+use Rattle.std.proofs.Common.{◌≡◌, ℕ, Option, Some, None, Result, Ok, Err, IfOk, OnErr, sym, subst}
 use Rattle.serial_spec.specs.declared.event.Event.{Event}
-use Rattle.serial_spec.specs.Rows.{Rows}
 use Rattle.durable_top.specs.declared.store.TopStore.{Ghosts}
 use Rattle.interleavings.specs.declared.turns.Turn.{Turn}
 use Rattle.interleavings.specs.declared.turns.Turn.TheVariants.{Answered, Parked, OutOfTurn}
-use Rattle.interleavings.specs.Attempts.{GoesOn}
 use Rattle.interleavings.specs.Turning.{Turning, Unstuck}
+use Rattle.interleavings.specs.Scheduled.{Goes}
+use Rattle.interleavings.proofs.Schedules.{goes_same, goes_still}
 use Rattle.shared_book.specs.Attempting.{Attempted}
-use Rattle.worker_pool.specs.Openings.{IsOpenedWith}
+use Rattle.worker_pool.specs.Openings.{HasGoneOn}
 
-module _ {S : Type 0} (g : Ghosts S) (opening : Rows) (doubt : ℕ) where
-  goes_on : (old new : Turning S) → IsOpenedWith g opening doubt old → GoesOn g old.core new.core → IsOpenedWith g opening doubt new
-  goes_on old new opened on = record { rows = on.rows ∙ opened.rows; later = omega (arith, opened.later, on.later.doubt) }
+module _ {S : Type 0} (g : Ghosts S) where
+  goes_on : (opened : Option (Turning S)) (old new : Turning S) → HasGoneOn g opened old → Goes g old new → HasGoneOn g opened new
+  goes_on None old new so_far more = tt
+  goes_on (Some first) old new so_far more = goes_still g first old new so_far more
 
-  attempt_keeps : (old new : Turning S) (s l : ℕ) (e : Event) (turn : Turn) → IsOpenedWith g opening doubt old → Attempted g old new s l e turn → IsOpenedWith g opening doubt new
-  attempt_keeps old new s l e Answered opened did = goes_on old new opened did.1.on
-  attempt_keeps old new s l e Parked opened did = goes_on old new opened did.1.on
-  attempt_keeps old new s l e OutOfTurn opened did = subst (IsOpenedWith g opening doubt) (sym did.1) opened
+  same_keeps : (opened : Option (Turning S)) (old new : Turning S) → HasGoneOn g opened old → new ≡ old → HasGoneOn g opened new
+  same_keeps opened old new so_far same = subst (HasGoneOn g opened) (sym same) so_far
 
-  same_keeps : (old new : Turning S) → IsOpenedWith g opening doubt old → new ≡ old → IsOpenedWith g opening doubt new
-  same_keeps old new opened same = subst (IsOpenedWith g opening doubt) (sym same) opened
+  attempt_keeps : (opened : Option (Turning S)) (old new : Turning S) (s l : ℕ) (e : Event) (turn : Turn) → HasGoneOn g opened old → Attempted g old new s l e turn
+      → HasGoneOn g opened new
+  attempt_keeps opened old new s l e Answered so_far did = goes_on opened old new so_far (record { sessions = did.1.sessions; on = did.1.on })
+  attempt_keeps opened old new s l e Parked so_far did = goes_on opened old new so_far (record { sessions = did.1.sessions; on = did.1.on })
+  attempt_keeps opened old new s l e OutOfTurn so_far did = same_keeps opened old new so_far did.1
 
-  pub if_attempted : {E : Type 0} (old new : Turning S) (s l : ℕ) (e : Event) (r : Result Turn E) → IsOpenedWith g opening doubt old
-      → IfOk r (λ turn. Attempted g old new s l e turn) → OnErr r (new ≡ old) → IsOpenedWith g opening doubt new
-  if_attempted old new s l e (Ok turn) opened did same = attempt_keeps old new s l e turn opened did
-  if_attempted old new s l e (Err fault) opened did same = same_keeps old new opened same
+  pub if_attempted : {E : Type 0} (opened : Option (Turning S)) (old new : Turning S) (s l : ℕ) (e : Event) (r : Result Turn E) → HasGoneOn g opened old
+      → IfOk r (λ turn. Attempted g old new s l e turn) → OnErr r (new ≡ old) → HasGoneOn g opened new
+  if_attempted opened old new s l e (Ok turn) so_far did same = attempt_keeps opened old new s l e turn so_far did
+  if_attempted opened old new s l e (Err fault) so_far did same = same_keeps opened old new so_far same
 
-  pub if_unstuck : {E : Type 0} (old new : Turning S) (r : Result (Option (ℕ × ℕ)) E) → IsOpenedWith g opening doubt old
-      → IfOk r (λ line. Unstuck g old new line) → OnErr r (new ≡ old) → IsOpenedWith g opening doubt new
-  if_unstuck old new (Ok line) opened did same = goes_on old new opened did.on
-  if_unstuck old new (Err fault) opened did same = same_keeps old new opened same
+  pub if_unstuck : {E : Type 0} (opened : Option (Turning S)) (old new : Turning S) (r : Result (Option (ℕ × ℕ)) E) → HasGoneOn g opened old
+      → IfOk r (λ line. Unstuck g old new line) → OnErr r (new ≡ old) → HasGoneOn g opened new
+  if_unstuck opened old new (Ok line) so_far did same = goes_on opened old new so_far (record { sessions = did.sessions; on = did.on })
+  if_unstuck opened old new (Err fault) so_far did same = same_keeps opened old new so_far same
 
--- the book as it was opened
-pub as_opened : {S : Type 0} (g : Ghosts S) (t : Turning S) → IsOpenedWith g t.core.rows (g.doubt t.core.store) t
-as_opened g t = record { rows = refl; later = omega arith }
+  -- the book as it was opened
+  pub as_opened : (t : Turning S) → HasGoneOn g (Some t) t
+  as_opened t = goes_same g t

@@ -1,21 +1,23 @@
 -- What it comes to that workers serve sessions.
-use Rattle.std.specs.Prelude.{◌≡◌, ◌+◌, ℕ, List, map}
+use Rattle.std.specs.Prelude.{◌≡◌, ◌⊎◌, ◌<◌, ◌+◌, ℕ, List, map, Result, Err}
 use Rattle.serial_spec.specs.Interleaving.{Session, IsInterleaving, IsFinished}
-use Rattle.serial_spec.specs.Rows.{Rows, value_in}
+use Rattle.serial_spec.specs.Rows.{value_in}
 use Rattle.durable_top.specs.declared.store.TopStore.{Ghosts}
 use Rattle.durable_top.specs.Store.{counted}
 use Rattle.manager_core.specs.Sound.{IsTrusted, store_refusals}
-use Rattle.manager_core.specs.Opening.{HasCause}
+use Rattle.manager_core.specs.Opening.{HasCause, HasGivenFew}
 use Rattle.interleavings.specs.Told.{Told}
-use Rattle.interleavings.specs.Runs.{Answers}
+use Rattle.interleavings.specs.Turning.{Turning, IsClosed}
+use Rattle.interleavings.specs.Scheduled.{Goes}
+use Rattle.interleavings.specs.Runs.{IsBrokenOff, WasAsked}
 use Rattle.worker_pool.specs.declared.serving.ServeFault.{ServeFault}
 use Rattle.worker_pool.specs.declared.serving.ServeFault.TheVariants.{NoMemory, Open, Thread}
 
 -- The report of these sessions over the store as it was given, and the store that comes back with it. What every
 -- report says is in `IsReport`; which of the legal histories it has is not said
 pub record IsServed {S : Type 0} (g : Ghosts S) (ss : List Session) (store : S) (r : Told) (left : S) : Type 0 where
-  -- the opening rows are what the store answered, and so its table
-  pub loaded : Answers g store r.opening
+  -- the opening rows are what the store answered, and so its table; it was asked for each commit before that was replied
+  pub asked : WasAsked g store r.opening r.history left
   pub opening : g.doubt left ≡ 0 → value_in r.opening ≡ g.table store
   pub labels : r.labels ≡ map (λ s. s.label) ss
   -- the history takes the sessions' lines in turn, and all of them
@@ -25,24 +27,24 @@ pub record IsServed {S : Type 0} (g : Ghosts S) (ss : List Session) (store : S) 
   pub stored : IsTrusted g left → g.table left ≡ value_in r.table
   pub refusals : g.faults left ≡ counted (g.faults store + store_refusals r.history)
 
--- the same over a store of which these opening rows and this count of faults are known, and how doubtful it was then
-pub record IsServedFrom {S : Type 0} (g : Ghosts S) (rows : Rows) (doubt : ℕ) (ss : List Session) (faults : ℕ) (r : Told) (left : S) : Type 0 where
-  pub opening : r.opening ≡ rows
-  pub undoubted : g.doubt left ≡ 0 → doubt ≡ 0
-  pub labels : r.labels ≡ map (λ s. s.label) ss
-  pub interleaving : IsInterleaving r.opening ss r.history
-  pub finished : IsFinished ss r.history
-  pub stored : IsTrusted g left → g.table left ≡ value_in r.table
-  pub refusals : g.faults left ≡ counted (faults + store_refusals r.history)
+-- these sessions went on to their close
+pub record IsServedFrom {S : Type 0} (g : Ghosts S) (first : Turning S) (r : Told) (left : S) : Type 0 where
+  pub last : Turning S
+  pub goes : Goes g first last
+  pub closed : IsClosed g last r left
 
--- why there is no report
-abbrev pub HasServeCause : {S : Type 0} → Ghosts S → S → ServeFault → Type 0
-HasServeCause g store NoMemory = Unit {0}
-HasServeCause g store (Open fault) = HasCause g store fault
-HasServeCause g store Thread = Unit {0}
+-- Why there is no report. Memory runs out only behind the opening, and so does the start of a worker fail
+abbrev pub HasServeCause : {S : Type 0} → Ghosts S → List Session → S → ServeFault → Type 0
+HasServeCause g ss store NoMemory = IsBrokenOff g ss store
+HasServeCause g ss store (Open fault) = HasCause g store fault
+HasServeCause g ss store Thread = HasGivenFew g store
 
--- the store was opened by then
-abbrev pub IsAfterOpening : ServeFault → Type 0
-IsAfterOpening NoMemory = Unit {0}
-IsAfterOpening (Open fault) = ⊥
-IsAfterOpening Thread = Unit {0}
+-- what may come behind the opening, where so many workers are to be started
+abbrev pub IsAfterOpening : ℕ → ServeFault → Type 0
+IsAfterOpening workers NoMemory = Unit {0}
+IsAfterOpening workers (Open fault) = ⊥
+IsAfterOpening workers Thread = 0 < workers
+
+-- the fault is that of the work, or memory ran out behind it
+abbrev pub IsOfWork : Result (Unit {0}) ServeFault → ServeFault → Type 0
+IsOfWork worked fault = (worked ≡ Err fault) ⊎ (fault ≡ NoMemory)

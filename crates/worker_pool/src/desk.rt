@@ -1,35 +1,35 @@
 //! What lies under the lock of a run.
-ghost use Rattle.std.specs.Prelude.{◌≡◌, ◌↔◌, ℕ, [], IfErr, IfNone, IfOk, IfSome, IsTrue};
-ghost use Rattle.serial_spec.specs.Rows.{Rows};
+ghost use Rattle.std.specs.Prelude.{◌≡◌, ◌↔◌, IfErr, IfOk, IfSome, IsTrue, OnErr};
 ghost use Rattle.serial_spec.specs.Interleaving.{AllAnswered};
+ghost use Rattle.interleavings.specs.Scheduled.{BreaksOff, Stands};
 ghost use Rattle.interleavings.specs.Turning.{IsClosed, Unstuck, next_number};
 ghost use Rattle.shared_book.specs.Attempting.{Attempted};
 ghost use Rattle.worker_pool.specs.Jobs.{IsNextJob};
-ghost use Rattle.worker_pool.specs.Openings.{IsOpenedWith};
-ghost use Rattle.worker_pool.specs.Served.{IsAfterOpening, IsServedFrom};
+ghost use Rattle.worker_pool.specs.Openings.{HasGoneOn};
+ghost use Rattle.worker_pool.specs.Served.{IsOfWork, IsServedFrom};
 ghost use Rattle.worker_pool.specs.Trying.{LooksForStuck, Tries};
 
 use crate::serving::ServeFault;
 use durable_top::TopStore;
 use interleavings::{Report, Turn};
 use serial_spec::NoMemory;
-use session_text::{Line, Sessions};
+use session_text::Line;
 use shared_book::Book;
 use std::marker::{Brand, Model, PhantomData};
 
 /// What was known at the opening of a run. Each run picks its own.
-pub(crate) trait Opening {
-    /// The opening rows.
-    ghost rows: { Rows };
+pub(crate) trait Opening<S> {
+    ghost use Rattle.std.specs.Prelude.{Option};
+    ghost use Rattle.interleavings.specs.Turning.{Turning};
 
-    /// How doubtful the store was then. It exists in proofs alone, so that no program could compare it.
-    ghost doubt: { ℕ };
+    /// The sessions over their manager, as they were opened. It exists in proofs alone, so that no program could compare it.
+    ghost first: { Option (Turning S) };
 }
 
-impl Opening for Brand {
-    ghost rows = { [] };
+impl<S> Opening<S> for Brand {
+    ghost use Rattle.std.specs.Prelude.{None};
 
-    ghost doubt = { 0 };
+    ghost first = { None };
 }
 
 /// What came of a line that was tried.
@@ -44,9 +44,9 @@ pub(crate) struct Tried {
     pub finished: bool,
 }
 
-/// The book of a run, which is still over the opening rows that it began with.
+/// The book of a run, which has gone on from its opening.
 #[derive(Drop)]
-pub(crate) struct Desk<'a, S: TopStore, J: Opening> {
+pub(crate) struct Desk<'a, S: TopStore, J: Opening<S>> {
     book: Book<'a, S>,
     // How many sessions there are.
     sessions: u32,
@@ -59,20 +59,20 @@ pub(crate) struct Desk<'a, S: TopStore, J: Opening> {
     of: PhantomData<J>,
 }
 
-impl<'a, S: TopStore, J: Opening> Model for Desk<'a, S, J> {
+impl<'a, S: TopStore, J: Opening<S>> Model for Desk<'a, S, J> {
     ghost use Rattle.interleavings.specs.Turning.{Turning};
-    ghost use Rattle.worker_pool.specs.Openings.{IsOpenedWith};
+    ghost use Rattle.worker_pool.specs.Openings.{HasGoneOn};
 
     ghost Value = { Turning S };
 
     ghost view = { λ d. d.book };
 
-    ghost invariant = { λ d. IsOpenedWith S.TopStore J.rows J.doubt d.book };
+    ghost invariant = { λ d. HasGoneOn S.TopStore J.first d.book };
 }
 
-impl<'a, S: TopStore, J: Opening> Desk<'a, S, J> {
+impl<'a, S: TopStore, J: Opening<S>> Desk<'a, S, J> {
     pub(crate) fn new(book: Book<'a, S>, sessions: u32) -> Desk<'a, S, J>
-        requires { IsOpenedWith S.TopStore J.rows J.doubt book }
+        requires { HasGoneOn S.TopStore J.first book }
         ensures { result ≡ book.entry }
     {
         Desk {
@@ -85,14 +85,12 @@ impl<'a, S: TopStore, J: Opening> Desk<'a, S, J> {
         }
     }
 
-    #[tactic(auto, using(crate::proofs::Kept::if_attempted))]
     fn attempt(&mut self, session: u32, line: u32, text: &Line) -> Result<Turn, NoMemory>
         ensures { IfOk result (λ turn. Attempted S.TopStore self.old self.new session line text.now turn) }
     {
         self.book.attempt(session, line, text)
     }
 
-    #[tactic(auto, using(crate::proofs::Kept::if_unstuck))]
     fn stuck(&mut self) -> Result<Option<(u32, u32)>, NoMemory>
         ensures { IfOk result (λ line. Unstuck S.TopStore self.old self.new line) }
     {
@@ -193,50 +191,44 @@ impl<'a, S: TopStore, J: Opening> Desk<'a, S, J> {
         self.refused || self.finished()
     }
 
-    // Why there is no report of these sessions, once the work has ended so.
-    fn fault(
-        &self,
-        sessions: &Sessions,
-        faults: u64,
-        worked: Result<(), ServeFault>,
-    ) -> Option<ServeFault>
-        requires { IfErr worked IsAfterOpening }
-        ensures none { IfNone result ((self.now.sessions ≡ sessions.now) × (self.now.core.opened ≡ faults)) }
-        ensures some { IfSome result IsAfterOpening }
+    // Why there will be no report, once the work has ended so.
+    fn fault(&self, worked: Result<(), ServeFault>) -> Option<ServeFault>
+        ensures { IfSome result (IsOfWork worked) }
     {
-        if let Err(fault) = worked {
-            return Some(fault);
-        }
-        if self.refused {
-            Some(ServeFault::NoMemory)
-        } else if self.book.is_of(sessions, faults) {
-            None
-        } else {
-            Some(ServeFault::Thread)
+        match worked {
+            Err(fault) => Some(fault),
+            Ok(()) => {
+                if self.refused {
+                    Some(ServeFault::NoMemory)
+                } else {
+                    None
+                }
+            }
         }
     }
 
     // Drops what was under way.
+    #[tactic(auto, using(crate::proofs::Reported::breaks_off))]
     fn give_up(self, fault: ServeFault) -> ServeFault
-        ensures { result ≡ fault }
+        ensures fault { result ≡ fault }
+        ensures off { IfSome J.first (BreaksOff S.TopStore) }
     {
+        self.book.has_legal_history();
         drop(self);
         fault
     }
 
     /// The report and the store, where the work has ended so and nothing went wrong.
-    #[tactic(auto, using(crate::proofs::Reported::closed_from))]
+    #[tactic(auto, using(crate::proofs::Reported::unclosed_from, crate::proofs::Reported::if_behind))]
     pub(crate) fn into_report(
         self,
-        sessions: &Sessions,
-        faults: u64,
         worked: Result<(), ServeFault>,
     ) -> Result<(Report, S), ServeFault>
-        requires { IfErr worked IsAfterOpening }
-        ensures ok { IfOk result (λ run. IsServedFrom S.TopStore J.rows J.doubt sessions.now faults run.0 run.1) }
-        ensures err { IfErr result IsAfterOpening }
+        ensures ok { IfOk result (λ run. IfSome J.first (λ first. IsServedFrom S.TopStore first run.0 run.1)) }
+        ensures err { IfErr result (IsOfWork worked) }
+        ensures off { OnErr result (IfSome J.first (BreaksOff S.TopStore)) }
     {
-        match self.fault(sessions, faults, worked) {
+        match self.fault(worked) {
             Some(fault) => Err(self.give_up(fault)),
             None => close(self.book),
         }
@@ -245,8 +237,10 @@ impl<'a, S: TopStore, J: Opening> Desk<'a, S, J> {
 
 // Drops what was under way.
 fn give_up<S: TopStore>(book: Book<'_, S>) -> ServeFault
-    ensures { result ≡ ServeFault.NoMemory }
+    ensures fault { result ≡ ServeFault.NoMemory }
+    ensures stands { Stands S.TopStore book.entry }
 {
+    book.has_legal_history();
     drop(book);
     ServeFault::NoMemory
 }
@@ -255,6 +249,7 @@ fn give_up<S: TopStore>(book: Book<'_, S>) -> ServeFault
 fn close<S: TopStore>(book: Book<'_, S>) -> Result<(Report, S), ServeFault>
     ensures ok { IfOk result (λ run. IsClosed S.TopStore book.entry run.0 run.1) }
     ensures err { IfErr result (λ fault. fault ≡ ServeFault.NoMemory) }
+    ensures stands { OnErr result (Stands S.TopStore book.entry) }
 {
     match book.into_report() {
         Ok(run) => Ok(run),

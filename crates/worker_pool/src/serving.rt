@@ -1,6 +1,7 @@
 //! A whole run by workers.
-ghost use Rattle.std.specs.Prelude.{◌≡◌, ◌≤◌, IfErr, IfOk};
-ghost use Rattle.worker_pool.specs.Openings.{IsOpenedWith};
+ghost use Rattle.std.specs.Prelude.{◌≡◌, ◌<◌, ◌≤◌, IfErr, IfOk, IfSome, IsErrOf, OnErr};
+ghost use Rattle.interleavings.specs.Scheduled.{BreaksOff};
+ghost use Rattle.worker_pool.specs.Openings.{HasGoneOn};
 ghost use Rattle.worker_pool.specs.Served.{HasServeCause, IsAfterOpening, IsServed, IsServedFrom};
 
 use crate::desk::{Desk, Opening};
@@ -16,18 +17,21 @@ use std::sync::{Mutex, Wait};
 use std::thread::Threads;
 use std::time::Clock;
 
-/// Why there is no report. The store is dropped, and nothing is said of what it holds.
+/// Why there is no report. The store is dropped.
 #[derive(Clone, Copy, Debug, PartialEq, Eq)]
 pub enum ServeFault {
+    /// Memory ran out behind the opening. The store was asked what a legal history of these sessions asks, and has the table
+    /// that this history leaves.
     NoMemory,
+    /// The store was not opened.
     Open(OpenFault),
-    /// A worker could not be started.
+    /// A worker could not be started. No line was attempted.
     Thread,
 }
 
 // Serves the sessions of a book on which nothing was done yet.
 fn serve_book<
-    J: Opening + Send,
+    J: Opening<S> + Send,
     R: Threads + Wait + Clock + Sync,
     S: TopStore + Send,
     G: Gate + Sync,
@@ -36,24 +40,24 @@ fn serve_book<
     alloc: Global,
     sessions: &Sessions,
     book: Book<'_, S>,
-    faults: u64,
     workers: u32,
     gate: &G,
 ) -> Result<(Report, S), ServeFault>
-    requires opened { IsOpenedWith S.TopStore J.rows J.doubt book }
+    requires opened { HasGoneOn S.TopStore J.first book }
     requires few { workers ≤ MOST_WORKERS }
-    ensures ok { IfOk result (λ run. IsServedFrom S.TopStore J.rows J.doubt sessions.now faults run.0 run.1) }
-    ensures err { IfErr result IsAfterOpening }
+    ensures ok { IfOk result (λ run. IfSome J.first (λ first. IsServedFrom S.TopStore first run.0 run.1)) }
+    ensures err { IfErr result (IsAfterOpening workers) }
+    ensures off { OnErr result (IfSome J.first (BreaksOff S.TopStore)) }
 {
     let desk: Mutex<Desk<'_, S, J>> = Mutex::new(Desk::new(book, count_of(sessions)));
     let worked = work_through(rt, alloc, sessions, &desk, workers, gate);
-    desk.into_inner().into_report(sessions, faults, worked)
+    desk.into_inner().into_report(worked)
 }
 
 /// Serves the sessions by so many workers over one lock, and gives the report and the store. Lines that are left by the
 /// workers, of whom there may be none, are tried by the calling thread. Where it answers, the report is that of a legal
 /// history that takes all lines of the sessions in turn; which one is the threads' choice.
-#[tactic(auto, using(crate::proofs::Kept::as_opened, crate::proofs::Reported::if_served, crate::proofs::Reported::if_cause))]
+#[tactic(auto, using(crate::proofs::Kept::as_opened, crate::proofs::Reported::if_thread, crate::proofs::Reported::open_is_no_thread))]
 pub fn serve<R: Threads + Wait + Clock + Sync, S: TopStore + Send, G: Gate + Sync>(
     rt: &R,
     alloc: Global,
@@ -64,11 +68,11 @@ pub fn serve<R: Threads + Wait + Clock + Sync, S: TopStore + Send, G: Gate + Syn
 ) -> Result<(Report, S), ServeFault>
     requires { workers ≤ MOST_WORKERS }
     ensures ok { IfOk result (λ run. IsServed S.TopStore sessions store run.0 run.1) }
-    ensures err { IfErr result (λ fault. HasServeCause S.TopStore store fault) }
+    ensures err { IfErr result (HasServeCause S.TopStore sessions store) }
+    ensures thread { IsErrOf result ServeFault.Thread → 0 < workers }
 {
-    let faults = store.faults();
     match Book::open(alloc, &sessions, store) {
-        Ok(book) => serve_book::<Brand, R, S, G>(rt, alloc, &sessions, book, faults, workers, gate),
+        Ok(book) => serve_book::<Brand, R, S, G>(rt, alloc, &sessions, book, workers, gate),
         Err(fault) => Err(ServeFault::Open(fault)),
     }
 }

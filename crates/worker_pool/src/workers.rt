@@ -1,5 +1,5 @@
 //! Workers over one lock.
-ghost use Rattle.std.specs.Prelude.{◌≡◌, ◌<◌, ◌≤◌, IfErr, IfOk, IfSome};
+ghost use Rattle.std.specs.Prelude.{◌≡◌, ◌<◌, ◌≤◌, IfErr, IfOk, IfSome, IsFalse};
 ghost use Rattle.crossbeam_channel.specs.Claims.{IsSeatAt};
 ghost use Rattle.crossbeam_channel.specs.Ends.{sends_on};
 ghost use Rattle.serial_spec.specs.declared.limits.TheConstants.{MOST_SESSIONS};
@@ -44,7 +44,7 @@ const LOCK_REST: u64 = 200;
 const LONGEST_REST: u64 = 6400;
 
 // Tries a line under the lock, unless another worker has it.
-fn try_line<S: TopStore, J: Opening>(
+fn try_line<S: TopStore, J: Opening<S>>(
     desk: &Mutex<Desk<'_, S, J>>,
     session: u32,
     line: u32,
@@ -59,7 +59,7 @@ fn try_line<S: TopStore, J: Opening>(
 }
 
 // Tries a line, and calls the gate around it. Where another worker has the lock, nothing comes of it.
-fn turn<S: TopStore, J: Opening, G: Gate>(
+fn turn<S: TopStore, J: Opening<S>, G: Gate>(
     desk: &Mutex<Desk<'_, S, J>>,
     gate: &G,
     session: u32,
@@ -146,7 +146,7 @@ fn stand_back<R: Clock>(rt: &R, patience: &Patience) {
 }
 
 // Does a job, and gives the one that follows: the session's next line, which may be the same again, or a stop.
-fn follow<R: Clock, S: TopStore, J: Opening, G: Gate>(
+fn follow<R: Clock, S: TopStore, J: Opening<S>, G: Gate>(
     rt: &R,
     sessions: &Sessions,
     desk: &Mutex<Desk<'_, S, J>>,
@@ -191,7 +191,7 @@ fn take_job<R: Wait>(rt: &R, lanes: &mut Lanes<'_>, patience: &mut Patience) -> 
 }
 
 // Does jobs until there is a stop, which is sent on.
-fn work<R: Wait + Clock, S: TopStore, J: Opening, G: Gate>(
+fn work<R: Wait + Clock, S: TopStore, J: Opening<S>, G: Gate>(
     rt: &R,
     mut lanes: Lanes<'_>,
     sessions: &Sessions,
@@ -247,11 +247,12 @@ fn first_jobs<R: Wait>(rt: &R, ready: &Channel, pass: &mut Pass<Job, ()>, sessio
     }
 }
 
-// Starts the workers and waits for them. It answers whether each could be started.
+// Starts the workers, hands out the first lines and waits for the workers. It answers whether each could be started. Until all
+// are there no line is in a channel, so that none is attempted where one cannot be started: those before it find a stop.
 fn start_all<
     R: Threads + Wait + Clock + Sync,
     S: TopStore + Send,
-    J: Opening + Send,
+    J: Opening<S> + Send,
     G: Gate + Sync,
 >(
     rt: &R,
@@ -265,12 +266,14 @@ fn start_all<
     gate: &G,
 ) -> bool
     requires { IsSeatAt (sends_on ready.now.sender) to_ready × IsSeatAt (sends_on parked.now.sender) to_parked }
+    ensures { IsFalse result → 0 < workers }
 {
     thread::scope(
         thread::scope_env(),
         rt,
         |scope| -> bool
             requires { IsSeatAt (sends_on ready.now.sender) to_ready × IsSeatAt (sends_on parked.now.sender) to_parked }
+            ensures { IsFalse result → 0 < workers }
         {
             for _ in 0..workers {
                 let (first, second) = (
@@ -289,13 +292,14 @@ fn start_all<
                     return false;
                 }
             }
+            first_jobs(rt, ready, &mut to_ready, sessions);
             true
         },
     )
 }
 
 // The number of the session's next line.
-fn next_line<R: Wait, S: TopStore, J: Opening>(
+fn next_line<R: Wait, S: TopStore, J: Opening<S>>(
     rt: &R,
     desk: &Mutex<Desk<'_, S, J>>,
     session: u32,
@@ -304,12 +308,12 @@ fn next_line<R: Wait, S: TopStore, J: Opening>(
 }
 
 // Whether nothing is left to do.
-fn is_over<R: Wait, S: TopStore, J: Opening>(rt: &R, desk: &Mutex<Desk<'_, S, J>>) -> bool {
+fn is_over<R: Wait, S: TopStore, J: Opening<S>>(rt: &R, desk: &Mutex<Desk<'_, S, J>>) -> bool {
     desk.lock(rt).is_over()
 }
 
 // Tries the lines that are left, in rounds, until none is: those whose jobs were lost. Most runs leave none.
-fn finish<R: Wait, S: TopStore, J: Opening, G: Gate>(
+fn finish<R: Wait, S: TopStore, J: Opening<S>, G: Gate>(
     rt: &R,
     sessions: &Sessions,
     desk: &Mutex<Desk<'_, S, J>>,
@@ -335,7 +339,7 @@ fn finish<R: Wait, S: TopStore, J: Opening, G: Gate>(
 pub(crate) fn work_through<
     R: Threads + Wait + Clock + Sync,
     S: TopStore + Send,
-    J: Opening + Send,
+    J: Opening<S> + Send,
     G: Gate + Sync,
 >(
     rt: &R,
@@ -346,17 +350,16 @@ pub(crate) fn work_through<
     gate: &G,
 ) -> Result<(), ServeFault>
     requires { workers ≤ MOST_WORKERS }
-    ensures { IfErr result IsAfterOpening }
+    ensures { IfErr result (IsAfterOpening workers) }
 {
     // A job of each session, and a stop of each worker and of the driver.
     let room = (count_of(sessions) + workers + 1) as usize;
-    let Ok((ready, mut to_ready)) = Channel::new(alloc, room) else {
+    let Ok((ready, to_ready)) = Channel::new(alloc, room) else {
         return Err(ServeFault::NoMemory);
     };
     let Ok((parked, to_parked)) = Channel::new(alloc, room) else {
         return Err(ServeFault::NoMemory);
     };
-    first_jobs(rt, &ready, &mut to_ready, sessions);
     if !start_all(
         rt, &ready, to_ready, &parked, to_parked, sessions, desk, workers, gate,
     ) {
