@@ -1,9 +1,9 @@
-//! Two lines are under way at once, and one is answered while the other is held up at the gate.
+//! As many lines are under way at once as there are workers, and one is answered while the other is held up at the gate.
 use super::served;
 use interleavings::Report;
 use serial_spec::By;
 use std::rt::HostRuntime;
-use std::sync::atomic::{AtomicBool, Ordering};
+use std::sync::atomic::{AtomicBool, AtomicU32, Ordering};
 use std::thread;
 use worker_pool::Gate;
 
@@ -11,6 +11,15 @@ const TWO: &[u8] = b"session p\nbegin a\ncommit a\nsession q\nbegin b\ncommit b\
 
 /// How often a line at the gate looks for what it waits for.
 const MOST_TURNS: u32 = 1_000_000;
+
+/// For how many turns a line stays at the gate once as many have come as are expected.
+const LINGER: u32 = 1_000;
+
+/// Sixteen sessions of one line each.
+const SIXTEEN: &[u8] = b"session a\nbegin a\nsession b\nbegin b\nsession c\nbegin c\nsession d\nbegin d\n\
+session e\nbegin e\nsession f\nbegin f\nsession g\nbegin g\nsession h\nbegin h\n\
+session i\nbegin i\nsession j\nbegin j\nsession k\nbegin k\nsession l\nbegin l\n\
+session m\nbegin m\nsession n\nbegin n\nsession o\nbegin o\nsession p\nbegin p\n";
 
 /// Which first lines are held up at the gate, and until when.
 #[derive(Clone, Copy, PartialEq, Eq)]
@@ -132,6 +141,67 @@ fn two_at_once(rt: HostRuntime) {
         assert!(rt; !gate.late.load(Ordering::SeqCst));
         assert!(rt; report.history().len() == 4);
         assert!(rt; gate.begins(&report));
+        drop(report);
+    }
+}
+
+/// Counts how many lines are at the gate at once, and holds each until as many as are expected have come.
+#[derive(Drop)]
+struct Crowd {
+    expected: u32,
+    here: AtomicU32,
+    most: AtomicU32,
+    answered: AtomicU32,
+}
+
+impl Crowd {
+    fn new(expected: u32) -> Crowd {
+        Crowd {
+            expected,
+            here: AtomicU32::new(0),
+            most: AtomicU32::new(0),
+            answered: AtomicU32::new(0),
+        }
+    }
+
+    // Stays for so many turns at most, until one more than expected has come.
+    fn wait_for_one_more(&self) {
+        for _ in 0..LINGER {
+            if self.most.load(Ordering::SeqCst) > self.expected {
+                return;
+            }
+            thread::yield_now();
+        }
+    }
+}
+
+impl Gate for Crowd {
+    fn pass(&self, _session: u32, _line: u32) {
+        let here = self.here.fetch_add(1, Ordering::SeqCst).saturating_add(1);
+        self.most.fetch_max(here, Ordering::SeqCst);
+        for _ in 0..MOST_TURNS {
+            if self.most.load(Ordering::SeqCst) >= self.expected {
+                break;
+            }
+            thread::yield_now();
+        }
+        self.wait_for_one_more();
+        self.here.fetch_sub(1, Ordering::SeqCst);
+    }
+
+    fn answered(&self, _session: u32, _line: u32) {
+        self.answered.fetch_add(1, Ordering::SeqCst);
+    }
+}
+
+// As many lines are under way at once as there are workers, and no more; and each is told once.
+#[test]
+fn as_many_as_workers(rt: HostRuntime) {
+    for workers in [1, 2, 5, 16] {
+        let gate = Crowd::new(workers);
+        let report = served(&rt, rt.alloc(), SIXTEEN, workers, &gate);
+        assert!(rt; gate.most.load(Ordering::SeqCst) == workers, "{workers}");
+        assert!(rt; gate.answered.load(Ordering::SeqCst) == 16, "{workers}");
         drop(report);
     }
 }
