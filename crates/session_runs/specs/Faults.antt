@@ -1,4 +1,11 @@
 -- By which line the program tells why there is no report.
+use Rattle.std.specs.Prelude.{◌⊎◌, ℕ, List, ◌++◌, Option, Result, codes, decimal}
+use Rattle.std.specs.Io.KnownBytes.{Appends}
+use Rattle.txn_bytes.specs.Written.{AppendsFront, IsStopped}
+use Rattle.txn_bytes.specs.declared.sink.WriteFault.{WriteFault}
+use Rattle.serial_spec.specs.Report.{line}
+use Rattle.session_text.specs.declared.fault.LineKind.{LineKind}
+use Rattle.session_text.specs.declared.fault.LineKind.TheVariants as kinds
 use Rattle.session_text.specs.declared.fault.TextFault.TheVariants as read
 use Rattle.manager_core.specs.declared.outcome.OpenFault.TheVariants as opening
 use Rattle.interleavings.specs.declared.run.RunFault.TheVariants as ran
@@ -6,7 +13,7 @@ use Rattle.worker_pool.specs.declared.serving.ServeFault.TheVariants as served
 use Rattle.session_runs.specs.declared.replay.ReplayFault.{ReplayFault}
 use Rattle.session_runs.specs.declared.replay.ReplayFault.TheVariants.{Text, Run, Serve, Write}
 use Rattle.session_runs.specs.declared.fault.Fault.{Fault}
-use Rattle.session_runs.specs.declared.fault.Fault.TheVariants.{Line, Schedule, CannotOpen, TooManyRows, NoMemory, CannotStart, CannotWrite}
+use Rattle.session_runs.specs.declared.fault.Fault.TheVariants.{CannotRead, Line, Schedule, CannotOpen, TooManyRows, NoMemory, CannotStart, CannotWrite}
 
 abbrev pub told : ReplayFault → Fault
 told (Text (read.Bad line kind)) = Line line kind
@@ -22,3 +29,39 @@ told (Serve (served.Open (opening.Store fault))) = CannotOpen
 told (Serve (served.Open opening.TooManyRows)) = TooManyRows
 told (Serve served.Thread) = CannotStart
 told (Write fault) = CannotWrite
+
+-- the word for what is wrong with a line of a text
+abbrev pub spelled_kind : LineKind → List ℕ
+spelled_kind kinds.End = codes "end"
+spelled_kind kinds.Empty = codes "empty"
+spelled_kind kinds.Word = codes "word"
+spelled_kind kinds.Shape = codes "shape"
+spelled_kind kinds.Label = codes "label"
+spelled_kind kinds.Name = codes "name"
+spelled_kind kinds.Key = codes "key"
+spelled_kind kinds.Number = codes "number"
+spelled_kind kinds.Header = codes "header"
+spelled_kind kinds.Limit = codes "limit"
+
+-- what a fault's line says, without its line feed
+abbrev pub spelled_cause : Fault → List ℕ
+spelled_cause (CannotRead file) = codes "tx: cannot read " ++ file.now
+spelled_cause (Line number kind) = codes "tx: line " ++ decimal number ++ codes ": " ++ spelled_kind kind
+spelled_cause (Schedule place) = codes "tx: schedule: item " ++ decimal place
+spelled_cause CannotOpen = codes "tx: cannot open database"
+spelled_cause TooManyRows = codes "tx: too many rows"
+spelled_cause NoMemory = codes "tx: no memory"
+spelled_cause CannotStart = codes "tx: cannot start worker"
+spelled_cause CannotWrite = codes "tx: cannot write"
+
+abbrev pub spelled_fault : Fault → List ℕ
+spelled_fault fault = line (spelled_cause fault)
+
+-- the writer failed: it took a beginning of these bytes, and was then asked in vain to take more
+pub record IsCut {W : Type 0} (contents : W → Option (List ℕ)) (takes : W → W → List ℕ → Result ℕ WriteFault → Type 0) (old new : W) (bytes : List ℕ) : Type 0 where
+  pub front : AppendsFront (contents old) (contents new) bytes
+  pub stopped : IsStopped takes new
+
+-- it took these bytes, or it failed on the way
+abbrev pub IsSaid : {W : Type 0} → (W → Option (List ℕ)) → (W → W → List ℕ → Result ℕ WriteFault → Type 0) → W → W → List ℕ → Type 0
+IsSaid contents takes old new bytes = Appends (contents old) (contents new) bytes ⊎ IsCut contents takes old new bytes

@@ -3,3 +3,4 @@ pub mod Replays
 pub mod Schedules
 pub mod Printing
 pub mod Faults
+pub mod Tellings

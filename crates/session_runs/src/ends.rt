@@ -6,13 +6,14 @@ ghost use Rattle.std.specs.Io.KnownBytes.{Appends};
 ghost use Rattle.report_check.specs.Verdicts.{HasVerdict};
 ghost use Rattle.report_check.specs.declared.verdict.Verdict.TheVariants.{Yes};
 ghost use Rattle.session_runs.specs.Replays.{IsUnended, IsUnread, spelled_report};
+ghost use Rattle.session_runs.specs.Tellings.{IsAnswered};
 
 use crate::replay::ReplayFault;
 use interleavings::Report;
 use report_text::write_report;
 use session_text::Sessions;
 use std::alloc::Global;
-use std::io::Write;
+use txn_bytes::Sink;
 
 /// The sessions that a text spells, or why it spells none.
 pub(crate) fn read_sessions(alloc: Global, text: &[u8]) -> Result<Sessions, ReplayFault>
@@ -25,11 +26,13 @@ pub(crate) fn read_sessions(alloc: Global, text: &[u8]) -> Result<Sessions, Repl
     }
 }
 
-/// Writes the report, which has the verdict yes. After the fault, which is the writer's, `out` has taken a beginning of it.
-pub(crate) fn put_report<W: Write>(report: &Report, out: &mut W) -> Result<(), ReplayFault>
+/// Writes the report, which has the verdict yes. After the fault, which is one that the writer answered, `out` has taken a
+/// beginning of it.
+pub(crate) fn put_report<W: Sink>(report: &Report, out: &mut W) -> Result<(), ReplayFault>
     ensures ok { OnOk result (Appends (W.contents out.old) (W.contents out.new) (spelled_report report.now)) }
     ensures accepted { OnOk result (HasVerdict (spelled_report report.now) Yes) }
     ensures err { IfErr result (λ fault. IsUnended (W.contents out.old) (W.contents out.new) report.now fault) }
+    ensures asked { IfErr result (λ fault. IsAnswered W.takes out.new fault) }
 {
     match write_report(report, out) {
         Ok(()) => Ok(()),

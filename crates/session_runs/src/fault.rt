@@ -1,6 +1,6 @@
 //! The lines by which the program says why it gave no report.
 ghost use Rattle.std.specs.Prelude.{◌≡◌};
-ghost use Rattle.session_runs.specs.Faults.{told};
+ghost use Rattle.session_runs.specs.Faults.{spelled_kind, told};
 
 use crate::replay::ReplayFault;
 use interleavings::RunFault;
@@ -9,7 +9,7 @@ use session_text::{LineKind, TextFault};
 use thiserror::Error;
 use worker_pool::ServeFault;
 
-/// Why the program gave no report, as it says on standard error.
+/// Why the program gave no report. It is shown as `tell` writes it, without the line feed.
 #[derive(Debug, Drop, Error)]
 pub enum Fault<'a> {
     #[error("tx: cannot read {0}")]
@@ -30,7 +30,10 @@ pub enum Fault<'a> {
     CannotWrite,
 }
 
-fn word_of(kind: &LineKind) -> &'static str {
+/// The word for what is wrong with a line.
+pub(crate) fn word_of(kind: &LineKind) -> &'static str
+    ensures { result.now ≡ spelled_kind kind.now }
+{
     match kind {
         LineKind::End => "end",
         LineKind::Empty => "empty",

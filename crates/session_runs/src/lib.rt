@@ -7,11 +7,13 @@ mod replay;
 mod reporting;
 mod schedule;
 mod serve;
+mod telling;
 mod way;
 
 pub use fault::{Fault, fault_of};
 pub use replay::{ReplayFault, replay_text};
-pub use reporting::{DONE, Ended, FAILED, replay_over, report_opened, report_over, tell};
+pub use reporting::{DONE, Ended, FAILED, replay_over, report_opened, report_over};
 pub use schedule::{attempts_of, schedule_of};
 pub use serve::{OpenGate, run_text};
+pub use telling::{MISUSED, misuse, tell};
 pub use way::{Way, workers_of};

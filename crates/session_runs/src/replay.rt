@@ -1,6 +1,7 @@
 //! A session text, from its bytes to the bytes of its report.
 ghost use Rattle.std.specs.Prelude.{◌≡◌, IfErr, IfOk};
 ghost use Rattle.session_runs.specs.Replays.{HasReplayCause, IsReplayed, IsUnwritten};
+ghost use Rattle.session_runs.specs.Tellings.{IsAnswered};
 ghost use Rattle.session_runs.specs.Ways.{Scheduled};
 
 use crate::ends::{put_report, read_sessions};
@@ -9,7 +10,7 @@ use interleavings::{RunFault, run_schedule};
 use report_text::WriteFault;
 use session_text::TextFault;
 use std::alloc::Global;
-use std::io::Write;
+use txn_bytes::Sink;
 use worker_pool::ServeFault;
 
 /// Why there is no report of a text.
@@ -24,10 +25,10 @@ pub enum ReplayFault {
 }
 
 /// Reads a session text, runs it over the store by the schedule, writes the report, and gives the store back. The first
-/// fault is told: of the text, of the run, or of the writer. Only after one of the writer has `out` taken bytes, which
+/// fault is told: of the text, of the run, or one that the writer answered. Only after one of the writer has `out` taken bytes, which
 /// are a beginning of the report.
-#[tactic(auto, using(crate::proofs::Causes::unread, crate::proofs::Causes::unended, crate::proofs::Causes::written))]
-pub fn replay_text<S: TopStore, W: Write>(
+#[tactic(auto, using(crate::proofs::Causes::unread, crate::proofs::Causes::unread_answered, crate::proofs::Causes::unended, crate::proofs::Causes::written))]
+pub fn replay_text<S: TopStore, W: Sink>(
     alloc: Global,
     text: &[u8],
     schedule: &[u32],
@@ -36,6 +37,7 @@ pub fn replay_text<S: TopStore, W: Write>(
 ) -> Result<S, ReplayFault>
     ensures ok { IfOk result (λ left. IsReplayed S.TopStore (W.contents out.old) (W.contents out.new) text.now (Scheduled schedule.now) store left) }
     ensures err { IfErr result (λ fault. HasReplayCause S.TopStore (W.contents out.old) (W.contents out.new) text.now (Scheduled schedule.now) store fault) }
+    ensures asked { IfErr result (λ fault. IsAnswered W.takes out.new fault) }
     ensures unwritten { IfErr result (λ fault. IsUnwritten fault → out.new ≡ out.old) }
 {
     let sessions = read_sessions(alloc, text)?;

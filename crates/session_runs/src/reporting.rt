@@ -7,6 +7,7 @@ ghost use Rattle.session_runs.specs.Ways.{AreFew, IsServable, way_of, Scheduled,
 use crate::fault::{Fault, fault_of};
 use crate::replay::{ReplayFault, replay_text};
 use crate::serve::{OpenGate, run_text};
+use crate::telling::{finish, tell};
 use crate::way::Way;
 use durable_top::{StoreFault, TopStore};
 use std::alloc::Global;
@@ -136,24 +137,5 @@ fn end_run<S: Drop, W: Write, E: Write>(
             status: tell(err, fault_of(fault)),
             left: None,
         },
-    }
-}
-
-/// Says why there is no report. Where the error writer fails too, the exit status alone tells.
-pub fn tell<E: Write>(err: &mut E, fault: Fault<'_>) -> u8
-    ensures { result ≡ FAILED }
-{
-    let _ = writeln!(err, "{fault}");
-    FAILED
-}
-
-// What the writer still holds goes where it is to go.
-fn finish<W: Write, E: Write>(out: &mut W, err: &mut E) -> u8
-    ensures kept { Keeps (W.contents out.old) (W.contents out.new) }
-    ensures status { result ≤ FAILED }
-{
-    match out.flush() {
-        Ok(()) => DONE,
-        Err(_) => tell(err, Fault::CannotWrite),
     }
 }

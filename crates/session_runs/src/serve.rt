@@ -1,6 +1,7 @@
 //! A session text by worker threads, from its bytes to the bytes of its report.
 ghost use Rattle.std.specs.Prelude.{◌≡◌, IfErr, IfOk};
 ghost use Rattle.session_runs.specs.Replays.{HasReplayCause, IsReplayed, IsUnwritten};
+ghost use Rattle.session_runs.specs.Tellings.{IsAnswered};
 ghost use Rattle.session_runs.specs.Ways.{AreFew};
 ghost use Rattle.session_runs.specs.Ways.{ByWorkers};
 
@@ -8,10 +9,10 @@ use crate::ends::{put_report, read_sessions};
 use crate::replay::ReplayFault;
 use durable_top::TopStore;
 use std::alloc::Global;
-use std::io::Write;
 use std::sync::Wait;
 use std::thread::Threads;
 use std::time::Clock;
+use txn_bytes::Sink;
 use worker_pool::{Gate, serve};
 
 /// Lets every line pass.
@@ -26,10 +27,10 @@ impl Gate for OpenGate {
 
 /// Reads a session text, has so many workers attempt its lines over the store, writes the report, and gives the store back.
 /// In which order the lines are attempted is the threads' choice; whichever it is, the report says of it what every
-/// report says. The first fault is told: of the text, of the run, or of the writer. Only after one of the writer has `out`
+/// report says. The first fault is told: of the text, of the run, or one that the writer answered. Only after one of the writer has `out`
 /// taken bytes, which are a beginning of the report.
-#[tactic(auto, using(crate::proofs::Causes::unread, crate::proofs::Causes::unended, crate::proofs::Causes::written))]
-pub fn run_text<R: Threads + Wait + Clock + Sync, S: TopStore + Send, G: Gate + Sync, W: Write>(
+#[tactic(auto, using(crate::proofs::Causes::unread, crate::proofs::Causes::unread_answered, crate::proofs::Causes::unended, crate::proofs::Causes::written))]
+pub fn run_text<R: Threads + Wait + Clock + Sync, S: TopStore + Send, G: Gate + Sync, W: Sink>(
     rt: &R,
     alloc: Global,
     text: &[u8],
@@ -41,6 +42,7 @@ pub fn run_text<R: Threads + Wait + Clock + Sync, S: TopStore + Send, G: Gate + 
     requires { AreFew workers }
     ensures ok { IfOk result (λ left. IsReplayed S.TopStore (W.contents out.old) (W.contents out.new) text.now ByWorkers store left) }
     ensures err { IfErr result (λ fault. HasReplayCause S.TopStore (W.contents out.old) (W.contents out.new) text.now ByWorkers store fault) }
+    ensures asked { IfErr result (λ fault. IsAnswered W.takes out.new fault) }
     ensures unwritten { IfErr result (λ fault. IsUnwritten fault → out.new ≡ out.old) }
 {
     let sessions = read_sessions(alloc, text)?;

@@ -3,79 +3,33 @@ ghost use Rattle.std.specs.Prelude.{ℕ, None, if◌then◌else◌};
 
 use crate::session_runs_tests::{Told, empty, replayed};
 use durable_top::{MemStore, Row, StoreFault, TopStore, are_rising};
-use interleavings::RunFault;
-use manager_core::OpenFault;
-use report_text::WriteFault;
-use session_runs::{ReplayFault, fault_of, tell};
-use session_text::{LineKind, TextFault};
+use session_runs::{Fault, tell};
+use session_text::LineKind;
 use std::alloc::Global;
 use std::process::Abort;
 use txn_names::{Change, Key};
-use worker_pool::ServeFault;
 
-// Whether this fault is told in this line, and with exit status 1.
-fn is_told(alloc: Global, fault: ReplayFault, line: &str) -> bool {
+// Whether this fault is shown as this line without its line feed, and told by it with exit status 1.
+fn is_told(rt: &impl Abort, alloc: Global, fault: Fault<'_>, line: &str) -> bool {
+    let shown = format!(in alloc; "{fault}\n").expect(rt, "memory");
     let mut err = Vec::new(alloc);
-    let status = tell(&mut err, fault_of(fault));
-    status == 1 && err.as_slice() == line.as_bytes()
-}
-
-#[test]
-fn lines_of_kinds(rt: HostRuntime) {
-    for (kind, line) in [
-        (LineKind::End, "tx: line 7: end\n"),
-        (LineKind::Empty, "tx: line 7: empty\n"),
-        (LineKind::Word, "tx: line 7: word\n"),
-        (LineKind::Shape, "tx: line 7: shape\n"),
-        (LineKind::Label, "tx: line 7: label\n"),
-        (LineKind::Name, "tx: line 7: name\n"),
-        (LineKind::Key, "tx: line 7: key\n"),
-        (LineKind::Number, "tx: line 7: number\n"),
-        (LineKind::Header, "tx: line 7: header\n"),
-        (LineKind::Limit, "tx: line 7: limit\n"),
-    ] {
-        let fault = ReplayFault::Text(TextFault::Bad { line: 7, kind });
-        assert!(rt; is_told(rt.alloc(), fault, line), "{line}");
-    }
+    let status = tell(&mut err, fault);
+    status == 1 && err.as_slice() == line.as_bytes() && shown.as_str() == line
 }
 
 #[test]
 fn lines_of_faults(rt: HostRuntime) {
     for (fault, line) in [
-        (ReplayFault::Text(TextFault::NoMemory), "tx: no memory\n"),
-        (ReplayFault::Run(RunFault::NoMemory), "tx: no memory\n"),
-        (
-            ReplayFault::Run(RunFault::Open(OpenFault::NoMemory)),
-            "tx: no memory\n",
-        ),
-        (
-            ReplayFault::Run(RunFault::Open(OpenFault::TooManyRows)),
-            "tx: too many rows\n",
-        ),
-        (
-            ReplayFault::Run(RunFault::Schedule(7)),
-            "tx: schedule: item 7\n",
-        ),
-        (ReplayFault::Serve(ServeFault::NoMemory), "tx: no memory\n"),
-        (
-            ReplayFault::Serve(ServeFault::Open(OpenFault::NoMemory)),
-            "tx: no memory\n",
-        ),
-        (
-            ReplayFault::Serve(ServeFault::Open(OpenFault::Store(StoreFault::Refused))),
-            "tx: cannot open database\n",
-        ),
-        (
-            ReplayFault::Serve(ServeFault::Open(OpenFault::TooManyRows)),
-            "tx: too many rows\n",
-        ),
-        (
-            ReplayFault::Serve(ServeFault::Thread),
-            "tx: cannot start worker\n",
-        ),
-        (ReplayFault::Write(WriteFault), "tx: cannot write\n"),
+        (Fault::CannotRead("a b.tx"), "tx: cannot read a b.tx\n"),
+        (Fault::Line { line: 17, kind: LineKind::End }, "tx: line 17: end\n"),
+        (Fault::Schedule(0), "tx: schedule: item 0\n"),
+        (Fault::CannotOpen, "tx: cannot open database\n"),
+        (Fault::TooManyRows, "tx: too many rows\n"),
+        (Fault::NoMemory, "tx: no memory\n"),
+        (Fault::CannotStart, "tx: cannot start worker\n"),
+        (Fault::CannotWrite, "tx: cannot write\n"),
     ] {
-        assert!(rt; is_told(rt.alloc(), fault, line), "{line}");
+        assert!(rt; is_told(&rt, rt.alloc(), fault, line), "{line}");
     }
 }
 
