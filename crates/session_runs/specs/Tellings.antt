@@ -1,12 +1,16 @@
 -- What the two writers of a run were asked, and which line the error writer got.
-use Rattle.std.specs.Prelude.{◌⊎◌, ℕ, List, Option, Result, Ok, Err}
+use Rattle.std.specs.Prelude.{◌≡◌, ℕ, List, Option, Result, Ok, Err}
 use Rattle.txn_bytes.specs.Written.{IsStopped}
 use Rattle.txn_bytes.specs.declared.sink.WriteFault.{WriteFault}
+use Rattle.serial_spec.specs.Report.{line}
 use Rattle.durable_top.specs.declared.store.TopStore.{Ghosts}
 use Rattle.session_runs.specs.Faults.{IsSaid, spelled_fault, told}
 use Rattle.session_runs.specs.Replays.{HasReplayCause}
 use Rattle.session_runs.specs.Ways.{Way}
+use Rattle.session_runs.specs.declared.fault.Fault.{Fault}
 use Rattle.session_runs.specs.declared.fault.Fault.TheVariants.{CannotWrite}
+use Rattle.session_runs.specs.declared.reporting.TheConstants.{DONE, FAILED}
+use Rattle.session_runs.specs.declared.telling.TheConstants.{MISUSED}
 use Rattle.session_runs.specs.declared.replay.ReplayFault.{ReplayFault}
 use Rattle.session_runs.specs.declared.replay.ReplayFault.TheVariants.{Text, Run, Serve, Write}
 
@@ -37,3 +41,24 @@ pub record IsUnflushed {W E : Type 0} (flushes : W → W → Result (Unit {0}) W
   pub fault : WriteFault
   pub refused : IsFlushed flushes new (Err fault)
   pub said : IsSaid err_contents err_takes err_old err_new (spelled_fault CannotWrite)
+
+-- ---- by the exit status
+
+-- the error writer got the line of some fault
+pub record HasFaultLine {E : Type 0} (err_contents : E → Option (List ℕ)) (err_takes : E → E → List ℕ → Result ℕ WriteFault → Type 0) (err_old err_new : E) : Type 0 where
+  pub fault : Fault
+  pub said : IsSaid err_contents err_takes err_old err_new (spelled_fault fault)
+
+-- it got some text and a line feed
+pub record HasUsageLine {E : Type 0} (err_contents : E → Option (List ℕ)) (err_takes : E → E → List ℕ → Result ℕ WriteFault → Type 0) (err_old err_new : E) : Type 0 where
+  pub text : List ℕ
+  pub said : IsSaid err_contents err_takes err_old err_new (line text)
+
+-- What this exit status says of the two writers. At the first the output was last asked to pass on what it held, which it
+-- did, and nothing was asked of the error writer
+pub record Accounts {W E : Type 0} (flushes : W → W → Result (Unit {0}) WriteFault → Type 0)
+    (err_contents : E → Option (List ℕ)) (err_takes : E → E → List ℕ → Result ℕ WriteFault → Type 0) (new : W) (err_old err_new : E) (status : ℕ) : Type 0 where
+  pub passed : status ≡ DONE → IsFlushed flushes new (Ok tt)
+  pub silent : status ≡ DONE → err_new ≡ err_old
+  pub failed : status ≡ FAILED → HasFaultLine err_contents err_takes err_old err_new
+  pub misused : status ≡ MISUSED → HasUsageLine err_contents err_takes err_old err_new

@@ -1,7 +1,10 @@
 //! A run of a text over a store that is there, from the text's bytes to a report or a fault line, and an exit status.
-ghost use Rattle.std.specs.Prelude.{◌≡◌, ◌≢◌, ◌≤◌, IsNone, IfErr, IfOk, OnErr};
+ghost use Rattle.std.specs.Prelude.{◌≡◌, ◌≢◌, ◌≤◌, ◌⊎◌, IsNone, IfErr, IfOk, OnErr, Ok};
 ghost use Rattle.std.specs.Io.KnownBytes.{Keeps};
+ghost use Rattle.session_runs.specs.declared.fault.Fault.TheVariants.{CannotOpen};
+ghost use Rattle.session_runs.specs.Faults.{IsSaid, spelled_fault, told};
 ghost use Rattle.session_runs.specs.Printing.{IsMissed, IsPrinted};
+ghost use Rattle.session_runs.specs.Tellings.{Accounts, IsFaulted, IsFlushed, IsUnflushed};
 ghost use Rattle.session_runs.specs.Ways.{AreFew, IsServable, way_of, Scheduled, ByWorkers};
 
 use crate::fault::{Fault, fault_of};
@@ -11,10 +14,10 @@ use crate::telling::{finish, tell};
 use crate::way::Way;
 use durable_top::{StoreFault, TopStore};
 use std::alloc::Global;
-use std::io::Write;
 use std::sync::Wait;
 use std::thread::Threads;
 use std::time::Clock;
+use txn_bytes::Sink;
 
 /// The exit status where all was done.
 pub const DONE: u8 = 0;
@@ -33,7 +36,7 @@ pub struct Ended<S> {
 
 /// Runs this text over this store in this way, and answers the exit status with the store that the run left. The report goes
 /// to `out`, and only where the whole run was done; a fault goes to `err`, in one line.
-pub fn report_over<R: Threads + Wait + Clock + Sync, S: TopStore + Send, W: Write, E: Write>(
+pub fn report_over<R: Threads + Wait + Clock + Sync, S: TopStore + Send, W: Sink, E: Sink>(
     threads: &R,
     alloc: Global,
     text: &[u8],
@@ -45,6 +48,9 @@ pub fn report_over<R: Threads + Wait + Clock + Sync, S: TopStore + Send, W: Writ
     requires { IsServable way.now }
     ensures done { result.status ≡ DONE → IsPrinted S.TopStore (W.contents out.old) (W.contents out.new) text.now (way_of way.now) store result.left }
     ensures undone { result.status ≢ DONE → IsMissed S.TopStore (W.contents out.old) (W.contents out.new) text.now (way_of way.now) store result.left }
+    ensures told { result.status ≢ DONE → IsUnflushed W.flushes E.contents E.takes out.new err.old err.new
+        ⊎ IsFaulted S.TopStore W.contents W.takes E.contents E.takes out.old out.new err.old err.new text.now (way_of way.now) store }
+    ensures accounts { Accounts W.flushes E.contents E.takes out.new err.old err.new result.status }
     ensures status { result.status ≤ FAILED }
 {
     match way {
@@ -54,7 +60,7 @@ pub fn report_over<R: Threads + Wait + Clock + Sync, S: TopStore + Send, W: Writ
 }
 
 /// The same over a store that was opened. Where it was not, that is told, and nothing is run.
-pub fn report_opened<R: Threads + Wait + Clock + Sync, S: TopStore + Send, W: Write, E: Write>(
+pub fn report_opened<R: Threads + Wait + Clock + Sync, S: TopStore + Send, W: Sink, E: Sink>(
     threads: &R,
     alloc: Global,
     text: &[u8],
@@ -66,8 +72,12 @@ pub fn report_opened<R: Threads + Wait + Clock + Sync, S: TopStore + Send, W: Wr
     requires { IsServable way.now }
     ensures done { IfOk opened (λ store. result.status ≡ DONE → IsPrinted S.TopStore (W.contents out.old) (W.contents out.new) text.now (way_of way.now) store result.left) }
     ensures undone { IfOk opened (λ store. result.status ≢ DONE → IsMissed S.TopStore (W.contents out.old) (W.contents out.new) text.now (way_of way.now) store result.left) }
+    ensures told { IfOk opened (λ store. result.status ≢ DONE → IsUnflushed W.flushes E.contents E.takes out.new err.old err.new
+        ⊎ IsFaulted S.TopStore W.contents W.takes E.contents E.takes out.old out.new err.old err.new text.now (way_of way.now) store) }
     ensures unopened { IfErr opened (λ fault. (result.status ≡ FAILED) × IsNone result.left) }
     ensures unwritten { OnErr opened (out.new ≡ out.old) }
+    ensures unopened_told { OnErr opened (IsSaid E.contents E.takes err.old err.new (spelled_fault CannotOpen)) }
+    ensures accounts { Accounts W.flushes E.contents E.takes out.new err.old err.new result.status }
     ensures status { result.status ≤ FAILED }
 {
     match opened {
@@ -81,7 +91,7 @@ pub fn report_opened<R: Threads + Wait + Clock + Sync, S: TopStore + Send, W: Wr
 
 /// Replays this text over this store by this schedule, and answers the exit status with the store that the run left. The report
 /// goes to `out`, and only where the whole run was done; a fault goes to `err`, in one line.
-pub fn replay_over<S: TopStore, W: Write, E: Write>(
+pub fn replay_over<S: TopStore, W: Sink, E: Sink>(
     alloc: Global,
     text: &[u8],
     schedule: &[u32],
@@ -91,6 +101,9 @@ pub fn replay_over<S: TopStore, W: Write, E: Write>(
 ) -> Ended<S>
     ensures done { result.status ≡ DONE → IsPrinted S.TopStore (W.contents out.old) (W.contents out.new) text.now (Scheduled schedule.now) store result.left }
     ensures undone { result.status ≢ DONE → IsMissed S.TopStore (W.contents out.old) (W.contents out.new) text.now (Scheduled schedule.now) store result.left }
+    ensures told { result.status ≢ DONE → IsUnflushed W.flushes E.contents E.takes out.new err.old err.new
+        ⊎ IsFaulted S.TopStore W.contents W.takes E.contents E.takes out.old out.new err.old err.new text.now (Scheduled schedule.now) store }
+    ensures accounts { Accounts W.flushes E.contents E.takes out.new err.old err.new result.status }
     ensures status { result.status ≤ FAILED }
 {
     let ran = replay_text(alloc, text, schedule, store, out);
@@ -98,7 +111,7 @@ pub fn replay_over<S: TopStore, W: Write, E: Write>(
 }
 
 // The same by so many workers.
-fn serve_over<R: Threads + Wait + Clock + Sync, S: TopStore + Send, W: Write, E: Write>(
+fn serve_over<R: Threads + Wait + Clock + Sync, S: TopStore + Send, W: Sink, E: Sink>(
     threads: &R,
     alloc: Global,
     text: &[u8],
@@ -110,6 +123,9 @@ fn serve_over<R: Threads + Wait + Clock + Sync, S: TopStore + Send, W: Write, E:
     requires { AreFew workers }
     ensures done { result.status ≡ DONE → IsPrinted S.TopStore (W.contents out.old) (W.contents out.new) text.now ByWorkers store result.left }
     ensures undone { result.status ≢ DONE → IsMissed S.TopStore (W.contents out.old) (W.contents out.new) text.now ByWorkers store result.left }
+    ensures told { result.status ≢ DONE → IsUnflushed W.flushes E.contents E.takes out.new err.old err.new
+        ⊎ IsFaulted S.TopStore W.contents W.takes E.contents E.takes out.old out.new err.old err.new text.now ByWorkers store }
+    ensures accounts { Accounts W.flushes E.contents E.takes out.new err.old err.new result.status }
     ensures status { result.status ≤ FAILED }
 {
     let ran = run_text(threads, alloc, text, store, workers, &OpenGate, out);
@@ -117,7 +133,7 @@ fn serve_over<R: Threads + Wait + Clock + Sync, S: TopStore + Send, W: Write, E:
 }
 
 // The end of a run, which gave its store back or met a fault.
-fn end_run<S: Drop, W: Write, E: Write>(
+fn end_run<S: Drop, W: Sink, E: Sink>(
     ran: Result<S, ReplayFault>,
     out: &mut W,
     err: &mut E,
@@ -126,6 +142,10 @@ fn end_run<S: Drop, W: Write, E: Write>(
     ensures kept { IfOk ran (λ left. Keeps (W.contents out.old) (W.contents out.new)) }
     ensures dropped { IfErr ran (λ fault. (result.status ≡ FAILED) × IsNone result.left) }
     ensures unwritten { IfErr ran (λ fault. out.new ≡ out.old) }
+    ensures passed { result.status ≡ DONE → IsFlushed W.flushes out.new (Ok tt) }
+    ensures silent { result.status ≡ DONE → err.new ≡ err.old }
+    ensures unflushed { IfOk ran (λ left. result.status ≢ DONE → IsUnflushed W.flushes E.contents E.takes out.new err.old err.new) }
+    ensures told { IfErr ran (λ fault. IsSaid E.contents E.takes err.old err.new (spelled_fault (told fault))) }
     ensures status { result.status ≤ FAILED }
 {
     match ran {
