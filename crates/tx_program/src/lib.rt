@@ -4,4 +4,5 @@
 mod command;
 mod program;
 
-pub use program::{MISUSED, tx_main};
+pub use program::tx_main;
+pub use session_runs::MISUSED;

@@ -1,31 +1,34 @@
 //! The program, apart from where its words come from and where its bytes go.
-ghost use Rattle.std.specs.Prelude.{◌≡◌, ◌≢◌, ◌≤◌, ◌⊎◌};
+ghost use Rattle.std.specs.Prelude.{◌≡◌, ◌≢◌, ◌≤◌, ◌⊎◌, codes};
+ghost use Rattle.serial_spec.specs.Report.{line};
 ghost use Rattle.std.specs.Io.KnownBytes.{Keeps};
 ghost use Rattle.session_runs.specs.declared.reporting.TheConstants.{DONE, FAILED};
+ghost use Rattle.session_runs.specs.declared.fault.Fault.TheVariants.{NoMemory};
+ghost use Rattle.session_runs.specs.Faults.{IsSaid, spelled_fault};
+ghost use Rattle.session_runs.specs.Tellings.{Accounts, HasUsageLine};
 ghost use Rattle.session_runs.specs.Ways.{IsServable};
 ghost use Rattle.tx_program.specs.Programs.{Misses, MissesFrom, Prints, PrintsFrom};
 
 use crate::command::{Task, task_of};
 use durable_top::{StoreFault, TopStore};
-use session_runs::{Fault, Way, attempts_of, report_opened, report_over, tell, workers_of};
+use session_runs::{
+    Fault, MISUSED, Way, attempts_of, misuse, report_opened, report_over, tell, workers_of,
+};
 use sql_store::{MemoryStore, SqlStore};
 use sqlite::{Alter, File, FileStore};
 use std::alloc::{AllocError, Global};
-use std::fmt::Display;
+use clap::Error;
 use std::fs;
-use std::io::Write;
 use std::rt::{Files, HostRuntime};
 use std::sync::Wait;
 use std::thread::Threads;
 use std::time::Clock;
-
-/// The exit status where the words are no command line of the program.
-pub const MISUSED: u8 = 2;
+use txn_bytes::Sink;
 
 /// Does what the words after the program's name ask for, and answers the exit status. A report goes to `out`, and
 /// only where the whole run was done; a fault goes to `err`, in one line. Words that are no command line are told there too.
 /// Workers run on `threads`.
-pub fn tx_main<R: Threads + Wait + Clock + Sync, W: Write, E: Write>(
+pub fn tx_main<R: Threads + Wait + Clock + Sync, W: Sink, E: Sink>(
     rt: &HostRuntime,
     threads: &R,
     alloc: Global,
@@ -38,6 +41,7 @@ pub fn tx_main<R: Threads + Wait + Clock + Sync, W: Write, E: Write>(
     ensures undone { result ≢ DONE → Misses ⟦<MemoryStore as TopStore>⟧ (W.contents out.old) (W.contents out.new)
         ⊎ MissesFrom ⟦<SqlStore<FileStore<File>> as TopStore>⟧ (W.contents out.old) (W.contents out.new) }
     ensures misused { result ≡ MISUSED → Keeps (W.contents out.old) (W.contents out.new) }
+    ensures accounts { Accounts W.flushes E.contents E.takes out.new err.old err.new result }
     ensures status { result ≤ MISUSED }
 {
     let Ok(all) = command_line(alloc, words) else {
@@ -64,14 +68,14 @@ pub fn tx_main<R: Threads + Wait + Clock + Sync, W: Write, E: Write>(
         ) => run(rt, threads, alloc, file, workers, database, out, err),
         Ok(None) => misuse(
             err,
-            &"usage: tx replay FILE [--schedule LIST] [--db PATH], or tx run FILE [--workers N] [--db PATH], or tx --help",
+            b"usage: tx replay FILE [--schedule LIST] [--db PATH], or tx run FILE [--workers N] [--db PATH], or tx --help",
         ),
-        Err(text) => misuse(err, &text),
+        Err(text) => refuse(alloc, err, &text),
     }
 }
 
 // The list is read first: what of it is no session's number is told once the text is read.
-fn replay<R: Threads + Wait + Clock + Sync, W: Write, E: Write>(
+fn replay<R: Threads + Wait + Clock + Sync, W: Sink, E: Sink>(
     rt: &HostRuntime,
     threads: &R,
     alloc: Global,
@@ -85,6 +89,7 @@ fn replay<R: Threads + Wait + Clock + Sync, W: Write, E: Write>(
         ⊎ PrintsFrom ⟦<SqlStore<FileStore<File>> as TopStore>⟧ (W.contents out.old) (W.contents out.new) }
     ensures undone { result ≢ DONE → Misses ⟦<MemoryStore as TopStore>⟧ (W.contents out.old) (W.contents out.new)
         ⊎ MissesFrom ⟦<SqlStore<FileStore<File>> as TopStore>⟧ (W.contents out.old) (W.contents out.new) }
+    ensures accounts { Accounts W.flushes E.contents E.takes out.new err.old err.new result }
     ensures status { result ≤ FAILED }
 {
     match attempts_of(alloc, list) {
@@ -103,7 +108,7 @@ fn replay<R: Threads + Wait + Clock + Sync, W: Write, E: Write>(
 }
 
 // The number of workers is read first.
-fn run<R: Threads + Wait + Clock + Sync, W: Write, E: Write>(
+fn run<R: Threads + Wait + Clock + Sync, W: Sink, E: Sink>(
     rt: &HostRuntime,
     threads: &R,
     alloc: Global,
@@ -118,6 +123,8 @@ fn run<R: Threads + Wait + Clock + Sync, W: Write, E: Write>(
     ensures undone { result ≢ DONE → Misses ⟦<MemoryStore as TopStore>⟧ (W.contents out.old) (W.contents out.new)
         ⊎ MissesFrom ⟦<SqlStore<FileStore<File>> as TopStore>⟧ (W.contents out.old) (W.contents out.new) }
     ensures misused { result ≡ MISUSED → Keeps (W.contents out.old) (W.contents out.new) }
+    ensures usage { result ≡ MISUSED → IsSaid E.contents E.takes err.old err.new (line (codes "tx: --workers: a number from 1 to 16 is wanted")) }
+    ensures accounts { Accounts W.flushes E.contents E.takes out.new err.old err.new result }
     ensures status { result ≤ MISUSED }
 {
     match workers_of(workers) {
@@ -131,11 +138,11 @@ fn run<R: Threads + Wait + Clock + Sync, W: Write, E: Write>(
             out,
             err,
         ),
-        None => misuse(err, &"tx: --workers: a number from 1 to 16 is wanted"),
+        None => misuse(err, b"tx: --workers: a number from 1 to 16 is wanted"),
     }
 }
 
-fn report<R: Threads + Wait + Clock + Sync, W: Write, E: Write>(
+fn report<R: Threads + Wait + Clock + Sync, W: Sink, E: Sink>(
     rt: &HostRuntime,
     threads: &R,
     alloc: Global,
@@ -150,6 +157,7 @@ fn report<R: Threads + Wait + Clock + Sync, W: Write, E: Write>(
         ⊎ PrintsFrom ⟦<SqlStore<FileStore<File>> as TopStore>⟧ (W.contents out.old) (W.contents out.new) }
     ensures undone { result ≢ DONE → Misses ⟦<MemoryStore as TopStore>⟧ (W.contents out.old) (W.contents out.new)
         ⊎ MissesFrom ⟦<SqlStore<FileStore<File>> as TopStore>⟧ (W.contents out.old) (W.contents out.new) }
+    ensures accounts { Accounts W.flushes E.contents E.takes out.new err.old err.new result }
     ensures status { result ≤ FAILED }
 {
     match database {
@@ -168,16 +176,20 @@ fn command_line<'a>(alloc: Global, words: &'a [String]) -> Result<Vec<&'a str>, 
     Ok(all)
 }
 
-// Says how the program is used.
-fn misuse<E: Write, T: Display>(err: &mut E, text: &T) -> u8
-    ensures { result ≡ MISUSED }
+// What the library of command lines says of the words: what is wrong with them, or the help that they ask for.
+fn refuse<E: Sink>(alloc: Global, err: &mut E, text: &Error) -> u8
+    ensures failed { result ≡ FAILED → IsSaid E.contents E.takes err.old err.new (spelled_fault NoMemory) }
+    ensures misused { result ≢ FAILED → HasUsageLine E.contents E.takes err.old err.new }
+    ensures status { (result ≡ FAILED) ⊎ (result ≡ MISUSED) }
 {
-    let _ = writeln!(err, "{text}");
-    MISUSED
+    match format!(in alloc; "{text}") {
+        Ok(text) => misuse(err, text.as_bytes()),
+        Err(_) => tell(err, Fault::NoMemory),
+    }
 }
 
 // The file is read first, then the store is made, and then come the text and the run.
-fn report_file<F: Files + AllocGlobal, R: Threads + Wait + Clock + Sync, W: Write, E: Write>(
+fn report_file<F: Files + AllocGlobal, R: Threads + Wait + Clock + Sync, W: Sink, E: Sink>(
     rt: &F,
     threads: &R,
     alloc: Global,
@@ -189,6 +201,7 @@ fn report_file<F: Files + AllocGlobal, R: Threads + Wait + Clock + Sync, W: Writ
     requires { IsServable way.now }
     ensures done { result ≡ DONE → Prints ⟦<MemoryStore as TopStore>⟧ (W.contents out.old) (W.contents out.new) }
     ensures undone { result ≢ DONE → Misses ⟦<MemoryStore as TopStore>⟧ (W.contents out.old) (W.contents out.new) }
+    ensures accounts { Accounts W.flushes E.contents E.takes out.new err.old err.new result }
     ensures status { result ≤ FAILED }
 {
     let Ok(text) = fs::read(rt, file) else {
@@ -202,7 +215,7 @@ fn report_file<F: Files + AllocGlobal, R: Threads + Wait + Clock + Sync, W: Writ
 }
 
 // The same over the database at this path, which is made where there is none.
-fn report_into<R: Threads + Wait + Clock + Sync, W: Write, E: Write>(
+fn report_into<R: Threads + Wait + Clock + Sync, W: Sink, E: Sink>(
     rt: &HostRuntime,
     threads: &R,
     alloc: Global,
@@ -215,6 +228,7 @@ fn report_into<R: Threads + Wait + Clock + Sync, W: Write, E: Write>(
     requires { IsServable way.now }
     ensures done { result ≡ DONE → PrintsFrom ⟦<SqlStore<FileStore<File>> as TopStore>⟧ (W.contents out.old) (W.contents out.new) }
     ensures undone { result ≢ DONE → MissesFrom ⟦<SqlStore<FileStore<File>> as TopStore>⟧ (W.contents out.old) (W.contents out.new) }
+    ensures accounts { Accounts W.flushes E.contents E.takes out.new err.old err.new result }
     ensures status { result ≤ FAILED }
 {
     let Ok(text) = fs::read(rt, file) else {
@@ -232,7 +246,7 @@ fn report_into<R: Threads + Wait + Clock + Sync, W: Write, E: Write>(
 }
 
 // The same over a store that was opened, or was not, whatever its pages stand in.
-fn report_pages<F: Alter + Drop + Send, R: Threads + Wait + Clock + Sync, W: Write, E: Write>(
+fn report_pages<F: Alter + Drop + Send, R: Threads + Wait + Clock + Sync, W: Sink, E: Sink>(
     threads: &R,
     alloc: Global,
     text: &[u8],
@@ -244,6 +258,7 @@ fn report_pages<F: Alter + Drop + Send, R: Threads + Wait + Clock + Sync, W: Wri
     requires { IsServable way.now }
     ensures done { result ≡ DONE → PrintsFrom ⟦<SqlStore<F> as TopStore>⟧ (W.contents out.old) (W.contents out.new) }
     ensures undone { result ≢ DONE → MissesFrom ⟦<SqlStore<F> as TopStore>⟧ (W.contents out.old) (W.contents out.new) }
+    ensures accounts { Accounts W.flushes E.contents E.takes out.new err.old err.new result }
     ensures status { result ≤ FAILED }
 {
     let ended = report_opened(threads, alloc, text, way, opened, out, err);
