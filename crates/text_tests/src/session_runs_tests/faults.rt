@@ -21,7 +21,13 @@ fn is_told(rt: &impl Abort, alloc: Global, fault: Fault<'_>, line: &str) -> bool
 fn lines_of_faults(rt: HostRuntime) {
     for (fault, line) in [
         (Fault::CannotRead("a b.tx"), "tx: cannot read a b.tx\n"),
-        (Fault::Line { line: 17, kind: LineKind::End }, "tx: line 17: end\n"),
+        (
+            Fault::Line {
+                line: 17,
+                kind: LineKind::End,
+            },
+            "tx: line 17: end\n",
+        ),
         (Fault::Schedule(0), "tx: schedule: item 0\n"),
         (Fault::CannotOpen, "tx: cannot open database\n"),
         (Fault::TooManyRows, "tx: too many rows\n"),
