@@ -1,5 +1,7 @@
 use Rattle.std.proofs.Common.{inl}
 use Rattle.tx_program.proofs.Printed.{same_kept}
+use Rattle.std.specs.Prelude.{codes}
+use Rattle.session_runs.proofs.Told.{misuse_accounts}
 use Rattle.tx_program.proofs.program.run.Goals as goal
 
 pub returns-in-None-clause-undone : goal.returns-in-None-clause-undone
@@ -7,3 +9,7 @@ returns-in-None-clause-undone g c = λ undone. inl (inl (same_kept (g.W.Write.co
 
 pub returns-in-None-clause-misused : goal.returns-in-None-clause-misused
 returns-in-None-clause-misused g c = λ misused. same_kept (g.W.Write.contents c.args.out.now)
+
+pub returns-in-None-clause-accounts : goal.returns-in-None-clause-accounts
+returns-in-None-clause-accounts g c =
+    misuse_accounts g.W.Sink.flushes g.E.Write.contents g.E.Sink.takes c.args.out.now c.args.err.now c.misuse.new.err (codes "tx: --workers: a number from 1 to 16 is wanted") c.misuse.result c.misuse.ensures.told c.misuse.ensures.status

@@ -1,0 +1,7 @@
+use Rattle.session_runs.specs.declared.fault.Fault.TheVariants.{CannotRead}
+use Rattle.session_runs.proofs.Told.{fault_accounts}
+use Rattle.tx_program.proofs.program.report_into.Goals as goal
+
+pub returns-in_default-clause-accounts : goal.returns-in_default-clause-accounts
+returns-in_default-clause-accounts g c =
+    fault_accounts g.W.Sink.flushes g.E.Write.contents g.E.Sink.takes c.args.out.now c.args.err.now c.tell.new.err (CannotRead c.args.file) c.tell.result c.tell.ensures.told c.tell.ensures.status
