@@ -10,6 +10,7 @@ ghost use Rattle.session_runs.specs.Ways.{IsServable};
 ghost use Rattle.tx_program.specs.Programs.{Misses, MissesFrom, Prints, PrintsFrom};
 
 use crate::command::{Task, task_of};
+use clap::Error;
 use durable_top::{StoreFault, TopStore};
 use session_runs::{
     Fault, MISUSED, Way, attempts_of, misuse, report_opened, report_over, tell, workers_of,
@@ -17,7 +18,6 @@ use session_runs::{
 use sql_store::{MemoryStore, SqlStore};
 use sqlite::{Alter, File, FileStore};
 use std::alloc::{AllocError, Global};
-use clap::Error;
 use std::fs;
 use std::rt::{Files, HostRuntime};
 use std::sync::Wait;
