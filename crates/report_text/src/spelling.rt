@@ -29,9 +29,10 @@ pub(crate) fn put_count<W: Sink>(out: &mut W, count: u32) -> Result<(), WriteFau
     put(out, buffer.format(count).as_bytes())
 }
 
-pub(crate) fn put_size<W: Write>(out: &mut W, size: usize) -> Result<(), WriteFault>
+pub(crate) fn put_size<W: Sink>(out: &mut W, size: usize) -> Result<(), WriteFault>
     ensures ok { OnOk result (Appends (W.contents out.old) (W.contents out.new) (decimal size)) }
     ensures err { OnErr result (AppendsFront (W.contents out.old) (W.contents out.new) (decimal size)) }
+    ensures asked { OnErr result (IsStopped W.takes out.new) }
 {
     let mut buffer = Buffer::new();
     put(out, buffer.format(size).as_bytes())
