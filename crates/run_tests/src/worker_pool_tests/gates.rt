@@ -16,7 +16,8 @@ const MOST_TURNS: u32 = 1_000_000;
 const LINGER: u32 = 1_000;
 
 /// Sixteen sessions of one line each.
-const SIXTEEN: &[u8] = b"session a\nbegin a\nsession b\nbegin b\nsession c\nbegin c\nsession d\nbegin d\n\
+const SIXTEEN: &[u8] =
+    b"session a\nbegin a\nsession b\nbegin b\nsession c\nbegin c\nsession d\nbegin d\n\
 session e\nbegin e\nsession f\nbegin f\nsession g\nbegin g\nsession h\nbegin h\n\
 session i\nbegin i\nsession j\nbegin j\nsession k\nbegin k\nsession l\nbegin l\n\
 session m\nbegin m\nsession n\nbegin n\nsession o\nbegin o\nsession p\nbegin p\n";
