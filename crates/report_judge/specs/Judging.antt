@@ -1,0 +1,55 @@
+-- What bytes come to that are read line by line.
+use Rattle.std.specs.Prelude.{◌≡◌, ℕ, ◌++◌, Bool, true, false, not, ◌&&◌, ◌==◌, nat_eq, length, List, Option, Err}
+use Rattle.std.specs.List.{list_all}
+use Rattle.std.specs.Io.KnownBytes.{Consumes, IsAtEnd}
+use Rattle.serial_spec.specs.Rows.{IsRising, Rows, value_in}
+use Rattle.session_text.specs.Words.{cut_at}
+use Rattle.report_check.specs.Passing.{Part, Read, has_ended, read, read_from}
+use Rattle.report_check.specs.Verdicts.{HasVerdict, compared}
+use Rattle.report_check.specs.declared.verdict.Verdict.{Verdict}
+use Rattle.report_tables.specs.Valued.{Values, value_at}
+use Rattle.report_judge.specs.Kept.{IsSeen, line_of}
+use Rattle.report_judge.specs.declared.lines.Judge.{Judge}
+use Rattle.report_judge.specs.declared.lines.Standing.{Standing}
+use Rattle.report_judge.specs.declared.seen.Seen.{Seen}
+
+-- no line feed is among them
+abbrev pub IsLine : List ℕ → Type 0
+IsLine bs = list_all (λ b. not (nat_eq b 10)) bs ≡ true
+
+-- after these bytes, of which p are the line with this number as far as it has come, it goes on from what is seen; or that line is the
+-- first fault, whatever follows
+abbrev pub GoesFrom : List ℕ → List ℕ → ℕ → Seen → Bool → Type 0
+GoesFrom bs p line s false =
+    (r : Read) × IsSeen r s × (line ≡ line_of r) × ((rest : List ℕ) → read (bs ++ rest) ≡ read_from line r (cut_at 10 (p ++ rest)))
+GoesFrom bs p line s true = (rest : List ℕ) → read (bs ++ rest) ≡ Err line
+
+abbrev pub IsDue : List ℕ → List ℕ → Standing → Type 0
+IsDue bs p x = GoesFrom bs p x.line x.seen x.faulty
+
+-- after these bytes
+pub record Stands (bs : List ℕ) (j : Judge) : Type 0 where
+  pub line : IsLine j.kept
+  pub due : IsDue bs j.kept j.standing
+
+-- the reader had these bytes left and is at its end, and they have the verdict
+pub record IsVerdictOn (old new : Option (List ℕ)) (v : Verdict) : Type 0 where
+  pub bytes : List ℕ
+  pub taken : Consumes old new bytes
+  pub ended : IsAtEnd new
+  pub verdict : HasVerdict bytes v
+
+-- some bytes were taken off the reader
+abbrev pub IsPartRead : Option (List ℕ) → Option (List ℕ) → Type 0
+IsPartRead old new = (bytes : List ℕ) × Consumes old new bytes
+
+-- the final rows beside those of the keys that have values, in byte order
+pub record IsComparedBy (es : Values) (table : Rows) (n : ℕ) (v : Verdict) : Type 0 where
+  pub due : Rows
+  pub rising : IsRising due
+  pub left : (k : List ℕ) → value_in due k ≡ value_at es k
+  pub verdict : v ≡ compared n table due
+
+-- the report has ended with the bytes so far
+abbrev pub is_over : Bool → List ℕ → Part → Bool
+is_over faulty kept p = not faulty && (length kept == 0 && has_ended p)

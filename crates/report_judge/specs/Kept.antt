@@ -1,0 +1,107 @@
+-- What is kept of the lines of a report that were read, and that it is what they said.
+use Rattle.std.specs.Prelude.{◌≡◌, ℕ, ℤ, ◌+◌, Bool, true, false, List, [], ◌∷◌, ◌++◌, ◌&&◌, nat_lt, length, map, Option, Some, None}
+use Rattle.std.specs.List.{list_any}
+use Rattle.std.specs.Map.{keys_of}
+use Rattle.serial_spec.specs.declared.operation.Reply.TheVariants.{Ok}
+use Rattle.serial_spec.specs.declared.entry.Answer.{Answer}
+use Rattle.serial_spec.specs.declared.entry.Answer.TheVariants.{Done}
+use Rattle.serial_spec.specs.declared.event.Event.{Event}
+use Rattle.serial_spec.specs.declared.event.Event.TheVariants.{Access}
+use Rattle.serial_spec.specs.declared.limits.TheConstants.{MOST_ROWS}
+use Rattle.serial_spec.specs.Places.{is_below}
+use Rattle.serial_spec.specs.Rows.{IsRising, Rows, value_in}
+use Rattle.report_lines.specs.declared.entry.ReportEntry.{ReportEntry}
+use Rattle.report_check.specs.Passing.{Part, Start, Opening, Entries, Final, Ended, Read, entry_in, is_close, may_add_row, may_follow, with_entry}
+use Rattle.report_tables.specs.Spoken.{AreSessionsOf}
+use Rattle.report_tables.specs.Told.{AreTransactionsOf}
+use Rattle.report_tables.specs.Valued.{Values, value_at}
+use Rattle.report_judge.specs.declared.seen.Part.{Part as KeptPart}
+use Rattle.report_judge.specs.declared.seen.Part.TheVariants as kept
+use Rattle.report_judge.specs.declared.seen.Seen.{Seen}
+
+abbrev pub is_done_ok : Answer → Bool
+is_done_ok (Done Ok) = true
+is_done_ok a = false
+
+abbrev pub is_access : Event → Bool
+is_access (Access t k o) = true
+is_access e = false
+
+abbrev pub part_of : KeptPart → Part
+part_of kept.Start = Start
+part_of kept.Opening = Opening
+part_of kept.Entries = Entries
+part_of kept.Final = Final
+part_of kept.Ended = Ended
+
+-- the rows, each of them with its value
+abbrev pub opened : Rows → Values
+opened rows = map (λ r. (r.0, Some r.1)) rows
+
+-- what is kept, the part left aside
+pub record IsKept (r : Read) (s : Seen) : Type 0 where
+  pub rising : IsRising r.opening
+  pub values : (k : List ℕ) → value_at s.values.entries k ≡ value_in r.opening k
+  pub sessions : AreSessionsOf r.labels r.history s.sessions.entries
+  pub transactions : AreTransactionsOf (1 + length r.opening) (keys_of s.values.entries) r.history s.transactions
+  pub closing : s.closing ≡ list_any (λ e. is_close e.by) r.history
+  pub table : s.table.items ≡ r.table
+
+-- what has not come yet in each part
+abbrev pub IsEarly : Part → Read → Values → Type 0
+IsEarly Start r es = (r.history ≡ []) × (r.table ≡ []) × (es ≡ opened r.opening) × (r.opening ≡ [])
+IsEarly Opening r es = (r.history ≡ []) × (r.table ≡ []) × (es ≡ opened r.opening)
+IsEarly Entries r es = r.table ≡ []
+IsEarly Final r es = Unit {0}
+IsEarly Ended r es = Unit {0}
+
+pub record IsSeen (r : Read) (s : Seen) : Type 0 where
+  pub part : part_of s.part ≡ r.part
+  pub early : IsEarly r.part r s.values.entries
+  pub kept : IsKept r s
+
+-- the number of the line that comes next
+abbrev pub lines_before : Part → ℕ
+lines_before Start = 1
+lines_before Opening = 2
+lines_before Entries = 2
+lines_before Final = 3
+lines_before Ended = 4
+
+abbrev pub line_of : Read → ℕ
+line_of r = lines_before r.part + length r.opening + length r.history + length r.table
+
+-- it is told whether the entry may follow, and if so it is kept
+abbrev pub Follows : Bool → Read → ReportEntry → Seen → Type 0
+Follows true r x s = (may_follow r.history (entry_in r.labels x) ≡ true) × IsKept (with_entry r x) s
+Follows false r x s = may_follow r.history (entry_in r.labels x) ≡ false
+
+-- it is told whether the line may stand where it stands, and if so what is read with it is seen
+abbrev pub Steps : Bool → Option Read → Seen → Type 0
+Steps true None s = ⊥
+Steps true (Some r) s = IsSeen r s
+Steps false o s = o ≡ None
+
+-- an entry may come next
+abbrev pub IsMiddle : Part → Type 0
+IsMiddle Opening = Unit {0}
+IsMiddle Entries = Unit {0}
+IsMiddle p = ⊥
+
+-- ---- rows
+
+abbrev pub is_past_key : Option (List ℕ) → List ℕ → Bool
+is_past_key None k = true
+is_past_key (Some q) k = is_below q k
+
+abbrev pub may_come : ℕ → Option (List ℕ) → List ℕ → Bool
+may_come rows last k = nat_lt rows MOST_ROWS && is_past_key last k
+
+-- it is told whether the row may come next, and if so it is the last
+abbrev pub AddsRow : Bool → Rows → List ℕ → ℤ → Rows → Type 0
+AddsRow true old k v new = (may_add_row old k ≡ true) × (new ≡ old ++ (k, v) ∷ [])
+AddsRow false old k v new = may_add_row old k ≡ false
+
+abbrev pub Opens : Bool → Rows → List ℕ → ℤ → Values → Type 0
+Opens true rows k v es = (may_add_row rows k ≡ true) × (es ≡ opened (rows ++ (k, v) ∷ []))
+Opens false rows k v es = may_add_row rows k ≡ false

@@ -1,0 +1,10 @@
+//! The verdict on the bytes of a report, as they come off a reader.
+#![tactic(auto)]
+
+mod kept;
+mod lines;
+mod reading;
+mod seen;
+
+pub use kept::MOST_BYTES;
+pub use reading::{CheckFault, MOST_READS, check};
