@@ -1,9 +1,9 @@
 //! The transactions that a report tells of: the state of each, and its accesses.
-ghost use Rattle.std.specs.Prelude.{◌≡◌, ◌∷◌, ◌++◌, ◌+◌, [], ℕ, List, length, suc, slice_get, false, true, None, Some, IfNone, IfOk, IfSome};
+ghost use Rattle.std.specs.Prelude.{◌≡◌, ◌∷◌, ◌++◌, ◌+◌, [], ℕ, List, length, nat_lt, suc, slice_get, false, true, None, Some, IfNone, IfOk, IfSome};
 ghost use Rattle.txn_names.specs.Text.{IsName};
 ghost use Rattle.txn_tree.specs.States.{IsTree, is_aborted, is_live, names};
 ghost use Rattle.txn_tree.specs.Asked.{is_active_in};
-ghost use Rattle.txn_tree.specs.Numbered.{IsClosed, status_at};
+ghost use Rattle.txn_tree.specs.Numbered.{IsClosed, live_children_at, status_at};
 ghost use Rattle.serial_spec.specs.History.{Aborts, Accesses, Begins, Commits, History};
 ghost use Rattle.report_tables.specs.Told.{AreTransactionsOf, AboveAt, Comes};
 
@@ -32,6 +32,12 @@ fn has_aborted_at(tree: &Tree, txn: TxnNo) -> bool
     ensures { result ≡ is_aborted (status_at tree.now txn) }
 {
     matches!(tree.status_at(txn), Status::Aborted)
+}
+
+fn has_live_child_at(tree: &Tree, txn: TxnNo) -> bool
+    ensures { result ≡ nat_lt 0 (live_children_at tree.now txn) }
+{
+    tree.live_children_at(txn) > 0
 }
 
 // The transaction's number, if it is live and no orphan.
@@ -144,7 +150,7 @@ pub fn commit(transactions: &mut Transactions, name: &Name) -> bool
     let Some(txn) = active_number(&transactions.tree, name) else {
         return false;
     };
-    if transactions.tree.live_children_at(txn) > 0 {
+    if has_live_child_at(&transactions.tree, txn) {
         return false;
     }
     let own = chain_at(&transactions.chains, place_of(txn));

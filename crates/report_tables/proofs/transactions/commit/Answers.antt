@@ -1,8 +1,10 @@
-use Rattle.std.proofs.Common.{◌≡◌, suc, Some, List, Bool, true, false, not, ◌&&◌, refl, sym, ap, ◌∙◌, arith}
+use Rattle.serial_spec.specs.History.{Name}
+use Rattle.txn_tree.specs.States.{States, names}
+use Rattle.std.proofs.Common.{◌≡◌, ℕ, suc, Some, List, Bool, true, false, not, ◌&&◌, refl, sym, ap, ◌∙◌, arith}
 use Rattle.std.specs.Prelude.{slice_get, nat_lt}
-use Rattle.std.proofs.lemmas.Bool.{lt-ltb, and_from}
+use Rattle.std.proofs.lemmas.Bool.{ltb-false, and_from}
 use Rattle.txn_tree.specs.Asked.{live_children_of}
-use Rattle.txn_tree.specs.Numbered.{live_children_named}
+use Rattle.txn_tree.specs.Numbered.{live_children_at, live_children_named}
 use Rattle.serial_spec.specs.Allowed.{has_live_child}
 use Rattle.std.proofs.Common.{length, drop}
 use Rattle.txn_tree.specs.Linked.{update_at}
@@ -23,12 +25,15 @@ and_not true true e = refl
 and_not true false e = sym e
 and_not false b e = refl
 
-pub returns-then-live_children_at-gt0 : goal.returns-then-live_children_at-gt0
-returns-then-live_children_at-gt0 c base keys h are =
+-- the tree tells whether a child is live
+told : (tree : States) (n : ℕ) (t : Name) (b : Bool) → slice_get (names tree) n ≡ Some t → b ≡ nat_lt 0 (live_children_at tree n) → nat_lt 0 (live_children_of tree t) ≡ b
+told tree n t b at is = sym (is ∙ ap (λ o. nat_lt 0 (live_children_named tree o)) at)
+
+pub returns-then-has_live_child_at : goal.returns-then-has_live_child_at
+returns-then-has_live_child_at c base keys h are =
     let x = c.args.transactions.now in
     let t = c.args.name.now in
-    let count : c.live_children_at.result ≡ live_children_of x.tree t = c.live_children_at.ensures ∙ ap (live_children_named x.tree) c.in-Some.ensures.number in
-    and_not _ _ (children_are h x.tree are.in_tree t ∙ lt-ltb 0 (live_children_of x.tree t) (omega (arith, count, c.if-live_children_at-gt0.true)))
+    and_not _ _ (children_are h x.tree are.in_tree t ∙ told x.tree c.in-Some.txn t c.has_live_child_at.result c.in-Some.ensures.number c.has_live_child_at.ensures ∙ c.if-has_live_child_at.true)
 
 pub returns : goal.returns
 returns c base keys h are =
@@ -38,10 +43,10 @@ returns c base keys h are =
     let p = c.place_above-above.result in
     let next : k0 ≡ suc c.in-Some.txn = omega (arith, c.place_of.ensures) in
     let at0 : slice_get (places x.tree) k0 ≡ Some t = ap (slice_get (places x.tree)) next ∙ c.in-Some.ensures.number in
-    let count : c.live_children_at.result ≡ live_children_of x.tree t = c.live_children_at.ensures ∙ ap (live_children_named x.tree) c.in-Some.ensures.number in
+    let childless = told x.tree c.in-Some.txn t c.has_live_child_at.result c.in-Some.ensures.number c.has_live_child_at.ensures ∙ c.if-has_live_child_at.false in
     let own : c.chain_at-own.result ≡ chain_in (slice_get x.chains.items k0) = c.chain_at-own.ensures ∙ ap (λ z. chain_in (slice_get z k0)) c.deref.ensures.value in
-    let none : live_children_of x.tree t ≡ 0 = omega (arith, count, c.if-live_children_at-gt0.false) in (
-      and_from _ _ (sym (active_in h x.tree are.in_tree t) ∙ c.in-Some.ensures.active) (ap not (children_are h x.tree are.in_tree t ∙ ap (λ n. nat_lt 0 n) none)),
+    let none : live_children_of x.tree t ≡ 0 = omega (arith, ltb-false 0 (live_children_of x.tree t) childless) in (
+      and_from _ _ (sym (active_in h x.tree are.in_tree t) ∙ c.in-Some.ensures.active) (ap not (children_are h x.tree are.in_tree t ∙ childless)),
       λ e does. done_commit base keys h x _ e are t k0 p c.active_number.ensures.name c.active_number.ensures.tree at0 (c.place_above-above.ensures.place t c.in-Some.ensures.number)
           c.in-Some.ensures.active none does c.commit_at.ensures.names (c.commit_at.ensures.committed t c.in-Some.ensures.number)
           (written c.append_at.new.accesses (drop (length c.append_at.new.accesses) x.accesses.items) x.accesses.len (omega (arith, ap (λ (z : List Access). length z) c.deref_mut.ensures.value, c.append_at.auto.accesses, x.accesses.ok.0))
