@@ -1,0 +1,175 @@
+//! Verdicts on reports that were changed, and on readers that give one byte at a time, fail or do not end.
+use report_check::Verdict;
+use report_judge::{CheckFault, check};
+use std::alloc::Global;
+use std::io::{self, ErrorKind, Read};
+
+const REPORT: [&str; 8] = [
+    "open",
+    "s 1 begin a -> ok",
+    "s 2 set a x 5 -> ok",
+    "s 3 get a x -> value 5",
+    "s 4 commit a -> ok",
+    "table",
+    "x=5",
+    "end",
+];
+
+// Bytes that are given at most so many at a time. The call with this number, from 0, fails.
+#[derive(Drop)]
+struct Piecemeal<'a> {
+    rest: &'a [u8],
+    piece: usize,
+    calls_left: Option<usize>,
+}
+
+impl Read for Piecemeal<'_> {
+    fn read(&mut self, buf: &mut [u8]) -> io::Result<usize> {
+        if let Some(calls) = self.calls_left {
+            if calls == 0 {
+                return Err(ErrorKind::Other.into());
+            }
+            self.calls_left = Some(calls - 1);
+        }
+        let len = self.rest.len().min(self.piece).min(buf.len());
+        let (given, rest) = self.rest.split_at(len);
+        buf[..len].copy_from_slice(given);
+        self.rest = rest;
+        Ok(len)
+    }
+}
+
+// A reader that gives a zero byte for ever.
+#[derive(Drop)]
+struct Endless;
+
+impl Read for Endless {
+    fn read(&mut self, buf: &mut [u8]) -> io::Result<usize> {
+        match buf.first_mut() {
+            Some(byte) => {
+                *byte = 0;
+                Ok(1)
+            }
+            None => Ok(0),
+        }
+    }
+}
+
+fn verdict_by(alloc: Global, text: &str, piece: usize) -> Result<Verdict, CheckFault> {
+    let mut reader = Piecemeal {
+        rest: text.as_bytes(),
+        piece,
+        calls_left: None,
+    };
+    check(alloc, &mut reader)
+}
+
+// The text of these lines, with this in the place of the line with this number, counted from 1; or, with none, without it.
+fn changed(alloc: Global, at: usize, with: Option<&str>) -> Option<String> {
+    let mut text = String::new(alloc);
+    for (place, line) in REPORT.iter().enumerate() {
+        let own = if place + 1 == at { with } else { Some(*line) };
+        if let Some(line) = own {
+            text.push_str(line).ok()?;
+            text.push_str("\n").ok()?;
+        }
+    }
+    Some(text)
+}
+
+// Whether the changed text has the verdict, read whole and read byte by byte.
+fn has_verdict(alloc: Global, at: usize, with: Option<&str>, verdict: Verdict) -> bool {
+    match changed(alloc, at, with) {
+        Some(text) => is_judged(alloc, text.as_str(), verdict),
+        None => false,
+    }
+}
+
+fn is_judged(alloc: Global, text: &str, verdict: Verdict) -> bool {
+    [1, 7, 5000]
+        .iter()
+        .all(|piece| verdict_by(alloc, text, *piece) == Ok(verdict))
+}
+
+// What comes of a reader whose call with this number fails, that gives seven bytes at a time.
+fn failing_at(alloc: Global, text: &str, call: usize) -> Result<Verdict, CheckFault> {
+    let mut reader = Piecemeal {
+        rest: text.as_bytes(),
+        piece: 7,
+        calls_left: Some(call),
+    };
+    check(alloc, &mut reader)
+}
+
+#[test]
+fn a_reader_that_fails(rt: HostRuntime) {
+    let text = changed(rt.alloc(), 0, None).expect(&rt, "memory");
+    // The last of these calls finds the end.
+    let calls = text.len() / 7 + 2;
+    for call in 0..calls {
+        assert_eq!(rt;
+            failing_at(rt.alloc(), text.as_str(), call),
+            Err(CheckFault::Read)
+        );
+    }
+    assert_eq!(rt;
+        failing_at(rt.alloc(), text.as_str(), calls),
+        Ok(Verdict::Yes)
+    );
+}
+
+#[test]
+fn a_reader_without_an_end(rt: HostRuntime) {
+    assert_eq!(rt; check(rt.alloc(), &mut Endless), Err(CheckFault::Read));
+}
+
+#[test]
+fn changed_lines(rt: HostRuntime) {
+    let rows = [
+        (3, Some("s 3 set a x 5 -> ok"), 3),
+        (3, Some("s 2 set a x 5 -> new 5"), 3),
+        (4, Some("s 3 get a x -> none"), 4),
+        (4, Some("s 3 get a x -> value 6"), 4),
+        (7, Some("x=6"), 7),
+        (5, None, 5),
+        (5, Some("s 4 commit a -> refused store"), 6),
+        (5, Some("s 4 commit a -> refused store\n* close a"), 8),
+        (7, None, 7),
+        (8, Some("end\nend"), 9),
+        (3, Some("s 2 set b x 5 -> ok"), 3),
+        (7, Some("x=5\nx=5"), 8),
+        (7, Some("x=5\ny=5"), 8),
+        (5, Some("* close a\ns 4 commit a -> orphan a"), 6),
+        (2, Some("s 1 begin a -> ok\nt 1 begin a/b -> ok"), 6),
+        (6, Some("t 1 begin b -> ok\ntable"), 7),
+        (6, Some("t 1 get a x -> waits\ntable"), 7),
+        (
+            6,
+            Some("t 1 get a x -> waits\nt 1 get a y -> refused done\ntable"),
+            7,
+        ),
+    ];
+    for (at, with, line) in rows {
+        assert!(rt;
+            has_verdict(rt.alloc(), at, with, Verdict::No(line)),
+            "line {at} changed"
+        );
+    }
+}
+
+#[test]
+fn whole_texts(rt: HostRuntime) {
+    let rows = [
+        ("", Verdict::No(1)),
+        ("open\ntable\nend\n", Verdict::Yes),
+        ("open\ntable\nend", Verdict::No(3)),
+        ("open\nx=1\nx=1\ntable\nend\n", Verdict::No(3)),
+        ("open\nx=1\ny=2\ntable\nx=1\ny=2\nend\n", Verdict::Yes),
+        ("open\nx=1\ny=2\ntable\nx=1\nend\n", Verdict::No(6)),
+        ("open\nx=1\ntable\nw=1\nx=1\nend\n", Verdict::No(4)),
+    ];
+    for (text, verdict) in rows {
+        assert!(rt; is_judged(rt.alloc(), text, verdict), "{text}");
+    }
+    assert!(rt; has_verdict(rt.alloc(), 0, None, Verdict::Yes));
+}
