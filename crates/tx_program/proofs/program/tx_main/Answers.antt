@@ -22,3 +22,9 @@ returns-in-Ok-None-clause-accounts g c =
 pub returns-clause-accounts : goal.returns-clause-accounts
 returns-clause-accounts g c =
     refused_accounts g.W.Sink.flushes g.E.Write.contents g.E.Sink.takes c.args.out.now c.args.err.now c.refuse.new.err c.refuse.result c.refuse.ensures.failed c.refuse.ensures.misused c.refuse.ensures.status
+
+pub returns-in_default-clause-undone : goal.returns-in_default-clause-undone
+returns-in_default-clause-undone g c = λ undone. inl (inl (same_kept (g.W.Write.contents c.args.out.now)))
+
+pub returns-in-Ok-None-clause-undone : goal.returns-in-Ok-None-clause-undone
+returns-in-Ok-None-clause-undone g c = λ undone. inl (inl (same_kept (g.W.Write.contents c.args.out.now)))
