@@ -1,9 +1,11 @@
 //! Keys: the names of values.
-ghost use Rattle.std.specs.Prelude.{◌≡◌, ◌<◌, ◌≤◌, length};
+ghost use Rattle.std.specs.Prelude.{◌≡◌, ◌<◌, ◌≤◌, length, List, ℕ, IfSome, Some};
+ghost use Rattle.txn_names.specs.Groups.{IsGroupBefore};
 ghost use Rattle.std.specs.List.{list_all};
 ghost use Rattle.txn_names.specs.Text.{is_key_byte, IsKey};
 ghost use Rattle.txn_names.specs.Reading.{key_of};
 
+use crate::group::Group;
 use crate::label::is_label_byte;
 use std::marker::Model;
 use txn_bytes::Held;
@@ -44,10 +46,28 @@ fn is_key_byte(b: u8) -> bool
     is_label_byte(b) || b == b'.' || b == b'_' || b == b'-'
 }
 
-fn are_key_bytes(bytes: &[u8]) -> bool
+pub(crate) fn are_key_bytes(bytes: &[u8]) -> bool
     ensures { result ≡ list_all is_key_byte bytes.now }
 {
     bytes.iter().all(|b| is_key_byte(*b))
+}
+
+// The group of the bytes before this place of a key, if there are some and a dot stands there.
+fn group_before(bytes: &[u8], place: usize) -> Option<Group>
+    requires { IsKey bytes.now }
+    ensures some { IfSome result (IsGroupBefore bytes.now place) }
+    ensures all { (g : List ℕ) → IsGroupBefore bytes.now place g → result ≡ Some g }
+{
+    if place == 0 {
+        return None;
+    }
+    if place >= bytes.len() {
+        return None;
+    }
+    if bytes[place] != b'.' {
+        return None;
+    }
+    Some(Group::of(&bytes[..place]))
 }
 
 impl Key {
@@ -66,6 +86,25 @@ impl Key {
                 text: Held::of(bytes),
             })
         }
+    }
+
+    // The key of these bytes.
+    pub(crate) fn of(bytes: &[u8]) -> Key
+        requires { IsKey bytes.now }
+        ensures { result ≡ bytes.now }
+    {
+        Key {
+            text: Held::of(bytes),
+        }
+    }
+
+    /// The group of the bytes before this place, counted from 0, if there are some and a dot stands there: the key is one of
+    /// its keys. Each group of the key stands before one place, which is below 32: all are found by asking for each.
+    pub fn group_before(&self, place: usize) -> Option<Group>
+        ensures some { IfSome result (IsGroupBefore self.now place) }
+        ensures all { (g : List ℕ) → IsGroupBefore self.now place g → result ≡ Some g }
+    {
+        group_before(self.as_bytes(), place)
     }
 
     /// The bytes.
