@@ -1,14 +1,20 @@
 //! One plain table.
-ghost use Rattle.std.specs.Prelude.{◌≡◌, ℕ, ◌+◌, ◌<◌, ◌≤◌, ◌↔◌, List, [], length, slice_get, Some, None, IsSome, IsTrue, IsOk, OnOk, OnErr, IfOk};
+ghost use Rattle.std.specs.Prelude.{◌≡◌, ℕ, ◌+◌, ◌^◌, ◌<◌, ◌≤◌, ◌↔◌, pos, neg_ℤ, ◌≤ℤ◌, List, [], length, slice_get, Some, None, IsSome, IsTrue, IsOk, OnOk, OnErr, IfOk};
 ghost use Rattle.std.specs.Option.{option_map};
+ghost use Rattle.std.specs.List.{AllByRecursion};
+ghost use Rattle.txn_names.specs.Groups.{has};
+ghost use Rattle.txn_names.specs.Text.{IsKey};
 ghost use Rattle.serial_spec.specs.Rows.{IsRising, value_in};
-ghost use Rattle.serial_spec.specs.Serial.{put};
-ghost use Rattle.serial_spec.specs.Places.{matching, rank};
+ghost use Rattle.serial_spec.specs.Serial.{put, reply_at};
+ghost use Rattle.serial_spec.specs.Sums.{sum_in};
+ghost use Rattle.serial_spec.specs.declared.target.Asked.TheVariants.{Over};
+ghost use Rattle.serial_spec.specs.Places.{matching, part, rank, sum_rows};
 
 use crate::NoMemory;
+use crate::operation::Reply;
 use std::alloc::Global;
 use std::marker::Model;
-use txn_names::Key;
+use txn_names::{Group, Key};
 
 /// A table of keys and their values, in the byte order of the keys.
 #[derive(Drop)]
@@ -165,5 +171,52 @@ impl PlainTable {
             Some(row) => Some((&row.0, row.1)),
             None => None,
         }
+    }
+}
+
+// What the row adds to the sum of the group.
+fn part_of(row: &(Key, i64), group: &Group) -> i64
+    ensures part { result ≡ part group.now row.now }
+    ensures key { IsKey row.now.0 }
+{
+    let _bytes = row.0.as_bytes();
+    if group.has(&row.0) { row.1 } else { 0 }
+}
+
+// The sum of the values of the group's rows, which stand together. Each is 2 ^ 63 at most by its amount, and rows are fewer
+// than 2 ^ 59.
+fn sum_rows(rows: &[(Key, i64)], group: &Group) -> i128
+    requires { IsRising rows.now }
+    ensures sum { result ≡ sum_rows rows.now group.now }
+    ensures least { neg_ℤ (pos (2 ^ 122)) ≤ℤ result }
+    ensures most { result ≤ℤ pos (2 ^ 122) }
+    ensures keys { AllByRecursion (λ r. IsTrue (has group.now r.0) → IsKey r.0) rows.now }
+{
+    let mut sum: i128 = 0;
+    let mut at = place_of(rows, &group.first_key());
+    while at < rows.len() && group.has(&rows[at].0) {
+        sum += i128::from(part_of(&rows[at], group));
+        at += 1;
+    }
+    sum
+}
+
+/// The sum of the values of the group's rows, 0 where there are none. No partial sum is lost, since an i128 holds each. It goes
+/// through the group's rows alone, and takes no memory.
+pub fn sum_of(table: &PlainTable, group: &Group) -> i128
+    ensures sum { result ≡ sum_in (value_in table.now.rows) group.now }
+    ensures least { neg_ℤ (pos (2 ^ 122)) ≤ℤ result }
+    ensures most { result ≤ℤ pos (2 ^ 122) }
+{
+    sum_rows(table.rows.as_slice(), group)
+}
+
+/// What a sum over the group replies: its value, or overflow where that is not an i64. It takes no memory.
+pub fn act_sum(table: &PlainTable, group: &Group) -> Reply
+    ensures { result ≡ reply_at (value_in table.now.rows) (Over group.now) }
+{
+    match i64::try_from(sum_of(table, group)) {
+        Ok(sum) => Reply::Value(sum),
+        Err(_) => Reply::Overflow,
     }
 }

@@ -1,14 +1,18 @@
 //! The worked values of operations, that each call can succeed, and a run of nested items.
 use serial_spec::{
-    Answer, By, Entry, Event, Item, Kind, Left, Mode, NoMemory, Op, PlainTable, Reply, act,
-    run_items,
+    Answer, Asked, By, Entry, Event, Item, Kind, Left, Mode, NoMemory, Op, PlainTable, Reply,
+    Target, act, act_sum, run_items, sum_of,
 };
 use std::alloc::Global;
 use std::process::Abort;
-use txn_names::{Key, Name};
+use txn_names::{Group, Key, Name};
 
 fn key(rt: &impl Abort, text: &str) -> Key {
     Key::parse(text.as_bytes()).expect(rt, text)
+}
+
+fn group(rt: &impl Abort, text: &str) -> Group {
+    Group::parse(text.as_bytes()).expect(rt, text)
 }
 
 // The keys k100, k101, ..
@@ -168,6 +172,57 @@ fn holds_a_hundred_rows(rt: HostRuntime) {
     assert!(rt; table.len() == 99 && copy.len() == 100);
     assert!(rt; is_at(&rt, &copy, 0, "k100", 199) && is_at(&rt, &copy, 99, "k199", 100));
     assert!(rt; get(&rt, &table, "k150").is_none() && get(&rt, &copy, "k150") == Some(149));
+}
+
+// A table of these rows.
+fn table_of(rt: &impl Abort, alloc: Global, rows: &[(&str, i64)]) -> PlainTable {
+    let mut table = PlainTable::new(alloc);
+    for (text, value) in rows {
+        put(rt, &mut table, text, Some(*value));
+    }
+    table
+}
+
+#[test]
+fn sums_the_rows_of_a_group(rt: HostRuntime) {
+    let rows = [
+        ("f.a", 1),
+        ("g", 2),
+        ("g-a", 4),
+        ("g.", 8),
+        ("g.a", 16),
+        ("g.a.b", 32),
+        ("ga", 64),
+        ("h.g.a", 128),
+    ];
+    let table = table_of(&rt, rt.alloc(), &rows);
+    for (text, sum) in [("g", 56), ("g.a", 32), ("a", 0), ("h", 128), ("i", 0)] {
+        let group = group(&rt, text);
+        assert!(rt; act_sum(&table, &group) == Reply::Value(sum), "{text}");
+        assert!(rt; sum_of(&table, &group) == i128::from(sum), "{text}");
+    }
+}
+
+#[test]
+fn sums_past_an_i64(rt: HostRuntime) {
+    let rows = [("g.a", i64::MAX), ("g.b", 1)];
+    let mut table = table_of(&rt, rt.alloc(), &rows);
+    let group = group(&rt, "g");
+    assert!(rt; act_sum(&table, &group) == Reply::Overflow);
+    assert!(rt; sum_of(&table, &group) == 9_223_372_036_854_775_808);
+    put(&rt, &mut table, "g.c", Some(-1));
+    assert!(rt; act_sum(&table, &group) == Reply::Value(i64::MAX));
+}
+
+#[test]
+fn asks_of_targets(rt: HostRuntime) {
+    let (key, group) = (key(&rt, "g.a"), group(&rt, "g"));
+    let (at, over) = (Asked::At(key, Op::Del), Asked::Over(group));
+    assert!(rt; at.target() == Target::Key(key) && at.kind() == Kind::Write);
+    assert!(rt; over.target() == Target::Group(group) && over.kind() == Kind::Read);
+    assert!(rt; at.target().meets(&over.target()) && over.target().meets(&at.target()));
+    assert!(rt; at.target().meets(&at.target()) && !over.target().meets(&over.target()));
+    assert!(rt; at.target() != over.target() && at != over);
 }
 
 #[test]

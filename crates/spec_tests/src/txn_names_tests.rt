@@ -5,7 +5,7 @@ use std::io;
 use std::io::{ErrorKind, Write};
 use std::process::Abort;
 use txn_bytes::WriteFault;
-use txn_names::{Change, Key, KeyFault, Label, LabelFault, Name, NameFault, laws};
+use txn_names::{Change, Group, Key, KeyFault, Label, LabelFault, Name, NameFault, laws};
 
 /// Takes one byte at each of `calls` calls, and then answers an error, or that it took nothing.
 #[derive(Drop)]
@@ -45,6 +45,10 @@ fn label(rt: &impl Abort, text: &str) -> Label {
 
 fn key(rt: &impl Abort, text: &str) -> Key {
     Key::parse(text.as_bytes()).expect(rt, text)
+}
+
+fn group(rt: &impl Abort, text: &str) -> Group {
+    Group::parse(text.as_bytes()).expect(rt, text)
 }
 
 fn hash_of<T: Hash>(value: &T) -> u64 {
@@ -182,6 +186,53 @@ fn reads_labels_and_keys(rt: HostRuntime) {
     assert!(rt; greater(key_read, key(&rt, "a")) == key_read);
     assert!(rt; hash_of(&label_read) == hash_of(&label(&rt, "s1")));
     assert!(rt; hash_of(&key_read) == hash_of(&key(&rt, "a.b_c-9")));
+}
+
+#[test]
+fn refuses_groups(rt: HostRuntime) {
+    for (text, fault) in [
+        ("", KeyFault::Empty),
+        ("a/b", KeyFault::BadByte),
+        ("aaaaaaaaaaaaaaaaaaaaaaaaaaaaaaaa", KeyFault::Long),
+    ] {
+        assert!(rt;
+            Group::parse(text.as_bytes()).err() == Some(fault),
+            "{text}"
+        );
+    }
+}
+
+#[test]
+fn groups_have_keys(rt: HostRuntime) {
+    for (front, text, has) in [
+        ("g", "g.a", true),
+        ("g", "g.", true),
+        ("g", "g", false),
+        ("g", "ga.b", false),
+        ("g", "h.g.a", false),
+        ("a", "a..b", true),
+        ("a.", "a..b", true),
+    ] {
+        assert!(rt;
+            group(&rt, front).has(&key(&rt, text)) == has,
+            "{front} and {text}"
+        );
+    }
+}
+
+#[test]
+fn finds_the_groups_of_a_key(rt: HostRuntime) {
+    let whole = key(&rt, "a..b");
+    for (place, front) in [(1, "a"), (2, "a.")] {
+        let found = whole.group_before(place);
+        assert!(rt; found == Some(group(&rt, front)), "{front}");
+    }
+    for place in [0, 3, 4] {
+        assert!(rt; whole.group_before(place).is_none());
+    }
+    assert!(rt; key(&rt, ".a").group_before(0).is_none());
+    assert!(rt; group(&rt, "a").first_key() == key(&rt, "a."));
+    assert!(rt; group(&rt, "a").as_key() == key(&rt, "a"));
 }
 
 fn change(key: Key, value: Option<i64>) -> Change {
