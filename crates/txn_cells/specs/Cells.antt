@@ -2,7 +2,7 @@
 -- key, and `has_place`, where it has a place. A place may be empty: then the transaction has nothing at the key, as where
 -- there is no place. How a table is kept is told apart, in Kept, and no contract but of this crate's own parts rests on it.
 use Rattle.std.specs.Prelude.{◌≡◌, ℕ, Bool, true, false, nat_eq, ◌&&◌, ◌||◌, if◌then◌else◌, List, Option, Some, None}
-pub use Rattle.txn_cells.specs.Kept.{Table, content, has_place, stands}
+pub use Rattle.txn_cells.specs.Kept.{Table, content, has_place, nothing, stands}
 use Rattle.txn_names.specs.Path.{label_eq}
 pub use Rattle.txn_tree.specs.Numbered.{is_front_of, is_under}
 

@@ -13,6 +13,10 @@ Cells V = List (List ℕ × Option V)
 abbrev pub Table : Type 0 → Type 0
 Table V = List (ℕ × Cells V)
 
+-- a table where nobody has been given cells
+abbrev pub nothing : {V : Type 0} → Table V
+nothing = []
+
 abbrev pub has_cell_at : {V : Type 0} → Cells V → List ℕ → Bool
 has_cell_at cells k = is_some (lookup (label_eq k) cells)
 

@@ -1,5 +1,5 @@
 //! The cells of all transactions.
-ghost use Rattle.std.specs.Prelude.{◌≡◌, ◌&&◌, nat_eq, not, length, is_some, IsFalse, IsOk, IsSome, IsTrue, IfSome, OnErr, OnOk, List, ℕ, if◌then◌else◌, slice_get, false, Some, None};
+ghost use Rattle.std.specs.Prelude.{◌≡◌, ◌&&◌, ◌↔◌, nat_eq, not, [], length, is_some, IsFalse, IsOk, IsSome, IsTrue, IfSome, OnErr, OnOk, List, ℕ, if◌then◌else◌, slice_get, false, Some, None};
 ghost use Rattle.std.specs.Map.{lookup};
 ghost use Rattle.std.specs.List.{IsDistinct, list_any};
 ghost use Rattle.txn_names.specs.Path.{label_eq};
@@ -39,6 +39,12 @@ impl<V: Copy> CellsByTxn<V> {
             alloc,
             cells: IndexMap::new(alloc),
         }
+    }
+
+    pub(crate) fn is_empty(&self) -> bool
+        ensures { IsTrue result ↔ (self.now ≡ []) }
+    {
+        self.cells.is_empty()
     }
 
     /// What the transaction has at the key.

@@ -1,9 +1,9 @@
 //! What all transactions have, by transaction and by key.
-ghost use Rattle.std.specs.Prelude.{◌≡◌, ◌&&◌, nat_eq, not, length, IsFalse, IsOk, IsTrue, IfSome, OnErr, OnOk, List, ℕ, if◌then◌else◌, slice_get, false, Some, None};
+ghost use Rattle.std.specs.Prelude.{◌≡◌, ◌&&◌, ◌↔◌, nat_eq, not, length, IsFalse, IsOk, IsTrue, IfSome, OnErr, OnOk, List, ℕ, if◌then◌else◌, slice_get, false, Some, None};
 ghost use Rattle.std.specs.List.{IsDistinct, list_any};
 ghost use Rattle.std.specs.List.Sorted.{IsStrictlyIncreasing};
 ghost use Rattle.txn_names.specs.Path.{label_eq};
-ghost use Rattle.txn_cells.specs.Cells.{IsTowards, handed_up, is_under, merged, with_childs, with_place};
+ghost use Rattle.txn_cells.specs.Cells.{IsTowards, handed_up, is_under, merged, nothing, with_childs, with_place};
 ghost use Rattle.txn_cells.specs.Kept.{cells_in, content, content_at, has_cell_at, has_place, is_holder, is_marked, keys_in, stands};
 
 use crate::by_txn::CellsByTxn;
@@ -58,6 +58,13 @@ impl<V: Inherit> CellTable<V> {
             cells: CellsByTxn::new(alloc),
             index: KeyIndex::new(alloc),
         }
+    }
+
+    /// Whether no transaction has been given cells that it has still. Then nobody has a place or anything else at any key.
+    pub fn is_empty(&self) -> bool
+        ensures { IsTrue result ↔ (self.now ≡ nothing) }
+    {
+        self.cells.is_empty()
     }
 
     /// What the transaction has at the key.

@@ -1,0 +1,104 @@
+//! The groups of a key, gone through in a table of locks by group.
+ghost use Rattle.std.specs.Prelude.{◌≡◌, ◌↔◌, IsTrue, IsOk, OnOk, List, ℕ};
+ghost use Rattle.std.specs.List.Sorted.{IsStrictlyIncreasing};
+ghost use Rattle.lock_table.specs.Locked as one;
+ghost use Rattle.lock_table.specs.Targeted.{AtGroups, BlocksBySum, IsJoined, IsUpTo, NoSumBlocks, marked_by, with_groups};
+
+use crate::locks::Locks;
+use crate::numbers::add_all;
+use serial_spec::{Kind, NoMemory};
+use txn_names::Key;
+use txn_tree::{Tree, TxnNo};
+
+/// Whether no sum over a group of the key keeps the transaction from writing it.
+pub(crate) fn sums_let(sums: &Locks, tree: &Tree, txn: TxnNo, key: &Key) -> bool
+    ensures { IsTrue result ↔ NoSumBlocks tree.now sums.now txn key.now }
+{
+    if sums.is_empty() {
+        return true;
+    }
+    let len = key.as_bytes().len();
+    for place in 1..len {
+        if let Some(group) = key.group_before(place) {
+            if sums.is_blocked(tree, txn, &group.as_key(), Kind::Write) {
+                return false;
+            }
+        }
+    }
+    true
+}
+
+/// Whether the holder's sum over a group of the key keeps the transaction from writing it.
+pub(crate) fn sum_blocks(sums: &Locks, tree: &Tree, holder: TxnNo, txn: TxnNo, key: &Key) -> bool
+    ensures { IsTrue result ↔ BlocksBySum tree.now sums.now txn key.now holder }
+{
+    let len = key.as_bytes().len();
+    for place in 1..len {
+        if let Some(group) = key.group_before(place) {
+            if sums.blocks(tree, holder, txn, &group.as_key(), Kind::Write) {
+                return true;
+            }
+        }
+    }
+    false
+}
+
+/// Adds those whose sum over a group of the key keeps the transaction from writing it, if they are not there. If memory runs out,
+/// the only error, some of them are.
+pub(crate) fn add_summers(
+    sums: &Locks,
+    tree: &Tree,
+    txn: TxnNo,
+    key: &Key,
+    found: &mut Vec<TxnNo>,
+) -> Result<(), NoMemory>
+    requires { IsStrictlyIncreasing found.old.items }
+    ensures rising { IsStrictlyIncreasing found.new.items }
+    ensures ok { OnOk result
+        (IsJoined found.old.items (BlocksBySum tree.now sums.now txn key.now) found.new.items) }
+    ensures succeeds { NoSumBlocks tree.now sums.now txn key.now → IsOk result }
+{
+    let len = key.as_bytes().len();
+    for place in 1..len {
+        if let Some(group) = key.group_before(place) {
+            let more = sums.blockers(tree, txn, &group.as_key(), Kind::Write)?;
+            add_all(found, more.as_slice())?;
+        }
+    }
+    Ok(())
+}
+
+/// Makes a place for the transaction at each group of the key. No lock changes. If memory runs out, the only error, there are
+/// places at some of them.
+pub(crate) fn make_marks(writers: &mut Locks, txn: TxnNo, key: &Key) -> Result<(), NoMemory>
+    ensures modes { (u : ℕ) → (g : List ℕ) →
+        one.modes_in writers.new u g ≡ one.modes_in writers.old u g }
+    ensures ok { OnOk result (AtGroups key.now (λ g. IsTrue (one.has_place writers.new txn g))) }
+    ensures added { IsUpTo (one.has_place writers.old) (one.has_place writers.new)
+        (with_groups (one.has_place writers.old) txn key.now) }
+    ensures succeeds { AtGroups key.now (λ g. IsTrue (one.has_place writers.old txn g)) → IsOk result }
+{
+    let len = key.as_bytes().len();
+    for place in 1..len {
+        if let Some(group) = key.group_before(place) {
+            writers.reserve(txn, &group.as_key())?;
+        }
+    }
+    Ok(())
+}
+
+/// Marks the transaction as a writer of each group of the key.
+pub(crate) fn mark(writers: &mut Locks, txn: TxnNo, key: &Key)
+    requires { AtGroups key.now (λ g. IsTrue (one.has_place writers.old txn g)) }
+    ensures modes { (u : ℕ) → (g : List ℕ) →
+        one.modes_in writers.new u g ≡ marked_by writers.old txn key.now u g }
+    ensures places { (u : ℕ) → (g : List ℕ) →
+        one.has_place writers.new u g ≡ one.has_place writers.old u g }
+{
+    let len = key.as_bytes().len();
+    for place in 1..len {
+        if let Some(group) = key.group_before(place) {
+            writers.hold(txn, &group.as_key(), Kind::Write);
+        }
+    }
+}
