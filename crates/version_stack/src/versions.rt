@@ -1,18 +1,20 @@
 //! The versions over a base.
-ghost use Rattle.std.specs.Prelude.{◌≡◌, ◌≤◌, ◌<◌, ◌&&◌, length, ◌+◌, not, nat_eq, false, IsOk, IsTrue, IfSome, IfNone, OnErr, OnOk, List, ℕ, None, Some, if◌then◌else◌};
+ghost use Rattle.std.specs.Prelude.{◌≡◌, ◌≤◌, ◌<◌, ◌&&◌, ℤ, pos, ◌+ℤ◌, ◌≤ℤ◌, neg_ℤ, ◌^◌, option_map, length, ◌+◌, not, nat_eq, false, IsOk, IsTrue, IfSome, IfNone, OnErr, OnOk, List, ℕ, None, Some, if◌then◌else◌};
 ghost use Rattle.txn_cells.specs.Cells.{is_under};
-ghost use Rattle.serial_spec.specs.Operations.{as_option};
+ghost use Rattle.txn_names.specs.Text.{IsKey};
+ghost use Rattle.serial_spec.specs.Operations.{amount, as_option};
 ghost use Rattle.serial_spec.specs.Rows.{IsRising, value_in};
 ghost use Rattle.serial_spec.specs.Serial.{put};
-ghost use Rattle.version_stack.specs.Versioned.{FitsBase, IsTowards, base_after, base_in, handed_up, has_place, left_at, left_in, put_by, with_childs, with_keys, with_place};
-ghost use Rattle.version_stack.specs.Seen.{seen_in};
+ghost use Rattle.serial_spec.specs.Sums.{sum_in};
+ghost use Rattle.version_stack.specs.Versioned.{FitsBase, IsTowards, base_after, base_in, handed_up, has_place, left_at, left_in, put_by, change_of, with_childs, with_keys, with_own, with_place};
+ghost use Rattle.version_stack.specs.Seen.{as_i64, seen_at, seen_in};
 
 use crate::version::Version;
-use serial_spec::{Left, NoMemory, PlainTable};
+use serial_spec::{Left, NoMemory, PlainTable, sum_of};
 use std::alloc::Global;
 use std::marker::Model;
 use txn_cells::CellTable;
-use txn_names::Key;
+use txn_names::{Group, Key};
 use txn_tree::{Tree, TxnNo};
 
 /// What each live transaction, by its number, left at each key, over a base: the table that the committed top-level
@@ -56,6 +58,32 @@ fn put_at(base: &mut PlainTable, written: &CellTable<Version>, txn: TxnNo, keys:
         }
     }
     base.has_rising_rows();
+}
+
+// An absent key counts as 0.
+fn amount(value: Option<i64>) -> i128
+    ensures value { result ≡ amount value }
+    ensures least { neg_ℤ (pos (2 ^ 63)) ≤ℤ result }
+    ensures most { result ≤ℤ pos (2 ^ 63) }
+{
+    i128::from(value.unwrap_or(0))
+}
+
+// By how much what was left at the key changes the sum over the group, where this is the value without it.
+fn change_at(key: &Key, group: &Group, left: Option<Version>, before: Option<i64>) -> i128
+    ensures change { result ≡ change_of group.now key.now (option_map (λ w. w.value) left) before }
+    ensures key { IsKey key.now }
+    ensures least { neg_ℤ (pos (2 ^ 64)) ≤ℤ result }
+    ensures most { result ≤ℤ pos (2 ^ 64) }
+{
+    let _bytes = key.as_bytes();
+    if !group.has(key) {
+        return 0;
+    }
+    match left {
+        Some(version) => amount(version.value) - amount(before),
+        None => 0,
+    }
 }
 
 impl Versions {
@@ -114,6 +142,55 @@ impl Versions {
             }
         }
         self.base.get(key)
+    }
+
+    // What this one sees at the key, or the base's value where it is the root.
+    fn seen_at(&self, tree: &Tree, number: &Option<TxnNo>, key: &Key) -> Option<i64>
+        ensures { result ≡ seen_at tree.now self.now number.now key.now }
+    {
+        match number {
+            Some(number) => self.value_for(tree, *number, key),
+            None => self.base.get(key),
+        }
+    }
+
+    // By how much what the transaction left changes the sum over the group, over what another, its parent, sees.
+    fn own_part(&self, tree: &Tree, above: &Option<TxnNo>, txn: TxnNo, group: &Group) -> i128
+        ensures part { sum_in (with_own self.now txn (seen_at tree.now self.now above.now)) group.now ≡ sum_in (seen_at tree.now self.now above.now) group.now +ℤ result }
+        ensures least { neg_ℤ (pos (2 ^ 123)) ≤ℤ result }
+        ensures most { result ≤ℤ pos (2 ^ 123) }
+    {
+        let mut part: i128 = 0;
+        for key in self.written.keys(txn) {
+            let before = self.seen_at(tree, above, key);
+            part += change_at(key, group, self.written.get(txn, key), before);
+        }
+        part
+    }
+
+    // The sum over the group of what the transaction sees.
+    fn sum_seen(&self, tree: &Tree, txn: TxnNo, group: &Group) -> i128
+        ensures { result ≡ sum_in (seen_in tree.now self.now txn) group.now }
+    {
+        let mut sum = sum_of(&self.base, group);
+        if txn.place() as usize >= tree.len() {
+            return sum;
+        }
+        let mut at = Some(txn);
+        while let Some(number) = at {
+            let above = tree.parent_of(number);
+            sum += self.own_part(tree, &above, number, group);
+            at = above;
+        }
+        sum
+    }
+
+    /// The sum over the group of the values that the transaction sees, an absent one counted as 0, or none where the sum is not
+    /// an i64. It goes through the group's rows and through what the transaction and its ancestors left, and takes no memory.
+    pub fn sum_for(&self, tree: &Tree, txn: TxnNo, group: &Group) -> Option<i64>
+        ensures { result ≡ as_i64 (sum_in (seen_in tree.now self.now txn) group.now) }
+    {
+        i64::try_from(self.sum_seen(tree, txn, group)).ok()
     }
 
     /// Makes a place for the transaction and the key, if there is none, so that a value can be put there without memory.
