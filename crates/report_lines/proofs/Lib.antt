@@ -2,3 +2,4 @@ pub mod Parts
 pub mod Rows
 pub mod Answering
 pub mod Entries
+pub mod Counting

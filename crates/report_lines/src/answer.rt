@@ -3,8 +3,9 @@ ghost use Rattle.std.specs.Prelude.{◌≡◌};
 ghost use Rattle.report_lines.specs.Answers.{may_answer, may_begin, may_commit, may_access, may_abort, may_after};
 ghost use Rattle.report_lines.specs.Reading.{answer_of, one_word, refusal_of, two_words};
 
+use crate::digits::number_of;
 use serial_spec::{Answer, Event, Op, Refusal, Reply};
-use session_text::{cut, parse_number};
+use session_text::cut;
 use txn_names::Name;
 
 // An answer of one word.
@@ -12,18 +13,21 @@ fn one_word(word: &[u8]) -> Option<Answer>
     ensures { result ≡ one_word word.now }
 {
     if word == b"ok".as_slice() {
-        Some(Answer::Done(Reply::Ok))
-    } else if word == b"none".as_slice() {
-        Some(Answer::Done(Reply::Absent))
-    } else if word == b"overflow".as_slice() {
-        Some(Answer::Done(Reply::Overflow))
-    } else if word == b"waits".as_slice() {
-        Some(Answer::Waits)
-    } else if word == b"stuck".as_slice() {
-        Some(Answer::Stuck)
-    } else {
-        None
+        return Some(Answer::Done(Reply::Ok));
     }
+    if word == b"none".as_slice() {
+        return Some(Answer::Done(Reply::Absent));
+    }
+    if word == b"overflow".as_slice() {
+        return Some(Answer::Done(Reply::Overflow));
+    }
+    if word == b"waits".as_slice() {
+        return Some(Answer::Waits);
+    }
+    if word == b"stuck".as_slice() {
+        return Some(Answer::Stuck);
+    }
+    None
 }
 
 // What stands behind `refused`.
@@ -31,24 +35,30 @@ fn refusal_of(word: &[u8]) -> Option<Refusal>
     ensures { result ≡ refusal_of word.now }
 {
     if word == b"unknown".as_slice() {
-        Some(Refusal::Unknown)
-    } else if word == b"used".as_slice() {
-        Some(Refusal::Used)
-    } else if word == b"no-parent".as_slice() {
-        Some(Refusal::NoParent)
-    } else if word == b"done".as_slice() {
-        Some(Refusal::Done)
-    } else if word == b"children".as_slice() {
-        Some(Refusal::Children)
-    } else if word == b"waiting".as_slice() {
-        Some(Refusal::Waiting)
-    } else if word == b"full".as_slice() {
-        Some(Refusal::Full)
-    } else if word == b"store".as_slice() {
-        Some(Refusal::Store)
-    } else {
-        None
+        return Some(Refusal::Unknown);
     }
+    if word == b"used".as_slice() {
+        return Some(Refusal::Used);
+    }
+    if word == b"no-parent".as_slice() {
+        return Some(Refusal::NoParent);
+    }
+    if word == b"done".as_slice() {
+        return Some(Refusal::Done);
+    }
+    if word == b"children".as_slice() {
+        return Some(Refusal::Children);
+    }
+    if word == b"waiting".as_slice() {
+        return Some(Refusal::Waiting);
+    }
+    if word == b"full".as_slice() {
+        return Some(Refusal::Full);
+    }
+    if word == b"store".as_slice() {
+        return Some(Refusal::Store);
+    }
+    None
 }
 
 // An answer of two words: the first one, and what stands behind it.
@@ -56,16 +66,18 @@ fn two_words(word: &[u8], rest: &[u8]) -> Option<Answer>
     ensures { result ≡ two_words word.now rest.now }
 {
     if word == b"value".as_slice() {
-        Some(Answer::Done(Reply::Value(parse_number(rest)?)))
-    } else if word == b"new".as_slice() {
-        Some(Answer::Done(Reply::New(parse_number(rest)?)))
-    } else if word == b"refused".as_slice() {
-        Some(Answer::Refused(refusal_of(rest)?))
-    } else if word == b"orphan".as_slice() {
-        Some(Answer::Refused(Refusal::Orphan(Name::parse(rest).ok()?)))
-    } else {
-        None
+        return Some(Answer::Done(Reply::Value(number_of(rest)?)));
     }
+    if word == b"new".as_slice() {
+        return Some(Answer::Done(Reply::New(number_of(rest)?)));
+    }
+    if word == b"refused".as_slice() {
+        return Some(Answer::Refused(refusal_of(rest)?));
+    }
+    if word == b"orphan".as_slice() {
+        return Some(Answer::Refused(Refusal::Orphan(Name::parse(rest).ok()?)));
+    }
+    None
 }
 
 /// The answer that the bytes spell.

@@ -1,11 +1,12 @@
 //! Entries of a report, read.
-ghost use Rattle.std.specs.Prelude.{◌≡◌};
+ghost use Rattle.std.specs.Prelude.{◌≡◌, None};
 ghost use Rattle.std.specs.Option.{option_copied, option_map};
 ghost use Rattle.report_lines.specs.Reading.{abort_of, before_dash, behind_space, count_of, entry_of, line_entry_of, sides_of, star_entry_of, told_of};
 
 use crate::answer::{answer_of, may_answer};
+use crate::digits::number_of;
 use serial_spec::{Answer, Event, MOST_LINES};
-use session_text::{cut, parse_line, parse_number};
+use session_text::{cut, parse_event};
 use txn_names::{Label, Name};
 
 /// What an entry of a report says.
@@ -67,33 +68,50 @@ fn count_of(number: i64) -> Option<u32>
     }
 }
 
-fn told_of(label: Label, line: u32, bytes: &[u8]) -> Option<ReportEntry>
-    ensures { result ≡ told_of label line bytes.now }
+// The entry is put where the caller keeps it: it is large, and would be moved at each return.
+fn tell(label: Label, line: u32, bytes: &[u8], entry: &mut Option<ReportEntry>)
+    requires { entry.old ≡ None }
+    ensures { entry.new ≡ told_of label line bytes.now }
 {
-    let (text, answer) = sides_of(bytes)?;
-    let event = *parse_line(text).ok()?.event();
-    let answer = answer_of(answer)?;
-    if may_answer(&event, &answer) {
-        Some(ReportEntry::Line {
-            label,
-            line,
-            event,
-            answer,
-        })
-    } else {
-        None
+    let Some((text, answer)) = sides_of(bytes) else {
+        return;
+    };
+    let event = &parse_event(text);
+    let answer = &answer_of(answer);
+    if let (Ok(event), Some(answer)) = (event, answer) {
+        if may_answer(event, answer) {
+            *entry = Some(ReportEntry::Line {
+                label,
+                line,
+                event: *event,
+                answer: *answer,
+            });
+        }
     }
 }
 
 // A line's answer or wait.
-fn line_entry_of(bytes: &[u8]) -> Option<ReportEntry>
-    ensures { result ≡ line_entry_of bytes.now }
+fn tell_line(bytes: &[u8], entry: &mut Option<ReportEntry>)
+    requires { entry.old ≡ None }
+    ensures { entry.new ≡ line_entry_of bytes.now }
 {
     let (word, rest) = cut(bytes, b' ');
-    let label = Label::parse(word).ok()?;
-    let (number, rest) = cut(rest?, b' ');
-    let line = count_of(parse_number(number)?)?;
-    told_of(label, line, rest?)
+    let Ok(label) = Label::parse(word) else {
+        return;
+    };
+    let Some(rest) = rest else {
+        return;
+    };
+    let (number, rest) = cut(rest, b' ');
+    let Some(number) = number_of(number) else {
+        return;
+    };
+    let Some(line) = count_of(number) else {
+        return;
+    };
+    if let Some(rest) = rest {
+        tell(label, line, rest, entry);
+    }
 }
 
 // What stands behind the star of a victim or of the close.
@@ -103,12 +121,12 @@ fn abort_of(bytes: &[u8]) -> Option<ReportEntry>
     let (word, rest) = cut(bytes, b' ');
     let name = Name::parse(rest?).ok()?;
     if word == b"victim".as_slice() {
-        Some(ReportEntry::Victim(name))
-    } else if word == b"close".as_slice() {
-        Some(ReportEntry::Close(name))
-    } else {
-        None
+        return Some(ReportEntry::Victim(name));
     }
+    if word == b"close".as_slice() {
+        return Some(ReportEntry::Close(name));
+    }
+    None
 }
 
 /// The entry that the bytes spell, a line of a report without its line feed: `LABEL LINE TEXT -> REPLY`, `* victim N` or
@@ -116,8 +134,21 @@ fn abort_of(bytes: &[u8]) -> Option<ReportEntry>
 pub fn parse_entry(bytes: &[u8]) -> Option<ReportEntry>
     ensures { result ≡ entry_of bytes.now }
 {
-    match cut(bytes, b' ') {
-        (b"*", rest) => abort_of(rest?),
-        _ => line_entry_of(bytes),
+    let mut entry = None;
+    read_entry(bytes, &mut entry);
+    entry
+}
+
+/// The same, put where the caller keeps it, in place of what was there: an entry is large, and is moved when it is returned.
+pub fn read_entry(bytes: &[u8], entry: &mut Option<ReportEntry>)
+    ensures { entry.new ≡ entry_of bytes.now }
+{
+    *entry = None;
+    if let (b"*", rest) = cut(bytes, b' ') {
+        if let Some(rest) = rest {
+            *entry = abort_of(rest);
+        }
+        return;
     }
+    tell_line(bytes, entry);
 }

@@ -2,9 +2,10 @@
 #![tactic(auto)]
 
 mod answer;
+mod digits;
 mod entry;
 pub mod laws;
 mod row;
 
-pub use entry::{ReportEntry, parse_entry};
+pub use entry::{ReportEntry, parse_entry, read_entry};
 pub use row::parse_row;

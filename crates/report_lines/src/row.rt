@@ -2,7 +2,8 @@
 ghost use Rattle.std.specs.Prelude.{◌≡◌};
 ghost use Rattle.report_lines.specs.Reading.{row_of};
 
-use session_text::{cut, parse_number};
+use crate::digits::number_of;
+use session_text::cut;
 use txn_names::Key;
 
 /// The row that the bytes spell, a line of a report without its line feed: `K=V`, a key and a value.
@@ -11,6 +12,6 @@ pub fn parse_row(bytes: &[u8]) -> Option<(Key, i64)>
 {
     let (key, rest) = cut(bytes, b'=');
     let key = Key::parse(key).ok()?;
-    let value = parse_number(rest?)?;
+    let value = number_of(rest?)?;
     Some((key, value))
 }

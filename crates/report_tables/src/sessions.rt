@@ -62,20 +62,15 @@ impl Session {
         may_go_on(&self.waits, event, answer)
     }
 
-    // Afterwards: as many lines are answered as before where it begins to wait.
-    fn told(line: u32, event: &Event, answer: &Answer, answered: u32) -> Session
-        ensures { result ≡ told_session line event.now answer.now answered }
+    // Afterwards as many lines are answered as before where it begins to wait.
+    fn tell(&mut self, line: u32, event: &Event, answer: &Answer)
+        ensures { self.new ≡ told_session line event.now answer.now self.old.answered }
     {
         if is_wait(answer) {
-            Session {
-                answered,
-                waits: Some(*event),
-            }
+            self.waits = Some(*event);
         } else {
-            Session {
-                answered: line,
-                waits: None,
-            }
+            self.answered = line;
+            self.waits = None;
         }
     }
 }
@@ -126,8 +121,7 @@ pub fn take_line(
     if !session.may_tell(line, event, answer) {
         return false;
     }
-    let answered = session.answered;
-    *session = Session::told(line, event, answer, answered);
+    session.tell(line, event, answer);
     true
 }
 

@@ -109,7 +109,8 @@ fn timed(words: Option<&[u8]>) -> Result<(Name, When), LineKind>
     Ok((name, when))
 }
 
-/// What a command line asks, or the kind of its first fault.
+/// What a command line asks, or the kind of its first fault. Each event is given where it is made: as the value of an `if` it would
+/// be moved once for each `else` around it.
 pub(crate) fn event_of(bytes: &[u8]) -> Result<Event, LineKind>
     ensures { result ≡ event_of bytes.now }
 {
@@ -118,27 +119,33 @@ pub(crate) fn event_of(bytes: &[u8]) -> Result<Event, LineKind>
     }
     let (word, words) = cut(bytes, b' ');
     if word == b"begin".as_slice() {
-        Ok(Event::Begin(named(words)?))
-    } else if word == b"get".as_slice() {
-        let (name, key) = keyed(words)?;
-        Ok(Event::Access(name, key, Op::Get))
-    } else if word == b"set".as_slice() {
-        let (name, key, value) = valued(words)?;
-        Ok(Event::Access(name, key, Op::Set(value)))
-    } else if word == b"add".as_slice() {
-        let (name, key, value) = valued(words)?;
-        Ok(Event::Access(name, key, Op::Add(value)))
-    } else if word == b"del".as_slice() {
-        let (name, key) = keyed(words)?;
-        Ok(Event::Access(name, key, Op::Del))
-    } else if word == b"commit".as_slice() {
-        Ok(Event::Commit(named(words)?))
-    } else if word == b"abort".as_slice() {
-        Ok(Event::Abort(named(words)?))
-    } else if word == b"after".as_slice() {
-        let (name, when) = timed(words)?;
-        Ok(Event::After(name, when))
-    } else {
-        Err(LineKind::Word)
+        return Ok(Event::Begin(named(words)?));
     }
+    if word == b"get".as_slice() {
+        let (name, key) = keyed(words)?;
+        return Ok(Event::Access(name, key, Op::Get));
+    }
+    if word == b"set".as_slice() {
+        let (name, key, value) = valued(words)?;
+        return Ok(Event::Access(name, key, Op::Set(value)));
+    }
+    if word == b"add".as_slice() {
+        let (name, key, value) = valued(words)?;
+        return Ok(Event::Access(name, key, Op::Add(value)));
+    }
+    if word == b"del".as_slice() {
+        let (name, key) = keyed(words)?;
+        return Ok(Event::Access(name, key, Op::Del));
+    }
+    if word == b"commit".as_slice() {
+        return Ok(Event::Commit(named(words)?));
+    }
+    if word == b"abort".as_slice() {
+        return Ok(Event::Abort(named(words)?));
+    }
+    if word == b"after".as_slice() {
+        let (name, when) = timed(words)?;
+        return Ok(Event::After(name, when));
+    }
+    Err(LineKind::Word)
 }

@@ -17,7 +17,7 @@ mod sessions;
 mod text_line;
 
 pub use fault::{LineKind, TextFault};
-pub use line::{Line, parse_line};
+pub use line::{Line, parse_event, parse_line};
 pub use number::parse_number;
 pub use parting::cut;
 pub use sessions::Sessions;

@@ -60,3 +60,11 @@ pub fn parse_line(bytes: &[u8]) -> Result<Line, LineKind>
         text: Held::of(bytes),
     })
 }
+
+/// What a command line asks, as `parse_line` reads it, where its text is not wanted.
+pub fn parse_event(bytes: &[u8]) -> Result<Event, LineKind>
+    ensures read { result ≡ event_of bytes.now }
+    ensures valid { IfOk result IsEvent }
+{
+    command::event_of(bytes)
+}

@@ -19,7 +19,7 @@ returns c labels h are event within =
     let may = sym (c.may_tell.ensures h n (are.each n before there) event) ∙ c.if-not-may_tell.false in
     let next = eqb-true c.args.line (suc (answered h n)) (and_parts (c.args.line == suc (answered h n)) (goes_on (waiting h n) c.args.event.now c.args.answer.now) may).0 in (
       may,
-      subst (λ x. AreSessionsOf labels (line_entry n c.args.line c.args.event.now c.args.answer.now ∷ h) (set_value_at es n x)) (sym c.told.ensures)
+      subst (λ x. AreSessionsOf labels (line_entry n c.args.line c.args.event.now c.args.answer.now ∷ h) (set_value_at es n x)) (sym c.tell.ensures)
           (sessions_told labels h es n c.args.line c.args.event.now c.args.answer.now before are there event next within),
     )
 
