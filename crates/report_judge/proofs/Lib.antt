@@ -1,6 +1,8 @@
+pub mod Feeding
 pub mod Following
 pub mod Judging
 pub mod Lining
 pub mod Remaining
 pub mod Rowing
 pub mod Stepping
+pub mod Sourcing

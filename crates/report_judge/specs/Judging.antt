@@ -1,5 +1,5 @@
 -- What bytes come to that are read line by line.
-use Rattle.std.specs.Prelude.{◌≡◌, ℕ, ◌++◌, Bool, true, false, not, ◌&&◌, ◌==◌, nat_eq, length, List, Option, Err}
+use Rattle.std.specs.Prelude.{◌≡◌, ℕ, ◌++◌, Bool, true, false, not, ◌&&◌, ◌==◌, nat_eq, length, List, Option, Result, Err}
 use Rattle.std.specs.List.{list_all}
 use Rattle.std.specs.Io.KnownBytes.{Consumes, IsAtEnd}
 use Rattle.serial_spec.specs.Rows.{IsRising, Rows, value_in}
@@ -9,6 +9,10 @@ use Rattle.report_check.specs.Verdicts.{HasVerdict, compared}
 use Rattle.report_check.specs.declared.verdict.Verdict.{Verdict}
 use Rattle.report_tables.specs.Valued.{Values, value_at}
 use Rattle.report_judge.specs.Kept.{IsSeen, line_of}
+use Rattle.report_judge.specs.Sources.{IsPartRead, IsReadWhole, IsUnread}
+use Rattle.report_judge.specs.declared.reading.CheckFault.{CheckFault}
+use Rattle.report_judge.specs.declared.reading.CheckFault.TheVariants as fault
+use Rattle.report_judge.specs.declared.source.ReadFault.{ReadFault}
 use Rattle.report_judge.specs.declared.lines.Judge.{Judge}
 use Rattle.report_judge.specs.declared.lines.Standing.{Standing}
 use Rattle.report_judge.specs.declared.seen.Seen.{Seen}
@@ -32,16 +36,18 @@ pub record Stands (bs : List ℕ) (j : Judge) : Type 0 where
   pub line : IsLine j.kept
   pub due : IsDue bs j.kept j.standing
 
--- the reader had these bytes left and is at its end, and they have the verdict
-pub record IsVerdictOn (old new : Option (List ℕ)) (v : Verdict) : Type 0 where
+-- the reader gave these bytes up to its end, and they have the verdict
+pub record IsVerdictOn {R : Type 0} (gives : R → R → Result (List ℕ) ReadFault → Type 0) (remaining : R → Option (List ℕ)) (old new : R) (v : Verdict) : Type 0 where
   pub bytes : List ℕ
-  pub taken : Consumes old new bytes
-  pub ended : IsAtEnd new
+  pub whole : IsReadWhole gives old new bytes
+  pub taken : Consumes (remaining old) (remaining new) bytes
+  pub ended : IsAtEnd (remaining new)
   pub verdict : HasVerdict bytes v
 
--- some bytes were taken off the reader
-abbrev pub IsPartRead : Option (List ℕ) → Option (List ℕ) → Type 0
-IsPartRead old new = (bytes : List ℕ) × Consumes old new bytes
+-- why there is no verdict: a growth was refused while the reader gave bytes, or the reader did not come to its end
+abbrev pub HasCheckCause : {R : Type 0} → (R → R → Result (List ℕ) ReadFault → Type 0) → (R → Option (List ℕ)) → R → R → CheckFault → Type 0
+HasCheckCause gives remaining old new fault.NoMemory = IsPartRead gives remaining old new
+HasCheckCause gives remaining old new fault.Read = IsUnread gives remaining old new
 
 -- the final rows beside those of the keys that have values, in byte order
 pub record IsComparedBy (es : Values) (table : Rows) (n : ℕ) (v : Verdict) : Type 0 where

@@ -1,10 +1,13 @@
 //! The verdict on the bytes of a report, as they come off a reader.
 #![tactic(auto)]
 
+mod cutting;
 mod kept;
 mod lines;
 mod reading;
 mod seen;
+mod source;
 
 pub use kept::MOST_BYTES;
-pub use reading::{CheckFault, MOST_READS, check};
+pub use reading::{CheckFault, check};
+pub use source::{MOST_READS, ReadFault, Source};

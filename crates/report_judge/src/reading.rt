@@ -1,15 +1,11 @@
 //! The verdict on what a reader holds.
-ghost use Rattle.std.specs.Prelude.{◌≡◌, [], IfOk, OnErr};
-ghost use Rattle.report_judge.specs.Judging.{IsPartRead, IsVerdictOn, Stands};
+ghost use Rattle.std.specs.Prelude.{◌≡◌, [], IfErr, IfOk};
+ghost use Rattle.report_judge.specs.Judging.{HasCheckCause, IsVerdictOn, Stands};
 
 use crate::lines::{Judge, finish, take_bytes};
+use crate::source::{MOST_READS, ReadFault, Source};
 use report_check::Verdict;
-use serial_spec::NoMemory;
 use std::alloc::Global;
-use std::io::Read;
-
-/// How many calls of `read` a report may take until its end has come. A report that was written has fewer bytes.
-pub const MOST_READS: usize = 134_217_728;
 
 // How many bytes are asked for at a time.
 const PIECE: usize = 4096;
@@ -23,36 +19,40 @@ pub enum CheckFault {
     Read,
 }
 
-impl From<NoMemory> for CheckFault {
-    fn from(_: NoMemory) -> CheckFault {
-        CheckFault::NoMemory
-    }
-}
-
 // The verdict on the bytes that the reader has left.
-fn judge_all<R: Read>(judge: &mut Judge, report: &mut R) -> Result<Verdict, CheckFault>
+fn judge_all<R: Source>(judge: &mut Judge, report: &mut R) -> Result<Verdict, CheckFault>
     requires line { judge.old.standing.line ≡ 1 }
     requires stands { Stands [] judge.old }
-    ensures ok { IfOk result (λ v. IsVerdictOn (R.remaining report.old) (R.remaining report.new) v) }
-    ensures err { OnErr result (IsPartRead (R.remaining report.old) (R.remaining report.new)) }
+    ensures ok { IfOk result (λ v. IsVerdictOn R.gives R.remaining report.old report.new v) }
+    ensures err { IfErr result (HasCheckCause R.gives R.remaining report.old report.new) }
 {
     let mut bytes = [0u8; PIECE];
     for _call in 0..MOST_READS {
-        match report.read(&mut bytes) {
-            Ok(0) => return Ok(finish(judge)?),
-            Ok(len) => take_bytes(judge, &bytes[..len])?,
-            Err(_) => return Err(CheckFault::Read),
+        match report.give(&mut bytes) {
+            Ok(0) => {
+                return match finish(judge) {
+                    Ok(verdict) => Ok(verdict),
+                    Err(_) => Err(CheckFault::NoMemory),
+                };
+            }
+            Ok(len) => match take_bytes(judge, &bytes[..len]) {
+                Ok(()) => {}
+                Err(_) => return Err(CheckFault::NoMemory),
+            },
+            Err(ReadFault) => return Err(CheckFault::Read),
         }
     }
     Err(CheckFault::Read)
 }
 
 /// The verdict on the bytes that the reader has left, which is read to its end. After an error some of them are taken.
-pub fn check<R: Read>(alloc: Global, report: &mut R) -> Result<Verdict, CheckFault>
-    ensures ok { IfOk result (λ v. IsVerdictOn (R.remaining report.old) (R.remaining report.new) v) }
-    ensures err { OnErr result (IsPartRead (R.remaining report.old) (R.remaining report.new)) }
+pub fn check<R: Source>(alloc: Global, report: &mut R) -> Result<Verdict, CheckFault>
+    ensures ok { IfOk result (λ v. IsVerdictOn R.gives R.remaining report.old report.new v) }
+    ensures err { IfErr result (HasCheckCause R.gives R.remaining report.old report.new) }
 {
-    let mut judge = Judge::new(alloc)?;
+    let Ok(mut judge) = Judge::new(alloc) else {
+        return Err(CheckFault::NoMemory);
+    };
     let verdict = judge_all(&mut judge, report);
     drop(judge);
     verdict

@@ -15,7 +15,7 @@ ghost use Rattle.report_tables.specs.Told.{AreTransactionsOf, Comes};
 ghost use Rattle.report_tables.specs.Valued.{value_at};
 
 use indexmap::IndexMap;
-use report_lines::{ReportEntry, parse_entry, parse_row};
+use report_lines::{ReportEntry, parse_row, read_entry};
 use report_tables::{
     Access, Sessions, Transactions, Values, abort, access, begin, commit, none_waits, number_of,
     session_number, take_line,
@@ -278,8 +278,10 @@ fn take_told(seen: &mut Seen, at: usize, bytes: &[u8]) -> Result<bool, NoMemory>
         → Steps ok (entry_next r (entry_of bytes.now)) seen.new) }
 {
     seen.part = Part::Entries;
-    match parse_entry(bytes) {
-        Some(entry) => take_entry(seen, at, &entry),
+    let mut entry = None;
+    read_entry(bytes, &mut entry);
+    match &entry {
+        Some(entry) => take_entry(seen, at, entry),
         None => Ok(false),
     }
 }

@@ -163,6 +163,10 @@ fn whole_texts(rt: HostRuntime) {
         ("", Verdict::No(1)),
         ("open\ntable\nend\n", Verdict::Yes),
         ("open\ntable\nend", Verdict::No(3)),
+        (
+            "open\ns 1 begin a -> ok\ns 2 set a x 5 -> ok\ns 3 get a x -> value 5\ns 4 commit a -> ok\ntable\nx=5\nend",
+            Verdict::No(8),
+        ),
         ("open\nx=1\nx=1\ntable\nend\n", Verdict::No(3)),
         ("open\nx=1\ny=2\ntable\nx=1\ny=2\nend\n", Verdict::Yes),
         ("open\nx=1\ny=2\ntable\nx=1\nend\n", Verdict::No(6)),

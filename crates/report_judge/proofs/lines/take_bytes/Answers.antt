@@ -13,18 +13,18 @@ pub lines-preserved : goal.lines-preserved
 lines-preserved c =
     let rest = c.lines.rest.now in
     let next = c.in-Some.next.now in
-    let at : behind 10 rest ≡ Some next = sym c.cut.ensures.behind ∙ ap option_copied c.in-Some.is in
+    let at : behind 10 rest ≡ Some next = sym c.cut_line.ensures.behind ∙ ap option_copied c.in-Some.is in
     let w = cut_line rest next at in
-    let line = c.cut.ensures.before in
-    let whole : IsLine c.cut.result.0.now = subst IsLine (sym line) w.1 in
-    let split : rest ≡ c.cut.result.0.now ++ 10 ∷ next = w.0 ∙ ap (λ xs. xs ++ 10 ∷ next) (sym line) in (
-      λ bs stands. way_next bs c.args.bytes.now rest c.cut.result.0.now next c.lines.judge c.end_line.new.judge (c.lines.invariant.0 bs stands) split
+    let line = c.cut_line.ensures.before in
+    let whole : IsLine c.cut_line.result.0.now = subst IsLine (sym line) w.1 in
+    let split : rest ≡ c.cut_line.result.0.now ++ 10 ∷ next = w.0 ∙ ap (λ xs. xs ++ 10 ∷ next) (sym line) in (
+      λ bs stands. way_next bs c.args.bytes.now rest c.cut_line.result.0.now next c.lines.judge c.end_line.new.judge (c.lines.invariant.0 bs stands) split
           (λ cs st. c.in_ok-end_line-in-Some.ensures.stands cs whole st),
-      omega (arith, c.lines.invariant.1, c.end_line.ensures.line, ap (λ (xs : List ℕ). length xs) split, length-append c.cut.result.0.now (10 ∷ next)),
+      omega (arith, c.lines.invariant.1, c.end_line.ensures.line, ap (λ (xs : List ℕ). length xs) split, length-append c.cut_line.result.0.now (10 ∷ next)),
     )
 
 pub returns-in-None-clause-stands : goal.returns-in-None-clause-stands
 returns-in-None-clause-stands c bs stands =
     let rest = c.lines.rest.now in
-    let at : behind 10 rest ≡ None = sym c.cut.ensures.behind ∙ ap option_copied c.in-None.is in
+    let at : behind 10 rest ≡ None = sym c.cut_line.ensures.behind ∙ ap option_copied c.in-None.is in
     way_last bs c.args.bytes.now rest c.lines.judge c.keep.new.judge (c.lines.invariant.0 bs stands) (λ cs st. c.keep.ensures.stands cs (cut_none rest at) st)

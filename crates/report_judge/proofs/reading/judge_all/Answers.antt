@@ -1,26 +1,32 @@
-use Rattle.std.proofs.Common.{◌≡◌, ◌≤◌, Result, Ok, Err, ◌++◌, take, length, sym, arith}
-use Rattle.std.specs.Prelude.{OnErr}
+use Rattle.std.proofs.Common.{◌≡◌, ◌≤◌, ◌++◌, take, length, sym, arith}
 use Rattle.std.proofs.KnownBytes.{Consumes-trans}
+use Rattle.report_judge.proofs.Sourcing.{given_more, part_read}
 use Rattle.report_judge.proofs.reading.judge_all.Goals as goal
 
-on_err : {A E : Type 0} (r : Result A E) (P : Type 0) → P → OnErr r P
-on_err (Ok v) P p = tt
-on_err (Err e) P p = p
-
-pub returns-in_err-take_bytes-in-Ok-clause-err : goal.returns-in_err-take_bytes-in-Ok-clause-err
-returns-in_err-take_bytes-in-Ok-clause-err g c =
+pub returns-in-Err-finish-clause-err : goal.returns-in-Err-finish-clause-err
+returns-in-Err-finish-clause-err g c =
     let i = c.loop-call.invariant in
-    on_err c.from_residual-in_err-take_bytes-in-Ok.result _ (i.2.0 ++ take c.in-Ok.len c.read.new.buf, Consumes-trans _ _ _ _ _ i.2.1 c.in-Ok.ensures.bytes.0)
+    part_read g.R.Source.gives g.R.Read.remaining c.loop-call._call _ _ _ i.2.0 _ i.2.3 i.2.1 c.in-Ok-eq0.ensures.asked c.in-Ok-eq0.ensures.bytes.0
+
+pub returns-in-Err-take_bytes-clause-err : goal.returns-in-Err-take_bytes-clause-err
+returns-in-Err-take_bytes-clause-err g c =
+    let i = c.loop-call.invariant in
+    part_read g.R.Source.gives g.R.Read.remaining c.loop-call._call _ _ _ i.2.0 _ i.2.3 i.2.1 c.in-Ok.ensures.asked c.in-Ok.ensures.bytes.0
 
 pub loop-call-preserved : goal.loop-call-preserved
 loop-call-preserved g c =
     let i = c.loop-call.invariant in
-    let buf = c.read.new.buf in
+    let buf = c.give.new.buf in
     let n = c.in-Ok.len in
-    let full : length buf ≡ 4096 = omega (arith, c.read.auto.buf, i.0) in
+    let full : length buf ≡ 4096 = omega (arith, c.give.auto.buf, i.0) in
     let fits : n ≤ length buf = c.in-Ok.ensures.bound.0 in
     let given : length (take n buf) ≡ n = sym c.in-Ok.ensures.bound.1 in (
       full,
-      omega (arith, i.1, c.in_ok-take_bytes-in-Ok.ensures.line, given, fits, full),
-      (i.2.0 ++ take n buf, Consumes-trans _ _ _ _ _ i.2.1 c.in-Ok.ensures.bytes.0, c.in_ok-take_bytes-in-Ok.ensures.stands i.2.0 i.2.2),
+      omega (arith, i.1, c.in-Ok-take_bytes.ensures.line, given, fits, full),
+      (
+        i.2.0 ++ take n buf,
+        Consumes-trans _ _ _ _ _ i.2.1 c.in-Ok.ensures.bytes.0,
+        c.in-Ok-take_bytes.ensures.stands i.2.0 i.2.2,
+        given_more g.R.Source.gives c.loop-call._call _ _ _ i.2.0 _ i.2.3 c.in-Ok.ensures.asked,
+      ),
     )

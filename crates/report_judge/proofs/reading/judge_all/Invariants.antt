@@ -1,9 +1,11 @@
 use Rattle.std.proofs.Common.{◌≡◌, ℕ, List, ◌+◌, ◌*◌, ◌≤◌, length}
 use Rattle.std.specs.Io.KnownBytes.{Consumes}
 use Rattle.report_judge.specs.Judging.{Stands}
+use Rattle.report_judge.specs.Sources.{HasGiven}
 use Rattle.report_judge.proofs.reading.judge_all.Given as goal
 
 abbrev pub invariant-loop-call : goal.invariant-loop-call
 invariant-loop-call g l =
     (length l.bytes ≡ 4096) × (l.judge.standing.line ≤ 1 + 4096 * l._call)
-    × ((bs : List ℕ) × Consumes (g.R.Read.remaining l.initial.report) (g.R.Read.remaining l.report) bs × Stands bs l.judge)
+    × ((bs : List ℕ) × Consumes (g.R.Read.remaining l.initial.report) (g.R.Read.remaining l.report) bs × Stands bs l.judge
+    × HasGiven g.R.Source.gives l._call l.initial.report l.report bs)

@@ -9,7 +9,7 @@ pub returns-in-Some : goal.returns-in-Some
 returns-in-Some c =
     let s = c.args.seen.now in
     let bs = c.args.bytes.now in
-    let read = sym c.parse_entry.ensures ∙ c.in-Some.is in
+    let read = sym c.read_entry.ensures ∙ c.in-Some.is in
     on_ok c.take_entry.result _ _ c.take_entry.ensures.kept
     (λ ok told r seen middle at.
     entry_steps r s c.take_entry.new.seen bs c.in-Some.entry seen middle read (ap part_of c.take_entry.ensures.part) ok
