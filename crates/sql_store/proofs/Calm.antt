@@ -1,6 +1,6 @@
 -- What a database refuses is no failure of the device.
-use Rattle.std.proofs.Common.{◌≡◌, ◌⊎◌, inl, inr, ℕ, ℤ, Bool, true, false, List, [], ◌∷◌, ◌++◌, Option, Some, None, Ok, Err, Result, sym, subst, option_map, slice_get}
-use Rattle.std.specs.Prelude.{MatchBool, if◌then◌else◌, ◌&&◌, not, is_some}
+use Rattle.std.proofs.Common.{◌≡◌, ◌⊎◌, inl, inr, ℕ, ℤ, Bool, true, false, List, [], ◌∷◌, Option, Some, None, Err, sym, subst, slice_get}
+use Rattle.std.specs.Prelude.{MatchBool, is_some}
 use Rattle.sqlite_value.specs.Order.{Row}
 use Rattle.sqlite_trees.specs.Tree.{Trees}
 use Rattle.sqlite_schema.specs.declared.schema.Constraint.TheVariants.{ForeignKey}
@@ -34,7 +34,7 @@ use Rattle.sqlite.specs.declared.error.Error.TheVariants.{SqliteFailure, Invalid
 use Rattle.sqlite.specs.declared.run.Mode.{Mode}
 use Rattle.sqlite.specs.Effect.{Database, RefusesQuery, RefusesToRead, RefusesSource, RefusesToAlter, IsNoText, edit_error, alter_error}
 use Rattle.sqlite.specs.Rows.{Part, Gives, Refuses, Then, Queried, Sourced, Edited, Written, Task, CounterIn, Counter, counting, CountsIn, Counts, Updates, Deletes, Inserts, Puts, Clears, Resolves, Meets, Upserts, Judged, Tries, TriesEach, InsertsOr}
-use Rattle.sqlite.specs.Does.{Tally, IsKeptAside, Tested, AtPlace, MakesTable, MakesSequence, MakesIndex, MakesView, Leaves, Counted, Defines, Shows, Returns, Concludes, WritesRows, OnRows, is_acted_on, Empties, UncountsIn, Uncounts, HoldWithout, Drops, OnTable, Redefines, Does}
+use Rattle.sqlite.specs.Does.{IsKeptAside, Tested, AtPlace, MakesTable, MakesSequence, MakesIndex, MakesView, Leaves, Counted, Defines, Shows, Returns, Concludes, WritesRows, OnRows, is_acted_on, Empties, UncountsIn, HoldWithout, Drops, Redefines, Does}
 use Rattle.durable_top.specs.declared.store.StoreFault.TheVariants.{Refused, Failed}
 use Rattle.sql_store.specs.Faults.{fault_of}
 

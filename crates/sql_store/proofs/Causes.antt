@@ -1,5 +1,5 @@
 -- An error that stands for a failure of the device has one as its cause.
-use Rattle.std.proofs.Common.{◌≡◌, ◌⊎◌, inl, inr, ℕ, Bool, false, List, [], Option, Some, None, Ok, Err, sym, subst}
+use Rattle.std.proofs.Common.{◌≡◌, inl, inr, ℕ, Bool, false, List, [], Option, Some, None, Err, sym, subst}
 use Rattle.std.proofs.lemmas.Bool.{cases_Bool}
 use Rattle.sqlite_value.specs.Order.{Row}
 use Rattle.sqlite_trees.specs.Tree.{Trees}
@@ -8,15 +8,13 @@ use Rattle.sqlite_trees.specs.declared.error.StoreError.TheVariants as cause
 use Rattle.sqlite_schema.specs.declared.command.Command.{Command}
 use Rattle.sqlite_schema.specs.declared.command.Returning.{Returning}
 use Rattle.sqlite_resolve.specs.declared.compiled.Compiled.{Compiled}
-use Rattle.sqlite.specs.declared.error.ErrorCode.TheVariants as code
 use Rattle.sqlite.specs.declared.error.Error.{Error}
-use Rattle.sqlite.specs.declared.error.Error.TheVariants.{SqliteFailure, ExecuteReturnedResults}
-use Rattle.sqlite.specs.Clock.{timed}
+use Rattle.sqlite.specs.declared.error.Error.TheVariants.{ExecuteReturnedResults}
 use Rattle.sqlite.specs.State.{State, Survives, Fails, HasCause, store_error, IsMisplaced, IsNoStatement, IsNotRun, RunsCommand, RunsAlone, ExecutesIn, Executes, ExecutesInside, FailsToShow, FailsToQuery, text_of, mode_of, shows_rows}
 use Rattle.sqlite.specs.Store.{Ghosts}
 use Rattle.sqlite.specs.Held.{Held, state}
 use Rattle.sql_store.proofs.Texts.{probe_text, Fits, probe_fits}
-use Rattle.durable_top.specs.declared.store.StoreFault.TheVariants.{Failed}
+use Rattle.durable_top.specs.declared.store.StoreFault.TheVariants.{Refused}
 use Rattle.sql_store.specs.Faults.{fault_of, IsCaused, Lasts, HasFailed}
 use Rattle.sql_store.proofs.Calm.{IsCalm, apart, calm_as, does_calm, read_calm}
 
@@ -89,6 +87,20 @@ always_fits s e (inl (fault, is, h)) = subst Fits is (probe_fits s.now.schema)
 always_fits s e (inr (c, is, inl h)) = h.0 (subst Fits is (probe_fits s.now.schema)).0
 always_fits s e (inr (c, is, inr (inl h))) = h.0 (subst Fits is (probe_fits s.now.schema)).1
 always_fits s e (inr (c, is, inr (inr h))) = h.0 (subst Fits is (probe_fits s.now.schema)).2
+
+pub unrefused : (old new : State) (e : Error) → Fails old new ⊥ e → fault_of e ≡ Refused → ⊥
+unrefused old new e (cause.OutOfMemory, same, why, back, tells) refused = absurd (let k = subst (λ x. fault_of x ≡ Refused) same refused in cc)
+unrefused old new e (cause.Io, same, why, back, tells) refused = absurd (let k = subst (λ x. fault_of x ≡ Refused) same refused in cc)
+unrefused old new e (cause.Corrupt, same, why, back, tells) refused = absurd (let k = subst (λ x. fault_of x ≡ Refused) same refused in cc)
+unrefused old new e (cause.Full, same, why, back, tells) refused = absurd (let k = subst (λ x. fault_of x ≡ Refused) same refused in cc)
+unrefused old new e (cause.Broken, same, why, back, tells) refused = absurd (let k = subst (λ x. fault_of x ≡ Refused) same refused in cc)
+unrefused old new e (cause.Unstorable, same, why, back, tells) refused = absurd why
+
+-- the database never refuses the probe
+pub probe_unrefused : (old new : State) (e : Error) → IsNotRun old new probe_text [] e → fault_of e ≡ Refused → ⊥
+unfolding IsNotRun
+probe_unrefused old new e (inl h) refused = absurd (always_fits old e h.0)
+probe_unrefused old new e (inr h) refused = unrefused old new e h refused
 
 module _ {S : Type 0} (g : Ghosts S) where
   fails_for : (old new : Held S) (e : Error) → Fails (state g old) (state g new) ⊥ e → HasFailed g old new

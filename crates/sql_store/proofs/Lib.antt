@@ -12,3 +12,6 @@ pub mod Apart
 pub mod Calm
 pub mod Causes
 pub mod Transactions
+pub mod Bare
+pub mod Spared
+pub mod Maker

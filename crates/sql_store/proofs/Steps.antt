@@ -1,5 +1,5 @@
 -- One statement in a transaction, and several.
-use Rattle.std.proofs.Common.{ℕ, List, Ok, Err, Result, OnOk, OnErr, IfOk, IfErr, inl, inr}
+use Rattle.std.proofs.Common.{◌≡◌, ap, ℕ, List, Ok, Err, Result, OnOk, OnErr, IfOk, IfErr, IsErrOf, inl, inr}
 use Rattle.std.specs.Global.{Vec}
 use Rattle.sqlite.specs.Order.{Row as Values}
 use Rattle.sqlite.specs.declared.error.Error.{Error}
@@ -35,3 +35,7 @@ if_ok_both (Err e) P Q R p q f = tt
 pub told_if : (r : Result (Vec Row) StoreFault) (P : List Row → Type 0) → IfOk r (λ rows. P rows.items) → IfOk (told r) P
 told_if (Ok rows) P h = h
 told_if (Err fault) P h = tt
+
+pub told_err : (r : Result (Vec Row) StoreFault) (fault : StoreFault) → IsErrOf (told r) fault → IsErrOf r fault
+told_err (Ok rows) fault h = absurd cc
+told_err (Err e) fault h = let same : e ≡ fault = cc in ap (λ x. Err x) same

@@ -22,11 +22,8 @@ use Rattle.sqlite_tied.specs.Compute.{everything}
 use Rattle.sqlite.specs.Listing.{understood, reads_listing}
 use Rattle.sqlite.proofs.Callers.{IsPlain, command_of, statement_of}
 use Rattle.sql_store.specs.Results.{results, results_schema, listed_schema, key_index, no_schema}
-pub use Rattle.sql_store.specs.Asked.{upsert_text, delete_text}
+pub use Rattle.sql_store.specs.Asked.{create_text, upsert_text, delete_text}
 use Rattle.sql_store.specs.Load.{load_text, load_query, ids_text, ids_query}
-
-abbrev pub create_text : List ℕ
-create_text = codes "CREATE TABLE IF NOT EXISTS results (k TEXT NOT NULL PRIMARY KEY, v INTEGER NOT NULL) STRICT"
 
 abbrev pub probe_text : List ℕ
 probe_text = codes "SELECT 1"

@@ -1,14 +1,19 @@
 -- What a store asked of its connection, and what it was answered, whatever the database has.
-use Rattle.std.specs.Prelude.{◌≡◌, ℕ, ℤ, false, true, List, [], ◌∷◌, map, codes, Option, Some, None, Ok}
+use Rattle.std.specs.Prelude.{◌≡◌, ◌⊎◌, ℕ, ℤ, false, true, List, [], ◌∷◌, ◌++◌, map, codes, Option, Some, None, Ok, Err}
 use Rattle.sqlite.specs.declared.types.Value.TheVariants.{Text, Int}
+use Rattle.sqlite.specs.declared.error.Error.{Error}
 use Rattle.sqlite.specs.Order.{Row as Values}
 use Rattle.sqlite.specs.Store.{Ghosts}
 use Rattle.sqlite.specs.Held.{Held, state}
-use Rattle.sqlite.specs.State.{Shown, Shows, IsUnchanged, ExecutesInside}
+use Rattle.sqlite.specs.State.{Shown, Shows, IsUnchanged, Executes, ExecutesInside}
 use Rattle.txn_names.specs.declared.change.Change.{Change}
 use Rattle.durable_top.specs.declared.store.Row.{Row}
+use Rattle.sql_store.specs.Kept.{Spares}
 use Rattle.sql_store.specs.Load.{load_text}
 use Rattle.sql_store.specs.Reading.{told, seen}
+
+abbrev pub create_text : List ℕ
+create_text = codes "CREATE TABLE IF NOT EXISTS results (k TEXT NOT NULL PRIMARY KEY, v INTEGER NOT NULL) STRICT"
 
 abbrev pub upsert_text : List ℕ
 upsert_text = codes "INSERT INTO results (k, v) VALUES (?1, ?2) ON CONFLICT (k) DO UPDATE SET v = excluded.v"
@@ -26,6 +31,18 @@ params_for key None = Text key ∷ []
 params_for key (Some value) = Text key ∷ Int value ∷ []
 
 module _ {S : Type 0} (g : Ghosts S) where
+  -- the statement that makes the table where there is none was executed
+  abbrev pub Created : Held S → Held S → Type 0
+  Created old new = (count : ℕ) × Executes create_text [] (state g old) (state g new) (Ok count)
+
+  -- the same, and no other statement wrote anything
+  abbrev pub Made : Held S → Held S → Type 0
+  Made old new = (made : Held S) × Created old made × IsUnchanged (state g made) (state g new)
+
+  -- the same at most
+  abbrev pub MadeAtMost : Held S → Held S → Type 0
+  MadeAtMost old new = Spares (state g old) (state g new) ⊎ ((made : Held S) × Created old made × Spares (state g made) (state g new))
+
   -- the statement was executed in a transaction
   abbrev pub Executed : List ℕ → Values → Held S → Held S → Type 0
   Executed text params old new = (count : ℕ) × ExecutesInside 0 text params (state g old) (state g new) (Ok count)
@@ -34,6 +51,17 @@ module _ {S : Type 0} (g : Ghosts S) where
   abbrev pub ExecutedEach : List Change → Held S → Held S → Type 0
   ExecutedEach [] old new = new ≡ old
   ExecutedEach (c ∷ more) old new = (next : Held S) × Executed (text_for c.value) (params_for c.key c.value) old next × ExecutedEach more next new
+
+  -- the statements of the changes before one of them were executed in a transaction that was begun, and its statement gave the error
+  pub record ChangeGives (changes : List Change) (old : Held S) (e : Error) : Type 0 where
+    pub before : List Change
+    pub change : Change
+    pub after : List Change
+    pub are : changes ≡ before ++ change ∷ after
+    pub last : Held S
+    pub left : Held S
+    pub executed : ExecutedEach before old last
+    pub gives : ExecutesInside 0 (text_for change.value) (params_for change.key change.value) (state g last) (state g left) (Err e)
 
   -- a transaction was begun, the statement of each change was executed in it, and it was committed
   pub record Transacted (changes : List Change) (old new : Held S) : Type 0 where

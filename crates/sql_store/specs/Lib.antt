@@ -5,5 +5,7 @@ pub mod Ids
 pub mod Writes
 pub mod Faults
 pub mod Reading
+pub mod Kept
 pub mod Asked
+pub mod Refusals
 pub mod Stored

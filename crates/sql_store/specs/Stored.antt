@@ -14,12 +14,14 @@ use Rattle.txn_names.specs.declared.change.Change.{Change}
 use Rattle.serial_spec.specs.Serial.{Map}
 use Rattle.durable_top.specs.declared.store.Row.{Row}
 use Rattle.durable_top.specs.declared.store.StoreFault.{StoreFault}
-use Rattle.durable_top.specs.declared.store.StoreFault.TheVariants.{Failed}
+use Rattle.durable_top.specs.declared.store.StoreFault.TheVariants.{Failed, Refused}
 use Rattle.durable_top.specs.Store.{faults_after}
+use Rattle.sql_store.specs.Kept.{Spares}
 use Rattle.sql_store.specs.Asked.{Loaded, Committed}
 use Rattle.sql_store.specs.Faults.{HasFailed}
 use Rattle.sql_store.specs.Ids.{rises}
 use Rattle.sql_store.specs.Load.{ids_query}
+use Rattle.sql_store.specs.Refusals.{CannotLoad, CannotCommit}
 use Rattle.sql_store.specs.Results.{results_schema}
 use Rattle.sql_store.specs.Table.{map_of, table_of, IsReady}
 
@@ -69,6 +71,9 @@ module _ {S : Type 0} (g : Ghosts S) where
     pub cause : HasCleanDisk (state g new.connection) → old.has_failed ≡ false → IsErrOf result Failed → HasFailed g old.connection new.connection
     -- what was read, of a database that is not known too
     pub asked : HasCleanDisk (state g new.connection) → IfOk result (Loaded g old.connection new.connection)
+    -- whatever was answered, nothing was written
+    pub kept : HasCleanDisk (state g new.connection) → Spares (state g old.connection) (state g new.connection)
+    pub refused : HasCleanDisk (state g new.connection) → IsErrOf result Refused → CannotLoad g old.connection new.connection
 
   pub record SqlCommits (old new : Stored S) (changes : List Change) (result : Result (Unit {0}) StoreFault) : Type 0 where
     pub failed : old.has_failed ≡ true → (result ≡ Err Failed) × (new.connection ≡ old.connection)
@@ -77,5 +82,6 @@ module _ {S : Type 0} (g : Ghosts S) where
     pub cause : HasCleanDisk (state g new.connection) → old.has_failed ≡ false → IsErrOf result Failed → HasFailed g old.connection new.connection
     -- what was committed, to a database that is not known too
     pub asked : HasCleanDisk (state g new.connection) → OnOk result (Committed g changes old.connection new.connection)
+    pub refused : HasCleanDisk (state g new.connection) → IsErrOf result Refused → CannotCommit g changes old.connection new.connection
     -- whichever the fault is, nothing was committed
     pub kept : HasCleanDisk (state g new.connection) → OnErr result (KeepsCommit (state g old.connection) (state g new.connection))

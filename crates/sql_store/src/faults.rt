@@ -3,6 +3,7 @@ ghost use Rattle.std.specs.Prelude.{◌≡◌, ◌⊎◌};
 ghost use Rattle.sqlite.specs.Held.{state};
 ghost use Rattle.sqlite.specs.State.{HasCleanDisk, Survives, KeepsCommit, IsUnchanged};
 ghost use Rattle.sql_store.specs.Faults.{fault_of, HasFailed};
+ghost use Rattle.sql_store.specs.Kept.{IsSettled, Spares};
 
 use crate::statements::probe;
 use durable_top::StoreFault;
@@ -31,6 +32,8 @@ pub(crate) fn settle<S: Alter>(conn: &mut Connection<S>, error: Error) -> StoreF
     ensures kept { HasCleanDisk (state S.Store conn.new) → KeepsCommit (state S.Store conn.old) (state S.Store conn.new) }
     ensures survives { Survives (state S.Store conn.old) (state S.Store conn.new) (λ _. ⊥) }
     ensures cause { HasCleanDisk (state S.Store conn.new) → result ≡ StoreFault.Failed → (fault_of error ≡ StoreFault.Failed) ⊎ HasFailed S.Store conn.old conn.new }
+    ensures refused { HasCleanDisk (state S.Store conn.new) → result ≡ StoreFault.Refused → (fault_of error ≡ StoreFault.Refused) × IsUnchanged (state S.Store conn.old) (state S.Store conn.new) }
+    ensures spared { HasCleanDisk (state S.Store conn.new) → IsSettled (state S.Store conn.old) → Spares (state S.Store conn.old) (state S.Store conn.new) }
 {
     match probe(conn) {
         Ok(()) => fault_of(error),

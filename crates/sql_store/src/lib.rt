@@ -3,6 +3,7 @@
 
 mod close;
 mod faults;
+mod file;
 mod load;
 mod memory;
 mod open;
@@ -12,5 +13,6 @@ mod statements;
 mod store;
 mod writes;
 
+pub use file::DatabaseStore;
 pub use memory::MemoryStore;
 pub use store::SqlStore;

@@ -8,9 +8,11 @@ ghost use Rattle.sqlite.specs.Query.{IsAnswer};
 ghost use Rattle.sqlite.specs.Program.{overlay};
 ghost use Rattle.serial_spec.specs.Rows.{IsRising, value_in};
 ghost use Rattle.durable_top.specs.Store.{plain};
-ghost use Rattle.sql_store.specs.Load.{load_query};
+ghost use Rattle.sql_store.specs.Load.{load_query, load_text};
 ghost use Rattle.sql_store.specs.Table.{IsKnown, table_of};
-ghost use Rattle.sql_store.specs.Faults.{IsCaused, Lasts, HasFailed};
+ghost use Rattle.sql_store.specs.Faults.{fault_of, IsCaused, Lasts, HasFailed};
+ghost use Rattle.sql_store.specs.Kept.{IsSettled, Spares};
+ghost use Rattle.sql_store.specs.Refusals.{QueryGives, CannotLoad};
 ghost use Rattle.sql_store.specs.Asked.{Fetched, Loaded};
 
 use crate::faults::settle;
@@ -30,6 +32,8 @@ fn fetch<S: Alter>(conn: &mut Connection<S>) -> Result<Vec<sqlite::Row>, Error>
     ensures cause { HasCleanDisk (state S.Store conn.new) → IfErr result (IsCaused (state S.Store conn.old) (state S.Store conn.new)) }
     ensures lasts { Lasts (state S.Store conn.old) (state S.Store conn.new) }
     ensures asked { HasCleanDisk (state S.Store conn.new) → IfOk result (λ rows. Fetched S.Store conn.old conn.new rows.items) }
+    ensures refused { HasCleanDisk (state S.Store conn.new) → IfErr result (λ e. fault_of e ≡ StoreFault.Refused → QueryGives S.Store load_text conn.old conn.new e) }
+    ensures spared { HasCleanDisk (state S.Store conn.new) → IsSettled (state S.Store conn.old) → Spares (state S.Store conn.old) (state S.Store conn.new) }
 {
     probe(conn)?;
     select(conn)
@@ -48,6 +52,8 @@ pub(crate) fn load_rows<S: Alter>(
     ensures crash { HasCleanDisk (state S.Store conn.new) → IsKnown (state S.Store conn.old) → (db : Trees) → (state S.Store conn.new).may_leave db → (state S.Store conn.old).may_leave db }
     ensures cause { HasCleanDisk (state S.Store conn.new) → IsErrOf result StoreFault.Failed → HasFailed S.Store conn.old conn.new }
     ensures asked { HasCleanDisk (state S.Store conn.new) → IfOk result (λ rows. Loaded S.Store conn.old conn.new rows.items) }
+    ensures refused { HasCleanDisk (state S.Store conn.new) → IsErrOf result StoreFault.Refused → CannotLoad S.Store conn.old conn.new }
+    ensures spared { HasCleanDisk (state S.Store conn.new) → IsSettled (state S.Store conn.old) → Spares (state S.Store conn.old) (state S.Store conn.new) }
 {
     match fetch(conn) {
         Ok(rows) => sorted(alloc, rows.as_slice()),

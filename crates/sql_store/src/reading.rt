@@ -1,11 +1,12 @@
 //! Rows of the database as rows of the store.
-ghost use Rattle.std.specs.Prelude.{◌≡◌, IfSome, IfOk, IfErr, None, map};
-ghost use Rattle.sqlite.specs.Order.{column};
+ghost use Rattle.std.specs.Prelude.{◌≡◌, IfSome, IfOk, IfErr, IsErrOf, Contains, None, map};
+ghost use Rattle.sqlite.specs.Order.{column, Row as Shown};
 ghost use Rattle.sqlite.specs.declared.types.Value.TheVariants.{Text, Int};
 ghost use Rattle.serial_spec.specs.Rows.{IsRising};
 ghost use Rattle.durable_top.specs.Store.{plain};
 ghost use Rattle.sql_store.specs.Ids.{is_past, next_id, rises};
 ghost use Rattle.sql_store.specs.Reading.{told, seen};
+ghost use Rattle.sql_store.specs.Refusals.{key_in, IsUnread, AreNoRows};
 ghost use Rattle.sql_store.specs.Table.{int_in};
 
 use durable_top::{Row, StoreFault, are_rising};
@@ -14,7 +15,8 @@ use std::alloc::Global;
 use txn_names::Key;
 
 fn key_at(row: &sqlite::Row, at: usize) -> Option<Key>
-    ensures { IfSome result (λ key. column row.now at ≡ Text key) }
+    ensures is { IfSome result (λ key. column row.now at ≡ Text key) }
+    ensures read { result ≡ key_in (column row.now at) }
 {
     match row.get_ref(at) {
         Ok(ValueRef::Text(text)) => Key::parse(text).ok(),
@@ -34,7 +36,8 @@ fn int_at(row: &sqlite::Row, at: usize) -> Option<i64>
 
 // The first column is a key and the second a whole number, or else there is no row.
 fn read_row(row: &sqlite::Row) -> Option<Row>
-    ensures { IfSome result (λ read. told read ≡ seen row.now) }
+    ensures is { IfSome result (λ read. told read ≡ seen row.now) }
+    ensures unread { result ≡ None → IsUnread row.now }
 {
     let key = key_at(row, 0)?;
     let value = int_at(row, 1)?;
@@ -76,6 +79,7 @@ pub(crate) fn are_apart(rows: &[sqlite::Row]) -> bool
 fn read_rows(alloc: Global, rows: &[sqlite::Row]) -> Result<Vec<Row>, StoreFault>
     ensures read { IfOk result (λ read. map told read.items ≡ map seen rows.now) }
     ensures cause { IfErr result (λ fault. fault ≡ StoreFault.Failed → ⊥) }
+    ensures refused { IsErrOf result StoreFault.Refused → (row : Shown) × Contains rows.now row × IsUnread row }
 {
     let mut all = Vec::new(alloc);
     for row in rows {
@@ -93,6 +97,7 @@ fn read_rows(alloc: Global, rows: &[sqlite::Row]) -> Result<Vec<Row>, StoreFault
 pub(crate) fn sorted(alloc: Global, rows: &[sqlite::Row]) -> Result<Vec<Row>, StoreFault>
     ensures read { IfOk result (λ read. map told read.items ≡ map seen rows.now) }
     ensures rising { IfOk result (λ read. IsRising (plain read.items)) }
+    ensures refused { IsErrOf result StoreFault.Refused → AreNoRows rows.now }
     ensures cause { IfErr result (λ fault. fault ≡ StoreFault.Failed → ⊥) }
 {
     let read = read_rows(alloc, rows)?;

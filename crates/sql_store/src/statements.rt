@@ -1,19 +1,20 @@
 //! The statements, one a function.
-ghost use Rattle.std.specs.Prelude.{◌≡◌, ◌≤◌, [], ◌∷◌, Some, None, OnOk, IfOk, IfErr, IsTrue, IsErr};
+ghost use Rattle.std.specs.Prelude.{◌≡◌, ◌≤◌, [], ◌∷◌, Some, None, Err, OnOk, OnErr, IfOk, IfErr, IsTrue, IsErr};
 ghost use Rattle.sqlite_trees.specs.View.{doubt};
 ghost use Rattle.sqlite.specs.Values.{bound};
 ghost use Rattle.sqlite.specs.declared.types.Value.TheVariants.{Text, Int};
 ghost use Rattle.sqlite.specs.Held.{state};
-ghost use Rattle.sqlite.specs.State.{HasCleanDisk, Survives, KeepsCommit, IsUnchanged, Shown};
+ghost use Rattle.sqlite.specs.State.{HasCleanDisk, Survives, KeepsCommit, IsUnchanged, Shown, Executes, ExecutesInside, IsNotRun, FailsToQuery};
 ghost use Rattle.sqlite.specs.Query.{IsAnswer};
 ghost use Rattle.sqlite.specs.Program.{overlay};
-ghost use Rattle.sql_store.specs.Faults.{IsCaused, Lasts, HasFailed};
+ghost use Rattle.sql_store.specs.Faults.{fault_of, IsCaused, Lasts, HasFailed};
 ghost use Rattle.sql_store.specs.Results.{results_schema, no_schema};
-ghost use Rattle.sql_store.specs.Load.{load_query, ids_query, load_text};
+ghost use Rattle.sql_store.specs.Load.{load_query, ids_query, load_text, ids_text};
 ghost use Rattle.sql_store.specs.Table.{Makes};
-ghost use Rattle.sql_store.specs.Asked.{upsert_text, delete_text, Executed};
+ghost use Rattle.sql_store.specs.Kept.{IsSettled, Spares};
+ghost use Rattle.sql_store.specs.Asked.{create_text, upsert_text, delete_text, Created, Executed};
 
-use durable_top::Row;
+use durable_top::{Row, StoreFault};
 use sqlite::types::ValueRef;
 use sqlite::{Alter, Connection, Error, Transaction};
 use txn_names::Key;
@@ -37,6 +38,7 @@ pub(crate) fn remove<S: Alter>(tx: &mut Transaction<'_, S>, key: &Key) -> Result
     ensures kept { HasCleanDisk (state S.Store tx.new.conn.now) → IsTrue (state S.Store tx.old.conn.now).in_transaction → KeepsCommit (state S.Store tx.old.conn.now) (state S.Store tx.new.conn.now) }
     ensures survives { Survives (state S.Store tx.old.conn.now) (state S.Store tx.new.conn.now) (λ _. ⊥) }
     ensures cause { HasCleanDisk (state S.Store tx.new.conn.now) → IsTrue (state S.Store tx.old.conn.now).in_transaction → IfErr result (IsCaused (state S.Store tx.old.conn.now) (state S.Store tx.new.conn.now)) }
+    ensures refused { HasCleanDisk (state S.Store tx.new.conn.now) → IsTrue (state S.Store tx.old.conn.now).in_transaction → IfErr result (λ e. ExecutesInside 0 delete_text (Text key.now ∷ []) (state S.Store tx.old.conn.now) (state S.Store tx.new.conn.now) (Err e)) }
     ensures asked { HasCleanDisk (state S.Store tx.new.conn.now) → IsTrue (state S.Store tx.old.conn.now).in_transaction → OnOk result (Executed S.Store delete_text (Text key.now ∷ []) tx.old.conn.now tx.new.conn.now) }
 {
     tx.execute("DELETE FROM results WHERE k = ?1", &of_key(key))?;
@@ -50,6 +52,7 @@ pub(crate) fn put<S: Alter>(tx: &mut Transaction<'_, S>, row: &Row) -> Result<()
     ensures kept { HasCleanDisk (state S.Store tx.new.conn.now) → IsTrue (state S.Store tx.old.conn.now).in_transaction → KeepsCommit (state S.Store tx.old.conn.now) (state S.Store tx.new.conn.now) }
     ensures survives { Survives (state S.Store tx.old.conn.now) (state S.Store tx.new.conn.now) (λ _. ⊥) }
     ensures cause { HasCleanDisk (state S.Store tx.new.conn.now) → IsTrue (state S.Store tx.old.conn.now).in_transaction → IfErr result (IsCaused (state S.Store tx.old.conn.now) (state S.Store tx.new.conn.now)) }
+    ensures refused { HasCleanDisk (state S.Store tx.new.conn.now) → IsTrue (state S.Store tx.old.conn.now).in_transaction → IfErr result (λ e. ExecutesInside 0 upsert_text (Text row.now.key ∷ Int row.now.value ∷ []) (state S.Store tx.old.conn.now) (state S.Store tx.new.conn.now) (Err e)) }
     ensures asked { HasCleanDisk (state S.Store tx.new.conn.now) → IsTrue (state S.Store tx.old.conn.now).in_transaction → OnOk result (Executed S.Store upsert_text (Text row.now.key ∷ Int row.now.value ∷ []) tx.old.conn.now tx.new.conn.now) }
 {
     tx.execute(
@@ -61,6 +64,10 @@ pub(crate) fn put<S: Alter>(tx: &mut Transaction<'_, S>, row: &Row) -> Result<()
 
 /// Makes the table where there is none.
 pub(crate) fn create<S: Alter>(conn: &mut Connection<S>) -> Result<(), Error>
+    ensures created { HasCleanDisk (state S.Store conn.new) → OnOk result (Created S.Store conn.old conn.new) }
+    ensures settled { HasCleanDisk (state S.Store conn.new) → IsSettled (state S.Store conn.old) → OnOk result (IsSettled (state S.Store conn.new)) }
+    ensures spared { HasCleanDisk (state S.Store conn.new) → IsSettled (state S.Store conn.old) → OnErr result (Spares (state S.Store conn.old) (state S.Store conn.new)) }
+    ensures refused { HasCleanDisk (state S.Store conn.new) → IfErr result (λ e. Executes create_text [] (state S.Store conn.old) (state S.Store conn.new) (Err e)) }
     ensures schema { HasCleanDisk (state S.Store conn.new) → OnOk result ((state S.Store conn.old).now.schema ≡ no_schema → (state S.Store conn.new).now.schema ≡ results_schema) }
     ensures empty { HasCleanDisk (state S.Store conn.new) → OnOk result ((state S.Store conn.old).now.schema ≡ no_schema → (state S.Store conn.new).now.trees 0 ≡ []) }
     ensures same { HasCleanDisk (state S.Store conn.new) → OnOk result ((state S.Store conn.old).now.schema ≡ results_schema → IsUnchanged (state S.Store conn.old) (state S.Store conn.new)) }
@@ -85,6 +92,8 @@ pub(crate) fn select<S: Alter>(conn: &mut Connection<S>) -> Result<Vec<sqlite::R
     ensures cause { HasCleanDisk (state S.Store conn.new) → IfErr result (IsCaused (state S.Store conn.old) (state S.Store conn.new)) }
     ensures lasts { Lasts (state S.Store conn.old) (state S.Store conn.new) }
     ensures asked { HasCleanDisk (state S.Store conn.new) → IfOk result (λ rows. Shown load_text [] (state S.Store conn.old) (state S.Store conn.new) rows.items) }
+    ensures refused { HasCleanDisk (state S.Store conn.new) → IfErr result (FailsToQuery load_text [] (state S.Store conn.old) (state S.Store conn.new)) }
+    ensures spared { HasCleanDisk (state S.Store conn.new) → IsSettled (state S.Store conn.old) → Spares (state S.Store conn.old) (state S.Store conn.new) }
 {
     conn.query_all("SELECT k, v FROM results ORDER BY k", &[])
 }
@@ -92,7 +101,9 @@ pub(crate) fn select<S: Alter>(conn: &mut Connection<S>) -> Result<Vec<sqlite::R
 /// All rowids, in their order.
 pub(crate) fn select_ids<S: Alter>(conn: &mut Connection<S>) -> Result<Vec<sqlite::Row>, Error>
     ensures rows { HasCleanDisk (state S.Store conn.new) → (state S.Store conn.old).now.schema ≡ results_schema → IfOk result (λ rows. IsAnswer ids_query (overlay (state S.Store conn.old).now.trees []) [] rows.items) }
-    ensures open { HasCleanDisk (state S.Store conn.new) → (state S.Store conn.old).now.schema ≡ results_schema → OnOk result (IsUnchanged (state S.Store conn.old) (state S.Store conn.new)) }
+    ensures open { HasCleanDisk (state S.Store conn.new) → OnOk result (IsUnchanged (state S.Store conn.old) (state S.Store conn.new)) }
+    ensures spared { HasCleanDisk (state S.Store conn.new) → IsSettled (state S.Store conn.old) → Spares (state S.Store conn.old) (state S.Store conn.new) }
+    ensures refused { HasCleanDisk (state S.Store conn.new) → IfErr result (FailsToQuery ids_text [] (state S.Store conn.old) (state S.Store conn.new)) }
     ensures clean { doubt (state S.Store conn.old).is_clean ≤ doubt (state S.Store conn.new).is_clean }
     ensures cause { HasCleanDisk (state S.Store conn.new) → IfErr result (IsCaused (state S.Store conn.old) (state S.Store conn.new)) }
     ensures lasts { Lasts (state S.Store conn.old) (state S.Store conn.new) }
@@ -106,7 +117,9 @@ pub(crate) fn probe<S: Alter>(conn: &mut Connection<S>) -> Result<(), Error>
     ensures kept { HasCleanDisk (state S.Store conn.new) → KeepsCommit (state S.Store conn.old) (state S.Store conn.new) }
     ensures survives { Survives (state S.Store conn.old) (state S.Store conn.new) (λ _. ⊥) }
     ensures cause { HasCleanDisk (state S.Store conn.new) → IfErr result (IsCaused (state S.Store conn.old) (state S.Store conn.new)) }
+    ensures unrefused { HasCleanDisk (state S.Store conn.new) → IfErr result (λ e. fault_of e ≡ StoreFault.Refused → ⊥) }
     ensures stops { HasCleanDisk (state S.Store conn.new) → IsErr result → HasFailed S.Store conn.old conn.new }
+    ensures spared { HasCleanDisk (state S.Store conn.new) → IsSettled (state S.Store conn.old) → Spares (state S.Store conn.old) (state S.Store conn.new) }
 {
     let _select = conn.prepare("SELECT 1")?;
     Ok(())
@@ -118,6 +131,8 @@ pub(crate) fn compile<S: Alter>(conn: &mut Connection<S>) -> Result<(), Error>
     ensures kept { HasCleanDisk (state S.Store conn.new) → KeepsCommit (state S.Store conn.old) (state S.Store conn.new) }
     ensures survives { Survives (state S.Store conn.old) (state S.Store conn.new) (λ _. ⊥) }
     ensures cause { HasCleanDisk (state S.Store conn.new) → IfErr result (IsCaused (state S.Store conn.old) (state S.Store conn.new)) }
+    ensures spared { HasCleanDisk (state S.Store conn.new) → IsSettled (state S.Store conn.old) → Spares (state S.Store conn.old) (state S.Store conn.new) }
+    ensures refused { HasCleanDisk (state S.Store conn.new) → IfErr result (IsNotRun (state S.Store conn.old) (state S.Store conn.new) load_text []) }
 {
     let _select = conn.prepare("SELECT k, v FROM results ORDER BY k")?;
     Ok(())

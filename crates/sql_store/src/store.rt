@@ -7,12 +7,14 @@ ghost use Rattle.serial_spec.specs.Changes.{AreRising, overlay};
 ghost use Rattle.serial_spec.specs.Rows.{IsRising, value_in};
 ghost use Rattle.serial_spec.specs.Serial.{Map};
 ghost use Rattle.durable_top.specs.Store.{plain, told, faults_after, TellsFailure};
-ghost use Rattle.sqlite.specs.Steps.{over_memory};
+ghost use Rattle.sqlite.specs.Steps.{over_memory, IsEmpty};
 ghost use Rattle.sql_store.specs.Faults.{fault_of, HasFailed};
 ghost use Rattle.sql_store.specs.Results.{no_schema, results_schema};
 ghost use Rattle.sql_store.specs.Table.{map_of};
 ghost use Rattle.sql_store.specs.Stored.{table, doubt_of, may_leave, IsKept, IsDecided, SqlLoads, SqlCommits, IsDoubted};
-ghost use Rattle.sql_store.specs.Asked.{Loaded, Committed};
+ghost use Rattle.sql_store.specs.Kept.{Spares};
+ghost use Rattle.sql_store.specs.Refusals.{CannotLoad, CannotCommit, CannotOpen};
+ghost use Rattle.sql_store.specs.Asked.{Loaded, Committed, Made, MadeAtMost};
 ghost use Rattle.sqlite.specs.Files.{file_state};
 
 use crate::faults::fault_of;
@@ -67,6 +69,9 @@ impl<S: Alter + Drop> SqlStore<S> {
         ensures faults { IfOk result (λ store. store.faults ≡ 0) }
         ensures sound { IfOk result (λ store. store.has_failed ≡ false) }
         ensures cause { IfErr result (λ left. HasCleanDisk (state S.Store left.1) → left.0 ≡ StoreFault.Failed → HasFailed S.Store connection left.1) }
+        ensures made { IfOk result (λ store. HasCleanDisk (state S.Store store.connection) → Made S.Store connection store.connection) }
+        ensures kept { IfErr result (λ left. HasCleanDisk (state S.Store left.1) → MadeAtMost S.Store connection left.1) }
+        ensures refused { IfErr result (λ left. HasCleanDisk (state S.Store left.1) → left.0 ≡ StoreFault.Refused → CannotOpen S.Store connection left.1) }
         ensures doubted { IfOk result (λ store. HasCleanDisk (state S.Store store.connection) → IsDoubted (state S.Store store.connection).now store.is_known) }
     {
         match prepare(&mut connection) {
@@ -97,6 +102,7 @@ impl<S: Alter + Drop> SqlStore<S> {
 impl SqlStore<MemStore> {
     /// A store over an empty database in memory.
     pub fn in_memory(alloc: Global) -> Result<SqlStore<MemStore>, StoreFault>
+        ensures refused { IsErrOf result StoreFault.Refused → (made : _) × (left : _) × IsEmpty (state over_memory made) × CannotOpen over_memory made left }
         ensures known { IfOk result (λ store. IsTrue store.is_known) }
         ensures empty { IfOk result (λ store. table over_memory store.connection ≡ map_of []) }
         ensures faults { IfOk result (λ store. store.faults ≡ 0) }
@@ -125,6 +131,7 @@ impl SqlStore<FileStore<File>> {
 }
 
 fn adopted<S: Alter + Drop>(connection: Connection<S>) -> Result<SqlStore<S>, StoreFault>
+    ensures refused { IsErrOf result StoreFault.Refused → (left : _) × (HasCleanDisk (state S.Store left) → CannotOpen S.Store connection left) }
     ensures known { (state S.Store connection).now.schema ≡ no_schema → IfOk result (λ store. IsTrue store.is_known) }
     ensures empty { (state S.Store connection).now.schema ≡ no_schema → IfOk result (λ store. HasCleanDisk (state S.Store store.connection) → table S.Store store.connection ≡ map_of []) }
     ensures faults { IfOk result (λ store. store.faults ≡ 0) }
@@ -162,6 +169,8 @@ fn load_settled<S: Alter>(conn: &mut Connection<S>, alloc: Global) -> Result<Vec
     ensures crash { HasCleanDisk (state S.Store conn.new) → IsKept S.Store true conn.old → (left : Map) → may_leave S.Store conn.new left → may_leave S.Store conn.old left }
     ensures cause { HasCleanDisk (state S.Store conn.new) → IsErrOf result StoreFault.Failed → HasFailed S.Store conn.old conn.new }
     ensures asked { HasCleanDisk (state S.Store conn.new) → IfOk result (λ rows. Loaded S.Store conn.old conn.new rows.items) }
+    ensures refused { HasCleanDisk (state S.Store conn.new) → IsErrOf result StoreFault.Refused → CannotLoad S.Store conn.old conn.new }
+    ensures spared { HasCleanDisk (state S.Store conn.new) → Spares (state S.Store conn.old) (state S.Store conn.new) }
 {
     if conn.is_autocommit() {
         load_rows(conn, alloc)
@@ -185,6 +194,7 @@ fn commit_unless<S: Alter>(
     ensures settled { HasCleanDisk (state S.Store conn.new) → IsKept S.Store true conn.old → OnOk result ((left : Map) → may_leave S.Store conn.new left → left ≡ overlay changes.now (table S.Store conn.old)) }
     ensures cause { HasCleanDisk (state S.Store conn.new) → has_failed ≡ false → IsErrOf result StoreFault.Failed → HasFailed S.Store conn.old conn.new }
     ensures kept { HasCleanDisk (state S.Store conn.new) → OnErr result (KeepsCommit (state S.Store conn.old) (state S.Store conn.new)) }
+    ensures reason { HasCleanDisk (state S.Store conn.new) → IsErrOf result StoreFault.Refused → CannotCommit S.Store changes.now conn.old conn.new }
     ensures asked { HasCleanDisk (state S.Store conn.new) → OnOk result (Committed S.Store changes.now conn.old conn.new) }
 {
     if has_failed {

@@ -1,11 +1,12 @@
 //! Changes of the table in one transaction.
-ghost use Rattle.std.specs.Prelude.{◌≡◌, ◌<◌, length, false, Some, None, OnOk, OnErr, IfErr, IsTrue, IsErrOf};
+ghost use Rattle.std.specs.Prelude.{◌≡◌, ◌<◌, ◌⊎◌, length, false, true, Some, None, Err, OnOk, OnErr, IfErr, IsTrue, IsErrOf};
 ghost use Rattle.sqlite.specs.Held.{state};
-ghost use Rattle.sqlite.specs.State.{HasCleanDisk, Survives, KeepsCommit};
+ghost use Rattle.sqlite.specs.State.{HasCleanDisk, Survives, KeepsCommit, ExecutesInside};
 ghost use Rattle.sql_store.specs.Table.{Makes, IsReady};
 ghost use Rattle.sql_store.specs.Writes.{MakesAll, Stores, IsStored};
-ghost use Rattle.sql_store.specs.Faults.{IsCaused, HasFailed};
-ghost use Rattle.sql_store.specs.Asked.{text_for, params_for, Executed, ExecutedEach, Transacted, Committed};
+ghost use Rattle.sql_store.specs.Faults.{fault_of, IsCaused, HasFailed};
+ghost use Rattle.sql_store.specs.Asked.{text_for, params_for, Executed, ExecutedEach, ChangeGives, Transacted, Committed};
+ghost use Rattle.sql_store.specs.Refusals.{CannotCommit};
 
 use crate::faults::settle;
 use crate::statements::{probe, put, remove};
@@ -22,6 +23,7 @@ fn make<S: Alter>(tx: &mut Transaction<'_, S>, change: &Change) -> Result<(), Er
     ensures kept { HasCleanDisk (state S.Store tx.new.conn.now) → IsTrue (state S.Store tx.old.conn.now).in_transaction → KeepsCommit (state S.Store tx.old.conn.now) (state S.Store tx.new.conn.now) }
     ensures survives { Survives (state S.Store tx.old.conn.now) (state S.Store tx.new.conn.now) (λ _. ⊥) }
     ensures cause { HasCleanDisk (state S.Store tx.new.conn.now) → IsTrue (state S.Store tx.old.conn.now).in_transaction → IfErr result (IsCaused (state S.Store tx.old.conn.now) (state S.Store tx.new.conn.now)) }
+    ensures refused { HasCleanDisk (state S.Store tx.new.conn.now) → IsTrue (state S.Store tx.old.conn.now).in_transaction → IfErr result (λ e. ExecutesInside 0 (text_for change.now.value) (params_for change.now.key change.now.value) (state S.Store tx.old.conn.now) (state S.Store tx.new.conn.now) (Err e)) }
     ensures asked { HasCleanDisk (state S.Store tx.new.conn.now) → IsTrue (state S.Store tx.old.conn.now).in_transaction → OnOk result (Executed S.Store (text_for change.now.value) (params_for change.now.key change.now.value) tx.old.conn.now tx.new.conn.now) }
 {
     match change.value {
@@ -45,6 +47,8 @@ fn make_all<S: Alter>(tx: &mut Transaction<'_, S>, changes: &[Change]) -> Result
     ensures kept { HasCleanDisk (state S.Store tx.new.conn.now) → KeepsCommit (state S.Store tx.old.conn.now) (state S.Store tx.new.conn.now) }
     ensures survives { Survives (state S.Store tx.old.conn.now) (state S.Store tx.new.conn.now) (λ _. ⊥) }
     ensures cause { HasCleanDisk (state S.Store tx.new.conn.now) → IfErr result (IsCaused (state S.Store tx.old.conn.now) (state S.Store tx.new.conn.now)) }
+    ensures inside { HasCleanDisk (state S.Store tx.new.conn.now) → OnOk result (IsTrue (state S.Store tx.new.conn.now).in_transaction) }
+    ensures refused { HasCleanDisk (state S.Store tx.new.conn.now) → IfErr result (ChangeGives S.Store changes.now tx.old.conn.now) }
     ensures asked { HasCleanDisk (state S.Store tx.new.conn.now) → OnOk result (ExecutedEach S.Store changes.now tx.old.conn.now tx.new.conn.now) }
 {
     for change in changes {
@@ -62,6 +66,7 @@ fn commit_some<S: Alter>(conn: &mut Connection<S>, changes: &[Change]) -> Result
     ensures kept { HasCleanDisk (state S.Store conn.new) → OnErr result (KeepsCommit (state S.Store conn.old) (state S.Store conn.new)) }
     ensures survives { Survives (state S.Store conn.old) (state S.Store conn.new) (IsStored changes.now (state S.Store conn.old)) }
     ensures cause { HasCleanDisk (state S.Store conn.new) → IfErr result (IsCaused (state S.Store conn.old) (state S.Store conn.new)) }
+    ensures refused { HasCleanDisk (state S.Store conn.new) → IfErr result (λ e. fault_of e ≡ StoreFault.Refused → ChangeGives S.Store changes.now (record conn.old { in_transaction = true }) e) }
     ensures asked { HasCleanDisk (state S.Store conn.new) → OnOk result (Transacted S.Store changes.now conn.old conn.new) }
 {
     let mut tx = conn.transaction();
@@ -76,6 +81,7 @@ pub(crate) fn write_all<S: Alter>(conn: &mut Connection<S>, changes: &[Change]) 
     ensures kept { HasCleanDisk (state S.Store conn.new) → OnErr result (KeepsCommit (state S.Store conn.old) (state S.Store conn.new)) }
     ensures survives { Survives (state S.Store conn.old) (state S.Store conn.new) (IsStored changes.now (state S.Store conn.old)) }
     ensures cause { HasCleanDisk (state S.Store conn.new) → IfErr result (IsCaused (state S.Store conn.old) (state S.Store conn.new)) }
+    ensures refused { HasCleanDisk (state S.Store conn.new) → IfErr result (λ e. fault_of e ≡ StoreFault.Refused → IsTrue conn.old.in_transaction ⊎ ChangeGives S.Store changes.now (record conn.old { in_transaction = true }) e) }
     ensures asked { HasCleanDisk (state S.Store conn.new) → OnOk result (Committed S.Store changes.now conn.old conn.new) }
 {
     if changes.is_empty() {
@@ -98,6 +104,7 @@ pub(crate) fn store_changes<S: Alter>(
     ensures open { HasCleanDisk (state S.Store conn.new) → IfErr result (λ fault. (fault ≡ StoreFault.Failed → ⊥) → IsTrue (state S.Store conn.new).is_open) }
     ensures survives { Survives (state S.Store conn.old) (state S.Store conn.new) (IsStored changes.now (state S.Store conn.old)) }
     ensures cause { HasCleanDisk (state S.Store conn.new) → IsErrOf result StoreFault.Failed → HasFailed S.Store conn.old conn.new }
+    ensures refused { HasCleanDisk (state S.Store conn.new) → IsErrOf result StoreFault.Refused → CannotCommit S.Store changes.now conn.old conn.new }
     ensures asked { HasCleanDisk (state S.Store conn.new) → OnOk result (Committed S.Store changes.now conn.old conn.new) }
 {
     match write_all(conn, changes) {

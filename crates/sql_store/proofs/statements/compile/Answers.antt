@@ -5,6 +5,7 @@ use Rattle.sqlite.specs.State.{KeepsCommit}
 use Rattle.sql_store.proofs.Steps.{at_both}
 use Rattle.sql_store.proofs.Loads.{same_commit, not_run_keeps}
 use Rattle.sql_store.proofs.Causes.{not_run_caused}
+use Rattle.sql_store.proofs.Spared.{same_spares, not_run_spares}
 use Rattle.sql_store.proofs.statements.compile.Goals as goal
 
 pub returns-clause-open : goal.returns-clause-open
@@ -24,3 +25,16 @@ returns-in_err-_select-clause-cause g c clean =
     let e = c.in_err-_select.field-0.0 in
     let same : c.from_residual.result ≡ Err e = search rules in
     rw same (not_run_caused (state g.S.Store c.args.conn.now) (state g.S.Store c.prepare.new.self) _ [] e (c.in_err-_select.ensures.err clean []))
+
+pub returns-clause-spared : goal.returns-clause-spared
+returns-clause-spared g c clean settled = same_spares (state g.S.Store c.args.conn.now) (state g.S.Store c.prepare.new.self) (c.in_ok-_select.ensures.ok clean).1
+
+pub returns-in_err-_select-clause-spared : goal.returns-in_err-_select-clause-spared
+returns-in_err-_select-clause-spared g c clean settled =
+    not_run_spares (state g.S.Store c.args.conn.now) (state g.S.Store c.prepare.new.self) _ [] c.in_err-_select.field-0.0 settled (c.in_err-_select.ensures.err clean [])
+
+pub returns-in_err-_select-clause-refused : goal.returns-in_err-_select-clause-refused
+returns-in_err-_select-clause-refused g c clean =
+    let e = c.in_err-_select.field-0.0 in
+    let same : c.from_residual.result ≡ Err e = search rules in
+    rw same (c.in_err-_select.ensures.err clean [])

@@ -3,8 +3,9 @@ use Rattle.std.proofs.lemmas.Result.{IfOk-weaker}
 use Rattle.sqlite.specs.Held.{state}
 use Rattle.sqlite.specs.State.{KeepsCommit}
 use Rattle.sql_store.proofs.Steps.{at_both}
-use Rattle.sql_store.proofs.Causes.{not_run_caused, probe_fails}
+use Rattle.sql_store.proofs.Causes.{not_run_caused, probe_fails, probe_unrefused}
 use Rattle.sql_store.proofs.Loads.{same_commit, not_run_keeps}
+use Rattle.sql_store.proofs.Spared.{same_spares, not_run_spares}
 use Rattle.sql_store.proofs.statements.probe.Goals as goal
 
 pub returns-clause-open : goal.returns-clause-open
@@ -27,3 +28,16 @@ returns-in_err-_select-clause-cause g c clean =
 
 pub returns-in_err-_select-clause-stops : goal.returns-in_err-_select-clause-stops
 returns-in_err-_select-clause-stops g c clean wrong = probe_fails g.S.Store c.args.conn.now c.prepare.new.self c.in_err-_select.field-0.0 (c.in_err-_select.ensures.err clean [])
+
+pub returns-clause-spared : goal.returns-clause-spared
+returns-clause-spared g c clean settled = same_spares (state g.S.Store c.args.conn.now) (state g.S.Store c.prepare.new.self) (c.in_ok-_select.ensures.ok clean).1
+
+pub returns-in_err-_select-clause-spared : goal.returns-in_err-_select-clause-spared
+returns-in_err-_select-clause-spared g c clean settled =
+    not_run_spares (state g.S.Store c.args.conn.now) (state g.S.Store c.prepare.new.self) _ [] c.in_err-_select.field-0.0 settled (c.in_err-_select.ensures.err clean [])
+
+pub returns-in_err-_select-clause-unrefused : goal.returns-in_err-_select-clause-unrefused
+returns-in_err-_select-clause-unrefused g c clean =
+    let e = c.in_err-_select.field-0.0 in
+    let same : c.from_residual.result ≡ Err e = search rules in
+    rw same (probe_unrefused (state g.S.Store c.args.conn.now) (state g.S.Store c.prepare.new.self) e (c.in_err-_select.ensures.err clean []))

@@ -27,3 +27,9 @@ returns-in_err-execute-clause-cause g c clean inside =
 
 pub returns-clause-asked : goal.returns-clause-asked
 returns-clause-asked g c clean inside = (c.in_ok-execute.field-0, rw c.of_row.ensures at (c.in_ok-execute.ensures.runs clean inside))
+
+pub returns-in_err-execute-clause-refused : goal.returns-in_err-execute-clause-refused
+returns-in_err-execute-clause-refused g c clean inside =
+    let e = c.in_err-execute.field-0.0 in
+    let same : c.from_residual.result ≡ Err e = search rules in
+    rw same (rw c.of_row.ensures at (c.in_err-execute.ensures.runs clean inside))

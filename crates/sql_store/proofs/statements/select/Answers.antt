@@ -5,6 +5,8 @@ use Rattle.sql_store.proofs.Loads.{loads, stays, same_commit, query_keeps, reads
 use Rattle.sql_store.proofs.Steps.{at_both}
 use Rattle.sql_store.specs.Load.{load_text}
 use Rattle.sql_store.proofs.Causes.{query_caused, lasts_by}
+use Rattle.sql_store.proofs.Spared.{same_spares, query_spares}
+use Rattle.sql_store.proofs.Bare.{shown_same, load_mute}
 use Rattle.sql_store.proofs.statements.select.Goals as goal
 
 pub returns-clause-rows : goal.returns-clause-rows
@@ -29,3 +31,8 @@ returns-clause-cause g c clean =
 
 pub returns-clause-lasts : goal.returns-clause-lasts
 returns-clause-lasts g c = lasts_by (state g.S.Store c.args.conn.now) (state g.S.Store c.query_all.new.self) _ c.query_all.ensures.survives
+
+pub returns-clause-spared : goal.returns-clause-spared
+returns-clause-spared g c clean settled =
+    at_both c.query_all.result _ _ _ (λ rows h. same_spares (state g.S.Store c.args.conn.now) (state g.S.Store c.query_all.new.self) (shown_same load_text load_mute (state g.S.Store c.args.conn.now) (state g.S.Store c.query_all.new.self) rows.items h))
+    (λ e h. query_spares (state g.S.Store c.args.conn.now) (state g.S.Store c.query_all.new.self) load_text [] e settled h) (c.query_all.ensures.ok clean) (c.query_all.ensures.err clean)

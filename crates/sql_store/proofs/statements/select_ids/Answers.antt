@@ -1,9 +1,12 @@
 use Rattle.std.proofs.Common.{[]}
 use Rattle.std.proofs.lemmas.Result.{IfOk-weaker, IfErr-weaker}
 use Rattle.sqlite.specs.Held.{state}
-use Rattle.sql_store.proofs.Loads.{shows_ids, ids_stay}
+use Rattle.sql_store.proofs.Loads.{shows_ids}
 use Rattle.sql_store.proofs.Causes.{query_caused, lasts_by}
 use Rattle.sql_store.specs.Load.{ids_text}
+use Rattle.sql_store.proofs.Steps.{at_both}
+use Rattle.sql_store.proofs.Bare.{shown_same, ids_mute}
+use Rattle.sql_store.proofs.Spared.{same_spares, query_spares}
 use Rattle.sql_store.proofs.statements.select_ids.Goals as goal
 
 pub returns-clause-rows : goal.returns-clause-rows
@@ -11,8 +14,13 @@ returns-clause-rows g c clean has =
     IfOk-weaker c.query_all.result _ _ (λ rows h. shows_ids (state g.S.Store c.args.conn.now) (state g.S.Store c.query_all.new.self) rows.items has h) (c.query_all.ensures.ok clean)
 
 pub returns-clause-open : goal.returns-clause-open
-returns-clause-open g c clean has =
-    IfOk-weaker c.query_all.result _ _ (λ rows h. ids_stay (state g.S.Store c.args.conn.now) (state g.S.Store c.query_all.new.self) rows.items has h) (c.query_all.ensures.ok clean)
+returns-clause-open g c clean =
+    IfOk-weaker c.query_all.result _ _ (λ rows h. shown_same ids_text ids_mute (state g.S.Store c.args.conn.now) (state g.S.Store c.query_all.new.self) rows.items h) (c.query_all.ensures.ok clean)
+
+pub returns-clause-spared : goal.returns-clause-spared
+returns-clause-spared g c clean settled =
+    at_both c.query_all.result _ _ _ (λ rows h. same_spares (state g.S.Store c.args.conn.now) (state g.S.Store c.query_all.new.self) (shown_same ids_text ids_mute (state g.S.Store c.args.conn.now) (state g.S.Store c.query_all.new.self) rows.items h))
+    (λ e h. query_spares (state g.S.Store c.args.conn.now) (state g.S.Store c.query_all.new.self) ids_text [] e settled h) (c.query_all.ensures.ok clean) (c.query_all.ensures.err clean)
 
 pub returns-clause-cause : goal.returns-clause-cause
 returns-clause-cause g c clean =

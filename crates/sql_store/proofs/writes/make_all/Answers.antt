@@ -1,5 +1,5 @@
-use Rattle.std.proofs.Common.{◌≡◌, ◌∙◌, ◌+◌, ◌++◌, ◌∷◌, [], List, ℕ, take, sym, ap, subst, arith}
-use Rattle.std.proofs.lemmas.List.{take_more}
+use Rattle.std.proofs.Common.{Err, append_assoc, drop, rules, ◌≡◌, ◌∙◌, ◌+◌, ◌++◌, ◌∷◌, [], List, ℕ, take, sym, ap, subst, arith}
+use Rattle.std.proofs.lemmas.List.{take_more, take-append-drop}
 use Rattle.sqlite.specs.Held.{state}
 use Rattle.sqlite.specs.State.{HasCleanDisk}
 use Rattle.sqlite.proofs.StateLemmas.{survives_then}
@@ -33,3 +33,23 @@ loop-change-preserved g c =
       kept = λ clean. keeps_then x y z (c.loop-change.invariant.kept (was clean)) (c.make.ensures.kept clean (c.loop-change.invariant.inside (was clean)));
       survives = survives_then x y z _ _ (λ _. ⊥) (λ _ db none. none) (λ _ db none. none) c.loop-change.invariant.survives c.make.ensures.survives;
     }
+
+pub returns-in_err-make-clause-refused : goal.returns-in_err-make-clause-refused
+returns-in_err-make-clause-refused g c clean =
+    let changes : List Change = c.args.changes.now in
+    let i : ℕ = c.loop-change.change-index in
+    let d : Change = c.change-item.result in
+    let more : take (i + 1) changes ≡ take i changes ++ d ∷ [] = take_more changes i d (omega arith) ∙ ap (λ w. take i changes ++ w ∷ []) (sym c.change-item.is) in
+    let was : HasCleanDisk (state g.S.Store c.loop-change.tx.conn.now) = omega (arith, c.make.ensures.survives.clean, clean) in
+    let e = c.in_err-make.field-0.0 in
+    let same : c.from_residual.result ≡ Err e = search rules in
+    rw same (record {
+      before = take i changes;
+      change = d;
+      after = drop (i + 1) changes;
+      are = sym (take-append-drop (i + 1) changes) ∙ ap (λ l. l ++ drop (i + 1) changes) more ∙ append_assoc (take i changes) (d ∷ []) (drop (i + 1) changes);
+      last = c.loop-change.tx.conn.now;
+      left = c.make.new.tx.conn.now;
+      executed = c.loop-change.invariant.asked was;
+      gives = c.in_err-make.ensures.refused clean (c.loop-change.invariant.inside was);
+    })

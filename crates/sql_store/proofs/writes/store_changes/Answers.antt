@@ -1,3 +1,6 @@
+use Rattle.std.proofs.Common.{◌≡◌, inl, inr, arith}
+use Rattle.sqlite.specs.State.{HasCleanDisk}
+use Rattle.durable_top.specs.declared.store.StoreFault.TheVariants.{Refused}
 use Rattle.sqlite.specs.Held.{state}
 use Rattle.sqlite.proofs.StateLemmas.{survives_then}
 use Rattle.sql_store.specs.Writes.{IsStored}
@@ -7,3 +10,10 @@ pub returns-in-Err-clause-survives : goal.returns-in-Err-clause-survives
 returns-in-Err-clause-survives g c =
     survives_then (state g.S.Store c.args.conn.now) (state g.S.Store c.write_all.new.conn) (state g.S.Store c.settle.new.conn) _ _ (IsStored c.args.changes.now (state g.S.Store c.args.conn.now)) (λ _ db h. h) (λ _ db none. absurd none)
     c.write_all.ensures.survives c.settle.ensures.survives
+
+pub returns-in-Err-clause-refused : goal.returns-in-Err-clause-refused
+returns-in-Err-clause-refused g c clean is =
+    let was : HasCleanDisk (state g.S.Store c.write_all.new.conn) = omega (arith, c.settle.ensures.survives.clean, clean) in
+    let refused : c.settle.result ≡ Refused = cc in
+    let h = c.settle.ensures.refused clean refused in
+    elim (c.in-Err.ensures.refused was h.0) [ inl busy ↦ inl busy | inr gave ↦ inr (c.write_all.new.conn, c.in-Err.error, gave, h.0, h.1) ]

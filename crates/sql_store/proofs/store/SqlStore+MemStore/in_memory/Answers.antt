@@ -5,3 +5,8 @@ use Rattle.sql_store.proofs.store.SqlStore+MemStore.in_memory.Goals as goal
 pub returns-in-Ok-clause-empty : goal.returns-in-Ok-clause-empty
 returns-in-Ok-clause-empty c =
     IfOk-weaker c.adopted.result _ _ (λ store h. h (memory_is_clean store.connection)) (c.adopted.ensures.empty c.in-Ok.ensures.empty.2)
+
+pub returns-in-Ok-clause-refused : goal.returns-in-Ok-clause-refused
+returns-in-Ok-clause-refused c is =
+    let h = c.adopted.ensures.refused is in
+    (c.in-Ok.connection, h.0, c.in-Ok.ensures.empty, h.1 (memory_is_clean h.0))

@@ -1,8 +1,12 @@
 use Rattle.std.proofs.Common.{subst, rules}
 use Rattle.std.specs.Prelude.{IfOk}
 use Rattle.durable_top.specs.Store.{told}
+use Rattle.sqlite.specs.Held.{state}
 use Rattle.sql_store.specs.Asked.{Loaded}
-use Rattle.sql_store.proofs.Steps.{told_if}
+use Rattle.sql_store.specs.Kept.{Spares}
+use Rattle.sql_store.specs.Refusals.{CannotLoad}
+use Rattle.durable_top.specs.declared.store.StoreFault.TheVariants.{Refused}
+use Rattle.sql_store.proofs.Steps.{told_if, told_err}
 use Rattle.sql_store.specs.Stored.{Stored, may_leave}
 use Rattle.sql_store.proofs.Doubts.{no_doubt}
 use Rattle.sql_store.proofs.store.SqlStoreTopStore.load.Goals as goal
@@ -21,4 +25,8 @@ returns-clause-asked g c = record {
   asked = λ clean.
       subst (λ (v : Stored _). IfOk (told c.load_settled-answer.result) (Loaded g.S.Store v.connection c.load_settled-answer.new.conn)) c.self.view_is
       (told_if c.load_settled-answer.result _ (c.load_settled-answer.ensures.asked clean));
+  kept = λ clean.
+      subst (λ (v : Stored _). Spares (state g.S.Store v.connection) (state g.S.Store c.load_settled-answer.new.conn)) c.self.view_is (c.load_settled-answer.ensures.spared clean);
+  refused = λ clean is.
+      subst (λ (v : Stored _). CannotLoad g.S.Store v.connection c.load_settled-answer.new.conn) c.self.view_is (c.load_settled-answer.ensures.refused clean (told_err c.load_settled-answer.result Refused is));
 }

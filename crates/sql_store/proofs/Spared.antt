@@ -1,0 +1,72 @@
+-- What a call that fails or only reads leaves, whatever the database has.
+use Rattle.std.proofs.Common.{ℕ, List, inl, inr, false, Err, Option, Some, None, sym, ◌∙◌, refl}
+use Rattle.std.proofs.lemmas.Bool.{cases_Bool}
+use Rattle.sqlite_resolve.specs.declared.compiled.Compiled.{Compiled}
+use Rattle.sqlite.specs.Order.{Row}
+use Rattle.sqlite.specs.Clock.{timed}
+use Rattle.sqlite.specs.declared.error.Error.{Error}
+use Rattle.sqlite.specs.State.{State, Fails, IsUnchanged, IsRolledBack, IsNotRun, FailsToQuery, FailsToShow, RunsCommand, ExecutesIn, Executes, shows_rows}
+use Rattle.sqlite.specs.Store.{Ghosts}
+use Rattle.sqlite.specs.Held.{Held, state}
+use Rattle.sql_store.specs.Asked.{MadeAtMost}
+use Rattle.sql_store.specs.Kept.{IsSettled, Spares}
+
+pub spares_all : (a : State) → Spares a a
+spares_all a = record { was_open = λ h. h; now_is = λ h. refl; committed_is = λ h. refl; mode = refl }
+
+pub same_spares : (old new : State) → IsUnchanged old new → Spares old new
+same_spares old new h = record { was_open = λ _. h.0.was_open; now_is = λ _. h.0.now_is; committed_is = λ _. h.0.committed_is; mode = h.0.mode }
+
+-- where no transaction is under way, a rollback leaves all as it was
+back_spares : (old new : State) → IsSettled old → IsRolledBack old new → Spares old new
+back_spares old new settled h = record {
+  was_open = h.was_open;
+  now_is = λ o. (h.undone o).0 ∙ sym (settled.1 (h.was_open o));
+  committed_is = λ o. (h.undone o).1;
+  mode = h.autocommit ∙ sym settled.0;
+}
+
+pub fails_spares : (old new : State) (U : Type 0) (e : Error) → IsSettled old → Fails old new U e → Spares old new
+fails_spares old new U e settled f = back_spares old new settled f.3
+
+pub not_run_spares : (old new : State) (sql : List ℕ) (params : Row) (e : Error) → IsSettled old → IsNotRun old new sql params e → Spares old new
+unfolding IsNotRun
+not_run_spares old new sql params e settled (inl h) = same_spares old new h.1
+not_run_spares old new sql params e settled (inr f) = fails_spares old new _ e settled f
+
+pub query_spares : (old new : State) (sql : List ℕ) (params : Row) (e : Error) → IsSettled old → FailsToQuery sql params old new e → Spares old new
+unfolding FailsToQuery
+query_spares old new sql params e settled (inl h) = not_run_spares old new sql params e settled h
+query_spares old new sql params e settled (inr (c, it, h)) = go c.returning h
+  where
+    go : (o : Option _) → FailsToShow old new sql c (timed params c.formats it.now) e o → Spares old new
+    go None f = same_spares old new f.3
+    go (Some what) (inl f) = same_spares old new f.1
+    go (Some what) (inr f) = fails_spares old new _ e settled f
+
+command_spares : (old new : State) (sql : List ℕ) (c : Compiled) (params : Row) (e : Error) → IsSettled old → RunsCommand old new sql c params (Err e) → Spares old new
+command_spares old new sql c params e settled (inl h) = same_spares old new h.1
+command_spares old new sql c params e settled (inr f) = fails_spares old new _ e settled f
+
+pub executes_spares : (old new : State) (sql : List ℕ) (params : Row) (e : Error) → IsSettled old → Executes sql params old new (Err e) → Spares old new
+unfolding ExecutesIn
+executes_spares old new sql params e settled (inl h) = not_run_spares old new sql params e settled h
+executes_spares old new sql params e settled (inr h) = elim (cases_Bool (shows_rows false h.0)) [
+  | inl shows ↦ same_spares old new (rw shows at h.2).1
+  | inr runs ↦ command_spares old new sql h.0 _ e settled (rw runs at h.2)
+]
+
+pub spares_then : (a b c : State) → Spares a b → Spares b c → Spares a c
+spares_then a b c p q = record {
+  was_open = λ h. p.was_open (q.was_open h);
+  now_is = λ h. q.now_is h ∙ p.now_is (q.was_open h);
+  committed_is = λ h. q.committed_is h ∙ p.committed_is (q.was_open h);
+  mode = q.mode ∙ p.mode;
+}
+
+pub settled_then : (a b : State) → IsSettled a → Spares a b → IsSettled b
+settled_then a b settled s = (s.mode ∙ settled.0, λ h. s.now_is h ∙ settled.1 (s.was_open h) ∙ sym (s.committed_is h))
+
+pub at_most_then : {S : Type 0} (g : Ghosts S) (a b c : Held S) → MadeAtMost g a b → Spares (state g b) (state g c) → MadeAtMost g a c
+at_most_then g a b c (inl p) q = inl (spares_then (state g a) (state g b) (state g c) p q)
+at_most_then g a b c (inr (made, created, p)) q = inr (made, created, spares_then (state g made) (state g b) (state g c) p q)
