@@ -5,7 +5,7 @@ use Rattle.txn_bytes.specs.declared.sink.WriteFault.{WriteFault}
 use Rattle.serial_spec.specs.Report.{line}
 use Rattle.durable_top.specs.declared.store.TopStore.{Ghosts}
 use Rattle.session_runs.specs.Faults.{IsSaid, spelled_fault, told}
-use Rattle.session_runs.specs.Replays.{HasReplayCause}
+use Rattle.session_runs.specs.Replays.{HasReplayCause, IsUnwritten}
 use Rattle.session_runs.specs.Tellings.{Accounts, HasFaultLine, IsAnswered, IsFaulted, IsFlushed, IsUnflushed}
 use Rattle.session_runs.specs.Ways.{Way}
 use Rattle.session_runs.specs.declared.fault.Fault.{Fault}
@@ -19,15 +19,17 @@ module _ {S W E : Type 0} (g : Ghosts S) (contents : W → Option (List ℕ)) (t
   pub end_told : (old mid new : W) (err_old err_new : E) (text : List ℕ) (way : Way) (store : S) (status : ℕ) (ran : Result S ReplayFault)
       → IfErr ran (λ fault. HasReplayCause g (contents old) (contents mid) text way store fault)
       → IfErr ran (λ fault. IsAnswered takes mid fault)
+      → IfErr ran (λ fault. IsUnwritten fault → mid ≡ old)
       → IfErr ran (λ fault. new ≡ mid)
       → IfOk ran (λ left. status ≢ 0 → IsUnflushed flushes err_contents err_takes new err_old err_new)
       → IfErr ran (λ fault. IsSaid err_contents err_takes err_old err_new (spelled_fault (told fault)))
       → status ≢ 0 → IsUnflushed flushes err_contents err_takes new err_old err_new ⊎ IsFaulted g contents takes err_contents err_takes old new err_old err_new text way store
-  end_told old mid new err_old err_new text way store status (Ok left) cause answered same unflushed said undone = inl (unflushed undone)
-  end_told old mid new err_old err_new text way store status (Err fault) cause answered same unflushed said undone = inr (record {
+  end_told old mid new err_old err_new text way store status (Ok left) cause answered before same unflushed said undone = inl (unflushed undone)
+  end_told old mid new err_old err_new text way store status (Err fault) cause answered before same unflushed said undone = inr (record {
     fault = fault;
     cause = subst (λ (w : W). HasReplayCause g (contents old) (contents w) text way store fault) (sym same) cause;
     answered = subst (λ (w : W). IsAnswered takes w fault) (sym same) answered;
+    unwritten = λ none. subst (λ (w : W). w ≡ old) (sym same) (before none);
     said = said;
   })
 

@@ -5,7 +5,7 @@ use Rattle.txn_bytes.specs.declared.sink.WriteFault.{WriteFault}
 use Rattle.serial_spec.specs.Report.{line}
 use Rattle.durable_top.specs.declared.store.TopStore.{Ghosts}
 use Rattle.session_runs.specs.Faults.{IsSaid, spelled_fault, told}
-use Rattle.session_runs.specs.Replays.{HasReplayCause}
+use Rattle.session_runs.specs.Replays.{HasReplayCause, IsUnwritten}
 use Rattle.session_runs.specs.Ways.{Way}
 use Rattle.session_runs.specs.declared.fault.Fault.{Fault}
 use Rattle.session_runs.specs.declared.fault.Fault.TheVariants.{CannotWrite}
@@ -26,13 +26,14 @@ pub record IsFlushed {W : Type 0} (flushes : W → W → Result (Unit {0}) Write
   pub before : W
   pub asked : flushes before new answer
 
--- the run met a fault, and the error writer got its line
+-- The run met a fault, and the error writer got its line. Nothing was asked of the output before a fault that is none of its own
 pub record IsFaulted {S W E : Type 0} (g : Ghosts S) (contents : W → Option (List ℕ)) (takes : W → W → List ℕ → Result ℕ WriteFault → Type 0)
     (err_contents : E → Option (List ℕ)) (err_takes : E → E → List ℕ → Result ℕ WriteFault → Type 0)
     (old new : W) (err_old err_new : E) (text : List ℕ) (way : Way) (store : S) : Type 0 where
   pub fault : ReplayFault
   pub cause : HasReplayCause g (contents old) (contents new) text way store fault
   pub answered : IsAnswered takes new fault
+  pub unwritten : IsUnwritten fault → new ≡ old
   pub said : IsSaid err_contents err_takes err_old err_new (spelled_fault (told fault))
 
 -- the writer answered a fault when it was asked to pass on what it held, and the error writer got the line of that

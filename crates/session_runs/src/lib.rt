@@ -15,5 +15,5 @@ pub use replay::{ReplayFault, replay_text};
 pub use reporting::{DONE, Ended, FAILED, replay_over, report_opened, report_over};
 pub use schedule::{attempts_of, schedule_of};
 pub use serve::{OpenGate, run_text};
-pub use telling::{MISUSED, misuse, tell};
+pub use telling::{MISUSED, finish, misuse, tell};
 pub use way::{Way, workers_of};

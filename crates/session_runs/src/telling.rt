@@ -115,7 +115,7 @@ pub fn misuse<E: Sink>(err: &mut E, text: &[u8]) -> u8
 }
 
 /// Asks the writer to pass on what it holds. Where it answers an error, that is told.
-pub(crate) fn finish<W: Sink, E: Sink>(out: &mut W, err: &mut E) -> u8
+pub fn finish<W: Sink, E: Sink>(out: &mut W, err: &mut E) -> u8
     ensures kept { Keeps (W.contents out.old) (W.contents out.new) }
     ensures passed { result ≡ DONE → W.flushes out.old out.new (Ok tt) }
     ensures silent { result ≡ DONE → err.new ≡ err.old }
