@@ -1,0 +1,13 @@
+use Rattle.session_runs.specs.declared.fault.Fault.TheVariants.{NoMemory}
+use Rattle.session_runs.proofs.Told.{fault_accounts}
+use Rattle.tx_commands.proofs.commands.replay.Goals as goal
+
+pub returns-in-Ok-clause-done : goal.returns-in-Ok-clause-done
+returns-in-Ok-clause-done g c = λ is. rw (← c.in-Ok.ensures) (c.report.ensures.done is)
+
+pub returns-in-Ok-clause-failed : goal.returns-in-Ok-clause-failed
+returns-in-Ok-clause-failed g c = λ is. rw (← c.in-Ok.ensures) (c.report.ensures.failed is)
+
+pub returns-in-Err-clause-accounts : goal.returns-in-Err-clause-accounts
+returns-in-Err-clause-accounts g c =
+    fault_accounts g.W.Sink.flushes g.E.Write.contents g.E.Sink.takes c.args.out.now c.args.err.now c.tell.new.err NoMemory c.tell.result c.tell.ensures.told c.tell.ensures.status

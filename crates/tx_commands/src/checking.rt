@@ -1,0 +1,68 @@
+//! The verdict on a report that stands in a file, on standard output.
+ghost use Rattle.std.specs.Prelude.{◌≡◌, ◌≤◌, ◌⊎◌, false, IsTrue};
+ghost use Rattle.session_runs.specs.declared.reporting.TheConstants.{DONE, FAILED};
+ghost use Rattle.session_runs.specs.Tellings.{Accounts};
+ghost use Rattle.tx_commands.specs.Programs.{IsCondemned, IsGiven, IsPassed, IsUngiven, IsUnpassed};
+
+use crate::host::Surroundings;
+use report_check::Verdict;
+use report_judge::{CheckFault, ReadFault, check};
+use report_text::write_verdict;
+use session_runs::{DONE, FAILED, Fault, finish, tell};
+use std::alloc::Global;
+use txn_bytes::Sink;
+
+// The output is asked to take the verdict and to pass it on. The answer is whether it did both; where not, that is told.
+fn is_given<W: Sink, E: Sink>(verdict: Verdict, out: &mut W, err: &mut E) -> bool
+    ensures given { IsTrue result → IsGiven W.contents W.flushes out.old out.new err.old err.new verdict }
+    ensures ungiven { result ≡ false → IsUngiven W.contents W.takes W.flushes E.contents E.takes out.old out.new err.old err.new verdict }
+{
+    match write_verdict(verdict, out) {
+        Ok(()) => finish(out, err) == DONE,
+        Err(_) => {
+            tell(err, Fault::CannotWrite);
+            false
+        }
+    }
+}
+
+/// Judges the report at this path, gives the verdict to `out`, and answers the exit status. A fault goes to `err`, in one line.
+pub fn judge<H: Surroundings, W: Sink, E: Sink>(
+    host: &H,
+    alloc: Global,
+    file: &str,
+    out: &mut W,
+    err: &mut E,
+) -> u8
+    ensures done { result ≡ DONE →
+        IsPassed H.finds H.Text.gives H.Text.remaining W.contents W.flushes
+        host.now file.now out.old out.new err.old err.new }
+    ensures failed { result ≡ FAILED →
+        IsUnpassed H.finds H.Text.gives W.contents W.takes W.flushes E.contents E.takes
+        H.Text.remaining host.now file.now out.old out.new err.old err.new }
+    ensures accounts { (result ≡ FAILED) ×
+        IsCondemned H.finds H.Text.gives W.contents W.takes W.flushes E.contents E.takes
+        H.Text.remaining host.now file.now out.old out.new err.old err.new
+        ⊎ Accounts W.flushes E.contents E.takes out.new err.old err.new result }
+    ensures status { result ≤ FAILED }
+{
+    let mut report = match host.find(file) {
+        Ok(report) => report,
+        Err(ReadFault) => return tell(err, Fault::CannotRead(file)),
+    };
+    let verdict = check(alloc, &mut report);
+    drop(report);
+    match verdict {
+        Ok(verdict) => {
+            if !is_given(verdict, out, err) {
+                return FAILED;
+            }
+            match verdict {
+                Verdict::Yes => DONE,
+                Verdict::No(_) => FAILED,
+            }
+        }
+        Err(CheckFault::NoMemory) => tell(err, Fault::NoMemory),
+        Err(CheckFault::Read) => tell(err, Fault::CannotRead(file)),
+    }
+}
