@@ -10,3 +10,4 @@ pub mod WholeTexts
 pub mod Feeds
 pub mod ReadBack
 pub mod FirstFaults
+pub mod Counting

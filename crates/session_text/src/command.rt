@@ -1,13 +1,14 @@
 //! Command lines: the words behind the first, read as the first asks.
-ghost use Rattle.std.specs.Prelude.{◌≡◌};
+ghost use Rattle.std.specs.Prelude.{◌≡◌, if◌then◌else◌};
 ghost use Rattle.std.specs.Option.{option_copied};
 ghost use Rattle.session_text.specs.Steps.{Gives};
 ghost use Rattle.session_text.specs.Words.{parts_left};
-ghost use Rattle.session_text.specs.Commands.{event_of, key_in, keyed, name_in, named, number_in, one, three, timed, two, valued, when_in};
+ghost use Rattle.session_text.specs.Commands.{add_of, del_of, event_of, get_of, name_in, named, one, set_of, three, timed, two, when_in};
 
 use crate::fault::LineKind;
 use crate::number::parse_number;
 use crate::parting::cut;
+use crate::verbs::{is_abort, is_add, is_after, is_begin, is_del, is_get, is_set};
 use serial_spec::{Event, Op, When};
 use txn_names::{Key, Name};
 
@@ -52,18 +53,6 @@ fn name_in(word: &[u8]) -> Result<Name, LineKind>
     Name::parse(word).map_err(|_| LineKind::Name)
 }
 
-fn key_in(word: &[u8]) -> Result<Key, LineKind>
-    ensures { result ≡ key_in word.now }
-{
-    Key::parse(word).map_err(|_| LineKind::Key)
-}
-
-fn number_in(word: &[u8]) -> Result<i64, LineKind>
-    ensures { result ≡ number_in word.now }
-{
-    parse_number(word).ok_or(LineKind::Number)
-}
-
 fn when_in(word: &[u8]) -> Result<When, LineKind>
     ensures { result ≡ when_in word.now }
 {
@@ -81,23 +70,41 @@ fn named(words: Option<&[u8]>) -> Result<Name, LineKind>
     name_in(word)
 }
 
-fn keyed(words: Option<&[u8]>) -> Result<(Name, Key), LineKind>
-    ensures { result ≡ keyed (parts_left 32 (option_copied words.entry)) }
+// A line that reads or deletes a key.
+fn keyed(words: Option<&[u8]>, deletes: bool) -> Result<Event, LineKind>
+    ensures { let left = parts_left 32 (option_copied words.entry) in result ≡ (if deletes then del_of left else get_of left) }
 {
     let (first, second) = two(words)?;
-    let name = name_in(first)?;
-    let key = key_in(second)?;
-    Ok((name, key))
+    match Name::parse(first) {
+        Ok(name) => match Key::parse(second) {
+            Ok(key) => {
+                let op = if deletes { Op::Del } else { Op::Get };
+                Ok(Event::Access(name, key, op))
+            }
+            Err(_) => Err(LineKind::Key),
+        },
+        Err(_) => Err(LineKind::Name),
+    }
 }
 
-fn valued(words: Option<&[u8]>) -> Result<(Name, Key, i64), LineKind>
-    ensures { result ≡ valued (parts_left 32 (option_copied words.entry)) }
+// A line that adds a number to the value of a key, or makes it the value.
+fn valued(words: Option<&[u8]>, adds: bool) -> Result<Event, LineKind>
+    ensures { let left = parts_left 32 (option_copied words.entry) in result ≡ (if adds then add_of left else set_of left) }
 {
     let (first, second, third) = three(words)?;
-    let name = name_in(first)?;
-    let key = key_in(second)?;
-    let value = number_in(third)?;
-    Ok((name, key, value))
+    match Name::parse(first) {
+        Ok(name) => match Key::parse(second) {
+            Ok(key) => match parse_number(third) {
+                Some(value) => {
+                    let op = if adds { Op::Add(value) } else { Op::Set(value) };
+                    Ok(Event::Access(name, key, op))
+                }
+                None => Err(LineKind::Number),
+            },
+            Err(_) => Err(LineKind::Key),
+        },
+        Err(_) => Err(LineKind::Name),
+    }
 }
 
 fn timed(words: Option<&[u8]>) -> Result<(Name, When), LineKind>
@@ -118,32 +125,28 @@ pub(crate) fn event_of(bytes: &[u8]) -> Result<Event, LineKind>
         return Err(LineKind::Empty);
     }
     let (word, words) = cut(bytes, b' ');
-    if word == b"begin".as_slice() {
+    if is_begin(word) {
         return Ok(Event::Begin(named(words)?));
     }
-    if word == b"get".as_slice() {
-        let (name, key) = keyed(words)?;
-        return Ok(Event::Access(name, key, Op::Get));
+    if is_get(word) {
+        return keyed(words, false);
     }
-    if word == b"set".as_slice() {
-        let (name, key, value) = valued(words)?;
-        return Ok(Event::Access(name, key, Op::Set(value)));
+    if is_set(word) {
+        return valued(words, false);
     }
-    if word == b"add".as_slice() {
-        let (name, key, value) = valued(words)?;
-        return Ok(Event::Access(name, key, Op::Add(value)));
+    if is_add(word) {
+        return valued(words, true);
     }
-    if word == b"del".as_slice() {
-        let (name, key) = keyed(words)?;
-        return Ok(Event::Access(name, key, Op::Del));
+    if is_del(word) {
+        return keyed(words, true);
     }
     if word == b"commit".as_slice() {
         return Ok(Event::Commit(named(words)?));
     }
-    if word == b"abort".as_slice() {
+    if is_abort(word) {
         return Ok(Event::Abort(named(words)?));
     }
-    if word == b"after".as_slice() {
+    if is_after(word) {
         let (name, when) = timed(words)?;
         return Ok(Event::After(name, when));
     }

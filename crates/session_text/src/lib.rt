@@ -15,6 +15,7 @@ mod number;
 mod parting;
 mod sessions;
 mod text_line;
+mod verbs;
 
 pub use fault::{LineKind, TextFault};
 pub use line::{Line, parse_event, parse_line};

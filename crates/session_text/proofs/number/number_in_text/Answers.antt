@@ -2,7 +2,7 @@ use Rattle.std.proofs.Common.{List, ℕ, sym, ◌∙◌, subst}
 use Rattle.std.specs.Int.{w64}
 use Rattle.std.specs.Str.Parse.{ParsesSigned}
 use Rattle.session_text.proofs.Numerals.{utf8, read}
-use Rattle.session_text.proofs.number.parse_number.Goals as goal
+use Rattle.session_text.proofs.number.number_in_text.Goals as goal
 
 pub returns-in-Ok : goal.returns-in-Ok
 returns-in-Ok c =
