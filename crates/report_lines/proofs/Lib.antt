@@ -2,4 +2,3 @@ pub mod Parts
 pub mod Rows
 pub mod Answering
 pub mod Entries
-pub mod Counting

@@ -1,18 +1,37 @@
 //! Answers, read, and which of them an event may have.
-ghost use Rattle.std.specs.Prelude.{◌≡◌};
+ghost use Rattle.std.specs.Prelude.{◌≡◌, codes};
+ghost use Rattle.std.specs.Str.{bytes_eq};
 ghost use Rattle.report_lines.specs.Answers.{may_answer, may_begin, may_commit, may_access, may_abort, may_after};
 ghost use Rattle.report_lines.specs.Reading.{answer_of, one_word, refusal_of, two_words};
 
-use crate::digits::number_of;
 use serial_spec::{Answer, Event, Op, Refusal, Reply};
-use session_text::cut;
+use session_text::{cut, parse_number};
 use txn_names::Name;
+
+// The words of most answers, which are told without a call.
+fn is_ok(word: &[u8]) -> bool
+    ensures { result ≡ bytes_eq word.now (codes "ok") }
+{
+    matches!(word, b"ok")
+}
+
+fn is_value(word: &[u8]) -> bool
+    ensures { result ≡ bytes_eq word.now (codes "value") }
+{
+    matches!(word, b"value")
+}
+
+fn is_new(word: &[u8]) -> bool
+    ensures { result ≡ bytes_eq word.now (codes "new") }
+{
+    matches!(word, b"new")
+}
 
 // An answer of one word.
 fn one_word(word: &[u8]) -> Option<Answer>
     ensures { result ≡ one_word word.now }
 {
-    if word == b"ok".as_slice() {
+    if is_ok(word) {
         return Some(Answer::Done(Reply::Ok));
     }
     if word == b"none".as_slice() {
@@ -65,11 +84,11 @@ fn refusal_of(word: &[u8]) -> Option<Refusal>
 fn two_words(word: &[u8], rest: &[u8]) -> Option<Answer>
     ensures { result ≡ two_words word.now rest.now }
 {
-    if word == b"value".as_slice() {
-        return Some(Answer::Done(Reply::Value(number_of(rest)?)));
+    if is_value(word) {
+        return Some(Answer::Done(Reply::Value(parse_number(rest)?)));
     }
-    if word == b"new".as_slice() {
-        return Some(Answer::Done(Reply::New(number_of(rest)?)));
+    if is_new(word) {
+        return Some(Answer::Done(Reply::New(parse_number(rest)?)));
     }
     if word == b"refused".as_slice() {
         return Some(Answer::Refused(refusal_of(rest)?));

@@ -1,12 +1,12 @@
 //! Entries of a report, read.
-ghost use Rattle.std.specs.Prelude.{◌≡◌, None};
+ghost use Rattle.std.specs.Prelude.{◌≡◌, None, codes};
 ghost use Rattle.std.specs.Option.{option_copied, option_map};
+ghost use Rattle.std.specs.Str.{bytes_eq};
 ghost use Rattle.report_lines.specs.Reading.{abort_of, before_dash, behind_space, count_of, entry_of, line_entry_of, sides_of, star_entry_of, told_of};
 
 use crate::answer::{answer_of, may_answer};
-use crate::digits::number_of;
 use serial_spec::{Answer, Event, MOST_LINES};
-use session_text::{cut, parse_event};
+use session_text::{cut, parse_event, parse_number};
 use txn_names::{Label, Name};
 
 /// What an entry of a report says.
@@ -35,16 +35,18 @@ fn behind_space(bytes: &[u8]) -> Option<&[u8]>
     }
 }
 
+fn is_dash(end: &[u8]) -> bool
+    ensures { result ≡ bytes_eq end.now (codes " -") }
+{
+    matches!(end, b" -")
+}
+
 // What stands before a space and a `-` at the end.
 fn before_dash(bytes: &[u8]) -> Option<&[u8]>
     ensures { option_copied result ≡ before_dash bytes.now }
 {
     let (text, end) = bytes.split_at(bytes.len().saturating_sub(2));
-    if end == b" -".as_slice() {
-        Some(text)
-    } else {
-        None
-    }
+    if is_dash(end) { Some(text) } else { None }
 }
 
 // Both sides of the arrow.
@@ -103,7 +105,7 @@ fn tell_line(bytes: &[u8], entry: &mut Option<ReportEntry>)
         return;
     };
     let (number, rest) = cut(rest, b' ');
-    let Some(number) = number_of(number) else {
+    let Some(number) = parse_number(number) else {
         return;
     };
     let Some(line) = count_of(number) else {

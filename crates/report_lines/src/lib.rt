@@ -2,7 +2,6 @@
 #![tactic(auto)]
 
 mod answer;
-mod digits;
 mod entry;
 pub mod laws;
 mod row;

@@ -2,8 +2,7 @@
 ghost use Rattle.std.specs.Prelude.{◌≡◌};
 ghost use Rattle.report_lines.specs.Reading.{row_of};
 
-use crate::digits::number_of;
-use session_text::cut;
+use session_text::{cut, parse_number};
 use txn_names::Key;
 
 /// The row that the bytes spell, a line of a report without its line feed: `K=V`, a key and a value.
@@ -12,6 +11,6 @@ pub fn parse_row(bytes: &[u8]) -> Option<(Key, i64)>
 {
     let (key, rest) = cut(bytes, b'=');
     let key = Key::parse(key).ok()?;
-    let value = number_of(rest?)?;
+    let value = parse_number(rest?)?;
     Some((key, value))
 }
