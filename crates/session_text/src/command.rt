@@ -3,7 +3,7 @@ ghost use Rattle.std.specs.Prelude.{◌≡◌, if◌then◌else◌};
 ghost use Rattle.std.specs.Option.{option_copied};
 ghost use Rattle.session_text.specs.Steps.{Gives};
 ghost use Rattle.session_text.specs.Words.{parts_left};
-ghost use Rattle.session_text.specs.Commands.{add_of, del_of, event_of, get_of, name_in, named, one, set_of, three, timed, two, when_in};
+ghost use Rattle.session_text.specs.Commands.{abort_of, add_of, after_of, begin_of, commit_of, del_of, event_of, get_of, name_in, named, one, set_of, three, timed, two, when_in};
 
 use crate::fault::LineKind;
 use crate::number::parse_number;
@@ -70,21 +70,19 @@ fn named(words: Option<&[u8]>) -> Result<Name, LineKind>
     name_in(word)
 }
 
-// A line that reads or deletes a key.
+// A line that reads or deletes a key. What is large is read by reference, and moved once, into the event.
 fn keyed(words: Option<&[u8]>, deletes: bool) -> Result<Event, LineKind>
     ensures { let left = parts_left 32 (option_copied words.entry) in result ≡ (if deletes then del_of left else get_of left) }
 {
     let (first, second) = two(words)?;
-    match Name::parse(first) {
-        Ok(name) => match Key::parse(second) {
-            Ok(key) => {
-                let op = if deletes { Op::Del } else { Op::Get };
-                Ok(Event::Access(name, key, op))
-            }
-            Err(_) => Err(LineKind::Key),
-        },
-        Err(_) => Err(LineKind::Name),
-    }
+    let Ok(name) = &Name::parse(first) else {
+        return Err(LineKind::Name);
+    };
+    let Ok(key) = &Key::parse(second) else {
+        return Err(LineKind::Key);
+    };
+    let op = if deletes { Op::Del } else { Op::Get };
+    Ok(Event::Access(*name, *key, op))
 }
 
 // A line that adds a number to the value of a key, or makes it the value.
@@ -92,19 +90,17 @@ fn valued(words: Option<&[u8]>, adds: bool) -> Result<Event, LineKind>
     ensures { let left = parts_left 32 (option_copied words.entry) in result ≡ (if adds then add_of left else set_of left) }
 {
     let (first, second, third) = three(words)?;
-    match Name::parse(first) {
-        Ok(name) => match Key::parse(second) {
-            Ok(key) => match parse_number(third) {
-                Some(value) => {
-                    let op = if adds { Op::Add(value) } else { Op::Set(value) };
-                    Ok(Event::Access(name, key, op))
-                }
-                None => Err(LineKind::Number),
-            },
-            Err(_) => Err(LineKind::Key),
-        },
-        Err(_) => Err(LineKind::Name),
-    }
+    let Ok(name) = &Name::parse(first) else {
+        return Err(LineKind::Name);
+    };
+    let Ok(key) = &Key::parse(second) else {
+        return Err(LineKind::Key);
+    };
+    let Some(value) = parse_number(third) else {
+        return Err(LineKind::Number);
+    };
+    let op = if adds { Op::Add(value) } else { Op::Set(value) };
+    Ok(Event::Access(*name, *key, op))
 }
 
 fn timed(words: Option<&[u8]>) -> Result<(Name, When), LineKind>
@@ -114,6 +110,36 @@ fn timed(words: Option<&[u8]>) -> Result<(Name, When), LineKind>
     let name = name_in(first)?;
     let when = when_in(second)?;
     Ok((name, when))
+}
+
+// Most lines ask for an access. The others are read apart, since a call makes room for all that is read in it.
+#[inline(never)]
+fn begin_of(words: Option<&[u8]>) -> Result<Event, LineKind>
+    ensures { result ≡ begin_of (parts_left 32 (option_copied words.entry)) }
+{
+    Ok(Event::Begin(named(words)?))
+}
+
+#[inline(never)]
+fn commit_of(words: Option<&[u8]>) -> Result<Event, LineKind>
+    ensures { result ≡ commit_of (parts_left 32 (option_copied words.entry)) }
+{
+    Ok(Event::Commit(named(words)?))
+}
+
+#[inline(never)]
+fn abort_of(words: Option<&[u8]>) -> Result<Event, LineKind>
+    ensures { result ≡ abort_of (parts_left 32 (option_copied words.entry)) }
+{
+    Ok(Event::Abort(named(words)?))
+}
+
+#[inline(never)]
+fn after_of(words: Option<&[u8]>) -> Result<Event, LineKind>
+    ensures { result ≡ after_of (parts_left 32 (option_copied words.entry)) }
+{
+    let (name, when) = timed(words)?;
+    Ok(Event::After(name, when))
 }
 
 /// What a command line asks, or the kind of its first fault. Each event is given where it is made: as the value of an `if` it would
@@ -126,7 +152,7 @@ pub(crate) fn event_of(bytes: &[u8]) -> Result<Event, LineKind>
     }
     let (word, words) = cut(bytes, b' ');
     if is_begin(word) {
-        return Ok(Event::Begin(named(words)?));
+        return begin_of(words);
     }
     if is_get(word) {
         return keyed(words, false);
@@ -141,14 +167,13 @@ pub(crate) fn event_of(bytes: &[u8]) -> Result<Event, LineKind>
         return keyed(words, true);
     }
     if word == b"commit".as_slice() {
-        return Ok(Event::Commit(named(words)?));
+        return commit_of(words);
     }
     if is_abort(word) {
-        return Ok(Event::Abort(named(words)?));
+        return abort_of(words);
     }
     if is_after(word) {
-        let (name, when) = timed(words)?;
-        return Ok(Event::After(name, when));
+        return after_of(words);
     }
     Err(LineKind::Word)
 }
