@@ -42,12 +42,15 @@ refusal_of w =
     else if bytes_eq w (codes "store") then Some Store
     else None
 
+abbrev pub orphan_of : List ℕ → Option Answer
+orphan_of w = option_map (λ t. Refused (Orphan t)) (result_ok (name_of w))
+
 abbrev pub two_words : List ℕ → List ℕ → Option Answer
 two_words w r =
     if bytes_eq w (codes "value") then option_map (λ v. Done (Value v)) (number_of r)
     else if bytes_eq w (codes "new") then option_map (λ v. Done (New v)) (number_of r)
     else if bytes_eq w (codes "refused") then option_map Refused (refusal_of r)
-    else if bytes_eq w (codes "orphan") then option_map (λ t. Refused (Orphan t)) (result_ok (name_of r))
+    else if bytes_eq w (codes "orphan") then orphan_of r
     else None
 
 abbrev pub words_of : List ℕ → Option (List ℕ) → Option Answer

@@ -2,7 +2,7 @@
 ghost use Rattle.std.specs.Prelude.{◌≡◌, codes};
 ghost use Rattle.std.specs.Str.{bytes_eq};
 ghost use Rattle.report_lines.specs.Answers.{may_answer, may_begin, may_commit, may_access, may_abort, may_after};
-ghost use Rattle.report_lines.specs.Reading.{answer_of, one_word, refusal_of, two_words};
+ghost use Rattle.report_lines.specs.Reading.{answer_of, one_word, orphan_of, refusal_of, two_words};
 
 use serial_spec::{Answer, Event, Op, Refusal, Reply};
 use session_text::{cut, parse_number};
@@ -80,6 +80,14 @@ fn refusal_of(word: &[u8]) -> Option<Refusal>
     None
 }
 
+// Why an orphan was refused. It is rare, and read apart: a call makes room for all that is read in it.
+#[inline(never)]
+fn orphan_of(word: &[u8]) -> Option<Answer>
+    ensures { result ≡ orphan_of word.now }
+{
+    Some(Answer::Refused(Refusal::Orphan(Name::parse(word).ok()?)))
+}
+
 // An answer of two words: the first one, and what stands behind it.
 fn two_words(word: &[u8], rest: &[u8]) -> Option<Answer>
     ensures { result ≡ two_words word.now rest.now }
@@ -94,7 +102,7 @@ fn two_words(word: &[u8], rest: &[u8]) -> Option<Answer>
         return Some(Answer::Refused(refusal_of(rest)?));
     }
     if word == b"orphan".as_slice() {
-        return Some(Answer::Refused(Refusal::Orphan(Name::parse(rest).ok()?)));
+        return orphan_of(rest);
     }
     None
 }

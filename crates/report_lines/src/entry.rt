@@ -131,6 +131,14 @@ fn abort_of(bytes: &[u8]) -> Option<ReportEntry>
     None
 }
 
+// The same, put where the caller keeps it. It is rare, and read apart: a call makes room for all that is read in it.
+#[inline(never)]
+fn tell_abort(bytes: &[u8], entry: &mut Option<ReportEntry>)
+    ensures { entry.new ≡ abort_of bytes.now }
+{
+    *entry = abort_of(bytes);
+}
+
 /// The entry that the bytes spell, a line of a report without its line feed: `LABEL LINE TEXT -> REPLY`, `* victim N` or
 /// `* close N`. The reply is one that a line of such a text may have; whether it has its cause is not asked.
 pub fn parse_entry(bytes: &[u8]) -> Option<ReportEntry>
@@ -148,7 +156,7 @@ pub fn read_entry(bytes: &[u8], entry: &mut Option<ReportEntry>)
     *entry = None;
     if let (b"*", rest) = cut(bytes, b' ') {
         if let Some(rest) = rest {
-            *entry = abort_of(rest);
+            tell_abort(rest, entry);
         }
         return;
     }
