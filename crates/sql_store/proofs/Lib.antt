@@ -15,3 +15,4 @@ pub mod Transactions
 pub mod Bare
 pub mod Spared
 pub mod Maker
+pub mod Crossing
