@@ -41,6 +41,11 @@ impl Told {
         self.status == 1 && self.out.is_empty() && self.err.as_slice() == line.as_bytes()
     }
 
+    // Whether the verdict was written, and nothing else.
+    fn is_verdict(&self, status: u8, line: &str) -> bool {
+        self.status == status && self.out.as_slice() == line.as_bytes() && self.err.is_empty()
+    }
+
     // Whether the words are told as no command line.
     fn is_misuse(&self) -> bool {
         self.status == 2 && self.out.is_empty() && !self.err.is_empty()
@@ -158,6 +163,10 @@ fn words_that_are_no_command_line(rt: HostRuntime) {
         "replay a --workers 2",
         "replay a --db",
         "replay a --schedule",
+        "check",
+        "check a b",
+        "check a --db b",
+        "check --help",
     ] {
         assert!(rt; run(&rt, &rt, words).is_misuse(), "{words}");
     }
@@ -192,4 +201,51 @@ fn program_by_workers(rt: HostRuntime) {
     let words = "run run_test/first.tx --workers 2 --db";
     assert!(rt; run_on(&rt, &rt, words, "run_test/a.db").is_report(FIRST_REPORT));
     fs::remove_dir_all(&rt, "run_test").expect(&rt, "folder");
+}
+
+/// Two sessions that write one key.
+const TWO: &[u8] =
+    b"session l\nbegin a\nset a x 1\ncommit a\nsession r\nbegin b\nset b x 2\ncommit b\n";
+
+/// Its report where the second session goes first.
+const SECOND_FIRST: &[u8] = b"open\nr 1 begin b -> ok\nr 2 set b x 2 -> ok\nr 3 commit b -> ok
+l 1 begin a -> ok\nl 2 set a x 1 -> ok\nl 3 commit a -> ok\ntable\nx=1\nend\n";
+
+/// Its report by rounds alone.
+const BY_ROUNDS: &[u8] = b"open\nl 1 begin a -> ok\nr 1 begin b -> ok\nl 2 set a x 1 -> ok
+r 2 set b x 2 -> waits\nl 3 commit a -> ok\nr 2 set b x 2 -> ok\nr 3 commit b -> ok\ntable\nx=2\nend\n";
+
+// A list chooses which session goes first, in memory and over a database.
+#[test]
+fn program_of_two_sessions(rt: HostRuntime) {
+    let _ = fs::remove_dir_all(&rt, "two_test");
+    fs::create_dir_all(&rt, "two_test").expect(&rt, "folder");
+    fs::write(&rt, "two_test/two.tx", TWO).expect(&rt, "file");
+    let listed = "replay two_test/two.tx --schedule 1,1,1";
+    assert!(rt; run(&rt, &rt, listed).is_report(SECOND_FIRST));
+    assert!(rt; run(&rt, &rt, "replay two_test/two.tx").is_report(BY_ROUNDS));
+    let over = "replay two_test/two.tx --schedule 1,1,1 --db";
+    assert!(rt; run_on(&rt, &rt, over, "two_test/a.db").is_report(SECOND_FIRST));
+    fs::remove_dir_all(&rt, "two_test").expect(&rt, "folder");
+}
+
+#[test]
+fn program_that_judges(rt: HostRuntime) {
+    let _ = fs::remove_dir_all(&rt, "check_test");
+    fs::create_dir_all(&rt, "check_test").expect(&rt, "folder");
+    for (file, text) in [
+        ("check_test/yes", BY_ROUNDS),
+        (
+            "check_test/row",
+            b"open\ns 1 begin a -> ok\ns 2 commit a -> ok\ntable\nx=5\nend\n".as_slice(),
+        ),
+        ("check_test/empty", b"".as_slice()),
+    ] {
+        fs::write(&rt, file, text).expect(&rt, file);
+    }
+    assert!(rt; run(&rt, &rt, "check check_test/yes").is_verdict(0, "yes\n"));
+    assert!(rt; run(&rt, &rt, "check check_test/row").is_verdict(1, "no 5\n"));
+    assert!(rt; run(&rt, &rt, "check check_test/empty").is_verdict(1, "no 1\n"));
+    assert!(rt; run(&rt, &rt, "check nosuch").is_fault("tx: cannot read nosuch\n"));
+    fs::remove_dir_all(&rt, "check_test").expect(&rt, "folder");
 }

@@ -1,48 +1,58 @@
--- What the program's exit status says of its output.
-use Rattle.std.specs.Prelude.{◌≡◌, ◌⊎◌, ℕ, List, Option, None}
-use Rattle.std.specs.Io.KnownBytes.{Keeps}
+-- What the words of the command line asked for, and whether it was done.
+use Rattle.std.specs.Prelude.{◌≡◌, ℕ, List, Option, Result, Ok}
+use Rattle.std.specs.Option.{option_copied}
+use Rattle.txn_bytes.specs.declared.sink.WriteFault.{WriteFault}
+use Rattle.durable_top.specs.declared.store.StoreFault.{StoreFault}
 use Rattle.durable_top.specs.declared.store.TopStore.{Ghosts}
-use Rattle.session_runs.specs.Ways.{Way}
-use Rattle.session_runs.specs.Printing.{IsPrinted, IsMissed}
+use Rattle.report_judge.specs.declared.source.ReadFault.{ReadFault}
+use Rattle.session_runs.specs.Schedules.{attempts_of}
+use Rattle.session_runs.specs.Ways.{ByWorkers, Scheduled}
+use Rattle.tx_commands.specs.Programs.{IsCondemned, IsPassed, IsUnpassed, Misses, Prints}
+use Rattle.tx_program.specs.declared.command.Task.{Task}
+use Rattle.tx_program.specs.declared.command.Task.TheVariants.{Check, Replay, Run}
 
--- the output got the whole report of some text's run in some way over a store without rows
-pub record Prints {S : Type 0} (g : Ghosts S) (old new : Option (List ℕ)) : Type 0 where
-  pub text : List ℕ
-  pub way : Way
-  pub store : S
-  pub empty : (k : List ℕ) → g.table store k ≡ None
-  pub left : Option S
-  pub printed : IsPrinted g old new text way store left
+-- some task that words may ask for
+pub record ForSomeTask (Holds : Task → Type 0) : Type 0 where
+  pub task : Task
+  pub so : Holds task
 
--- such a run gave no whole report, or the writer failed to pass it on
-pub record Missed {S : Type 0} (g : Ghosts S) (old new : Option (List ℕ)) : Type 0 where
-  pub text : List ℕ
-  pub way : Way
-  pub store : S
-  pub empty : (k : List ℕ) → g.table store k ≡ None
-  pub left : Option S
-  pub missed : IsMissed g old new text way store left
+-- there is an output, and this holds of it as it was and as it became
+pub record ForOutput {W F : Type 0} (out : Result W F) (Holds : W → W → Type 0) : Type 0 where
+  pub old : W
+  pub there : out ≡ Ok old
+  pub new : W
+  pub so : Holds old new
 
--- the output got nothing, or such a run missed
-abbrev pub Misses : {S : Type 0} → Ghosts S → Option (List ℕ) → Option (List ℕ) → Type 0
-Misses g old new = Keeps old new ⊎ Missed g old new
+module _ {H R : Type 0} (finds : H → List ℕ → Result R ReadFault → Type 0) (gives : R → R → Result (List ℕ) ReadFault → Type 0)
+    (remaining : R → Option (List ℕ)) where
+  -- it was done: the output got the report, or the verdict yes
+  abbrev pub IsDone : {N P W E : Type 0} → (H → List ℕ → Result P StoreFault → Type 0) → (H → List ℕ → Option P → Type 0) → Ghosts N → Ghosts P
+      → (W → Option (List ℕ)) → (W → W → Result (Unit {0}) WriteFault → Type 0) → H → Task → W → W → E → E → Type 0
+  IsDone opens closes gn gp contents flushes host (Replay file list database) old new err_old err_new =
+      Prints finds gives opens closes gn gp host file.now (Scheduled (attempts_of (option_copied list))) (option_copied database) (contents old) (contents new)
+  IsDone opens closes gn gp contents flushes host (Run file workers database) old new err_old err_new =
+      Prints finds gives opens closes gn gp host file.now ByWorkers (option_copied database) (contents old) (contents new)
+  IsDone opens closes gn gp contents flushes host (Check file) old new err_old err_new =
+      IsPassed finds gives remaining contents flushes host file.now old new err_old err_new
 
--- the output got the whole report of some text's run in some way over some store, whose rows are the report's opening rows
-pub record PrintsFrom {S : Type 0} (g : Ghosts S) (old new : Option (List ℕ)) : Type 0 where
-  pub text : List ℕ
-  pub way : Way
-  pub store : S
-  pub left : Option S
-  pub printed : IsPrinted g old new text way store left
+  -- it was not: there is no whole report, or no verdict yes
+  abbrev pub IsUndone : {N P W E : Type 0} → (H → List ℕ → Result P StoreFault → Type 0) → (H → List ℕ → Option P → Type 0) → Ghosts N → Ghosts P
+      → (W → Option (List ℕ)) → (W → W → List ℕ → Result ℕ WriteFault → Type 0) → (W → W → Result (Unit {0}) WriteFault → Type 0)
+      → (E → Option (List ℕ)) → (E → E → List ℕ → Result ℕ WriteFault → Type 0) → H → Task → W → W → E → E → Type 0
+  IsUndone opens closes gn gp contents takes flushes err_contents err_takes host (Replay file list database) old new err_old err_new =
+      Misses finds gives contents takes flushes err_contents err_takes remaining opens closes gn gp
+      host file.now (Scheduled (attempts_of (option_copied list))) (option_copied database) old new err_old err_new
+  IsUndone opens closes gn gp contents takes flushes err_contents err_takes host (Run file workers database) old new err_old err_new =
+      Misses finds gives contents takes flushes err_contents err_takes remaining opens closes gn gp
+      host file.now ByWorkers (option_copied database) old new err_old err_new
+  IsUndone opens closes gn gp contents takes flushes err_contents err_takes host (Check file) old new err_old err_new =
+      IsUnpassed finds gives contents takes flushes err_contents err_takes remaining host file.now old new err_old err_new
 
--- such a run gave no whole report, or the writer failed to pass it on
-pub record MissedFrom {S : Type 0} (g : Ghosts S) (old new : Option (List ℕ)) : Type 0 where
-  pub text : List ℕ
-  pub way : Way
-  pub store : S
-  pub left : Option S
-  pub missed : IsMissed g old new text way store left
-
--- the output got nothing, or such a run missed
-abbrev pub MissesFrom : {S : Type 0} → Ghosts S → Option (List ℕ) → Option (List ℕ) → Type 0
-MissesFrom g old new = Keeps old new ⊎ MissedFrom g old new
+  -- a report was to be judged, and the output got the verdict no
+  abbrev pub IsCondemnedBy : {W E : Type 0} → (W → Option (List ℕ)) → (W → W → List ℕ → Result ℕ WriteFault → Type 0)
+      → (W → W → Result (Unit {0}) WriteFault → Type 0) → (E → Option (List ℕ)) → (E → E → List ℕ → Result ℕ WriteFault → Type 0)
+      → H → Task → W → W → E → E → Type 0
+  IsCondemnedBy contents takes flushes err_contents err_takes host (Replay file list database) old new err_old err_new = ⊥
+  IsCondemnedBy contents takes flushes err_contents err_takes host (Run file workers database) old new err_old err_new = ⊥
+  IsCondemnedBy contents takes flushes err_contents err_takes host (Check file) old new err_old err_new =
+      IsCondemned finds gives contents takes flushes err_contents err_takes remaining host file.now old new err_old err_new

@@ -12,48 +12,100 @@ pub enum Task<'a> {
         schedule: Option<&'a str>,
         database: Option<&'a str>,
     },
-    /// To run this session text by worker threads, as many as the word says, and to print the report.
+    /// To run this session text by worker threads, as many as the word says, and to print the report; over the database at a
+    /// path, or else over an empty table in memory.
     Run {
         file: &'a str,
         workers: Option<&'a str>,
         database: Option<&'a str>,
     },
+    /// To judge this report and to print the verdict.
+    Check {
+        file: &'a str,
+    },
 }
 
 /// What stands behind the subcommands of `--help`.
 const NOTES: &str = "\
-Exit status: 0 if the report was printed, 1 if one line on standard error says why there is none, 2 if the words are no
-command line or ask for help.
+Exit status: 0 if the report or the verdict yes was printed; 1 if the verdict no was printed, or one
+line on standard error says why there is no report or verdict; 2 if the words are no command line or
+ask for help.
 
 Example: tx replay examples/retry.tx
 
-'tx replay --help' and 'tx run --help' explain the options.";
+'tx replay --help', 'tx run --help' and 'tx check --help' explain the options and name the limits.";
 
 /// What stands behind the arguments of `replay --help`.
 const REPLAY_NOTES: &str = "\
-Without --schedule the sessions run in rounds: each round
+LIST is session numbers joined by commas, counted from 0 in the order of the headers. Each attempts the
+next line of that session. Then, or without --schedule at once, the sessions run in rounds: a round
 attempts one line of every session that has lines left. A line that waits is attempted again.
 
-Exit status: 0 if the report was printed, 1 if one line on standard error says why there is none, 2 if the words are no
-command line or ask for help.
+Limits of a text: 134,217,728 bytes; 64 sessions of 1,024 lines each; 4,096 transactions, those of
+all levels together; names of 8 labels, joined by '/'; labels of 1 to 16 bytes of a-z and 0-9; keys of
+1 to 32 bytes of a-z, 0-9, '.', '_' and '-'; 4,096 keys, and as many rows of the table. Values are
+whole numbers of 64 bits, from -9223372036854775808 to 9223372036854775807. A text has no comments and
+no blank lines. FILE is a path: '-' is not standard input, but /dev/stdin is.
+
+The database is made if there is none. One run at a time has it, from its opening to its end. When the
+program has ended, whatever its exit status, the file at PATH holds the results by itself; it stays in
+WAL mode. A run that was killed, or that could not close the database (on a full disk, say), leaves them
+in PATH and PATH-wal together, until the next run has ended or sqlite3 has opened them.
+
+Exit status: 0 if the report was printed, whatever lines it shows as refused; 1 if one line on standard
+error says why there is none; 2 if the words are no command line or ask for help.
 
 Example: tx replay examples/retry.tx --db jobs.db";
 
 /// What stands behind the arguments of `run --help`.
 const RUN_NOTES: &str = "\
-The workers share the sessions: each takes the next line of some session, attempts it, and passes the session on. Two
-runs of one text may answer its lines in other orders; whatever is said of a report holds of each of them. Run the text
-with `replay` for one order that is always the same.
+The workers share the sessions: each takes the next line of some session, attempts it, and passes the
+session on. Two runs of one text may answer its lines in other orders; what is guaranteed of a report
+holds of each of them. 'tx replay' has one order that is always the same.
 
-Exit status: 0 if the report was printed, 1 if one line on standard error says why there is none, 2 if the words are no
-command line or ask for help.
+Limits of a text: 134,217,728 bytes; 64 sessions of 1,024 lines each; 4,096 transactions, those of
+all levels together; names of 8 labels, joined by '/'; labels of 1 to 16 bytes of a-z and 0-9; keys of
+1 to 32 bytes of a-z, 0-9, '.', '_' and '-'; 4,096 keys, and as many rows of the table. Values are
+whole numbers of 64 bits, from -9223372036854775808 to 9223372036854775807. A text has no comments and
+no blank lines. FILE is a path: '-' is not standard input, but /dev/stdin is.
+
+The database is made if there is none. One run at a time has it, from its opening to its end. When the
+program has ended, whatever its exit status, the file at PATH holds the results by itself; it stays in
+WAL mode. A run that was killed, or that could not close the database (on a full disk, say), leaves them
+in PATH and PATH-wal together, until the next run has ended or sqlite3 has opened them.
+
+Exit status: 0 if the report was printed, whatever lines it shows as refused; 1 if one line on standard
+error says why there is none; 2 if the words are no command line or ask for help.
 
 Example: tx run examples/retry.tx --workers 8 --db jobs.db";
+
+/// What stands behind the arguments of `check --help`.
+const CHECK_NOTES: &str = "\
+The verdict is 'yes', or 'no N' with the number of a line; behind a report that was cut, N is the
+number of its last line, or one more. Every report that 'tx replay' or 'tx run' printed whole has the
+verdict yes.
+
+A yes says that the committed top-level transactions, one after another in the order of their commits,
+were replied what the entries say, and lead from the opening rows to the final table; that what was
+begun, done and ended could be; and that the lines of each session stand in order and are answered once
+each. It does not say that a wait, a victim, a refusal or a stuck line had its cause, what an orphan had
+to be replied, or which text was run.
+
+Limits of a report: 64 sessions of 1,024 lines each; 4,096 transactions, those of all levels together;
+names of 8 labels, joined by '/'; labels of 1 to 16 bytes of a-z and 0-9; keys of 1 to 32 bytes of a-z,
+0-9, '.', '_' and '-'; 4,096 rows of each table. Values are whole numbers of 64 bits, from
+-9223372036854775808 to 9223372036854775807. It has no comments and no blank lines. REPORT is a path:
+'-' is not standard input, but /dev/stdin is. Its end has to come within 134,217,728 reads.
+
+Exit status: 0 if the verdict is yes; 1 if it is no, or one line on standard error says why there is
+none; 2 if the words are no command line or ask for help.
+
+Example: tx check report.txt";
 
 fn file_argument<'a>(alloc: Global) -> Arg<'a> {
     Arg::new(alloc, "file")
         .value_name("FILE")
-        .help("The session text to run: at most 64 sessions of at most 1,024 lines each")
+        .help("The session text to run")
         .required(true)
         .action(ArgAction::Set)
 }
@@ -62,10 +114,24 @@ fn database_argument<'a>(alloc: Global) -> Arg<'a> {
     Arg::new(alloc, "db")
         .long("db")
         .value_name("PATH")
-        .help(
-            "The SQLite database that keeps the results; it is made if there is none, and may have at most 4,096 rows [default: an empty table in memory]",
-        )
+        .help("The SQLite database that keeps the results [default: an empty table in memory]")
         .action(ArgAction::Set)
+}
+
+fn check_command<'a>(alloc: Global) -> Result<Command<'a>, Error> {
+    let report = Arg::new(alloc, "report")
+        .value_name("REPORT")
+        .help("The report to judge")
+        .required(true)
+        .action(ArgAction::Set);
+    Ok(
+        Command::new(alloc, "check")
+            .about(
+                "Judges a report: whether its table is what a serial run of its transactions leaves",
+            )
+            .after_help(CHECK_NOTES)
+            .arg(report)?,
+    )
 }
 
 fn run_command<'a>(alloc: Global) -> Result<Command<'a>, Error> {
@@ -90,9 +156,7 @@ fn replay_command<'a>(alloc: Global) -> Result<Command<'a>, Error> {
     let schedule = Arg::new(alloc, "schedule")
         .long("schedule")
         .value_name("LIST")
-        .help(
-            "Session numbers joined by commas, counted from 0 in order of the headers. Each attempts that session's next line, before the rounds [default: none]",
-        )
+        .help("Which sessions attempt a line first, by their numbers [default: none]")
         .action(ArgAction::Set);
     Ok(
         Command::new(alloc, "replay")
@@ -114,7 +178,8 @@ fn command<'a>(alloc: Global) -> Result<Command<'a>, Error> {
             )
             .after_help(NOTES)
             .subcommand(replay_command(alloc)?)?
-            .subcommand(run_command(alloc)?)?,
+            .subcommand(run_command(alloc)?)?
+            .subcommand(check_command(alloc)?)?,
     )
 }
 
@@ -129,6 +194,9 @@ fn read_task<'a>(name: &str, of: &ArgMatches<'a>) -> Option<Task<'a>> {
             file: of.get_str("file")?,
             workers: of.get_str("workers"),
             database: of.get_str("db"),
+        }),
+        "check" => Some(Task::Check {
+            file: of.get_str("report")?,
         }),
         _ => None,
     }

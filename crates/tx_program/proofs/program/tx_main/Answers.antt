@@ -1,30 +1,18 @@
-use Rattle.std.proofs.Common.{inl}
-use Rattle.tx_program.proofs.Printed.{refused_accounts, same_kept}
+use Rattle.std.proofs.Common.{inr}
 use Rattle.std.specs.Prelude.{codes}
 use Rattle.session_runs.specs.declared.fault.Fault.TheVariants.{NoMemory}
 use Rattle.session_runs.proofs.Told.{fault_accounts, misuse_accounts}
+use Rattle.tx_program.proofs.Refused.{refused_accounts}
 use Rattle.tx_program.proofs.program.tx_main.Goals as goal
-
-pub returns-clause-undone : goal.returns-clause-undone
-returns-clause-undone g c = λ undone. inl (inl (same_kept (g.W.Write.contents c.args.out.now)))
-
-pub returns-clause-misused : goal.returns-clause-misused
-returns-clause-misused g c = λ misused. same_kept (g.W.Write.contents c.args.out.now)
 
 pub returns-in_default-clause-accounts : goal.returns-in_default-clause-accounts
 returns-in_default-clause-accounts g c =
-    fault_accounts g.W.Sink.flushes g.E.Write.contents g.E.Sink.takes c.args.out.now c.args.err.now c.tell.new.err NoMemory c.tell.result c.tell.ensures.told c.tell.ensures.status
+    inr (fault_accounts g.W.Sink.flushes g.E.Write.contents g.E.Sink.takes c.args.out.now c.args.err.now c.tell.new.err NoMemory c.tell.result c.tell.ensures.told c.tell.ensures.status)
 
 pub returns-in-Ok-None-clause-accounts : goal.returns-in-Ok-None-clause-accounts
 returns-in-Ok-None-clause-accounts g c =
-    misuse_accounts g.W.Sink.flushes g.E.Write.contents g.E.Sink.takes c.args.out.now c.args.err.now c.misuse.new.err (codes "usage: tx replay FILE [--schedule LIST] [--db PATH], or tx run FILE [--workers N] [--db PATH], or tx --help") c.misuse.result c.misuse.ensures.told c.misuse.ensures.status
+    inr (misuse_accounts g.W.Sink.flushes g.E.Write.contents g.E.Sink.takes c.args.out.now c.args.err.now c.misuse.new.err (codes "usage: tx replay FILE [--schedule LIST] [--db PATH], or tx run FILE [--workers N] [--db PATH], or tx check REPORT, or tx --help") c.misuse.result c.misuse.ensures.told c.misuse.ensures.status)
 
 pub returns-clause-accounts : goal.returns-clause-accounts
 returns-clause-accounts g c =
-    refused_accounts g.W.Sink.flushes g.E.Write.contents g.E.Sink.takes c.args.out.now c.args.err.now c.refuse.new.err c.refuse.result c.refuse.ensures.failed c.refuse.ensures.misused c.refuse.ensures.status
-
-pub returns-in_default-clause-undone : goal.returns-in_default-clause-undone
-returns-in_default-clause-undone g c = λ undone. inl (inl (same_kept (g.W.Write.contents c.args.out.now)))
-
-pub returns-in-Ok-None-clause-undone : goal.returns-in-Ok-None-clause-undone
-returns-in-Ok-None-clause-undone g c = λ undone. inl (inl (same_kept (g.W.Write.contents c.args.out.now)))
+    inr (refused_accounts g.W.Sink.flushes g.E.Write.contents g.E.Sink.takes c.args.out.now c.args.err.now c.refuse.new.err c.refuse.result c.refuse.ensures.failed c.refuse.ensures.misused c.refuse.ensures.status)
