@@ -3,10 +3,13 @@ ghost use Rattle.std.specs.Prelude.{ℕ, None, if◌then◌else◌};
 
 use crate::session_runs_tests::{Told, empty, replayed};
 use durable_top::{MemStore, Row, StoreFault, TopStore, are_rising};
-use session_runs::{Fault, tell};
+use session_runs::{Fault, Way, report_over, tell};
 use session_text::LineKind;
 use std::alloc::Global;
 use std::process::Abort;
+use std::sync::Wait;
+use std::thread::Threads;
+use std::time::Clock;
 use txn_names::{Change, Key};
 
 // Whether this fault is shown as this line without its line feed, and told by it with exit status 1.
@@ -172,12 +175,31 @@ fn replayed_over(rt: &impl Abort, alloc: Global, rows: &[Row]) -> Told {
     replayed(alloc, b"", store)
 }
 
+// The same by two workers.
+fn served_over<R: Abort + Threads + Wait + Clock + Sync>(
+    rt: &R,
+    alloc: Global,
+    rows: &[Row],
+) -> Told {
+    assert!(rt; are_rising(rows));
+    let store = MemStore::new(alloc, rows).expect(rt, "memory");
+    let mut out = Vec::new(alloc);
+    let mut err = Vec::new(alloc);
+    let ended = report_over(rt, alloc, b"", &Way::Workers(2), store, &mut out, &mut err);
+    let status = ended.status;
+    drop(ended);
+    Told { status, out, err }
+}
+
 #[test]
 fn stores_of_most_rows_and_one_more(rt: HostRuntime) {
     let mut rows = most_rows(&rt, rt.alloc());
     assert!(rt; replayed_over(&rt, rt.alloc(), rows.as_slice()).status == 0);
+    assert!(rt; served_over(&rt, rt.alloc(), rows.as_slice()).status == 0);
     let key = Key::parse(b"q").expect(&rt, "key");
     rows.push(Row { key, value: 1 }).expect(&rt, "memory");
     let told = replayed_over(&rt, rt.alloc(), rows.as_slice());
+    assert!(rt; told.is_fault("tx: too many rows\n"));
+    let told = served_over(&rt, rt.alloc(), rows.as_slice());
     assert!(rt; told.is_fault("tx: too many rows\n"));
 }
