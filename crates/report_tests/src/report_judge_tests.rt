@@ -1,4 +1,5 @@
-//! Verdicts on reports that were changed, and on readers that give one byte at a time, fail or do not end.
+//! Verdicts on reports that were changed, and on readers that give one byte at a time, fail or do not end. Under a trial run that
+//! refuses a growth the call is made again.
 use report_check::Verdict;
 use report_judge::{CheckFault, check};
 use std::alloc::Global;
@@ -55,17 +56,43 @@ impl Read for Endless {
     }
 }
 
-fn verdict_by(alloc: Global, text: &str, piece: usize) -> Result<Verdict, CheckFault> {
+fn judged_once(
+    alloc: Global,
+    text: &str,
+    piece: usize,
+    calls_left: Option<usize>,
+) -> Result<Verdict, CheckFault> {
     let mut reader = Piecemeal {
         rest: text.as_bytes(),
         piece,
-        calls_left: None,
+        calls_left,
     };
     check(alloc, &mut reader)
 }
 
+// What comes of a reader that gives so many bytes at a time, and whose call with this number, from 0, fails. Where a growth is
+// refused, another such reader is judged.
+fn judged(
+    alloc: Global,
+    text: &str,
+    piece: usize,
+    calls_left: Option<usize>,
+) -> Result<Verdict, CheckFault> {
+    match judged_once(alloc, text, piece, calls_left) {
+        Err(CheckFault::NoMemory) => judged_once(alloc, text, piece, calls_left),
+        told => told,
+    }
+}
+
 // The text of these lines, with this in the place of the line with this number, counted from 1; or, with none, without it.
 fn changed(alloc: Global, at: usize, with: Option<&str>) -> Option<String> {
+    match changed_once(alloc, at, with) {
+        Some(text) => Some(text),
+        None => changed_once(alloc, at, with),
+    }
+}
+
+fn changed_once(alloc: Global, at: usize, with: Option<&str>) -> Option<String> {
     let mut text = String::new(alloc);
     for (place, line) in REPORT.iter().enumerate() {
         let own = if place + 1 == at { with } else { Some(*line) };
@@ -88,17 +115,7 @@ fn has_verdict(alloc: Global, at: usize, with: Option<&str>, verdict: Verdict) -
 fn is_judged(alloc: Global, text: &str, verdict: Verdict) -> bool {
     [1, 7, 5000]
         .iter()
-        .all(|piece| verdict_by(alloc, text, *piece) == Ok(verdict))
-}
-
-// What comes of a reader whose call with this number fails, that gives seven bytes at a time.
-fn failing_at(alloc: Global, text: &str, call: usize) -> Result<Verdict, CheckFault> {
-    let mut reader = Piecemeal {
-        rest: text.as_bytes(),
-        piece: 7,
-        calls_left: Some(call),
-    };
-    check(alloc, &mut reader)
+        .all(|piece| judged(alloc, text, *piece, None) == Ok(verdict))
 }
 
 #[test]
@@ -108,12 +125,12 @@ fn a_reader_that_fails(rt: HostRuntime) {
     let calls = text.len() / 7 + 2;
     for call in 0..calls {
         assert_eq!(rt;
-            failing_at(rt.alloc(), text.as_str(), call),
+            judged(rt.alloc(), text.as_str(), 7, Some(call)),
             Err(CheckFault::Read)
         );
     }
     assert_eq!(rt;
-        failing_at(rt.alloc(), text.as_str(), calls),
+        judged(rt.alloc(), text.as_str(), 7, Some(calls)),
         Ok(Verdict::Yes)
     );
 }
