@@ -1,19 +1,22 @@
 //! The serial run of nested items.
-ghost use Rattle.std.specs.Prelude.{◌≡◌, ◌∷◌, [], ◌↔◌, IfOk, IfSome, IsNone, OnOk, OnErr};
-ghost use Rattle.serial_spec.specs.Flat.{flat, IsFirstWrong, nested, HasRun, steps_in};
+ghost use Rattle.std.specs.Prelude.{◌≡◌, ◌+◌, ◌∷◌, [], ◌↔◌, if◌then◌else◌, Some, None, IfOk, IfSome, IsNone, OnOk, OnErr};
+ghost use Rattle.serial_spec.specs.Flat.{flat, IsFirstWrong, nested, HasRun, same_reply, steps_in};
+ghost use Rattle.serial_spec.specs.History.{or_else};
 ghost use Rattle.serial_spec.specs.Rows.{value_in};
 ghost use Rattle.serial_spec.specs.Serial.{map_after, Replies};
+ghost use Rattle.serial_spec.specs.declared.target.Asked.TheVariants.{At, Over};
 
 use crate::NoMemory;
 use crate::operation::{Op, Reply, act};
-use crate::table::PlainTable;
+use crate::table::{PlainTable, act_sum};
 use std::alloc::AllocError;
-use txn_names::Key;
+use txn_names::{Group, Key};
 
-/// What stands in a transaction: an access with its reply, or all of a committed child as one block.
+/// What stands in a transaction: an access or a sum with its reply, or all of a committed child as one block.
 #[derive(Drop)]
 pub enum Item {
     Access { key: Key, op: Op, reply: Reply },
+    Sum { group: Group, reply: Reply },
     Block(Vec<Item>),
 }
 
@@ -28,15 +31,32 @@ struct Run {
 }
 
 impl Run {
-    fn run_access(&mut self, key: &Key, op: &Op, reply: &Reply) -> Result<(), NoMemory>
-        ensures { OnOk result (HasRun self.old self.new (record { key = key.now; op = op.now; reply = reply.now } ∷ [])) }
+    // One access more has run, and this reply was due to it.
+    fn note(&mut self, due: &Reply, reply: &Reply) -> Result<(), NoMemory>
+        ensures table { OnOk result (self.new.table ≡ self.old.table) }
+        ensures count { OnOk result (self.new.count ≡ self.old.count + 1) }
+        ensures wrong { OnOk result (self.new.wrong ≡ or_else self.old.wrong (if same_reply reply.now due.now then None else Some self.old.count)) }
     {
-        let (value, due) = act(self.table.get(key), op);
-        self.table.put(key, value)?;
-        if due != *reply && self.wrong.is_none() {
+        if due != reply && self.wrong.is_none() {
             self.wrong = Some(self.count);
         }
         self.count = self.count.checked_add(1).ok_or(AllocError)?;
+        Ok(())
+    }
+
+    fn run_access(&mut self, key: &Key, op: &Op, reply: &Reply) -> Result<(), NoMemory>
+        ensures { OnOk result (HasRun self.old self.new (record { asked = At key.now op.now; reply = reply.now } ∷ [])) }
+    {
+        let (value, due) = act(self.table.get(key), op);
+        self.table.put(key, value)?;
+        self.note(&due, reply)
+    }
+
+    fn run_sum(&mut self, group: &Group, reply: &Reply) -> Result<(), NoMemory>
+        ensures { OnOk result (HasRun self.old self.new (record { asked = Over group.now; reply = reply.now } ∷ [])) }
+    {
+        let due = act_sum(&self.table, group);
+        self.note(&due, reply)?;
         Ok(())
     }
 
@@ -46,6 +66,7 @@ impl Run {
     {
         match item {
             Item::Access { key, op, reply } => self.run_access(key, op, reply),
+            Item::Sum { group, reply } => self.run_sum(group, reply),
             Item::Block(items) => self.run_all(items),
         }
     }
