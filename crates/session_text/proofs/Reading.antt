@@ -7,6 +7,7 @@ use Rattle.std.specs.Str.{bytes_eq}
 use Rattle.std.proofs.lemmas.Bool.{eqb-false, ltb-false, ne_eqb, le-ltb}
 use Rattle.std.proofs.lemmas.Slice.Eq.{bytes_eq-Decides}
 use Rattle.txn_names.specs.Path.{Path}
+use Rattle.txn_names.specs.Groups.{IsGroup, group_of}
 use Rattle.txn_names.specs.Text.{IsName, IsKey, IsLabel, is_key_byte, is_label_byte, spelled_name}
 use Rattle.txn_names.specs.Reading.{name_of, key_of, label_of}
 use Rattle.txn_names.specs.declared.key.KeyFault.TheVariants as key
@@ -19,10 +20,10 @@ use Rattle.serial_spec.specs.declared.operation.Op.TheVariants.{Get, Set, Add, D
 use Rattle.serial_spec.specs.declared.event.When.{When}
 use Rattle.serial_spec.specs.declared.event.When.TheVariants.{Begun, Done}
 use Rattle.serial_spec.specs.declared.event.Event.{Event}
-use Rattle.serial_spec.specs.declared.event.Event.TheVariants.{Begin, Access, Commit, Abort, After}
+use Rattle.serial_spec.specs.declared.event.Event.TheVariants.{Begin, Access, Sum, Commit, Abort, After}
 use Rattle.session_text.specs.declared.fault.LineKind.{LineKind}
 use Rattle.session_text.specs.declared.fault.LineKind.TheVariants as kind
-use Rattle.session_text.specs.Commands.{Words, one, two, three, name_in, key_in, number_in, when_in, named, keyed, valued, timed, begin_of, get_of, set_of, add_of, del_of, commit_of, abort_of, after_of, command_of, event_of}
+use Rattle.session_text.specs.Commands.{Words, one, two, three, name_in, key_in, group_in, number_in, when_in, named, keyed, grouped, valued, timed, begin_of, get_of, set_of, add_of, del_of, sum_of, commit_of, abort_of, after_of, command_of, event_of}
 use Rattle.session_text.specs.Grammar.{IsEvent}
 use Rattle.session_text.specs.Numbers.{number_of}
 use Rattle.session_text.specs.Steps.{◌>>=◌, or_fault}
@@ -65,7 +66,7 @@ name_reads w n h = read_is_name w n (or_fault_ok kind.Name (name_of w) n h)
 name_again : (n : Path) → IsName n → name_in (spelled_name n) ≡ Ok n
 name_again n h = ap (or_fault kind.Name) (name_of-spelled n h)
 
--- the tests that a key or a label passes, one after another
+-- the tests that a key, a group or a label passes, one after another
 passed : {E : Type 0} (a b c : Bool) (e1 e2 e3 : E) (w k : List ℕ)
     → cond a (Err e1) (cond (not b) (Err e2) (cond c (Err e3) (Ok w))) ≡ Ok k
     → (a ≡ false) × (b ≡ true) × (c ≡ false) × (w ≡ k)
@@ -84,6 +85,18 @@ pub key_again : (k : List ℕ) → IsKey k → key_in k ≡ Ok k
 key_again k h =
     let some : nat_eq (length k) 0 ≡ false = ne_eqb (length k) 0 (λ e. omega (arith, e, h.some)) in
     let short : nat_lt 32 (length k) ≡ false = le-ltb 32 (length k) h.short in
+    rw (some, h.plain, short) refl
+
+group_reads : (w g : List ℕ) → group_in w ≡ Ok g → IsGroup g × (w ≡ g)
+group_reads w g h =
+    let p = passed (nat_eq (length w) 0) (list_all is_key_byte w) (nat_lt 31 (length w)) key.Empty key.BadByte key.Long w g (or_fault_ok kind.Key (group_of w) g h) in
+    let whole : IsGroup w = record { some = omega (arith, eqb-false (length w) 0 p.0); short = omega (arith, ltb-false 31 (length w) p.2); plain = p.1 } in
+    (subst IsGroup p.3 whole, p.3)
+
+group_again : (g : List ℕ) → IsGroup g → group_in g ≡ Ok g
+group_again g h =
+    let some : nat_eq (length g) 0 ≡ false = ne_eqb (length g) 0 (λ e. omega (arith, e, h.some)) in
+    let short : nat_lt 31 (length g) ≡ false = le-ltb 31 (length g) h.short in
     rw (some, h.plain, short) refl
 
 pub label_reads : (w l : List ℕ) → label_in w ≡ Ok l → IsLabel l × (w ≡ l)
@@ -157,6 +170,17 @@ keyed_reads ws p h =
     subst (λ (q : Path × List ℕ). IsName q.0 × IsKey q.1 × (ws ≡ spelled_name q.0 ∷ q.1 ∷ [])) same
     (rn.0, rk.0, two_reads ws w.0 w.1 ∙ ap₂ (λ a b. a ∷ b ∷ []) rn.1 rk.1)
 
+grouped_reads : (ws : Words) (p : Path × List ℕ) → grouped ws ≡ Ok p → IsName p.0 × IsGroup p.1 × (ws ≡ spelled_name p.0 ∷ p.1 ∷ [])
+grouped_reads ws p h =
+    let w = bind_ok (two ws) (λ w. name_in w.0 >>= λ n. group_in w.1 >>= λ g. Ok (n, g)) p h in
+    let n = bind_ok (name_in w.0.0) (λ n. group_in w.0.1 >>= λ g. Ok (n, g)) p w.2 in
+    let g = bind_ok (group_in w.0.1) (λ g. Ok (n.0, g)) p n.2 in
+    let same : (n.0, g.0) ≡ p = same_ok (n.0, g.0) p g.2 in
+    let rn = name_reads w.0.0 n.0 n.1 in
+    let rg = group_reads w.0.1 g.0 g.1 in
+    subst (λ (q : Path × List ℕ). IsName q.0 × IsGroup q.1 × (ws ≡ spelled_name q.0 ∷ q.1 ∷ [])) same
+    (rn.0, rg.0, two_reads ws w.0 w.1 ∙ ap₂ (λ a b. a ∷ b ∷ []) rn.1 rg.1)
+
 abbrev ReadsValued : Words → Path × List ℕ × ℤ → Type 0
 ReadsValued ws q = IsName q.0 × IsKey q.1 × IsTrue (is_i64 q.2) × (ws ≡ spelled_name q.0 ∷ q.1 ∷ spelled_number q.2 ∷ [])
 
@@ -207,6 +231,7 @@ access_word Del = codes "del"
 abbrev pub words_of : Event → Words
 words_of (Begin n) = codes "begin" ∷ spelled_name n ∷ []
 words_of (Access n k o) = access_word o ∷ access_operands n k o
+words_of (Sum n g) = codes "sum" ∷ spelled_name n ∷ g ∷ []
 words_of (Commit n) = codes "commit" ∷ spelled_name n ∷ []
 words_of (Abort n) = codes "abort" ∷ spelled_name n ∷ []
 words_of (After n t) = codes "after" ∷ spelled_name n ∷ spelled_when t ∷ []
@@ -218,6 +243,7 @@ joined_words (Access n k Get) = simp append_assoc
 joined_words (Access n k (Set v)) = simp append_assoc
 joined_words (Access n k (Add v)) = simp append_assoc
 joined_words (Access n k Del) = simp append_assoc
+joined_words (Sum n g) = simp append_assoc
 joined_words (Commit n) = refl
 joined_words (Abort n) = refl
 joined_words (After n t) = simp append_assoc
@@ -255,6 +281,12 @@ del_reads w ws e is h =
     let r = keyed_reads ws a.0 a.1 in
     subst (Spells (w ∷ ws)) (same_ok _ e a.2) ((r.0, r.1, tt), ap₂ (λ v vs. v ∷ vs) is r.2)
 
+sum_reads : (w : List ℕ) (ws : Words) (e : Event) → w ≡ codes "sum" → sum_of ws ≡ Ok e → Spells (w ∷ ws) e
+sum_reads w ws e is h =
+    let a = bind_ok (grouped ws) (λ a. Ok (Sum a.0 a.1)) e h in
+    let r = grouped_reads ws a.0 a.1 in
+    subst (Spells (w ∷ ws)) (same_ok _ e a.2) ((r.0, r.1), ap₂ (λ v vs. v ∷ vs) is r.2)
+
 commit_reads : (w : List ℕ) (ws : Words) (e : Event) → w ≡ codes "commit" → commit_of ws ≡ Ok e → Spells (w ∷ ws) e
 commit_reads w ws e is h =
     let n = bind_ok (named ws) (λ n. Ok (Commit n)) e h in
@@ -280,10 +312,11 @@ command_reads w ws e h =
     pick (bytes_eq w (codes "set")) _ _ (Ok e) h2 (λ t r. set_reads w ws e (is_word w _ t) r) (λ _ h3.
     pick (bytes_eq w (codes "add")) _ _ (Ok e) h3 (λ t r. add_reads w ws e (is_word w _ t) r) (λ _ h4.
     pick (bytes_eq w (codes "del")) _ _ (Ok e) h4 (λ t r. del_reads w ws e (is_word w _ t) r) (λ _ h5.
-    pick (bytes_eq w (codes "commit")) _ _ (Ok e) h5 (λ t r. commit_reads w ws e (is_word w _ t) r) (λ _ h6.
-    pick (bytes_eq w (codes "abort")) _ _ (Ok e) h6 (λ t r. abort_reads w ws e (is_word w _ t) r) (λ _ h7.
-    pick (bytes_eq w (codes "after")) _ _ (Ok e) h7 (λ t r. after_reads w ws e (is_word w _ t) r)
-    (λ _ h8. not_word kind.Word e h8))))))))
+    pick (bytes_eq w (codes "sum")) _ _ (Ok e) h5 (λ t r. sum_reads w ws e (is_word w _ t) r) (λ _ h6.
+    pick (bytes_eq w (codes "commit")) _ _ (Ok e) h6 (λ t r. commit_reads w ws e (is_word w _ t) r) (λ _ h7.
+    pick (bytes_eq w (codes "abort")) _ _ (Ok e) h7 (λ t r. abort_reads w ws e (is_word w _ t) r) (λ _ h8.
+    pick (bytes_eq w (codes "after")) _ _ (Ok e) h8 (λ t r. after_reads w ws e (is_word w _ t) r)
+    (λ _ h9. not_word kind.Word e h9)))))))))
 
 words_read : (ws : Words) (e : Event) → command_of ws ≡ Ok e → Spells ws e
 words_read [] e h = not_word kind.Word e h
@@ -305,6 +338,7 @@ command_again (Access n k Get) h = rw (name_again n h.0, key_again k h.1) refl
 command_again (Access n k (Set v)) h = rw (name_again n h.0, key_again k h.1, value_again v h.2) refl
 command_again (Access n k (Add v)) h = rw (name_again n h.0, key_again k h.1, value_again v h.2) refl
 command_again (Access n k Del) h = rw (name_again n h.0, key_again k h.1) refl
+command_again (Sum n g) h = rw (name_again n h.0, group_again g h.1) refl
 command_again (Commit n) h = rw (name_again n h) refl
 command_again (Abort n) h = rw (name_again n h) refl
 command_again (After n Begun) h = rw (name_again n h) refl

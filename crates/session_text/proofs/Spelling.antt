@@ -6,6 +6,7 @@ use Rattle.std.specs.List.{list_all, list_any, join_with_byte, AllByRecursion}
 use Rattle.std.proofs.lemmas.Bool.{and_from, ne_eqb, ltb-true, not_from_false}
 use Rattle.std.proofs.lemmas.Fmt.{digits_decimal, length-decimal-le}
 use Rattle.txn_names.specs.Path.{Path}
+use Rattle.txn_names.specs.Groups.{IsGroup}
 use Rattle.txn_names.specs.Text.{IsName, IsKey, IsLabel, is_label_byte, is_key_byte, slashed, spelled_name}
 use Rattle.txn_names.specs.Reading.{pieces, is_empty, is_name_byte}
 use Rattle.txn_names.specs.declared.name.NameFault.TheVariants as name
@@ -16,7 +17,7 @@ use Rattle.serial_spec.specs.declared.operation.Op.TheVariants.{Get, Set, Add, D
 use Rattle.serial_spec.specs.declared.event.When.{When}
 use Rattle.serial_spec.specs.declared.event.When.TheVariants.{Begun, Done}
 use Rattle.serial_spec.specs.declared.event.Event.{Event}
-use Rattle.serial_spec.specs.declared.event.Event.TheVariants.{Begin, Access, Commit, Abort, After}
+use Rattle.serial_spec.specs.declared.event.Event.TheVariants.{Begin, Access, Sum, Commit, Abort, After}
 use Rattle.session_text.specs.Commands.{Words, command_of, event_of}
 use Rattle.session_text.specs.Grammar.{IsEvent}
 use Rattle.session_text.specs.Words.{cut_at}
@@ -53,6 +54,9 @@ name_lacks c g n h =
 key_lacks : (c : ℕ) → IsGap c → (k : List ℕ) → IsKey k → Lacks c k
 key_lacks c g k h = Lacks-from_all c is_key_byte g.key k h.plain
 
+group_lacks : (c : ℕ) → IsGap c → (k : List ℕ) → IsGroup k → Lacks c k
+group_lacks c g k h = Lacks-from_all c is_key_byte g.key k h.plain
+
 pub label_lacks : (c : ℕ) → IsGap c → (l : List ℕ) → list_all is_label_byte l ≡ true → Lacks c l
 label_lacks c g l h = Lacks-from_all c is_label_byte g.label l h
 
@@ -75,6 +79,7 @@ words_lack c g (Access n k Get) h = (label_lacks c g (codes "get") refl, (name_l
 words_lack c g (Access n k (Set v)) h = (label_lacks c g (codes "set") refl, (name_lacks c g n h.0, (key_lacks c g k h.1, (number_lacks c g v h.2, tt))))
 words_lack c g (Access n k (Add v)) h = (label_lacks c g (codes "add") refl, (name_lacks c g n h.0, (key_lacks c g k h.1, (number_lacks c g v h.2, tt))))
 words_lack c g (Access n k Del) h = (label_lacks c g (codes "del") refl, (name_lacks c g n h.0, (key_lacks c g k h.1, tt)))
+words_lack c g (Sum n k) h = (label_lacks c g (codes "sum") refl, (name_lacks c g n h.0, (group_lacks c g k h.1, tt)))
 words_lack c g (Commit n) h = (label_lacks c g (codes "commit") refl, (name_lacks c g n h, tt))
 words_lack c g (Abort n) h = (label_lacks c g (codes "abort") refl, (name_lacks c g n h, tt))
 words_lack c g (After n t) h = (label_lacks c g (codes "after") refl, (name_lacks c g n h, (when_lacks c g t, tt)))
@@ -98,6 +103,7 @@ event_lacks e h = event_lacks_gap 10 line_feed refl e h
 some_words : (e : Event) → 0 < length (words_of e)
 some_words (Begin n) = omega arith
 some_words (Access n k o) = omega arith
+some_words (Sum n g) = omega arith
 some_words (Commit n) = omega arith
 some_words (Abort n) = omega arith
 some_words (After n t) = omega arith
@@ -108,6 +114,7 @@ some_bytes (Access n k Get) = omega arith
 some_bytes (Access n k (Set v)) = omega arith
 some_bytes (Access n k (Add v)) = omega arith
 some_bytes (Access n k Del) = omega arith
+some_bytes (Sum n g) = omega arith
 some_bytes (Commit n) = omega arith
 some_bytes (Abort n) = omega arith
 some_bytes (After n t) = omega arith
@@ -156,6 +163,7 @@ joined_short (Access n k Get) h = omega (arith, length-name n h.0, h.1.short, le
 joined_short (Access n k (Set v)) h = omega (arith, length-name n h.0, h.1.short, length-number v h.2, length-append {A = ℕ})
 joined_short (Access n k (Add v)) h = omega (arith, length-name n h.0, h.1.short, length-number v h.2, length-append {A = ℕ})
 joined_short (Access n k Del) h = omega (arith, length-name n h.0, h.1.short, length-append {A = ℕ})
+joined_short (Sum n g) h = omega (arith, length-name n h.0, h.1.short, length-append {A = ℕ})
 joined_short (Commit n) h = omega (arith, length-name n h)
 joined_short (Abort n) h = omega (arith, length-name n h)
 joined_short (After n t) h = omega (arith, length-name n h, length-when t, length-append {A = ℕ})

@@ -7,7 +7,7 @@ use Rattle.txn_names.specs.Text.{IsLabel}
 use Rattle.serial_spec.specs.Printing.{spelled_event}
 use Rattle.serial_spec.specs.declared.operation.Op.TheVariants.{Get, Set, Add, Del}
 use Rattle.serial_spec.specs.declared.event.Event.{Event}
-use Rattle.serial_spec.specs.declared.event.Event.TheVariants.{Begin, Access, Commit, Abort, After}
+use Rattle.serial_spec.specs.declared.event.Event.TheVariants.{Begin, Access, Sum, Commit, Abort, After}
 use Rattle.session_text.specs.declared.fault.LineKind.TheVariants as kind
 use Rattle.session_text.specs.declared.text_line.TextLine.{TextLine}
 use Rattle.session_text.specs.declared.text_line.TextLine.TheVariants.{Header, Command}
@@ -71,6 +71,7 @@ by_words (Access n k Get) bs = refl
 by_words (Access n k (Set v)) bs = refl
 by_words (Access n k (Add v)) bs = refl
 by_words (Access n k Del) bs = refl
+by_words (Sum n g) bs = refl
 by_words (Commit n) bs = refl
 by_words (Abort n) bs = refl
 by_words (After n t) bs = refl

@@ -3,12 +3,13 @@ use Rattle.std.specs.Prelude.{ℕ, ℤ, ◌==◌, if◌then◌else◌, List, [],
 use Rattle.std.specs.Option.{ok_or}
 use Rattle.std.specs.Str.{bytes_eq}
 use Rattle.txn_names.specs.Path.{Path}
+use Rattle.txn_names.specs.Groups.{group_of}
 use Rattle.txn_names.specs.Reading.{name_of, key_of}
 use Rattle.serial_spec.specs.declared.operation.Op.TheVariants.{Get, Set, Add, Del}
 use Rattle.serial_spec.specs.declared.event.When.{When}
 use Rattle.serial_spec.specs.declared.event.When.TheVariants.{Begun, Done}
 use Rattle.serial_spec.specs.declared.event.Event.{Event}
-use Rattle.serial_spec.specs.declared.event.Event.TheVariants.{Begin, Access, Commit, Abort, After}
+use Rattle.serial_spec.specs.declared.event.Event.TheVariants.{Begin, Access, Sum, Commit, Abort, After}
 use Rattle.session_text.specs.declared.fault.LineKind.{LineKind}
 use Rattle.session_text.specs.declared.fault.LineKind.TheVariants as kind
 use Rattle.session_text.specs.Numbers.{number_of}
@@ -44,6 +45,10 @@ name_in w = or_fault kind.Name (name_of w)
 abbrev pub key_in : List ℕ → Result (List ℕ) LineKind
 key_in w = or_fault kind.Key (key_of w)
 
+-- a bad group is told as a bad key
+abbrev pub group_in : List ℕ → Result (List ℕ) LineKind
+group_in w = or_fault kind.Key (group_of w)
+
 abbrev pub number_in : List ℕ → Result ℤ LineKind
 number_in w = ok_or (number_of w) kind.Number
 
@@ -66,6 +71,13 @@ keyed ws = do
   n ← name_in w.0
   k ← key_in w.1
   Ok (n, k)
+
+abbrev pub grouped : Words → Result (Path × List ℕ) LineKind
+grouped ws = do
+  w ← two ws
+  n ← name_in w.0
+  g ← group_in w.1
+  Ok (n, g)
 
 abbrev pub valued : Words → Result (Path × List ℕ × ℤ) LineKind
 valued ws = do
@@ -109,6 +121,11 @@ del_of ws = do
   a ← keyed ws
   Ok (Access a.0 a.1 Del)
 
+abbrev pub sum_of : Words → Result Event LineKind
+sum_of ws = do
+  a ← grouped ws
+  Ok (Sum a.0 a.1)
+
 abbrev pub commit_of : Words → Result Event LineKind
 commit_of ws = do
   n ← named ws
@@ -133,6 +150,7 @@ command_of (w ∷ ws) =
     else if bytes_eq w (codes "set") then set_of ws
     else if bytes_eq w (codes "add") then add_of ws
     else if bytes_eq w (codes "del") then del_of ws
+    else if bytes_eq w (codes "sum") then sum_of ws
     else if bytes_eq w (codes "commit") then commit_of ws
     else if bytes_eq w (codes "abort") then abort_of ws
     else if bytes_eq w (codes "after") then after_of ws

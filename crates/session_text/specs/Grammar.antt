@@ -2,6 +2,7 @@
 use Rattle.std.specs.Prelude.{ℕ, ◌≤◌, Bool, IsTrue, IsFalse, List, [], ◌∷◌, ◌++◌, length, codes}
 use Rattle.std.specs.List.{AllByRecursion, list_any}
 use Rattle.txn_names.specs.Path.{label_eq}
+use Rattle.txn_names.specs.Groups.{IsGroup}
 use Rattle.txn_names.specs.Text.{IsName, IsKey, IsLabel}
 use Rattle.serial_spec.specs.declared.limits.TheConstants.{MOST_LINES, MOST_SESSIONS}
 use Rattle.serial_spec.specs.Operations.{is_i64}
@@ -10,7 +11,7 @@ use Rattle.serial_spec.specs.Interleaving.{Session}
 use Rattle.serial_spec.specs.declared.operation.Op.{Op}
 use Rattle.serial_spec.specs.declared.operation.Op.TheVariants.{Get, Set, Add, Del}
 use Rattle.serial_spec.specs.declared.event.Event.{Event}
-use Rattle.serial_spec.specs.declared.event.Event.TheVariants.{Begin, Access, Commit, Abort, After}
+use Rattle.serial_spec.specs.declared.event.Event.TheVariants.{Begin, Access, Sum, Commit, Abort, After}
 
 abbrev pub IsOp : Op → Type 0
 IsOp Get = Unit {0}
@@ -18,10 +19,11 @@ IsOp (Set v) = IsTrue (is_i64 v)
 IsOp (Add v) = IsTrue (is_i64 v)
 IsOp Del = Unit {0}
 
--- names, keys and numbers are such
+-- names, keys, groups and numbers are such
 abbrev pub IsEvent : Event → Type 0
 IsEvent (Begin n) = IsName n
 IsEvent (Access n k o) = IsName n × IsKey k × IsOp o
+IsEvent (Sum n g) = IsName n × IsGroup g
 IsEvent (Commit n) = IsName n
 IsEvent (Abort n) = IsName n
 IsEvent (After n t) = IsName n

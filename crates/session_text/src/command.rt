@@ -3,14 +3,14 @@ ghost use Rattle.std.specs.Prelude.{◌≡◌, if◌then◌else◌};
 ghost use Rattle.std.specs.Option.{option_copied};
 ghost use Rattle.session_text.specs.Steps.{Gives};
 ghost use Rattle.session_text.specs.Words.{parts_left};
-ghost use Rattle.session_text.specs.Commands.{abort_of, add_of, after_of, begin_of, commit_of, del_of, event_of, get_of, name_in, named, one, set_of, three, timed, two, when_in};
+ghost use Rattle.session_text.specs.Commands.{abort_of, add_of, after_of, begin_of, commit_of, del_of, event_of, get_of, name_in, named, one, set_of, sum_of, three, timed, two, when_in};
 
 use crate::fault::LineKind;
 use crate::number::parse_number;
 use crate::parting::cut;
-use crate::verbs::{is_abort, is_add, is_after, is_begin, is_del, is_get, is_set};
+use crate::verbs::{is_abort, is_add, is_after, is_begin, is_del, is_get, is_set, is_sum};
 use serial_spec::{Event, Op, When};
-use txn_names::{Key, Name};
+use txn_names::{Group, Key, Name};
 
 /// The one word that is left.
 pub(crate) fn one(words: Option<&[u8]>) -> Result<&[u8], LineKind>
@@ -112,12 +112,27 @@ fn timed(words: Option<&[u8]>) -> Result<(Name, When), LineKind>
     Ok((name, when))
 }
 
-// Most lines ask for an access. The others are read apart, since a call makes room for all that is read in it.
+// Most lines ask for an access of a key. The others are read apart, since a call makes room for all that is read in it.
 #[inline(never)]
 fn begin_of(words: Option<&[u8]>) -> Result<Event, LineKind>
     ensures { result ≡ begin_of (parts_left 32 (option_copied words.entry)) }
 {
     Ok(Event::Begin(named(words)?))
+}
+
+// It is far less common than an access of a key.
+#[inline(never)]
+fn sum_of(words: Option<&[u8]>) -> Result<Event, LineKind>
+    ensures { result ≡ sum_of (parts_left 32 (option_copied words.entry)) }
+{
+    let (first, second) = two(words)?;
+    let Ok(name) = &Name::parse(first) else {
+        return Err(LineKind::Name);
+    };
+    let Ok(group) = &Group::parse(second) else {
+        return Err(LineKind::Key);
+    };
+    Ok(Event::Sum(*name, *group))
 }
 
 #[inline(never)]
@@ -165,6 +180,9 @@ pub(crate) fn event_of(bytes: &[u8]) -> Result<Event, LineKind>
     }
     if is_del(word) {
         return keyed(words, true);
+    }
+    if is_sum(word) {
+        return sum_of(words);
     }
     if word == b"commit".as_slice() {
         return commit_of(words);

@@ -14,6 +14,7 @@ pub enum LineKind {
     Shape,
     Label,
     Name,
+    /// A bad key, or a bad group.
     Key,
     Number,
     /// A command before the first header, or a header whose label stood in an earlier one.

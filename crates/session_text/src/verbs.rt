@@ -32,6 +32,12 @@ pub(crate) fn is_del(word: &[u8]) -> bool
     matches!(word, b"del")
 }
 
+pub(crate) fn is_sum(word: &[u8]) -> bool
+    ensures { result ≡ bytes_eq word.now (codes "sum") }
+{
+    matches!(word, b"sum")
+}
+
 pub(crate) fn is_abort(word: &[u8]) -> bool
     ensures { result ≡ bytes_eq word.now (codes "abort") }
 {
