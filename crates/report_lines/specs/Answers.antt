@@ -4,7 +4,7 @@ use Rattle.serial_spec.specs.declared.operation.Op.{Op}
 use Rattle.serial_spec.specs.declared.operation.Op.TheVariants.{Get, Set, Add, Del}
 use Rattle.serial_spec.specs.declared.operation.Reply.TheVariants.{Ok, Value, Absent, New, Overflow}
 use Rattle.serial_spec.specs.declared.event.Event.{Event}
-use Rattle.serial_spec.specs.declared.event.Event.TheVariants.{Begin, Access, Commit, Abort, After}
+use Rattle.serial_spec.specs.declared.event.Event.TheVariants.{Begin, Access, Sum, Commit, Abort, After}
 use Rattle.serial_spec.specs.declared.entry.Refusal.TheVariants.{Unknown, Used, NoParent, Orphan, Children, Waiting, Full, Store}
 use Rattle.serial_spec.specs.declared.entry.Refusal.TheVariants.{Done as HasCommitted}
 use Rattle.serial_spec.specs.declared.entry.Answer.{Answer}
@@ -34,6 +34,18 @@ may_access o (Refused Waiting) = true
 may_access o (Refused Full) = true
 may_access o a = false
 
+-- a sum makes no key known, so no limit refuses it
+abbrev pub may_sum : Answer → Bool
+may_sum (Done (Value v)) = true
+may_sum (Done Overflow) = true
+may_sum Waits = true
+may_sum Stuck = true
+may_sum (Refused Unknown) = true
+may_sum (Refused (Orphan t)) = true
+may_sum (Refused HasCommitted) = true
+may_sum (Refused Waiting) = true
+may_sum a = false
+
 abbrev pub may_commit : Answer → Bool
 may_commit (Done Ok) = true
 may_commit (Refused Unknown) = true
@@ -59,6 +71,7 @@ may_after a = false
 abbrev pub may_answer : Event → Answer → Bool
 may_answer (Begin t) a = may_begin a
 may_answer (Access t k o) a = may_access o a
+may_answer (Sum t g) a = may_sum a
 may_answer (Commit t) a = may_commit a
 may_answer (Abort t) a = may_abort a
 may_answer (After t w) a = may_after a

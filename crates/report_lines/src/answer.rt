@@ -1,7 +1,7 @@
 //! Answers, read, and which of them an event may have.
 ghost use Rattle.std.specs.Prelude.{◌≡◌, codes};
 ghost use Rattle.std.specs.Str.{bytes_eq};
-ghost use Rattle.report_lines.specs.Answers.{may_answer, may_begin, may_commit, may_access, may_abort, may_after};
+ghost use Rattle.report_lines.specs.Answers.{may_answer, may_begin, may_commit, may_access, may_abort, may_after, may_sum};
 ghost use Rattle.report_lines.specs.Reading.{answer_of, one_word, orphan_of, refusal_of, two_words};
 
 use serial_spec::{Answer, Event, Op, Refusal, Reply};
@@ -147,6 +147,19 @@ fn may_access(op: Op, answer: &Answer) -> bool
     }
 }
 
+// A sum makes no key known, so no limit refuses it.
+fn may_sum(answer: &Answer) -> bool
+    ensures { result ≡ may_sum answer.now }
+{
+    match answer {
+        Answer::Waits | Answer::Stuck => true,
+        Answer::Refused(Refusal::Unknown | Refusal::Orphan(_) | Refusal::Done | Refusal::Waiting) =>
+            true,
+        Answer::Done(Reply::Value(_) | Reply::Overflow) => true,
+        _ => false,
+    }
+}
+
 fn may_commit(answer: &Answer) -> bool
     ensures { result ≡ may_commit answer.now }
 {
@@ -187,6 +200,7 @@ pub(crate) fn may_answer(event: &Event, answer: &Answer) -> bool
     match event {
         Event::Begin(_) => may_begin(answer),
         Event::Access(_, _, op) => may_access(*op, answer),
+        Event::Sum(_, _) => may_sum(answer),
         Event::Commit(_) => may_commit(answer),
         Event::Abort(_) => may_abort(answer),
         Event::After(_, _) => may_after(answer),
