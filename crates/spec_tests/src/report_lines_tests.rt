@@ -2,7 +2,7 @@
 use report_lines::{ReportEntry, parse_entry, parse_row};
 use serial_spec::{Answer, Event, Op, Refusal, Reply, When};
 use std::process::Abort;
-use txn_names::{Key, Label, Name};
+use txn_names::{Group, Key, Label, Name};
 
 fn name(rt: &impl Abort, text: &str) -> Name {
     Name::parse(text.as_bytes()).expect(rt, text)
@@ -76,6 +76,63 @@ fn entries_of_lines(rt: HostRuntime) {
     );
     assert!(rt; parse_entry(b"* victim a/b") == Some(ReportEntry::Victim(below)));
     assert!(rt; parse_entry(b"* close a") == Some(ReportEntry::Close(a)));
+}
+
+// Whether the text is read as this answer of a sum in line 7.
+fn is_sum(rt: &impl Abort, text: &str, answer: Answer) -> bool {
+    let group = Group::parse(b"g.h").expect(rt, "g.h");
+    is_line(
+        rt,
+        text,
+        ("s", 7),
+        Event::Sum(name(rt, "a/b"), group),
+        answer,
+    )
+}
+
+#[test]
+fn entries_of_sums(rt: HostRuntime) {
+    for (text, reply) in [
+        ("s 7 sum a/b g.h -> value 0", Reply::Value(0)),
+        ("s 7 sum a/b g.h -> value -1", Reply::Value(-1)),
+        ("s 7 sum a/b g.h -> overflow", Reply::Overflow),
+    ] {
+        assert!(rt; is_sum(&rt, text, Answer::Done(reply)), "{text}");
+    }
+    assert!(rt; is_sum(&rt, "s 7 sum a/b g.h -> waits", Answer::Waits));
+    assert!(rt; is_sum(&rt, "s 7 sum a/b g.h -> stuck", Answer::Stuck));
+}
+
+#[test]
+fn refusals_of_sums(rt: HostRuntime) {
+    let orphan = Refusal::Orphan(name(&rt, "a"));
+    for (text, cause) in [
+        ("s 7 sum a/b g.h -> refused unknown", Refusal::Unknown),
+        ("s 7 sum a/b g.h -> refused done", Refusal::Done),
+        ("s 7 sum a/b g.h -> refused waiting", Refusal::Waiting),
+        ("s 7 sum a/b g.h -> orphan a", orphan),
+    ] {
+        assert!(rt; is_sum(&rt, text, Answer::Refused(cause)), "{text}");
+    }
+}
+
+// No limit refuses a sum, since it makes no key known.
+#[test]
+fn lines_that_are_no_entries_of_sums(rt: HostRuntime) {
+    for text in [
+        "s 1 sum a g -> ok",
+        "s 1 sum a g -> none",
+        "s 1 sum a g -> new 3",
+        "s 1 sum a g -> value 9223372036854775808",
+        "s 1 sum a g -> refused full",
+        "s 1 sum a g -> refused children",
+        "s 1 sum a g -> refused store",
+        "s 1 sum a G -> value 0",
+        "s 1 sum a g h -> value 0",
+        "s 1 sum a abcdefghijklmnopqrstuvwxyz012345 -> value 0",
+    ] {
+        assert!(rt; parse_entry(text.as_bytes()).is_none(), "{text}");
+    }
 }
 
 #[test]

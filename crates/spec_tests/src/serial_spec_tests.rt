@@ -246,6 +246,59 @@ fn runs_nested_items(rt: HostRuntime) {
     }
 }
 
+fn sum(group: &Group, reply: Reply) -> Item {
+    Item::Sum {
+        group: *group,
+        reply,
+    }
+}
+
+// Three sums over the group, the second one in a block behind a key that is taken out of it.
+fn summed(rt: &impl Abort, alloc: Global, inner: Reply) -> Result<Vec<Item>, NoMemory> {
+    let (group, gone, new) = (group(rt, "g"), key(rt, "g.a"), key(rt, "g.c"));
+    let block = vec![in alloc; access(&gone, Op::Del, Reply::Ok), sum(&group, inner)]?;
+    let items = vec![in alloc;
+        sum(&group, Reply::Value(3)),
+        access(&new, Op::Add(4), Reply::New(4)),
+        Item::Block(block),
+        sum(&group, Reply::Value(6)),
+    ]?;
+    Ok(items)
+}
+
+#[test]
+fn runs_sums_among_items(rt: HostRuntime) {
+    let rows = [("g.a", 1), ("g.b", 2), ("gx", 9)];
+    for (inner, want) in [
+        (Reply::Value(6), None),
+        (Reply::Value(7), Some(3)),
+        (Reply::Overflow, Some(3)),
+    ] {
+        let mut table = table_of(&rt, rt.alloc(), &rows);
+        let items = summed(&rt, rt.alloc(), inner).expect(&rt, "memory");
+        assert!(rt; run(&rt, &mut table, &items) == want, "{inner:?}");
+        assert!(rt; table.len() == 3 && is_at(&rt, &table, 0, "g.b", 2));
+        assert!(rt; is_at(&rt, &table, 1, "g.c", 4) && is_at(&rt, &table, 2, "gx", 9));
+    }
+}
+
+#[test]
+fn runs_sums_past_an_i64(rt: HostRuntime) {
+    let (group, key) = (group(&rt, "g"), key(&rt, "g.c"));
+    let rows = [("g.a", i64::MAX), ("g.b", 1)];
+    for (first, want) in [(Reply::Overflow, None), (Reply::Value(i64::MIN), Some(0))] {
+        let mut table = table_of(&rt, rt.alloc(), &rows);
+        let items = vec![in rt.alloc();
+            sum(&group, first),
+            access(&key, Op::Set(-1), Reply::Ok),
+            sum(&group, Reply::Value(i64::MAX)),
+        ]
+        .expect(&rt, "memory");
+        assert!(rt; run(&rt, &mut table, &items) == want, "{first:?}");
+        assert!(rt; table.len() == 3 && is_at(&rt, &table, 2, "g.c", -1));
+    }
+}
+
 #[test]
 fn runs_many_items(rt: HostRuntime) {
     for (last, want) in [(Reply::Value(199), None), (Reply::Absent, Some(200))] {

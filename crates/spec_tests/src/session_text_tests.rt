@@ -3,7 +3,7 @@ use serial_spec::{Event, Op, When};
 use session_text::{LineKind, Sessions, TextFault, parse_line, parse_number};
 use std::alloc::Global;
 use std::process::Abort;
-use txn_names::{Key, Label, Name};
+use txn_names::{Group, Key, Label, Name};
 
 fn name(rt: &impl Abort, text: &str) -> Name {
     Name::parse(text.as_bytes()).expect(rt, text)
@@ -11,6 +11,10 @@ fn name(rt: &impl Abort, text: &str) -> Name {
 
 fn key(rt: &impl Abort, text: &str) -> Key {
     Key::parse(text.as_bytes()).expect(rt, text)
+}
+
+fn group(rt: &impl Abort, text: &str) -> Group {
+    Group::parse(text.as_bytes()).expect(rt, text)
 }
 
 fn sessions_of(rt: &impl Abort, alloc: Global, text: &str) -> Sessions {
@@ -66,6 +70,7 @@ fn texts_and_their_faults(rt: HostRuntime) {
         ),
         ("session s\nget a  x\n", Some((2, LineKind::Shape))),
         ("session s\nput a x 1\n", Some((2, LineKind::Word))),
+        ("session s\nsum a G\n", Some((2, LineKind::Key))),
         ("session s\nafter a gone\n", Some((2, LineKind::Word))),
         ("session s\n\n", Some((2, LineKind::Empty))),
         ("session s\nsession s\n", Some((2, LineKind::Header))),
@@ -100,6 +105,7 @@ fn every_command_is_served(rt: HostRuntime) {
         "session s\nbegin a\nbegin a\nbegin b\nbegin a/b\n",
         "session s\nbegin a\nget a/b x\nget b x\nset c/d x 1\n",
         "session s\nadd a x 1\ndel b x\nabort a/b\ncommit c\nbegin a\n",
+        "session s\nsum a g\nsum a/b g.h\nbegin a\nsum a g\n",
     ] {
         assert!(rt; is_fault(rt.alloc(), text.as_bytes(), None), "{text}");
     }
@@ -286,6 +292,7 @@ fn every_command(rt: HostRuntime) {
             Event::Access(name, key, Op::Add(-120)),
         ),
         ("del a/b2 x.y_z-0", Event::Access(name, key, Op::Del)),
+        ("sum a/b2 x.y_z-0", Event::Sum(name, group(&rt, "x.y_z-0"))),
         ("commit a/b2", Event::Commit(name)),
         ("abort a/b2", Event::Abort(name)),
         ("after a/b2 begun", Event::After(name, When::Begun)),
@@ -317,6 +324,13 @@ fn the_first_fault_of_a_line(rt: HostRuntime) {
         ("get a", LineKind::Shape),
         ("get a x y", LineKind::Shape),
         ("set a x", LineKind::Shape),
+        ("sum a", LineKind::Shape),
+        ("sum A G x", LineKind::Shape),
+        ("sum a  g", LineKind::Shape),
+        ("sum a g ", LineKind::Shape),
+        ("sum A G", LineKind::Name),
+        ("sum a G", LineKind::Key),
+        ("sums a g", LineKind::Word),
         ("after a", LineKind::Shape),
         ("set A x! 01", LineKind::Name),
         ("set a/ x! 01", LineKind::Name),
@@ -336,6 +350,23 @@ fn the_first_fault_of_a_line(rt: HostRuntime) {
     ] {
         assert!(rt; is_refused(text, kind), "{text}");
     }
+}
+
+// A group has at most 31 bytes, and a key one more.
+#[test]
+fn groups_of_sums(rt: HostRuntime) {
+    let name = name(&rt, "a");
+    for text in ["g", "g.h", ".", "abcdefghijklmnopqrstuvwxyz01234"] {
+        let line = format!(in rt.alloc(); "sum a {text}").expect(&rt, "memory");
+        assert!(rt; asks(&line, Event::Sum(name, group(&rt, text))), "{text}");
+    }
+    for text in ["", "G", "g/h", "abcdefghijklmnopqrstuvwxyz012345"] {
+        let line = format!(in rt.alloc(); "sum a {text}").expect(&rt, "memory");
+        assert!(rt; is_refused(&line, LineKind::Key), "{text}");
+    }
+    let longest = key(&rt, "abcdefghijklmnopqrstuvwxyz012345");
+    let event = Event::Access(name, longest, Op::Get);
+    assert!(rt; asks("get a abcdefghijklmnopqrstuvwxyz012345", event));
 }
 
 #[test]

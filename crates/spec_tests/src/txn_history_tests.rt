@@ -4,7 +4,7 @@ ghost use Rattle.std.specs.Prelude.{◌<◌};
 use serial_spec::{Answer, By, Entry, Event, Op, PlainTable, Refusal, Reply};
 use std::process::Abort;
 use txn_history::History;
-use txn_names::{Key, Name};
+use txn_names::{Group, Key, Name};
 
 fn name(rt: &impl Abort) -> Name {
     Name::parse(b"a/l").expect(rt, "a name")
@@ -105,4 +105,27 @@ fn tells_lines_and_keys(rt: HostRuntime) {
         assert!(rt; asked(&rt, &history, by, number) == wanted, "{by:?}");
     }
     assert!(rt; history.into_entries().len() == 56);
+}
+
+fn sum(rt: &impl Abort, text: &str) -> Event {
+    Event::Sum(name(rt), Group::parse(text.as_bytes()).expect(rt, text))
+}
+
+// A waiting sum is answered as that sum alone, and makes no key known.
+#[test]
+fn tells_lines_of_sums(rt: HostRuntime) {
+    let rows = PlainTable::new(rt.alloc());
+    let mut history = History::new(rt.alloc(), &rows).expect(&rt, "memory");
+    let by = line(0, 1);
+    let (asked, other) = (sum(&rt, "k01"), sum(&rt, "k02"));
+    assert!(rt; history.free(by, &asked) && !history.waits_with(by, &asked));
+    add(&rt, &mut history, by, asked, Answer::Waits);
+    assert!(rt; history.free(by, &asked) && history.waits_with(by, &asked));
+    for event in [other, access(&rt, 1)] {
+        assert!(rt; !history.free(by, &event) && !history.waits_with(by, &event));
+    }
+    let reply = Answer::Done(Reply::Value(0));
+    add(&rt, &mut history, by, asked, reply);
+    assert!(rt; !history.free(by, &asked) && !history.waits_with(by, &asked));
+    assert!(rt; history.known() == 0 && !history.knows(&key(&rt, 1)));
 }
