@@ -70,14 +70,14 @@ live_not_committed h (l ∷ ls) root e c = live_uncommitted (has_begun h (l ∷ 
 root_begin : (x : Effect) → IsNamed x → is_begin [] x ≡ false
 root_begin (Begins []) n = absurd (omega (arith, n))
 root_begin (Begins (l ∷ ls)) n = refl
-root_begin (Accesses t k o r) n = refl
+root_begin (Accesses t a r) n = refl
 root_begin (Commits t) n = refl
 root_begin (Aborts t) n = refl
 root_begin Nothing n = refl
 
 root_commit : (x : Effect) → IsNamed x → is_commit [] x ≡ false
 root_commit (Begins t) n = refl
-root_commit (Accesses t k o r) n = refl
+root_commit (Accesses t a r) n = refl
 root_commit (Commits []) n = absurd (omega (arith, n))
 root_commit (Commits (l ∷ ls)) n = refl
 root_commit (Aborts t) n = refl
@@ -94,7 +94,7 @@ parent_live h (Begins u) t m b =
     let both = and_parts (is_absent (status h u) && is_active h (parent u)) _ m in
     let active = and_parts (is_absent (status h u)) (is_active h (parent u)) both.0 in
     subst (λ v. is_live h (parent v) ≡ true) (same_path u t b) (acts h (parent u) active.1)
-parent_live h (Accesses u k o r) t m b = absurd (true≢false (sym b))
+parent_live h (Accesses u a r) t m b = absurd (true≢false (sym b))
 parent_live h (Commits u) t m b = absurd (true≢false (sym b))
 parent_live h (Aborts u) t m b = absurd (true≢false (sym b))
 parent_live h Nothing t m b = absurd (true≢false (sym b))
@@ -102,7 +102,7 @@ parent_live h Nothing t m b = absurd (true≢false (sym b))
 -- a child of one that commits is not live
 child_ended : (h : History) (x : Effect) (t : Name) → may_do h x ≡ true → is_commit (parent t) x ≡ true → has_begun h t ≡ true → is_live h t ≡ false
 child_ended h (Begins u) t m c b = absurd (true≢false (sym c))
-child_ended h (Accesses u k o r) t m c b = absurd (true≢false (sym c))
+child_ended h (Accesses u a r) t m c b = absurd (true≢false (sym c))
 child_ended h (Commits u) t m c b =
     let none = not-true (has_live_child h u) (and_parts _ _ m).1 in
     let found = none_begun (λ v. path_eq (parent v) u && is_live h v) t h none b in
@@ -117,7 +117,7 @@ child_ended h Nothing t m c b = absurd (true≢false (sym c))
 -- a begin begins no one who commits by it
 begins_alone : (x : Effect) (t u : Name) → is_commit u x ≡ true → is_begin t x ≡ false
 begins_alone (Begins v) t u c = absurd (true≢false (sym c))
-begins_alone (Accesses v k o r) t u c = refl
+begins_alone (Accesses v a r) t u c = refl
 begins_alone (Commits v) t u c = refl
 begins_alone (Aborts v) t u c = refl
 begins_alone Nothing t u c = refl

@@ -1,12 +1,11 @@
 -- The accesses of the second pass and the items of the definitions.
 use Rattle.std.proofs.Common.{◌≡◌, ℕ, suc, ◌+◌, List, [], ◌∷◌, ◌++◌, length, true, false, Bool, cond, None, refl, sym, ap, ap₂, ◌∙◌}
 use Rattle.txn_names.specs.Path.{path_eq, parent}
-use Rattle.serial_spec.specs.declared.operation.Op.{Op}
+use Rattle.serial_spec.specs.declared.target.Asked.{Asked}
 use Rattle.serial_spec.specs.declared.operation.Reply.{Reply}
-use Rattle.serial_spec.specs.Operations.{reply_of, value_after}
 use Rattle.serial_spec.specs.History.{History, Name, Effect, Begins, Accesses, Commits, Aborts, Nothing, effect}
 use Rattle.serial_spec.specs.Items.{Items, Access, Block, items, with_item}
-use Rattle.serial_spec.specs.Serial.{Map, Replies, map_after, put}
+use Rattle.serial_spec.specs.Serial.{Map, Replies, after_asked, map_after, reply_at}
 use Rattle.serial_spec.specs.Flat.{same_reply}
 use Rattle.serial_spec.proofs.FirstWrong.{same_reply-Decides}
 use Rattle.report_check.specs.Serving.{PlacedAccess, accesses_of, least, map_behind, with_access, wrong_lines}
@@ -22,13 +21,13 @@ record Fit (m : Map) (xs : List PlacedAccess) (ys : Items) : Type 0 where
 
 behind_both : (m : Map) (xs ys : List PlacedAccess) → map_behind m (xs ++ ys) ≡ map_behind (map_behind m ys) xs
 behind_both m [] ys = refl
-behind_both m (a ∷ xs) ys = ap (λ (n : Map). put n a.key (value_after (n a.key) a.op)) (behind_both m xs ys)
+behind_both m (a ∷ xs) ys = ap (λ (n : Map). after_asked n a.asked) (behind_both m xs ys)
 
 wrong_both : (m : Map) (xs ys : List PlacedAccess) → wrong_lines m (xs ++ ys) ≡ wrong_lines (map_behind m ys) xs ++ wrong_lines m ys
 wrong_both m [] ys = refl
 wrong_both m (a ∷ xs) ys =
-    ap₂ (λ (n : Map) ws. cond (same_reply a.reply (reply_of (n a.key) a.op)) ws (a.line ∷ ws)) (behind_both m xs ys) (wrong_both m xs ys)
-    ∙ either (same_reply a.reply (reply_of (map_behind (map_behind m ys) xs a.key) a.op))
+    ap₂ (λ (n : Map) ws. cond (same_reply a.reply (reply_at n a.asked)) ws (a.line ∷ ws)) (behind_both m xs ys) (wrong_both m xs ys)
+    ∙ either (same_reply a.reply (reply_at (map_behind (map_behind m ys) xs) a.asked))
   where
     either : (t : Bool)
         → cond t (wrong_lines (map_behind m ys) xs ++ wrong_lines m ys) (a.line ∷ (wrong_lines (map_behind m ys) xs ++ wrong_lines m ys))
@@ -50,22 +49,22 @@ fit_block m bs xs c ys block fit = record {
 
 -- ---- accesses
 
-fit_access : (m : Map) (n : ℕ) (k : List ℕ) (o : Op) (r : Reply) (xs : List PlacedAccess) (ys : Items) → Fit m xs ys
-    → Fit m (record { line = n; key = k; op = o; reply = r } ∷ xs) (Access k o r ys)
-fit_access m n k o r xs ys fit = record {
-  left = ap (λ (l : Map). put l k (value_after (l k) o)) fit.left;
-  right = λ h. by_test (same_reply r (reply_of (map_behind m xs k) o)) refl h;
-  back = λ h. again (same_reply r (reply_of (map_behind m xs k) o)) refl h;
+fit_access : (m : Map) (n : ℕ) (a : Asked) (r : Reply) (xs : List PlacedAccess) (ys : Items) → Fit m xs ys
+    → Fit m (record { line = n; asked = a; reply = r } ∷ xs) (Access a r ys)
+fit_access m n a r xs ys fit = record {
+  left = ap (λ (l : Map). after_asked l a) fit.left;
+  right = λ h. by_test (same_reply r (reply_at (map_behind m xs) a)) refl h;
+  back = λ h. again (same_reply r (reply_at (map_behind m xs) a)) refl h;
 }
   where
-    by_test : (t : Bool) → same_reply r (reply_of (map_behind m xs k) o) ≡ t → cond t (wrong_lines m xs) (n ∷ wrong_lines m xs) ≡ [] → Replies m ys × (r ≡ reply_of (map_after m ys k) o)
-    by_test true e h = (fit.right h, (same_reply-Decides r (reply_of (map_behind m xs k) o)).0 e ∙ ap (λ (l : Map). reply_of (l k) o) fit.left)
+    by_test : (t : Bool) → same_reply r (reply_at (map_behind m xs) a) ≡ t → cond t (wrong_lines m xs) (n ∷ wrong_lines m xs) ≡ [] → Replies m ys × (r ≡ reply_at (map_after m ys) a)
+    by_test true e h = (fit.right h, (same_reply-Decides r (reply_at (map_behind m xs) a)).0 e ∙ ap (λ (l : Map). reply_at l a) fit.left)
     by_test false e h = cc
 
-    again : (t : Bool) → same_reply r (reply_of (map_behind m xs k) o) ≡ t → Replies m ys × (r ≡ reply_of (map_after m ys k) o) → cond t (wrong_lines m xs) (n ∷ wrong_lines m xs) ≡ []
+    again : (t : Bool) → same_reply r (reply_at (map_behind m xs) a) ≡ t → Replies m ys × (r ≡ reply_at (map_after m ys) a) → cond t (wrong_lines m xs) (n ∷ wrong_lines m xs) ≡ []
     again true e h = fit.back h.0
     again false e h =
-        let is = (same_reply-Decides r (reply_of (map_behind m xs k) o)).1 (h.1 ∙ ap (λ (l : Map). reply_of (l k) o) (sym fit.left)) in
+        let is = (same_reply-Decides r (reply_at (map_behind m xs) a)).1 (h.1 ∙ ap (λ (l : Map). reply_at l a) (sym fit.left)) in
         cc
 
 -- ---- histories
@@ -77,7 +76,7 @@ fit_either m false xs1 xs2 ys1 ys2 a b = b
 fit_effect : (t : Name) (x : Effect) (n : ℕ) (before : Name → List PlacedAccess) (own : Name → Items) → ((u : Name) (m : Map) → Fit m (before u) (own u))
     → (m : Map) → Fit m (with_access t x n before) (with_item t x own)
 fit_effect t (Begins u) n before own fit m = fit t m
-fit_effect t (Accesses u k o r) n before own fit m = fit_either m (path_eq u t) _ _ _ _ (fit_access m n k o r (before t) (own t) (fit t m)) (fit t m)
+fit_effect t (Accesses u a r) n before own fit m = fit_either m (path_eq u t) _ _ _ _ (fit_access m n a r (before t) (own t) (fit t m)) (fit t m)
 fit_effect t (Commits u) n before own fit m = fit_either m (path_eq (parent u) t) _ _ _ _ (fit_block m (before u) (before t) (own u) (own t) (fit u) (fit t m)) (fit t m)
 fit_effect t (Aborts u) n before own fit m = fit t m
 fit_effect t Nothing n before own fit m = fit t m

@@ -20,7 +20,7 @@ use Rattle.serial_spec.specs.declared.entry.Answer.{Answer}
 use Rattle.serial_spec.specs.declared.entry.Answer.TheVariants.{Done, Waits, Stuck, Refused}
 use Rattle.serial_spec.specs.declared.entry.Entry.{Entry}
 use Rattle.serial_spec.specs.declared.event.Event.{Event}
-use Rattle.serial_spec.specs.declared.event.Event.TheVariants.{Begin, Access, Commit, Abort, After}
+use Rattle.serial_spec.specs.declared.event.Event.TheVariants.{Begin, Access, Sum, Commit, Abort, After}
 use Rattle.serial_spec.specs.declared.operation.Reply.TheVariants as reply
 use Rattle.serial_spec.specs.History.{History, Name, Status, Absent, Live, Committed, Aborted, effect, effect_of, begun, has_aborted, has_begun, has_committed, is_committed, is_live, is_live_status, is_orphan, or_else, status, top_aborted}
 use Rattle.serial_spec.specs.Legal.{first_live, is_top_level}
@@ -114,6 +114,10 @@ named_event (Access t k o) (Done r) h = tt
 named_event (Access t k o) Waits h = tt
 named_event (Access t k o) Stuck h = tt
 named_event (Access t k o) (Refused r) h = tt
+named_event (Sum t g) (Done r) h = tt
+named_event (Sum t g) Waits h = tt
+named_event (Sum t g) Stuck h = tt
+named_event (Sum t g) (Refused r) h = tt
 named_event (Commit t) (Done reply.Ok) h = h.some
 named_event (Commit t) (Done (reply.Value v)) h = tt
 named_event (Commit t) (Done reply.Absent) h = tt

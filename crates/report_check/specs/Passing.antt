@@ -104,7 +104,7 @@ is_next h b e a = true
 -- what was done could be done: by one that is live and no orphan, or below such a one
 abbrev pub may_do : History → Effect → Bool
 may_do h (Begins t) = is_absent (status h t) && is_active h (parent t) && nat_lt (length (begun h)) MOST_TRANSACTIONS
-may_do h (Accesses t k o r) = is_active h t
+may_do h (Accesses t a r) = is_active h t
 may_do h (Commits t) = is_active h t && not (has_live_child h t)
 may_do h (Aborts t) = is_active h t
 may_do h Nothing = true
