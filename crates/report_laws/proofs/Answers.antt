@@ -10,24 +10,28 @@ use Rattle.serial_spec.specs.declared.entry.Answer.TheVariants.{Done, Waits, Stu
 use Rattle.serial_spec.specs.declared.entry.Refusal.{Refusal}
 use Rattle.serial_spec.specs.declared.entry.Refusal.TheVariants.{Unknown, Used, NoParent, Done as HasCommitted, Orphan, Children, Waiting, Full, Store}
 use Rattle.serial_spec.specs.declared.event.Event.{Event}
-use Rattle.serial_spec.specs.declared.event.Event.TheVariants.{Begin, Access, Commit, Abort, After}
+use Rattle.serial_spec.specs.declared.event.Event.TheVariants.{Begin, Access, Sum, Commit, Abort, After}
 use Rattle.serial_spec.specs.declared.operation.Op.{Op}
 use Rattle.serial_spec.specs.declared.operation.Op.TheVariants.{Get, Set, Add, Del}
-use Rattle.serial_spec.specs.declared.operation.Reply.TheVariants.{Ok, New, Overflow}
-use Rattle.serial_spec.specs.Operations.{amount, is_i64, kind, reply_of}
-use Rattle.serial_spec.specs.History.{History, Name, effect, effect_of, begun, has_aborted, has_begun, is_abort, is_absent, is_active, is_begin, is_committed, or_else, status, top_aborted}
+use Rattle.serial_spec.specs.declared.operation.Reply.TheVariants.{Ok, Value, New, Overflow}
+use Rattle.serial_spec.specs.declared.target.Asked.{Asked}
+use Rattle.serial_spec.specs.declared.target.Asked.TheVariants.{At, Over}
+use Rattle.serial_spec.specs.Operations.{amount, is_i64, reply_of}
+use Rattle.serial_spec.specs.History.{History, Name, effect, effect_of, event_of, begun, has_aborted, has_begun, is_abort, is_absent, is_active, is_begin, is_committed, or_else, status, top_aborted}
 use Rattle.serial_spec.specs.Locks.{is_blocked}
 use Rattle.serial_spec.specs.Values.{seen}
 use Rattle.serial_spec.specs.Items.{chain}
 use Rattle.serial_spec.specs.Rows.{Rows, value_in}
-use Rattle.serial_spec.specs.Allowed.{Allowed, answer, asks_store, cause_at_access, cause_at_begin, cause_at_commit, cause_at_end, has_come, has_live_child, has_waited, is_full_for, may_be_stuck, most_transactions, orphaned, refused_or, waits_elsewhere, when}
+use Rattle.serial_spec.specs.Serial.{reply_at}
+use Rattle.serial_spec.specs.Sums.{reply_of_sum, sum_in}
+use Rattle.serial_spec.specs.Allowed.{Allowed, answer, answer_to_access, asks_store, cause_at_access, cause_at_begin, cause_at_commit, cause_at_end, has_come, has_live_child, has_waited, is_full_for, may_be_stuck, most_transactions, orphaned, refused_or, waits_elsewhere, when}
 use Rattle.serial_spec.specs.Legal.{AreAllowed}
 use Rattle.session_text.specs.Grammar.{IsEvent}
 use Rattle.txn_history.proofs.Activity.{acts_active}
 use Rattle.txn_history.proofs.Causes.{acts_at_end, neither}
 use Rattle.txn_history.proofs.Tests.{clash}
 use Rattle.txn_history.proofs.Theorems.{value_seen}
-use Rattle.report_lines.specs.Answers.{may_access, may_answer}
+use Rattle.report_lines.specs.Answers.{may_answer}
 use Rattle.report_lines.specs.Laws.{IsAnswer}
 use Rattle.report_laws.proofs.Values.{AreEvents, HasRows, after_rows, chain_ops}
 
@@ -36,6 +40,7 @@ use Rattle.report_laws.proofs.Values.{AreEvents, HasRows, after_rows, chain_ops}
 begin_named : (e : Event) (a : Answer) (t : Name) → IsEvent e → is_begin t (effect_of e a) ≡ true → IsName t
 begin_named (Begin u) (Done Ok) t h b = subst IsName (same_path u t b) h
 begin_named (Access u k o) (Done r) t h b = clash b refl
+begin_named (Sum u g) (Done r) t h b = clash b refl
 begin_named (Commit u) (Done Ok) t h b = clash b refl
 begin_named (Abort u) (Done Ok) t h b = clash b refl
 begin_named e a t h b = clash b refl
@@ -44,6 +49,7 @@ abort_named : (e : Event) (a : Answer) (t : Name) → IsEvent e → is_abort t (
 abort_named (Abort u) (Done Ok) t h b = subst IsName (same_path u t b) h
 abort_named (Begin u) (Done Ok) t h b = clash b refl
 abort_named (Access u k o) (Done r) t h b = clash b refl
+abort_named (Sum u g) (Done r) t h b = clash b refl
 abort_named (Commit u) (Done Ok) t h b = clash b refl
 abort_named e a t h b = clash b refl
 
@@ -74,16 +80,26 @@ pub record Fits (e : Event) (a : Answer) : Type 0 where
   pub fits : may_answer e a ≡ true
   pub answer : IsAnswer a
 
-by_op : (P : Op → Type 0) → P Get → ((v : ℤ) → P (Set v)) → ((v : ℤ) → P (Add v)) → P Del → (o : Op) → P o
-by_op P g s a d Get = g
-by_op P g s a d (Set v) = s v
-by_op P g s a d (Add v) = a v
-by_op P g s a d Del = d
+by_asked : (P : Asked → Type 0) → ((k : List ℕ) → P (At k Get)) → ((k : List ℕ) (v : ℤ) → P (At k (Set v))) → ((k : List ℕ) (v : ℤ) → P (At k (Add v)))
+    → ((k : List ℕ) → P (At k Del)) → ((g : List ℕ) → P (Over g)) → (a : Asked) → P a
+by_asked P g s a d o (At k Get) = g k
+by_asked P g s a d o (At k (Set v)) = s k v
+by_asked P g s a d o (At k (Add v)) = a k v
+by_asked P g s a d o (At k Del) = d k
+by_asked P g s a d o (Over q) = o q
 
-fits_any_op : (t : Name) (k : List ℕ) (a : Answer) → may_access Get a ≡ true → ((v : ℤ) → may_access (Set v) a ≡ true) → ((v : ℤ) → may_access (Add v) a ≡ true) → may_access Del a ≡ true
-    → IsAnswer a → (o : Op) → Fits (Access t k o) a
-fits_any_op t k a g s d l is = by_op (λ o. Fits (Access t k o) a)
-    (record { fits = g; answer = is }) (λ v. record { fits = s v; answer = is }) (λ v. record { fits = d v; answer = is }) (record { fits = l; answer = is })
+-- the answer is one of every access
+pub record FitsAll (t : Name) (x : Answer) : Type 0 where
+  pub got : (k : List ℕ) → may_answer (Access t k Get) x ≡ true
+  pub put_in : (k : List ℕ) (v : ℤ) → may_answer (Access t k (Set v)) x ≡ true
+  pub added : (k : List ℕ) (v : ℤ) → may_answer (Access t k (Add v)) x ≡ true
+  pub left_out : (k : List ℕ) → may_answer (Access t k Del) x ≡ true
+  pub summed : (g : List ℕ) → may_answer (Sum t g) x ≡ true
+
+fits_any : (t : Name) (x : Answer) → FitsAll t x → IsAnswer x → (a : Asked) → Fits (event_of t a) x
+fits_any t x all is = by_asked (λ a. Fits (event_of t a) x)
+    (λ k. record { fits = all.got k; answer = is }) (λ k v. record { fits = all.put_in k v; answer = is }) (λ k v. record { fits = all.added k v; answer = is })
+    (λ k. record { fits = all.left_out k; answer = is }) (λ g. record { fits = all.summed g; answer = is })
 
 -- ---- causes
 
@@ -161,66 +177,80 @@ module _ (rows : Rows) (h : History) (allowed : AreAllowed rows h) (has : HasRow
 
   -- ---- accesses
 
-  access_refused : (t : Name) (k : List ℕ) (o : Op) (r : Refusal) → may_access Get (Refused r) ≡ true → ((v : ℤ) → may_access (Set v) (Refused r) ≡ true) → ((v : ℤ) → may_access (Add v) (Refused r) ≡ true)
-      → may_access Del (Refused r) ≡ true → IsAnswer (Refused r) → Fits (Access t k o) (Refused r)
-  access_refused t k o r g s d l is = fits_any_op t k (Refused r) g s d l is o
+  -- no sum is refused `full`
+  full_fits : (t : Name) (a : Asked) → Each (λ r. Fits (event_of t a) (Refused r)) (when (is_full_for rows h a) Full)
+  full_fits t = by_asked (λ a. Each (λ r. Fits (event_of t a) (Refused r)) (when (is_full_for rows h a) Full))
+      (λ k. each_when (λ r. Fits (Access t k Get) (Refused r)) (is_full_for rows h (At k Get)) Full (record { fits = refl; answer = tt }))
+      (λ k v. each_when (λ r. Fits (Access t k (Set v)) (Refused r)) (is_full_for rows h (At k (Set v))) Full (record { fits = refl; answer = tt }))
+      (λ k v. each_when (λ r. Fits (Access t k (Add v)) (Refused r)) (is_full_for rows h (At k (Add v))) Full (record { fits = refl; answer = tt }))
+      (λ k. each_when (λ r. Fits (Access t k Del) (Refused r)) (is_full_for rows h (At k Del)) Full (record { fits = refl; answer = tt }))
+      (λ g. tt)
 
-  access_causes : (b : By) (t : Name) (k : List ℕ) (o : Op) → Each (λ r. Fits (Access t k o) (Refused r)) (cause_at_access rows h b t k)
-  access_causes b t k o =
+  access_causes : (b : By) (t : Name) (a : Asked) → Each (λ r. Fits (event_of t a) (Refused r)) (cause_at_access rows h b t a)
+  access_causes b t a =
       each_or R (cause_at_end h t) _
-      (each_at_end R h events (λ v n. access_refused t k o (Orphan v) refl (λ w. refl) (λ w. refl) refl n) t
-      (access_refused t k o Unknown refl (λ w. refl) (λ w. refl) refl tt) (access_refused t k o HasCommitted refl (λ w. refl) (λ w. refl) refl tt))
-      (each_or R (when (waits_elsewhere h b t) Waiting) (when (is_full_for rows h k) Full)
-      (each_when R _ Waiting (access_refused t k o Waiting refl (λ w. refl) (λ w. refl) refl tt))
-      (each_when R _ Full (access_refused t k o Full refl (λ w. refl) (λ w. refl) refl tt)))
+      (each_at_end R h events (λ v n. fits_any t (Refused (Orphan v)) (record { got = λ k. refl; put_in = λ k v. refl; added = λ k v. refl; left_out = λ k. refl; summed = λ g. refl }) n a) t
+      (fits_any t (Refused Unknown) (record { got = λ k. refl; put_in = λ k v. refl; added = λ k v. refl; left_out = λ k. refl; summed = λ g. refl }) tt a) (fits_any t (Refused HasCommitted) (record { got = λ k. refl; put_in = λ k v. refl; added = λ k v. refl; left_out = λ k. refl; summed = λ g. refl }) tt a))
+      (each_or R (when (waits_elsewhere h b t) Waiting) (when (is_full_for rows h a) Full)
+      (each_when R _ Waiting (fits_any t (Refused Waiting) (record { got = λ k. refl; put_in = λ k v. refl; added = λ k v. refl; left_out = λ k. refl; summed = λ g. refl }) tt a))
+      (full_fits t a))
     where
       R : Refusal → Type 0
-      R r = Fits (Access t k o) (Refused r)
+      R r = Fits (event_of t a) (Refused r)
 
   -- a value that is seen is a number
   seen_is : (t : Name) (k : List ℕ) → is_active h t ≡ true → (v : ℤ) → seen (value_in rows) h t k ≡ Some v → is_i64 v ≡ true
   seen_is t k acts v e = (after_rows (value_in rows) (chain h t) (chain_ops h events t) has k v (sym (value_seen rows h allowed t k acts) ∙ e)).value
 
-  reply_fits : (t : Name) (k : List ℕ) (o : Op) (v : Option ℤ) → ((w : ℤ) → v ≡ Some w → is_i64 w ≡ true) → Fits (Access t k o) (Done (reply_of v o))
-  reply_fits t k Get None is = record { fits = refl; answer = tt }
-  reply_fits t k Get (Some w) is = record { fits = refl; answer = is w refl }
-  reply_fits t k (Set w) v is = record { fits = refl; answer = tt }
-  reply_fits t k (Add d) v is = on_test (is_i64 (amount v +ℤ d)) (λ b. Fits (Access t k (Add d)) (Done (cond b (New (amount v +ℤ d)) Overflow)))
+  key_fits : (t : Name) (k : List ℕ) (o : Op) (v : Option ℤ) → ((w : ℤ) → v ≡ Some w → is_i64 w ≡ true) → Fits (Access t k o) (Done (reply_of v o))
+  key_fits t k Get None is = record { fits = refl; answer = tt }
+  key_fits t k Get (Some w) is = record { fits = refl; answer = is w refl }
+  key_fits t k (Set w) v is = record { fits = refl; answer = tt }
+  key_fits t k (Add d) v is = on_test (is_i64 (amount v +ℤ d)) (λ b. Fits (Access t k (Add d)) (Done (cond b (New (amount v +ℤ d)) Overflow)))
       (λ e. record { fits = refl; answer = e }) (λ _. record { fits = refl; answer = tt })
-  reply_fits t k Del v is = record { fits = refl; answer = tt }
+  key_fits t k Del v is = record { fits = refl; answer = tt }
 
-  waits_fit : (t : Name) (k : List ℕ) (o : Op) → Fits (Access t k o) Waits
-  waits_fit t k o = fits_any_op t k Waits refl (λ v. refl) (λ v. refl) refl tt o
+  sum_fits : (t : Name) (g : List ℕ) (s : ℤ) → Fits (Sum t g) (Done (reply_of_sum s))
+  sum_fits t g s = on_test (is_i64 s) (λ b. Fits (Sum t g) (Done (cond b (Value s) Overflow)))
+      (λ e. record { fits = refl; answer = e }) (λ _. record { fits = refl; answer = tt })
 
-  stuck_fit : (t : Name) (k : List ℕ) (o : Op) → Fits (Access t k o) Stuck
-  stuck_fit t k o = fits_any_op t k Stuck refl (λ v. refl) (λ v. refl) refl tt o
+  reply_fits : (t : Name) (a : Asked) → is_active h t ≡ true → Fits (event_of t a) (Done (reply_at (seen (value_in rows) h t) a))
+  reply_fits t (At k o) acts = key_fits t k o (seen (value_in rows) h t k) (seen_is t k acts)
+  reply_fits t (Over g) acts = sum_fits t g (sum_in (seen (value_in rows) h t) g)
+
+  waits_fit : (t : Name) (a : Asked) → Fits (event_of t a) Waits
+  waits_fit t a = fits_any t Waits (record { got = λ k. refl; put_in = λ k v. refl; added = λ k v. refl; left_out = λ k. refl; summed = λ g. refl }) tt a
+
+  stuck_fit : (t : Name) (a : Asked) → Fits (event_of t a) Stuck
+  stuck_fit t a = fits_any t Stuck (record { got = λ k. refl; put_in = λ k v. refl; added = λ k v. refl; left_out = λ k. refl; summed = λ g. refl }) tt a
 
   is_given : (e : Event) (blocked waited : Bool) (b a : Answer) → Fits e Waits → Fits e b → cond blocked (cond waited None (Some Waits)) (Some b) ≡ Some a → Fits e a
   is_given e true true b a w f same = cc
   is_given e true false b a w f same = let eq : Waits ≡ a = cc in subst (Fits e) eq w
   is_given e false waited b a w f same = let eq : b ≡ a = cc in subst (Fits e) eq f
 
-  access_fits : (b : By) (t : Name) (k : List ℕ) (o : Op) (a : Answer) → answer rows h b (Access t k o) ≡ Some a → Fits (Access t k o) a
-  access_fits b t k o a =
-      given_or (Fits (Access t k o)) (cause_at_access rows h b t k) (cond (is_blocked h t k (kind o)) (cond (has_waited h b) None (Some Waits)) (Some (Done (reply_of (seen (value_in rows) h t k) o)))) a
-      (access_causes b t k o)
+  access_fits : (b : By) (t : Name) (a : Asked) (x : Answer) → answer_to_access rows h b t a ≡ Some x → Fits (event_of t a) x
+  access_fits b t a x =
+      given_or (Fits (event_of t a)) (cause_at_access rows h b t a) (cond (is_blocked h t a) (cond (has_waited h b) None (Some Waits)) (Some (Done (reply_at (seen (value_in rows) h t) a)))) x
+      (access_causes b t a)
       (λ none same. let acts = acts_active h t (acts_at_end h t (neither (cause_at_end h t) _ none).0).1 in
-      is_given (Access t k o) (is_blocked h t k (kind o)) (has_waited h b) (Done (reply_of (seen (value_in rows) h t k) o)) a (waits_fit t k o)
-      (reply_fits t k o (seen (value_in rows) h t k) (seen_is t k acts)) same)
+      is_given (event_of t a) (is_blocked h t a) (has_waited h b) (Done (reply_at (seen (value_in rows) h t) a)) x (waits_fit t a) (reply_fits t a acts) same)
 
   after_fits : (t : Name) (w : _) (a : Answer) → cond (has_come h t w) (Some (Done Ok)) None ≡ Some a → Fits (After t w) a
   after_fits t w a = on_test (has_come h t w) (λ b. cond b (Some (Done Ok)) None ≡ Some a → Fits (After t w) a) (λ _ same. fits_done (After t w) refl a same) (λ _ same. cc)
 
   answered_fits : (b : By) (e : Event) (a : Answer) → answer rows h b e ≡ Some a → Fits e a
   answered_fits b (Begin t) a is = begin_fits t a is
-  answered_fits b (Access t k o) a is = access_fits b t k o a is
+  answered_fits b (Access t k o) a is = access_fits b t (At k o) a is
+  answered_fits b (Sum t g) a is = access_fits b t (Over g) a is
   answered_fits b (Commit t) a is = commit_fits b t a is
   answered_fits b (Abort t) a is = abort_fits t a is
   answered_fits b (After t w) a is = after_fits t w a is
 
   stuck_fits : (b : By) (e : Event) → may_be_stuck h b e ≡ true → Fits e Stuck
   stuck_fits b (Begin t) may = clash may refl
-  stuck_fits b (Access t k o) may = stuck_fit t k o
+  stuck_fits b (Access t k o) may = stuck_fit t (At k o)
+  stuck_fits b (Sum t g) may = stuck_fit t (Over g)
   stuck_fits b (Commit t) may = clash may refl
   stuck_fits b (Abort t) may = clash may refl
   stuck_fits b (After t w) may = record { fits = refl; answer = tt }
@@ -228,6 +258,7 @@ module _ (rows : Rows) (h : History) (allowed : AreAllowed rows h) (has : HasRow
   store_fits : (e : Event) → asks_store h e ≡ true → Fits e (Refused Store)
   store_fits (Begin t) asks = clash asks refl
   store_fits (Access t k o) asks = clash asks refl
+  store_fits (Sum t g) asks = clash asks refl
   store_fits (Commit t) asks = record { fits = refl; answer = tt }
   store_fits (Abort t) asks = clash asks refl
   store_fits (After t w) asks = clash asks refl

@@ -13,7 +13,7 @@ use Rattle.serial_spec.specs.declared.entry.Refusal.TheVariants.{Full, NoParent,
 use Rattle.serial_spec.specs.declared.entry.Answer.{Answer}
 use Rattle.serial_spec.specs.declared.entry.Answer.TheVariants.{Done}
 use Rattle.serial_spec.specs.declared.event.Event.{Event}
-use Rattle.serial_spec.specs.declared.event.Event.TheVariants.{Begin, Access, Commit, Abort}
+use Rattle.serial_spec.specs.declared.event.Event.TheVariants.{Begin, Access, Sum, Commit, Abort}
 use Rattle.serial_spec.specs.declared.operation.Reply.TheVariants.{Ok}
 use Rattle.serial_spec.specs.History.{History, Name, Effect, Begins, Accesses, Commits, Aborts, Nothing, Absent, Live, Committed, Aborted, begun, effect_of, has_aborted, has_begun, has_committed, is_absent, is_active, is_committed, is_live, is_live_status, or_else, status}
 use Rattle.serial_spec.specs.Rows.{Rows}
@@ -88,6 +88,7 @@ room_line : (rows : Rows) (h : History) (by : By) (e : Event) (a : Answer) → A
 room_line rows h by (Begin t) (Done Ok) q = room_to_begin h t (not_refused _ _ (Done Ok) (done_not_refused Ok) q).0
 room_line rows h by (Abort t) (Done Ok) q = acts_active h t (acts_at_end h t (not_refused _ _ (Done Ok) (done_not_refused Ok) q).0).1
 room_line rows h by (Access t k o) (Done r) q = tt
+room_line rows h by (Sum t g) (Done r) q = tt
 room_line rows h by (Commit t) (Done Ok) q = tt
 room_line rows h by e a q = tt
 
@@ -102,7 +103,7 @@ has_room rows h by.Close e a m = room_abort h (λ t. first_live h (begun h) ≡ 
 
 does : (rows : Rows) (h : History) (x : Effect) → Sound rows h x → HasRoom h x → may_do h x ≡ true
 does rows h (Begins t) s room = and_from _ _ (and_from _ _ s.new (acts_active h (parent t) s.parent_acts)) (lt-ltb (length (begun h)) MOST_TRANSACTIONS room)
-does rows h (Accesses t k o r) s room = acts_active h t s.acting
+does rows h (Accesses t a r) s room = acts_active h t s.acting
 does rows h (Commits t) s room = and_from _ _ (acts_active h t s.acting) (not_from_false (has_live_child h t) s.childless)
 does rows h (Aborts t) s room = room
 does rows h Nothing s room = refl

@@ -77,7 +77,7 @@ module _ (at : ℕ → ℕ) where
 
   pub may_do_same : (h : History) (x : Effect) → may_do (renamed at h) x ≡ may_do h x
   may_do_same h (Begins t) = λ i. (is_absent (status_same h t i) && active_same h (parent t) i) && nat_lt (length (begun_same h i)) MOST_TRANSACTIONS
-  may_do_same h (Accesses t k o r) = active_same h t
+  may_do_same h (Accesses t a r) = active_same h t
   may_do_same h (Commits t) = ap₂ (λ a b. a && not b) (active_same h t) (child_same h t)
   may_do_same h (Aborts t) = active_same h t
   may_do_same h Nothing = refl

@@ -1,4 +1,4 @@
--- What accesses of keys by numbers leave are rows: keys of the grammar, with numbers.
+-- What accesses of keys by numbers leave are rows: keys of the grammar, with numbers. A sum leaves nothing.
 use Rattle.std.proofs.Common.{◌≡◌, ℕ, ℤ, List, [], ◌∷◌, true, cond, Option, Some, None, sym, ap, ◌∙◌, subst}
 use Rattle.std.specs.Prelude.{◌+ℤ◌}
 use Rattle.std.specs.List.{AllByRecursion}
@@ -8,10 +8,12 @@ use Rattle.txn_names.proofs.Names.{label_eq_self, on_label, on_test}
 use Rattle.serial_spec.specs.declared.operation.Op.{Op}
 use Rattle.serial_spec.specs.declared.operation.Op.TheVariants.{Get, Set, Add, Del}
 use Rattle.serial_spec.specs.declared.operation.Reply.TheVariants.{Ok}
+use Rattle.serial_spec.specs.declared.target.Asked.{Asked}
+use Rattle.serial_spec.specs.declared.target.Asked.TheVariants.{At, Over}
 use Rattle.serial_spec.specs.declared.entry.Answer.{Answer}
 use Rattle.serial_spec.specs.declared.entry.Answer.TheVariants.{Done}
 use Rattle.serial_spec.specs.declared.event.Event.{Event}
-use Rattle.serial_spec.specs.declared.event.Event.TheVariants.{Begin, Access, Commit, Abort}
+use Rattle.serial_spec.specs.declared.event.Event.TheVariants.{Begin, Access, Sum, Commit, Abort}
 use Rattle.serial_spec.specs.Operations.{amount, is_i64, value_after}
 use Rattle.serial_spec.specs.History.{History, Name, Effect, Begins, Accesses, Commits, Aborts, Nothing, effect, effect_of}
 use Rattle.serial_spec.specs.Items.{Items, None as NoItems, Access as Accessed, Block, after, chain, chain_of, items, with_item}
@@ -44,19 +46,25 @@ put_rows m k o key op rows q v = on_label k q (λ b. cond b (value_after (m k) o
 
 -- ---- items
 
+-- what is asked at a key is of the grammar
+abbrev pub IsOpAt : Asked → Type 0
+IsOpAt (At k o) = IsKey k × IsOp o
+IsOpAt (Over g) = Unit {0}
+
 abbrev pub AreOps : Items → Type 0
 AreOps NoItems = Unit {0}
-AreOps (Accessed k o r xs) = (IsKey k × IsOp o) × AreOps xs
+AreOps (Accessed a r xs) = IsOpAt a × AreOps xs
 AreOps (Block b xs) = AreOps b × AreOps xs
 
 pub after_rows : (m : Map) (xs : Items) → AreOps xs → HasRows m → HasRows (map_after m xs)
 after_rows m NoItems ops rows = rows
-after_rows m (Accessed k o r xs) ops rows = put_rows (map_after m xs) k o ops.0.0 ops.0.1 (after_rows m xs ops.1 rows)
+after_rows m (Accessed (At k o) r xs) ops rows = put_rows (map_after m xs) k o ops.0.0 ops.0.1 (after_rows m xs ops.1 rows)
+after_rows m (Accessed (Over g) r xs) ops rows = after_rows m xs ops.1 rows
 after_rows m (Block b xs) ops rows = after_rows (map_after m xs) b ops.0 (after_rows m xs ops.1 rows)
 
 ops_both : (xs ys : Items) → AreOps xs → AreOps ys → AreOps (after xs ys)
 ops_both NoItems ys a b = b
-ops_both (Accessed k o r xs) ys a b = (a.0, ops_both xs ys a.1 b)
+ops_both (Accessed q r xs) ys a b = (a.0, ops_both xs ys a.1 b)
 ops_both (Block c xs) ys a b = (a.0, ops_both xs ys a.1 b)
 
 ops_chain : (t : Name) (own : Name → Items) → ((u : Name) → AreOps (own u)) → AreOps (chain_of own t)
@@ -64,18 +72,19 @@ ops_chain [] own all = all []
 ops_chain (l ∷ ls) own all = ops_both (chain_of (λ u. own (l ∷ u)) ls) (own []) (ops_chain ls (λ u. own (l ∷ u)) (λ u. all (l ∷ u))) (all [])
 
 abbrev IsDoing : Effect → Type 0
-IsDoing (Accesses t k o r) = IsKey k × IsOp o
+IsDoing (Accesses t a r) = IsOpAt a
 IsDoing x = Unit {0}
 
 doing : (e : Event) (a : Answer) → IsEvent e → IsDoing (effect_of e a)
 doing (Access t k o) (Done r) h = (h.1, h.2)
+doing (Sum t g) (Done r) h = tt
 doing (Begin t) (Done Ok) h = tt
 doing (Commit t) (Done Ok) h = tt
 doing (Abort t) (Done Ok) h = tt
 doing e a h = tt
 
 ops_step : (x : Effect) (own : Name → Items) (t : Name) → IsDoing x → ((u : Name) → AreOps (own u)) → AreOps (with_item t x own)
-ops_step (Accesses u k o r) own t is all = on_test (path_eq u t) (λ b. AreOps (cond b (Accessed k o r (own t)) (own t))) (λ _. (is, all t)) (λ _. all t)
+ops_step (Accesses u a r) own t is all = on_test (path_eq u t) (λ b. AreOps (cond b (Accessed a r (own t)) (own t))) (λ _. (is, all t)) (λ _. all t)
 ops_step (Commits u) own t is all = on_test (path_eq (parent u) t) (λ b. AreOps (cond b (Block (own u) (own t)) (own t))) (λ _. (all u, all t)) (λ _. all t)
 ops_step (Begins u) own t is all = all t
 ops_step (Aborts u) own t is all = all t
