@@ -17,15 +17,15 @@ use Rattle.txn_tree.proofs.Links.{some_label}
 use Rattle.txn_tree.proofs.Places.{get_last, get_pushed, get_updated, length_updated, one_place}
 use Rattle.txn_tree.proofs.Under.{absent_nowhere}
 use Rattle.serial_spec.specs.declared.entry.Entry.{Entry}
-use Rattle.serial_spec.specs.declared.operation.Op.{Op}
+use Rattle.serial_spec.specs.declared.target.Asked.{Asked}
 use Rattle.serial_spec.specs.declared.operation.Reply.{Reply}
 use Rattle.serial_spec.specs.History.{Name, History, Begins, Accesses, Commits, effect}
 use Rattle.report_check.specs.Serving.{PlacedAccess, accesses_of, with_access}
-use Rattle.report_tables.specs.Chained.{Holds, Leads, joined, led, no_chain, one_access}
+use Rattle.report_tables.specs.Chained.{Asks, Holds, Known, Leads, joined, led, no_chain, one_access}
 use Rattle.report_tables.specs.Told.{AreChainsOf, places}
 use Rattle.report_tables.specs.declared.chains.Access.{Access}
 use Rattle.report_tables.specs.declared.chains.Chain.{Chain}
-use Rattle.report_tables.proofs.Leading.{last_at, leads_aside, leads_grown, leads_joined}
+use Rattle.report_tables.proofs.Leading.{AsksStill, last_at, leads_aside, leads_grown, leads_joined}
 
 -- ---- places
 
@@ -49,29 +49,29 @@ length_places tree = refl
 
 -- ---- the same accesses
 
-module _ (base : ℕ) (keys : List (List ℕ)) (h : History) (e : Entry) (old new : States) (acs : List Access) (chains : List Chain)
-    (are : AreChainsOf base keys h old acs chains) (same_names : names new ≡ names old)
+module _ (base : ℕ) (known : Known) (h : History) (e : Entry) (old new : States) (acs : List Access) (chains : List Chain)
+    (are : AreChainsOf base known h old acs chains) (same_names : names new ≡ names old)
     (lived : (t : Name) → is_live_in new t ≡ true → is_live_in old t ≡ true) (lacked : (t : Name) → is_absent_in new t ≡ true → is_absent_in old t ≡ true)
     (same : (t : Name) → accesses_of base (e ∷ h) t ≡ accesses_of base h t) where
   was : (k : ℕ) (t : Name) → slice_get (places new) k ≡ Some t → slice_get (places old) k ≡ Some t
   was k t at = ap (λ ns. slice_get ([] ∷ ns) k) (sym same_names) ∙ at
 
-  pub chains_kept : AreChainsOf base keys (e ∷ h) new acs chains
+  pub chains_kept : AreChainsOf base known (e ∷ h) new acs chains
   chains_kept = record {
     level = are.level ∙ ap (λ ns. suc (length ns)) (sym same_names);
-    each = λ k t c at own live. subst (λ (ps : List PlacedAccess). Holds acs keys c (reverse ps)) (sym (same t)) (are.each k t c (was k t at) own (lived t live));
+    each = λ k t c at own live. subst (λ (ps : List PlacedAccess). Holds acs known c (reverse ps)) (sym (same t)) (are.each k t c (was k t at) own (lived t live));
     apart = λ k l t u c d i a b own other live alive. are.apart k l t u c d i (was k t a) (was l u b) own other (lived t live) (lived u alive);
     fresh = λ t absent. same t ∙ are.fresh t (lacked t absent);
   }
 
--- ---- more keys
+-- ---- more keys and groups
 
-pub chains_roomy : (base : ℕ) (keys more : List (List ℕ)) (h : History) (tree : States) (acs : List Access) (chains : List Chain)
-    → AreChainsOf base keys h tree acs chains → AreChainsOf base (keys ++ more) h tree acs chains
-chains_roomy base keys more h tree acs chains are = record {
+pub chains_roomy : (base : ℕ) (known more : Known) (h : History) (tree : States) (acs : List Access) (chains : List Chain)
+    → AsksStill known more → AreChainsOf base known h tree acs chains → AreChainsOf base more h tree acs chains
+chains_roomy base known more h tree acs chains still are = record {
   level = are.level;
-  each = λ k t c at own live. subst (λ (xs : List Access). Leads xs (keys ++ more) c.first None c.last (reverse (accesses_of base h t))) (append_nothing acs)
-      (leads_grown acs [] keys more c.first None c.last (reverse (accesses_of base h t)) (are.each k t c at own live));
+  each = λ k t c at own live. subst (λ (xs : List Access). Leads xs more c.first None c.last (reverse (accesses_of base h t))) (append_nothing acs)
+      (leads_grown acs [] known more still c.first None c.last (reverse (accesses_of base h t)) (are.each k t c at own live));
   apart = are.apart;
   fresh = are.fresh;
 }
@@ -82,8 +82,8 @@ chains_roomy base keys more h tree acs chains are = record {
 
 -- ---- a begin
 
-module _ (base : ℕ) (keys : List (List ℕ)) (h : History) (e : Entry) (old new : States) (acs : List Access) (chains : List Chain) (t : Name)
-    (are : AreChainsOf base keys h old acs chains) (is : IsTree old) (name : IsName t) (absent : is_absent_in old t ≡ true) (does : effect e ≡ Begins t)
+module _ (base : ℕ) (known : Known) (h : History) (e : Entry) (old new : States) (acs : List Access) (chains : List Chain) (t : Name)
+    (are : AreChainsOf base known h old acs chains) (is : IsTree old) (name : IsName t) (absent : is_absent_in old t ≡ true) (does : effect e ≡ Begins t)
     (more_names : names new ≡ names old ++ t ∷ []) (sets : (u : Name) → status_in new u ≡ cond (path_eq t u) state.Live (status_in old u)) where
   same_accesses : (u : Name) → accesses_of base (e ∷ h) u ≡ accesses_of base h u
   same_accesses u = ap (λ x. with_access u x (base + suc (length h)) (accesses_of base h)) does
@@ -108,12 +108,12 @@ module _ (base : ℕ) (keys : List (List ℕ)) (h : History) (e : Entry) (old ne
       by (inr a) (inl b) = let w = slice_get_within chains k c b in absurd (omega (arith, w, a.0, are.level))
       by (inr a) (inr b) = New b.0 a.1 b.1
 
-  each_new : (k : ℕ) (u : Name) (c : Chain) → Place k u c → is_live_in new u ≡ true → Holds acs keys c (reverse (accesses_of base (e ∷ h) u))
-  each_new k u c (Old at own) live = subst (λ (ps : List PlacedAccess). Holds acs keys c (reverse ps)) (sym (same_accesses u)) (are.each k u c at own (lived_old k u at live))
+  each_new : (k : ℕ) (u : Name) (c : Chain) → Place k u c → is_live_in new u ≡ true → Holds acs known c (reverse (accesses_of base (e ∷ h) u))
+  each_new k u c (Old at own) live = subst (λ (ps : List PlacedAccess). Holds acs known c (reverse ps)) (sym (same_accesses u)) (are.each k u c at own (lived_old k u at live))
   each_new k u c (New at this empty) live =
       let none : accesses_of base (e ∷ h) u ≡ [] = same_accesses u ∙ ap (accesses_of base h) this ∙ are.fresh t absent in
-      subst (λ (d : Chain). Holds acs keys d (reverse (accesses_of base (e ∷ h) u))) (sym empty)
-      (subst (λ (ps : List PlacedAccess). Holds acs keys no_chain (reverse ps)) (sym none) (refl, refl))
+      subst (λ (d : Chain). Holds acs known d (reverse (accesses_of base (e ∷ h) u))) (sym empty)
+      (subst (λ (ps : List PlacedAccess). Holds acs known no_chain (reverse ps)) (sym none) (refl, refl))
 
   no_last : (c : Chain) (i : ℕ) → c ≡ no_chain → c.last ≡ Some i → ⊥
   no_last c i empty at = true≢false (sym (ap is_some (sym (ap (λ (d : Chain). d.last) empty) ∙ at)))
@@ -123,7 +123,7 @@ module _ (base : ℕ) (keys : List (List ℕ)) (h : History) (e : Entry) (old ne
   apart_new k l u v c d i (New a this empty) q live alive x y = absurd (no_last c i empty x)
   apart_new k l u v c d i (Old a own) (New b this empty) live alive x y = absurd (no_last d i empty y)
 
-  pub chains_begun : AreChainsOf base keys (e ∷ h) new acs (chains ++ no_chain ∷ [])
+  pub chains_begun : AreChainsOf base known (e ∷ h) new acs (chains ++ no_chain ∷ [])
   chains_begun = record {
     level = length-append chains (no_chain ∷ []) ∙ ap (λ n. n + 1) are.level ∙ sym (ap (λ ns. suc (length ns)) more_names ∙ ap suc (length-append (names old) (t ∷ [])) ∙ shift);
     each = λ k u c at own live. each_new k u c (place k u c at own) live;
@@ -138,9 +138,9 @@ module _ (base : ℕ) (keys : List (List ℕ)) (h : History) (e : Entry) (old ne
 -- ---- one chain behind another
 
 -- the places and the chains after a chain was put behind the one at p
-module _ (tree : States) (is : IsTree tree) (acs : List Access) (keys : List (List ℕ)) (chains : List Chain) (p : ℕ) (own : Name) (c0 d : Chain) (ps qs : List PlacedAccess)
+module _ (tree : States) (is : IsTree tree) (acs : List Access) (known : Known) (chains : List Chain) (p : ℕ) (own : Name) (c0 d : Chain) (ps qs : List PlacedAccess)
     (at : slice_get (places tree) p ≡ Some own) (there : slice_get chains p ≡ Some c0)
-    (holds : Holds acs keys c0 ps) (more : Holds acs keys d qs) (ends_apart : (i : ℕ) → c0.last ≡ Some i → d.last ≡ Some i → ⊥) where
+    (holds : Holds acs known c0 ps) (more : Holds acs known d qs) (ends_apart : (i : ℕ) → c0.last ≡ Some i → d.last ≡ Some i → ⊥) where
   abbrev longer : List Access
   longer = led acs c0.last d.first
 
@@ -170,11 +170,11 @@ module _ (tree : States) (is : IsTree tree) (acs : List Access) (keys : List (Li
           (on_path own u (λ t. t ≡ false) (λ s. absurd (apart (one_place_each tree is p k own at (a ∙ ap Some (sym s))))) (λ s. refl))
           (w.1 ∙ ap Some (sym (w.2 ∙ ap (λ t. cond t (joined w.0 d) w.0) e)))
 
-  pub joined_holds : Holds longer keys (joined c0 d) (ps ++ qs)
-  joined_holds = leads_joined acs keys c0.first c0.last d.first d.last ps qs holds more ends_apart
+  pub joined_holds : Holds longer known (joined c0 d) (ps ++ qs)
+  joined_holds = leads_joined acs known c0.first c0.last d.first d.last ps qs holds more ends_apart
 
-  pub aside_holds : (c : Chain) (rs : List PlacedAccess) → Holds acs keys c rs → ((i : ℕ) → c0.last ≡ Some i → c.last ≡ Some i → ⊥) → Holds longer keys c rs
-  aside_holds c rs own_holds apart = leads_aside acs keys c0.first c0.last d.first c.first c.last ps rs holds own_holds apart
+  pub aside_holds : (c : Chain) (rs : List PlacedAccess) → Holds acs known c rs → ((i : ℕ) → c0.last ≡ Some i → c.last ≡ Some i → ⊥) → Holds longer known c rs
+  aside_holds c rs own_holds apart = leads_aside acs known c0.first c0.last d.first c.first c.last ps rs holds own_holds apart
 
   -- the last of the longer chain is the last of one of its parts
   pub joined_last : (i : ℕ) → (joined c0 d).last ≡ Some i → (d.last ≡ Some i) ⊎ (c0.last ≡ Some i)
@@ -189,41 +189,37 @@ module _ (tree : States) (is : IsTree tree) (acs : List Access) (keys : List (Li
 reverse_first : {X : Type 0} (x : X) (xs : List X) → reverse (x ∷ xs) ≡ reverse xs ++ x ∷ []
 reverse_first x xs = reverse-append (x ∷ []) xs
 
-within : (acs : List Access) (keys : List (List ℕ)) (c : Chain) (ps : List PlacedAccess) → Holds acs keys c ps → (i : ℕ) → c.last ≡ Some i → i < length acs
-within acs keys c [] h i at = absurd (true≢false (sym (ap is_some (sym h.1 ∙ at))))
-within acs keys c (p ∷ ps) h i at =
-    let e = last_at acs keys c.first None c.last p ps h in
+within : (acs : List Access) (known : Known) (c : Chain) (ps : List PlacedAccess) → Holds acs known c ps → (i : ℕ) → c.last ≡ Some i → i < length acs
+within acs known c [] h i at = absurd (true≢false (sym (ap is_some (sym h.1 ∙ at))))
+within acs known c (p ∷ ps) h i at =
+    let e = last_at acs known c.first None c.last p ps h in
     let same : e.place ≡ i = ap (λ o. unwrap_or o i) (sym e.last ∙ at) in
     let w = slice_get_within acs e.place e.access e.found in
     omega (arith, same, w)
 
-module _ (base : ℕ) (keys : List (List ℕ)) (h : History) (e : Entry) (tree : States) (is : IsTree tree) (acs : List Access) (chains : List Chain) (p : ℕ) (t : Name)
-    (k : List ℕ) (o : Op) (r : Reply) (a : Access) (n : ℕ)
-    (are : AreChainsOf base keys h tree acs chains) (at : slice_get (places tree) p ≡ Some t) (live : is_live_in tree t ≡ true) (does : effect e ≡ Accesses t k o r)
-    (line : a.line ≡ base + suc (length h)) (key : slice_get keys a.key ≡ Some k) (op : a.op ≡ o) (reply : a.reply ≡ r) (ends : a.next ≡ None)
+module _ (base : ℕ) (known : Known) (h : History) (e : Entry) (tree : States) (is : IsTree tree) (acs : List Access) (chains : List Chain) (p : ℕ) (t : Name)
+    (q : Asked) (r : Reply) (a : Access) (n : ℕ)
+    (are : AreChainsOf base known h tree acs chains) (at : slice_get (places tree) p ≡ Some t) (live : is_live_in tree t ≡ true) (does : effect e ≡ Accesses t q r)
+    (line : a.line ≡ base + suc (length h)) (asks : Asks known a.asked q) (reply : a.reply ≡ r) (ends : a.next ≡ None)
     (last : n ≡ length acs) (c0 : Chain) (there : slice_get chains p ≡ Some c0) where
   abbrev told : PlacedAccess
-  told = record { line = base + suc (length h); key = k; op = o; reply = r }
+  told = record { line = base + suc (length h); asked = q; reply = r }
 
   abbrev own_accesses : List PlacedAccess
   own_accesses = reverse (accesses_of base h t)
 
-  pushed : (c : Chain) (ps : List PlacedAccess) → Holds acs keys c ps → Holds (acs ++ a ∷ []) keys c ps
-  pushed c ps holds = subst (λ ks. Leads (acs ++ a ∷ []) ks c.first None c.last ps) (nothing_more keys) (leads_grown acs (a ∷ []) keys [] c.first None c.last ps holds)
-    where
-      nothing_more : (xs : List (List ℕ)) → xs ++ [] ≡ xs
-      nothing_more [] = refl
-      nothing_more (x ∷ xs) = ap (λ ys. x ∷ ys) (nothing_more xs)
+  pushed : (c : Chain) (ps : List PlacedAccess) → Holds acs known c ps → Holds (acs ++ a ∷ []) known c ps
+  pushed c ps holds = leads_grown acs (a ∷ []) known known (λ m b h. h) c.first None c.last ps holds
 
-  one_holds : Holds (acs ++ a ∷ []) keys (one_access n) (told ∷ [])
-  one_holds = (n, a, refl, ap (slice_get (acs ++ a ∷ [])) last ∙ get_last acs a, record { line = line; key = key; op = op; reply = reply }, (ends, refl))
+  one_holds : Holds (acs ++ a ∷ []) known (one_access n) (told ∷ [])
+  one_holds = (n, a, refl, ap (slice_get (acs ++ a ∷ [])) last ∙ get_last acs a, record { line = line; asked = asks; reply = reply }, (ends, refl))
 
-  own_holds : Holds (acs ++ a ∷ []) keys c0 own_accesses
+  own_holds : Holds (acs ++ a ∷ []) known c0 own_accesses
   own_holds = pushed c0 own_accesses (are.each p t c0 at there live)
 
-  before_end : (c : Chain) (ps : List PlacedAccess) → Holds acs keys c ps → (i : ℕ) → c.last ≡ Some i → (one_access n).last ≡ Some i → ⊥
+  before_end : (c : Chain) (ps : List PlacedAccess) → Holds acs known c ps → (i : ℕ) → c.last ≡ Some i → (one_access n).last ≡ Some i → ⊥
   before_end c ps holds i x y =
-      let w = within acs keys c ps holds i x in
+      let w = within acs known c ps holds i x in
       let z : n ≡ i = ap (λ q. unwrap_or q i) y in
       omega (arith, w, z, last)
 
@@ -231,20 +227,20 @@ module _ (base : ℕ) (keys : List (List ℕ)) (h : History) (e : Entry) (tree :
   accesses_are u = ap (λ x. with_access u x (base + suc (length h)) (accesses_of base h)) does
 
   abbrev Spot : ℕ → Name → Chain → Type 0
-  Spot = Either tree is (acs ++ a ∷ []) keys chains p t c0 (one_access n) own_accesses (told ∷ []) at there own_holds one_holds (before_end c0 own_accesses (are.each p t c0 at there live))
+  Spot = Either tree is (acs ++ a ∷ []) known chains p t c0 (one_access n) own_accesses (told ∷ []) at there own_holds one_holds (before_end c0 own_accesses (are.each p t c0 at there live))
 
   each_now : (l : ℕ) (u : Name) (c : Chain) → Spot l u c → slice_get (places tree) l ≡ Some u → is_live_in tree u ≡ true
-      → Holds (led (acs ++ a ∷ []) c0.last (Some n)) keys c (reverse (accesses_of base (e ∷ h) u))
+      → Holds (led (acs ++ a ∷ []) c0.last (Some n)) known c (reverse (accesses_of base (e ∷ h) u))
   each_now l u c (Here same this new) b alive =
       let all : accesses_of base (e ∷ h) u ≡ told ∷ accesses_of base h t =
       accesses_are u ∙ ap (λ v. cond (path_eq t v) (told ∷ accesses_of base h v) (accesses_of base h v)) this ∙ ap (λ q. cond q (told ∷ accesses_of base h t) (accesses_of base h t)) (path_eq_self t) in
-      subst (λ (x : Chain). Holds (led (acs ++ a ∷ []) c0.last (Some n)) keys x (reverse (accesses_of base (e ∷ h) u))) (sym new)
-      (subst (λ (ps : List PlacedAccess). Holds (led (acs ++ a ∷ []) c0.last (Some n)) keys (joined c0 (one_access n)) ps) (sym (ap (λ (ps : List PlacedAccess). reverse ps) all ∙ reverse_first told (accesses_of base h t)))
-      (joined_holds tree is (acs ++ a ∷ []) keys chains p t c0 (one_access n) own_accesses (told ∷ []) at there own_holds one_holds (before_end c0 own_accesses (are.each p t c0 at there live))))
+      subst (λ (x : Chain). Holds (led (acs ++ a ∷ []) c0.last (Some n)) known x (reverse (accesses_of base (e ∷ h) u))) (sym new)
+      (subst (λ (ps : List PlacedAccess). Holds (led (acs ++ a ∷ []) c0.last (Some n)) known (joined c0 (one_access n)) ps) (sym (ap (λ (ps : List PlacedAccess). reverse ps) all ∙ reverse_first told (accesses_of base h t)))
+      (joined_holds tree is (acs ++ a ∷ []) known chains p t c0 (one_access n) own_accesses (told ∷ []) at there own_holds one_holds (before_end c0 own_accesses (are.each p t c0 at there live))))
   each_now l u c (There apart differ old) b alive =
       let all : accesses_of base (e ∷ h) u ≡ accesses_of base h u = accesses_are u ∙ ap (λ q. cond q (told ∷ accesses_of base h u) (accesses_of base h u)) differ in
-      subst (λ (ps : List PlacedAccess). Holds (led (acs ++ a ∷ []) c0.last (Some n)) keys c (reverse ps)) (sym all)
-      (aside_holds tree is (acs ++ a ∷ []) keys chains p t c0 (one_access n) own_accesses (told ∷ []) at there own_holds one_holds (before_end c0 own_accesses (are.each p t c0 at there live))
+      subst (λ (ps : List PlacedAccess). Holds (led (acs ++ a ∷ []) c0.last (Some n)) known c (reverse ps)) (sym all)
+      (aside_holds tree is (acs ++ a ∷ []) known chains p t c0 (one_access n) own_accesses (told ∷ []) at there own_holds one_holds (before_end c0 own_accesses (are.each p t c0 at there live))
       c (reverse (accesses_of base h u)) (pushed c (reverse (accesses_of base h u)) (are.each l u c b old alive)) (λ i x y. apart (are.apart l p u t c c0 i b at old there alive live y x)))
 
   apart_now : (l m : ℕ) (u v : Name) (c d : Chain) (i : ℕ) → Spot l u c → Spot m v d → slice_get (places tree) l ≡ Some u → slice_get (places tree) m ≡ Some v
@@ -257,9 +253,9 @@ module _ (base : ℕ) (keys : List (List ℕ)) (h : History) (e : Entry) (tree :
       absurd (before_end c (reverse (accesses_of base h u)) (are.each l u c b g w) i x (sym (ap (λ (q : Chain). q.last) g2) ∙ y))
 
   spot : (l : ℕ) (u : Name) (c : Chain) → slice_get (places tree) l ≡ Some u → slice_get (update_at chains p (λ q. joined q (one_access n))) l ≡ Some c → Spot l u c
-  spot = either tree is (acs ++ a ∷ []) keys chains p t c0 (one_access n) own_accesses (told ∷ []) at there own_holds one_holds (before_end c0 own_accesses (are.each p t c0 at there live))
+  spot = either tree is (acs ++ a ∷ []) known chains p t c0 (one_access n) own_accesses (told ∷ []) at there own_holds one_holds (before_end c0 own_accesses (are.each p t c0 at there live))
 
-  pub chains_accessed : AreChainsOf base keys (e ∷ h) tree (led (acs ++ a ∷ []) c0.last (Some n)) (update_at chains p (λ q. joined q (one_access n)))
+  pub chains_accessed : AreChainsOf base known (e ∷ h) tree (led (acs ++ a ∷ []) c0.last (Some n)) (update_at chains p (λ q. joined q (one_access n)))
   chains_accessed = record {
     level = length_updated chains p (λ q. joined q (one_access n)) ∙ are.level;
     each = λ l u c b f alive. each_now l u c (spot l u c b f) b alive;
@@ -277,8 +273,8 @@ module _ (base : ℕ) (keys : List (List ℕ)) (h : History) (e : Entry) (tree :
 
 -- ---- a commit
 
-module _ (base : ℕ) (keys : List (List ℕ)) (h : History) (e : Entry) (old new : States) (is : IsTree old) (acs : List Access) (chains : List Chain) (k0 p : ℕ) (t : Name)
-    (are : AreChainsOf base keys h old acs chains) (at0 : slice_get (places old) k0 ≡ Some t) (at : slice_get (places old) p ≡ Some (parent t)) (named : 0 < length t)
+module _ (base : ℕ) (known : Known) (h : History) (e : Entry) (old new : States) (is : IsTree old) (acs : List Access) (chains : List Chain) (k0 p : ℕ) (t : Name)
+    (are : AreChainsOf base known h old acs chains) (at0 : slice_get (places old) k0 ≡ Some t) (at : slice_get (places old) p ≡ Some (parent t)) (named : 0 < length t)
     (live : is_live_in old t ≡ true) (above : is_live_in old (parent t) ≡ true) (does : effect e ≡ Commits t)
     (same_names : names new ≡ names old) (sets : (u : Name) → status_in new u ≡ cond (path_eq t u) state.Committed (status_in old u))
     (c0 d : Chain) (there : slice_get chains p ≡ Some c0) (own : slice_get chains k0 ≡ Some d) where
@@ -297,10 +293,10 @@ module _ (base : ℕ) (keys : List (List ℕ)) (h : History) (e : Entry) (old ne
   ends_apart : (i : ℕ) → c0.last ≡ Some i → d.last ≡ Some i → ⊥
   ends_apart i x y = two_places (are.apart k0 p t (parent t) d c0 i at0 at own there live above y x)
 
-  holds0 : Holds acs keys c0 theirs
+  holds0 : Holds acs known c0 theirs
   holds0 = are.each p (parent t) c0 at there above
 
-  more0 : Holds acs keys d mine
+  more0 : Holds acs known d mine
   more0 = are.each k0 t d at0 own live
 
   accesses_now : (u : Name) → accesses_of base (e ∷ h) u ≡ cond (path_eq (parent t) u) (accesses_of base h t ++ accesses_of base h u) (accesses_of base h u)
@@ -317,31 +313,31 @@ module _ (base : ℕ) (keys : List (List ℕ)) (h : History) (e : Entry) (old ne
   was_at k u a = ap (λ ns. slice_get ([] ∷ ns) k) (sym same_names) ∙ a
 
   abbrev Point : ℕ → Name → Chain → Type 0
-  Point = Either old is acs keys chains p (parent t) c0 d theirs mine at there holds0 more0 ends_apart
+  Point = Either old is acs known chains p (parent t) c0 d theirs mine at there holds0 more0 ends_apart
 
   point : (l : ℕ) (u : Name) (c : Chain) → slice_get (places old) l ≡ Some u → slice_get (update_at chains p (λ q. joined q d)) l ≡ Some c → Point l u c
-  point = either old is acs keys chains p (parent t) c0 d theirs mine at there holds0 more0 ends_apart
+  point = either old is acs known chains p (parent t) c0 d theirs mine at there holds0 more0 ends_apart
 
   each_then : (l : ℕ) (u : Name) (c : Chain) → Point l u c → slice_get (places old) l ≡ Some u → is_live_in old u ≡ true
-      → Holds (led acs c0.last d.first) keys c (reverse (accesses_of base (e ∷ h) u))
+      → Holds (led acs c0.last d.first) known c (reverse (accesses_of base (e ∷ h) u))
   each_then l u c (Here same this now) b alive =
       let all : accesses_of base (e ∷ h) u ≡ accesses_of base h t ++ accesses_of base h (parent t) =
       accesses_now u ∙ ap (λ v. cond (path_eq (parent t) v) (accesses_of base h t ++ accesses_of base h v) (accesses_of base h v)) this
       ∙ ap (λ q. cond q (accesses_of base h t ++ accesses_of base h (parent t)) (accesses_of base h (parent t))) (path_eq_self (parent t)) in
-      subst (λ (x : Chain). Holds (led acs c0.last d.first) keys x (reverse (accesses_of base (e ∷ h) u))) (sym now)
-      (subst (λ (ps : List PlacedAccess). Holds (led acs c0.last d.first) keys (joined c0 d) ps)
+      subst (λ (x : Chain). Holds (led acs c0.last d.first) known x (reverse (accesses_of base (e ∷ h) u))) (sym now)
+      (subst (λ (ps : List PlacedAccess). Holds (led acs c0.last d.first) known (joined c0 d) ps)
       (sym (ap (λ (ps : List PlacedAccess). reverse ps) all ∙ reverse-append (accesses_of base h t) (accesses_of base h (parent t))))
-      (joined_holds old is acs keys chains p (parent t) c0 d theirs mine at there holds0 more0 ends_apart))
+      (joined_holds old is acs known chains p (parent t) c0 d theirs mine at there holds0 more0 ends_apart))
   each_then l u c (There apart differ kept) b alive =
       let all : accesses_of base (e ∷ h) u ≡ accesses_of base h u = accesses_now u ∙ ap (λ q. cond q (accesses_of base h t ++ accesses_of base h u) (accesses_of base h u)) differ in
-      subst (λ (ps : List PlacedAccess). Holds (led acs c0.last d.first) keys c (reverse ps)) (sym all)
-      (aside_holds old is acs keys chains p (parent t) c0 d theirs mine at there holds0 more0 ends_apart
+      subst (λ (ps : List PlacedAccess). Holds (led acs c0.last d.first) known c (reverse ps)) (sym all)
+      (aside_holds old is acs known chains p (parent t) c0 d theirs mine at there holds0 more0 ends_apart
       c (reverse (accesses_of base h u)) (are.each l u c b kept alive) (λ i x y. apart (are.apart l p u (parent t) c c0 i b at kept there alive above y x)))
 
   -- the longer chain ends where none of the others does
   alone : (m : ℕ) (v : Name) (f : Chain) (i : ℕ) → (m ≡ p → ⊥) → path_eq t v ≡ false → slice_get chains m ≡ Some f → slice_get (places old) m ≡ Some v → is_live_in old v ≡ true
       → (joined c0 d).last ≡ Some i → f.last ≡ Some i → ⊥
-  alone m v f i apart other kept b alive x y = by (joined_last old is acs keys chains p (parent t) c0 d theirs mine at there holds0 more0 ends_apart i x)
+  alone m v f i apart other kept b alive x y = by (joined_last old is acs known chains p (parent t) c0 d theirs mine at there holds0 more0 ends_apart i x)
     where
       by : (d.last ≡ Some i) ⊎ (c0.last ≡ Some i) → ⊥
       by (inl z) =
@@ -359,7 +355,7 @@ module _ (base : ℕ) (keys : List (List ℕ)) (h : History) (e : Entry) (old ne
   apart_then l m u v c f i (There s g j) (Here s2 g2 j2) b b2 w w2 x y =
       absurd (alone l u c i s (still u w).0 j b (still u w).1 (sym (ap (λ (q : Chain). q.last) j2) ∙ y) x)
 
-  pub chains_committed : AreChainsOf base keys (e ∷ h) new (led acs c0.last d.first) (update_at chains p (λ q. joined q d))
+  pub chains_committed : AreChainsOf base known (e ∷ h) new (led acs c0.last d.first) (update_at chains p (λ q. joined q d))
   chains_committed = record {
     level = length_updated chains p (λ q. joined q d) ∙ are.level ∙ ap (λ ns. suc (length ns)) (sym same_names);
     each = λ l u c b f alive. each_then l u c (point l u c (was_at l u b) f) (was_at l u b) (still u alive).1;

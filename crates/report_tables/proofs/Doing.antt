@@ -17,6 +17,7 @@ use Rattle.txn_tree.proofs.Children.{any_counted}
 use Rattle.txn_tree.proofs.Orphans.{active_parts, front_last}
 use Rattle.serial_spec.specs.declared.limits.TheConstants.{MOST_TRANSACTIONS}
 use Rattle.serial_spec.specs.declared.entry.Entry.{Entry}
+use Rattle.serial_spec.specs.declared.target.Asked.{Asked}
 use Rattle.serial_spec.specs.declared.entry.Refusal.TheVariants.{Used, NoParent, Orphan, Full}
 use Rattle.serial_spec.specs.Allowed.{has_live_child, when}
 use Rattle.serial_spec.specs.History.{Name, History, Begins, Accesses, Commits, Aborts, Nothing, Absent, Live, Committed, Aborted, begun, effect, has_aborted, has_begun, has_committed, is_absent, is_active, is_live, is_live_status, or_else, status}
@@ -25,9 +26,10 @@ use Rattle.report_check.specs.Serving.{accesses_of, with_access}
 use Rattle.report_check.proofs.Grown.{IsGrown, IsNamed, grown_more}
 use Rattle.report_tables.specs.Told.{AreChainsOf, AreTransactionsOf, IsTreeOf, places}
 use Rattle.report_tables.specs.declared.transactions.Transactions.{Transactions}
-use Rattle.report_tables.specs.Chained.{chain_in, joined, led, no_chain, one_access}
+use Rattle.report_tables.specs.Chained.{Asks, Known, chain_in, joined, led, no_chain, one_access}
 use Rattle.report_tables.specs.declared.chains.Access.{Access}
 use Rattle.report_tables.specs.declared.chains.Chain.{Chain}
+use Rattle.report_tables.proofs.Leading.{AsksStill}
 use Rattle.report_tables.proofs.Appending.{chains_accessed, chains_begun, chains_committed, chains_kept, chains_roomy}
 use Rattle.report_tables.proofs.Trees.{absent_in, active_in, acts_as, counted, live_in, same_children, tree_aborts, tree_accessed, tree_begins, tree_commits, tree_idle}
 
@@ -100,16 +102,16 @@ also_at (x ∷ xs) (z ∷ ys) (suc p) y level at = also_at xs ys p y (omega (ari
 
 -- ---- one entry more
 
-module _ (base : ℕ) (keys : List (List ℕ)) (h : History) (x y : Transactions) (e : Entry) (are : AreTransactionsOf base keys h x) where
-  in_chains_by : (acs : List Access) (cs : List Chain) → y.accesses.items ≡ acs → y.chains.items ≡ cs → AreChainsOf base keys (e ∷ h) y.tree acs cs
-      → AreChainsOf base keys (e ∷ h) y.tree y.accesses.items y.chains.items
+module _ (base : ℕ) (known : Known) (h : History) (x y : Transactions) (e : Entry) (are : AreTransactionsOf base known h x) where
+  in_chains_by : (acs : List Access) (cs : List Chain) → y.accesses.items ≡ acs → y.chains.items ≡ cs → AreChainsOf base known (e ∷ h) y.tree acs cs
+      → AreChainsOf base known (e ∷ h) y.tree y.accesses.items y.chains.items
   in_chains_by acs cs same_acs same_cs chains =
-      subst (λ (z : List Access). AreChainsOf base keys (e ∷ h) y.tree z y.chains.items) (sym same_acs)
-      (subst (λ (z : List Chain). AreChainsOf base keys (e ∷ h) y.tree acs z) (sym same_cs) chains)
+      subst (λ (z : List Access). AreChainsOf base known (e ∷ h) y.tree z y.chains.items) (sym same_acs)
+      (subst (λ (z : List Chain). AreChainsOf base known (e ∷ h) y.tree acs z) (sym same_cs) chains)
 
   pub done_begin : (t : Name) → IsName t → IsTree x.tree → cause_at_begin x.tree t ≡ None → effect e ≡ Begins t → y.tree ≡ x.tree ++ (t, state.Live) ∷ []
       → ((u : Name) → status_in y.tree u ≡ cond (path_eq t u) state.Live (status_in x.tree u))
-      → y.accesses.items ≡ x.accesses.items → y.chains.items ≡ x.chains.items ++ no_chain ∷ [] → AreTransactionsOf base keys (e ∷ h) y
+      → y.accesses.items ≡ x.accesses.items → y.chains.items ≡ x.chains.items ++ no_chain ∷ [] → AreTransactionsOf base known (e ∷ h) y
   done_begin t name is free does last sets same_acs more_chains =
       let may : may_do h (Begins t) ≡ true = sym (begin_is h x.tree are.in_tree t) ∙ ap is_none free in
       let more : names y.tree ≡ names x.tree ++ t ∷ [] = ap names last ∙ keys-push x.tree t state.Live in
@@ -118,29 +120,29 @@ module _ (base : ℕ) (keys : List (List ℕ)) (h : History) (x y : Transactions
         in_tree = tree_begins h e x.tree y.tree are.in_tree t does may name.some more sets;
         grown = grown_more h e are.grown (ap (may_do h) does ∙ may) (subst IsNamed (sym does) name.some);
         in_chains = in_chains_by x.accesses.items (x.chains.items ++ no_chain ∷ []) same_acs more_chains
-            (chains_begun base keys h e x.tree y.tree x.accesses.items x.chains.items t are.in_chains is name (absent_in h x.tree are.in_tree t ∙ parts.0) does more sets);
+            (chains_begun base known h e x.tree y.tree x.accesses.items x.chains.items t are.in_chains is name (absent_in h x.tree are.in_tree t ∙ parts.0) does more sets);
       }
 
-  pub done_idle : effect e ≡ Nothing → y.tree ≡ x.tree → y.accesses.items ≡ x.accesses.items → y.chains.items ≡ x.chains.items → AreTransactionsOf base keys (e ∷ h) y
+  pub done_idle : effect e ≡ Nothing → y.tree ≡ x.tree → y.accesses.items ≡ x.accesses.items → y.chains.items ≡ x.chains.items → AreTransactionsOf base known (e ∷ h) y
   done_idle does same_tree same_acs same_cs = record {
     in_tree = subst (IsTreeOf (e ∷ h)) (sym same_tree) (tree_idle h e x.tree are.in_tree does);
     grown = grown_more h e are.grown (ap (may_do h) does) (subst IsNamed (sym does) tt);
     in_chains = in_chains_by x.accesses.items x.chains.items same_acs same_cs
-        (chains_kept base keys h e x.tree y.tree x.accesses.items x.chains.items are.in_chains (ap names same_tree)
+        (chains_kept base known h e x.tree y.tree x.accesses.items x.chains.items are.in_chains (ap names same_tree)
         (λ t live. ap (λ s. is_live_in s t) (sym same_tree) ∙ live) (λ t gone. ap (λ s. is_absent_in s t) (sym same_tree) ∙ gone)
         (λ t. ap (λ z. with_access t z (base + suc (length h)) (accesses_of base h)) does));
   }
 
   pub done_abort : (t : Name) → IsName t → is_active_in x.tree t ≡ true → effect e ≡ Aborts t → names y.tree ≡ names x.tree
       → ((u : Name) → status_in y.tree u ≡ cond (path_eq t u) state.Aborted (status_in x.tree u))
-      → y.accesses.items ≡ x.accesses.items → y.chains.items ≡ x.chains.items → AreTransactionsOf base keys (e ∷ h) y
+      → y.accesses.items ≡ x.accesses.items → y.chains.items ≡ x.chains.items → AreTransactionsOf base known (e ∷ h) y
   done_abort t name active does same_names sets same_acs same_cs =
       let may : may_do h (Aborts t) ≡ true = sym (active_in h x.tree are.in_tree t) ∙ active in
       record {
         in_tree = tree_aborts h e x.tree y.tree are.in_tree t does may name.some same_names sets;
         grown = grown_more h e are.grown (ap (may_do h) does ∙ may) (subst IsNamed (sym does) tt);
         in_chains = in_chains_by x.accesses.items x.chains.items same_acs same_cs
-            (chains_kept base keys h e x.tree y.tree x.accesses.items x.chains.items are.in_chains same_names
+            (chains_kept base known h e x.tree y.tree x.accesses.items x.chains.items are.in_chains same_names
             (λ u live. lived (path_eq t u) (status_in x.tree u) (sym (ap is_live_state (sets u)) ∙ live))
             (λ u gone. lacked (path_eq t u) (status_in x.tree u) (sym (ap is_absent_state (sets u)) ∙ gone))
             (λ u. ap (λ z. with_access u z (base + suc (length h)) (accesses_of base h)) does));
@@ -154,28 +156,28 @@ module _ (base : ℕ) (keys : List (List ℕ)) (h : History) (x y : Transactions
       lacked true s g = absurd (false≢true g)
       lacked false s g = g
 
-  pub done_access : (t : Name) (k : List ℕ) (p n : ℕ) (a : Access) → IsTree x.tree → slice_get (places x.tree) p ≡ Some t → is_active_in x.tree t ≡ true
-      → effect e ≡ Accesses t k a.op a.reply → a.line ≡ base + suc (length h) → slice_get keys a.key ≡ Some k → a.next ≡ None → n ≡ length x.accesses.items → y.tree ≡ x.tree
+  pub done_access : (t : Name) (q : Asked) (p n : ℕ) (a : Access) → IsTree x.tree → slice_get (places x.tree) p ≡ Some t → is_active_in x.tree t ≡ true
+      → effect e ≡ Accesses t q a.reply → a.line ≡ base + suc (length h) → Asks known a.asked q → a.next ≡ None → n ≡ length x.accesses.items → y.tree ≡ x.tree
       → y.accesses.items ≡ led (x.accesses.items ++ a ∷ []) (chain_in (slice_get x.chains.items p)).last (Some n)
-      → y.chains.items ≡ update_at x.chains.items p (λ q. joined q (one_access n)) → AreTransactionsOf base keys (e ∷ h) y
-  done_access t k p n a is at active does line key ends last same_tree new_acs new_cs =
-      let may : may_do h (Accesses t k a.op a.reply) ≡ true = sym (active_in h x.tree are.in_tree t) ∙ active in
+      → y.chains.items ≡ update_at x.chains.items p (λ q. joined q (one_access n)) → AreTransactionsOf base known (e ∷ h) y
+  done_access t q p n a is at active does line asks ends last same_tree new_acs new_cs =
+      let may : may_do h (Accesses t q a.reply) ≡ true = sym (active_in h x.tree are.in_tree t) ∙ active in
       let c0 = also_at x.chains.items (places x.tree) p t are.in_chains.level at in
       let live = (active_parts x.tree t active).0 in
       record {
-        in_tree = subst (IsTreeOf (e ∷ h)) (sym same_tree) (tree_accessed h e x.tree are.in_tree t k a.op a.reply does may);
+        in_tree = subst (IsTreeOf (e ∷ h)) (sym same_tree) (tree_accessed h e x.tree are.in_tree t q a.reply does may);
         grown = grown_more h e are.grown (ap (may_do h) does ∙ may) (subst IsNamed (sym does) tt);
         in_chains = in_chains_by (led (x.accesses.items ++ a ∷ []) c0.0.last (Some n)) (update_at x.chains.items p (λ q. joined q (one_access n)))
             (new_acs ∙ ap (λ o. led (x.accesses.items ++ a ∷ []) (chain_in o).last (Some n)) c0.1) new_cs
-            (subst (λ s. AreChainsOf base keys (e ∷ h) s (led (x.accesses.items ++ a ∷ []) c0.0.last (Some n)) (update_at x.chains.items p (λ q. joined q (one_access n)))) (sym same_tree)
-            (chains_accessed base keys h e x.tree is x.accesses.items x.chains.items p t k a.op a.reply a n are.in_chains at live does line key refl refl ends last c0.0 c0.1));
+            (subst (λ s. AreChainsOf base known (e ∷ h) s (led (x.accesses.items ++ a ∷ []) c0.0.last (Some n)) (update_at x.chains.items p (λ q. joined q (one_access n)))) (sym same_tree)
+            (chains_accessed base known h e x.tree is x.accesses.items x.chains.items p t q a.reply a n are.in_chains at live does line asks refl ends last c0.0 c0.1));
       }
 
   pub done_commit : (t : Name) (k0 p : ℕ) → IsName t → IsTree x.tree → slice_get (places x.tree) k0 ≡ Some t → slice_get (places x.tree) p ≡ Some (parent t) → is_active_in x.tree t ≡ true
       → live_children_of x.tree t ≡ 0 → effect e ≡ Commits t → names y.tree ≡ names x.tree
       → ((u : Name) → status_in y.tree u ≡ cond (path_eq t u) state.Committed (status_in x.tree u))
       → y.accesses.items ≡ led x.accesses.items (chain_in (slice_get x.chains.items p)).last (chain_in (slice_get x.chains.items k0)).first
-      → y.chains.items ≡ update_at x.chains.items p (λ q. joined q (chain_in (slice_get x.chains.items k0))) → AreTransactionsOf base keys (e ∷ h) y
+      → y.chains.items ≡ update_at x.chains.items p (λ q. joined q (chain_in (slice_get x.chains.items k0))) → AreTransactionsOf base known (e ∷ h) y
   done_commit t k0 p name is at0 at active none does same_names sets new_acs new_cs =
       let may : may_do h (Commits t) ≡ true = and_from _ _ (sym (active_in h x.tree are.in_tree t) ∙ active) (ap not (children_are h x.tree are.in_tree t ∙ ap (λ n. nat_lt 0 n) none)) in
       let c0 = also_at x.chains.items (places x.tree) p (parent t) are.in_chains.level at in
@@ -187,9 +189,10 @@ module _ (base : ℕ) (keys : List (List ℕ)) (h : History) (x y : Transactions
         in_chains = in_chains_by (led x.accesses.items c0.0.last d.0.first) (update_at x.chains.items p (λ q. joined q d.0))
             (new_acs ∙ ap (λ o. led x.accesses.items (chain_in o).last (chain_in (slice_get x.chains.items k0)).first) c0.1 ∙ ap (λ o. led x.accesses.items c0.0.last (chain_in o).first) d.1)
             (new_cs ∙ ap (λ o. update_at x.chains.items p (λ q. joined q (chain_in o))) d.1)
-            (chains_committed base keys h e x.tree y.tree is x.accesses.items x.chains.items k0 p t are.in_chains at0 at name.some live
+            (chains_committed base known h e x.tree y.tree is x.accesses.items x.chains.items k0 p t are.in_chains at0 at name.some live
             (parent_lives h x.tree are.in_tree t are.grown name.some active) does same_names sets c0.0 d.0 c0.1 d.1);
       }
 
-pub roomy : (base : ℕ) (keys more : List (List ℕ)) (h : History) (x : Transactions) → AreTransactionsOf base keys h x → AreTransactionsOf base (keys ++ more) h x
-roomy base keys more h x are = record { in_tree = are.in_tree; grown = are.grown; in_chains = chains_roomy base keys more h x.tree x.accesses.items x.chains.items are.in_chains }
+pub roomy : (base : ℕ) (known more : Known) (h : History) (x : Transactions) → AsksStill known more → AreTransactionsOf base known h x → AreTransactionsOf base more h x
+roomy base known more h x still are =
+    record { in_tree = are.in_tree; grown = are.grown; in_chains = chains_roomy base known more h x.tree x.accesses.items x.chains.items still are.in_chains }

@@ -5,9 +5,13 @@ use Rattle.std.specs.Option.{option_or}
 use Rattle.txn_tree.specs.Linked.{update_at}
 use Rattle.txn_tree.proofs.Places.{get_front}
 use Rattle.report_check.specs.Serving.{PlacedAccess}
-use Rattle.report_tables.specs.Chained.{IsPlaced, Leads, chain_in, joined, leading_to, led}
+use Rattle.serial_spec.specs.declared.target.Asked.{Asked}
+use Rattle.serial_spec.specs.declared.target.Asked.TheVariants as asked
+use Rattle.report_tables.specs.Chained.{Asks, IsPlaced, Known, Leads, chain_in, joined, leading_to, led}
 use Rattle.report_tables.specs.declared.chains.Access.{Access}
 use Rattle.report_tables.specs.declared.chains.Chain.{Chain}
+use Rattle.report_tables.specs.declared.chains.ByNumber.{ByNumber}
+use Rattle.report_tables.specs.declared.chains.ByNumber.TheVariants.{At, Over}
 
 -- ---- an item changed in place
 
@@ -65,27 +69,34 @@ chain_within (x ∷ cs) (suc p) c d within = ap (λ ys. x ∷ ys) (chain_within 
 same_some : {X : Type 0} (x y : X) → Some x ≡ Some y → x ≡ y
 same_some x y e = ap (λ o. unwrap_or o x) e
 
-abbrev Keys : Type 0
-Keys = List (List ℕ)
+-- what stands at the numbers is asked with more behind too
+abbrev pub AsksStill : Known → Known → Type 0
+AsksStill known more = (n : ByNumber) (a : Asked) → Asks known n a → Asks more n a
 
-pub placed_grown : (keys more : Keys) (a : Access) (p : PlacedAccess) → IsPlaced keys a p → IsPlaced (keys ++ more) a p
-placed_grown keys more a p is = record { line = is.line; key = get_front keys more a.key p.key is.key; op = is.op; reply = is.reply }
+pub asks_grown : (ks gs ks2 gs2 : List (List ℕ)) → AsksStill (record { keys = ks; groups = gs }) (record { keys = ks ++ ks2; groups = gs ++ gs2 })
+asks_grown ks gs ks2 gs2 (At i o) (asked.At k q) h = (get_front ks ks2 i k h.0, h.1)
+asks_grown ks gs ks2 gs2 (At i o) (asked.Over g) h = h
+asks_grown ks gs ks2 gs2 (Over i) (asked.At k q) h = h
+asks_grown ks gs ks2 gs2 (Over i) (asked.Over g) h = get_front gs gs2 i g h
 
--- keys and accesses behind the others change nothing
-pub leads_grown : (acs others : List Access) (keys more : Keys) (at b l : Option ℕ) (ps : List PlacedAccess) → Leads acs keys at b l ps → Leads (acs ++ others) (keys ++ more) at b l ps
-leads_grown acs others keys more at b l [] h = h
-leads_grown acs others keys more at b l (p ∷ ps) h =
-    (h.0, h.1, h.2, get_front acs others h.0 h.1 h.3, placed_grown keys more h.1 p h.4, leads_grown acs others keys more h.1.next (Some h.0) l ps h.5)
+pub placed_grown : (known more : Known) (a : Access) (p : PlacedAccess) → AsksStill known more → IsPlaced known a p → IsPlaced more a p
+placed_grown known more a p still is = record { line = is.line; asked = still a.asked p.asked is.asked; reply = is.reply }
+
+-- keys, groups and accesses behind the others change nothing
+pub leads_grown : (acs others : List Access) (known more : Known) → AsksStill known more → (at b l : Option ℕ) (ps : List PlacedAccess) → Leads acs known at b l ps → Leads (acs ++ others) more at b l ps
+leads_grown acs others known more still at b l [] h = h
+leads_grown acs others known more still at b l (p ∷ ps) h =
+    (h.0, h.1, h.2, get_front acs others h.0 h.1 h.3, placed_grown known more h.1 p still h.4, leads_grown acs others known more still h.1.next (Some h.0) l ps h.5)
 
 -- nothing is led to from nowhere
-nowhere : (acs : List Access) (keys : Keys) (b l : Option ℕ) (ps : List PlacedAccess) → Leads acs keys None b l ps → (l ≡ b) × (ps ≡ [])
-nowhere acs keys b l [] h = (h.1, refl)
-nowhere acs keys b l (p ∷ ps) h = cc
+nowhere : (acs : List Access) (known : Known) (b l : Option ℕ) (ps : List PlacedAccess) → Leads acs known None b l ps → (l ≡ b) × (ps ≡ [])
+nowhere acs known b l [] h = (h.1, refl)
+nowhere acs known b l (p ∷ ps) h = cc
 
 -- from somewhere, it does not matter what stands before
-behind : (acs : List Access) (keys : Keys) (n : ℕ) (b b2 l : Option ℕ) (ps : List PlacedAccess) → Leads acs keys (Some n) b l ps → Leads acs keys (Some n) b2 l ps
-behind acs keys n b b2 l [] h = cc
-behind acs keys n b b2 l (p ∷ ps) h = h
+behind : (acs : List Access) (known : Known) (n : ℕ) (b b2 l : Option ℕ) (ps : List PlacedAccess) → Leads acs known (Some n) b l ps → Leads acs known (Some n) b2 l ps
+behind acs known n b b2 l [] h = cc
+behind acs known n b b2 l (p ∷ ps) h = h
 
 -- the last access leads nowhere
 pub record IsLastAt (acs : List Access) (l : Option ℕ) : Type 0 where
@@ -95,11 +106,11 @@ pub record IsLastAt (acs : List Access) (l : Option ℕ) : Type 0 where
   pub found : slice_get acs place ≡ Some access
   pub ends : access.next ≡ None
 
-pub last_at : (acs : List Access) (keys : Keys) (at b l : Option ℕ) (p : PlacedAccess) (ps : List PlacedAccess) → Leads acs keys at b l (p ∷ ps) → IsLastAt acs l
-last_at acs keys at b l p [] h = record { place = h.0; access = h.1; last = h.5.1; found = h.3; ends = h.5.0 }
-last_at acs keys at b l p (q ∷ ps) h = last_at acs keys h.1.next (Some h.0) l q ps h.5
+pub last_at : (acs : List Access) (known : Known) (at b l : Option ℕ) (p : PlacedAccess) (ps : List PlacedAccess) → Leads acs known at b l (p ∷ ps) → IsLastAt acs l
+last_at acs known at b l p [] h = record { place = h.0; access = h.1; last = h.5.1; found = h.3; ends = h.5.0 }
+last_at acs known at b l p (q ∷ ps) h = last_at acs known h.1.next (Some h.0) l q ps h.5
 
-module _ (acs : List Access) (keys : Keys) (j : ℕ) (x : Access) (found : slice_get acs j ≡ Some x) (ends : x.next ≡ None) where
+module _ (acs : List Access) (known : Known) (j : ℕ) (x : Access) (found : slice_get acs j ≡ Some x) (ends : x.next ≡ None) where
   is_same : (i : ℕ) (a : Access) → slice_get acs i ≡ Some a → i ≡ j → a ≡ x
   is_same i a at same = same_some a x (sym at ∙ ap (slice_get acs) same ∙ found)
 
@@ -107,18 +118,18 @@ module _ (acs : List Access) (keys : Keys) (j : ℕ) (x : Access) (found : slice
   ended i a at same = ap (λ (y : Access). y.next) (is_same i a at same) ∙ ends
 
   -- what does not end there is as it was
-  pub leads_beside : (f : Access → Access) (at b l : Option ℕ) (ps : List PlacedAccess) → (l ≡ Some j → ⊥) → Leads acs keys at b l ps → Leads (update_at acs j f) keys at b l ps
+  pub leads_beside : (f : Access → Access) (at b l : Option ℕ) (ps : List PlacedAccess) → (l ≡ Some j → ⊥) → Leads acs known at b l ps → Leads (update_at acs j f) known at b l ps
   leads_beside f at b l [] apart h = h
   leads_beside f at b l (p ∷ ps) apart h =
       let other : j ≡ h.0 → ⊥ = λ e.
       let none = ended h.0 h.1 h.3 (sym e) in
-      let rest = nowhere acs keys (Some h.0) l ps (subst (λ (o : Option ℕ). Leads acs keys o (Some h.0) l ps) none h.5) in
+      let rest = nowhere acs known (Some h.0) l ps (subst (λ (o : Option ℕ). Leads acs known o (Some h.0) l ps) none h.5) in
       apart (rest.0 ∙ ap Some (sym e)) in
       (h.0, h.1, h.2, changed_elsewhere acs j h.0 f other ∙ h.3, h.4, leads_beside f h.1.next (Some h.0) l ps apart h.5)
 
   -- and what ends there goes on
-  pub leads_on : (n : ℕ) (at b l : Option ℕ) (p : PlacedAccess) (ps qs : List PlacedAccess) → Leads acs keys at b (Some j) (p ∷ ps)
-      → Leads (update_at acs j (leading_to (Some n))) keys (Some n) (Some j) l qs → Leads (update_at acs j (leading_to (Some n))) keys at b l (p ∷ (ps ++ qs))
+  pub leads_on : (n : ℕ) (at b l : Option ℕ) (p : PlacedAccess) (ps qs : List PlacedAccess) → Leads acs known at b (Some j) (p ∷ ps)
+      → Leads (update_at acs j (leading_to (Some n))) known (Some n) (Some j) l qs → Leads (update_at acs j (leading_to (Some n))) known at b l (p ∷ (ps ++ qs))
   leads_on n at b l p [] qs h more =
       let same : j ≡ h.0 = same_some j h.0 h.5.1 in
       let new = changed_here acs h.0 (leading_to (Some n)) h.1 h.3 in (
@@ -126,8 +137,8 @@ module _ (acs : List Access) (keys : Keys) (j : ℕ) (x : Access) (found : slice
         leading_to (Some n) h.1,
         h.2,
         ap (λ k. slice_get (update_at acs k (leading_to (Some n))) h.0) same ∙ new,
-        record { line = h.4.line; key = h.4.key; op = h.4.op; reply = h.4.reply },
-        subst (λ k. Leads (update_at acs j (leading_to (Some n))) keys (Some n) (Some k) l qs) same more,
+        record { line = h.4.line; asked = h.4.asked; reply = h.4.reply },
+        subst (λ k. Leads (update_at acs j (leading_to (Some n))) known (Some n) (Some k) l qs) same more,
       )
   leads_on n at b l p (q ∷ ps) qs h more =
       let other : j ≡ h.0 → ⊥ = λ e.
@@ -148,38 +159,38 @@ append_none [] = refl
 append_none (x ∷ xs) = ap (λ ys. x ∷ ys) (append_none xs)
 
 -- one chain behind another that ends elsewhere
-pub leads_joined : (acs : List Access) (keys : Keys) (cf cl df dl : Option ℕ) (ps qs : List PlacedAccess) → Leads acs keys cf None cl ps → Leads acs keys df None dl qs
-    → ((i : ℕ) → cl ≡ Some i → dl ≡ Some i → ⊥) → Leads (led acs cl df) keys (option_or cf df) None (option_or dl cl) (ps ++ qs)
-leads_joined acs keys cf cl df dl [] qs h g apart = rw (h.0, h.1, or_none dl) g
-leads_joined acs keys cf cl df dl (p ∷ ps) [] h g apart =
+pub leads_joined : (acs : List Access) (known : Known) (cf cl df dl : Option ℕ) (ps qs : List PlacedAccess) → Leads acs known cf None cl ps → Leads acs known df None dl qs
+    → ((i : ℕ) → cl ≡ Some i → dl ≡ Some i → ⊥) → Leads (led acs cl df) known (option_or cf df) None (option_or dl cl) (ps ++ qs)
+leads_joined acs known cf cl df dl [] qs h g apart = rw (h.0, h.1, or_none dl) g
+leads_joined acs known cf cl df dl (p ∷ ps) [] h g apart =
     let all : List PlacedAccess = (p ∷ ps) ++ [] in
-    subst (λ (z : List Access). Leads z keys (option_or cf df) None (option_or dl cl) all) (sym (ap (led acs cl) g.0 ∙ led_nowhere acs cl))
-    (subst (λ (o : Option ℕ). Leads acs keys o None (option_or dl cl) all) (sym (ap (option_or cf) g.0 ∙ or_none cf))
-    (subst (λ (o : Option ℕ). Leads acs keys cf None o all) (sym (ap (λ o. option_or o cl) g.1))
-    (subst (λ (xs : List PlacedAccess). Leads acs keys cf None cl xs) (sym (append_none (p ∷ ps))) h)))
-leads_joined acs keys cf cl df dl (p ∷ ps) (q ∷ qs) h g apart =
-    let e = last_at acs keys cf None cl p ps h in
-    let f = last_at acs keys df None dl q qs g in
+    subst (λ (z : List Access). Leads z known (option_or cf df) None (option_or dl cl) all) (sym (ap (led acs cl) g.0 ∙ led_nowhere acs cl))
+    (subst (λ (o : Option ℕ). Leads acs known o None (option_or dl cl) all) (sym (ap (option_or cf) g.0 ∙ or_none cf))
+    (subst (λ (o : Option ℕ). Leads acs known cf None o all) (sym (ap (λ o. option_or o cl) g.1))
+    (subst (λ (xs : List PlacedAccess). Leads acs known cf None cl xs) (sym (append_none (p ∷ ps))) h)))
+leads_joined acs known cf cl df dl (p ∷ ps) (q ∷ qs) h g apart =
+    let e = last_at acs known cf None cl p ps h in
+    let f = last_at acs known df None dl q qs g in
     let j = e.place in
     let n = g.0 in
-    let own : Leads acs keys cf None (Some j) (p ∷ ps) = subst (λ (o : Option ℕ). Leads acs keys cf None o (p ∷ ps)) e.last h in
-    let more : Leads (update_at acs j (leading_to (Some n))) keys df None dl (q ∷ qs) =
-    leads_beside acs keys j e.access e.found e.ends (leading_to (Some n)) df None dl (q ∷ qs) (apart j e.last) g in
-    let joined_on = leads_on acs keys j e.access e.found e.ends n cf None dl p ps (q ∷ qs) own
-    (behind (update_at acs j (leading_to (Some n))) keys n None (Some j) dl (q ∷ qs) (subst (λ (o : Option ℕ). Leads (update_at acs j (leading_to (Some n))) keys o None dl (q ∷ qs)) g.2 more)) in
+    let own : Leads acs known cf None (Some j) (p ∷ ps) = subst (λ (o : Option ℕ). Leads acs known cf None o (p ∷ ps)) e.last h in
+    let more : Leads (update_at acs j (leading_to (Some n))) known df None dl (q ∷ qs) =
+    leads_beside acs known j e.access e.found e.ends (leading_to (Some n)) df None dl (q ∷ qs) (apart j e.last) g in
+    let joined_on = leads_on acs known j e.access e.found e.ends n cf None dl p ps (q ∷ qs) own
+    (behind (update_at acs j (leading_to (Some n))) known n None (Some j) dl (q ∷ qs) (subst (λ (o : Option ℕ). Leads (update_at acs j (leading_to (Some n))) known o None dl (q ∷ qs)) g.2 more)) in
     let all : List PlacedAccess = (p ∷ ps) ++ (q ∷ qs) in
-    subst (λ (z : List Access). Leads z keys (option_or cf df) None (option_or dl cl) all) (sym (ap (λ o. led acs o df) e.last ∙ ap (led acs (Some j)) g.2))
-    (subst (λ (o : Option ℕ). Leads (update_at acs j (leading_to (Some n))) keys o None (option_or dl cl) all) (sym (ap (λ o. option_or o df) h.2 ∙ sym h.2))
-    (subst (λ (o : Option ℕ). Leads (update_at acs j (leading_to (Some n))) keys cf None o all) (sym (ap (λ o. option_or o cl) f.last ∙ sym f.last)) joined_on))
+    subst (λ (z : List Access). Leads z known (option_or cf df) None (option_or dl cl) all) (sym (ap (λ o. led acs o df) e.last ∙ ap (led acs (Some j)) g.2))
+    (subst (λ (o : Option ℕ). Leads (update_at acs j (leading_to (Some n))) known o None (option_or dl cl) all) (sym (ap (λ o. option_or o df) h.2 ∙ sym h.2))
+    (subst (λ (o : Option ℕ). Leads (update_at acs j (leading_to (Some n))) known cf None o all) (sym (ap (λ o. option_or o cl) f.last ∙ sym f.last)) joined_on))
 
 -- a chain that ends elsewhere than one that goes on is as it was
-pub leads_aside : (acs : List Access) (keys : Keys) (cf cl df bf bl : Option ℕ) (ps rs : List PlacedAccess) → Leads acs keys cf None cl ps → Leads acs keys bf None bl rs
-    → ((i : ℕ) → cl ≡ Some i → bl ≡ Some i → ⊥) → Leads (led acs cl df) keys bf None bl rs
-leads_aside acs keys cf cl df bf bl [] rs h g apart = rw h.1 g
-leads_aside acs keys cf cl None bf bl (p ∷ ps) rs h g apart = rw (led_nowhere acs cl) g
-leads_aside acs keys cf cl (Some n) bf bl (p ∷ ps) rs h g apart =
-    let e = last_at acs keys cf None cl p ps h in
-    rw e.last (leads_beside acs keys e.place e.access e.found e.ends (leading_to (Some n)) bf None bl rs (apart e.place e.last) g)
+pub leads_aside : (acs : List Access) (known : Known) (cf cl df bf bl : Option ℕ) (ps rs : List PlacedAccess) → Leads acs known cf None cl ps → Leads acs known bf None bl rs
+    → ((i : ℕ) → cl ≡ Some i → bl ≡ Some i → ⊥) → Leads (led acs cl df) known bf None bl rs
+leads_aside acs known cf cl df bf bl [] rs h g apart = rw h.1 g
+leads_aside acs known cf cl None bf bl (p ∷ ps) rs h g apart = rw (led_nowhere acs cl) g
+leads_aside acs known cf cl (Some n) bf bl (p ∷ ps) rs h g apart =
+    let e = last_at acs known cf None cl p ps h in
+    rw e.last (leads_beside acs known e.place e.access e.found e.ends (leading_to (Some n)) bf None bl rs (apart e.place e.last) g)
 
 -- a vector that was written to as a slice has what was written
 pub written : {X : Type 0} (xs ys : List X) (n : ℕ) → n ≡ length xs → take n (xs ++ ys) ≡ xs

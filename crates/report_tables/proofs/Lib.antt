@@ -5,6 +5,7 @@ pub mod Leading
 pub mod Numbered
 pub mod Running
 pub mod Speaking
+pub mod Summing
 pub mod Matching
 pub mod Trees
 pub mod Walking

@@ -10,12 +10,11 @@ use Rattle.indexmap.specs.IndexMap.{set_value_at}
 use Rattle.txn_names.specs.Path.{label_eq}
 use Rattle.txn_names.proofs.Names.{same_label}
 use Rattle.txn_history.proofs.Reversed.{newest}
-use Rattle.serial_spec.specs.Operations.{reply_of, value_after}
 use Rattle.serial_spec.specs.Flat.{same_reply}
-use Rattle.serial_spec.specs.Serial.{Map, put}
+use Rattle.serial_spec.specs.Serial.{Map, after_asked, reply_at}
 use Rattle.report_check.specs.Serving.{PlacedAccess, least, map_behind, or_least, wrong_lines}
 use Rattle.report_tables.specs.Valued.{Values, joined, value_at}
-use Rattle.report_tables.specs.Chained.{IsPlaced, Leads}
+use Rattle.report_tables.specs.Chained.{IsPlaced, Known, Leads}
 use Rattle.report_tables.specs.Served.{AreServed, GoesOn, IsToldBy}
 use Rattle.report_tables.specs.declared.chains.Access.{Access}
 use Rattle.report_tables.proofs.Walking.{walk_ends}
@@ -64,20 +63,19 @@ value_put (e ∷ es) (suc i) k q w distinct at = by (label_eq q e.0) refl (value
 
 -- ---- one access more
 
-module _ (old mid new : Values) (done : List PlacedAccess) (wrong told : Option ℕ) (a : Access) (p : PlacedAccess) (ks : List (List ℕ))
-    (served : AreServed done old mid wrong) (placed : IsPlaced ks a p) (one : IsToldBy a p.key mid new wrong told) where
+module _ (old mid new : Values) (done : List PlacedAccess) (wrong told : Option ℕ) (a : Access) (p : PlacedAccess) (known : Known)
+    (served : AreServed done old mid wrong) (placed : IsPlaced known a p) (one : IsToldBy a p.asked mid new wrong told) where
   abbrev m : Map
   m = value_at old
 
   abbrev behind : Map
   behind = map_behind m (reverse done)
 
-  next_map : value_at new ≡ put behind p.key (value_after (behind p.key) p.op)
-  next_map = one.1.values ∙ ap (λ (n : Map). put n p.key (value_after (n p.key) a.op)) served.values ∙ ap (λ o. put behind p.key (value_after (behind p.key) o)) placed.op
+  next_map : value_at new ≡ after_asked behind p.asked
+  next_map = one.1.values ∙ ap (λ (n : Map). after_asked n p.asked) served.values
 
-  fits_is : one.0 ≡ same_reply p.reply (reply_of (behind p.key) p.op)
-  fits_is = one.1.reply ∙ ap (λ (n : Map). same_reply a.reply (reply_of (n p.key) a.op)) served.values ∙ ap (λ o. same_reply a.reply (reply_of (behind p.key) o)) placed.op
-      ∙ ap (λ r. same_reply r (reply_of (behind p.key) p.op)) placed.reply
+  fits_is : one.0 ≡ same_reply p.reply (reply_at behind p.asked)
+  fits_is = one.1.reply ∙ ap (λ (n : Map). same_reply a.reply (reply_at n p.asked)) served.values ∙ ap (λ r. same_reply r (reply_at behind p.asked)) placed.reply
 
   least_by : (b : Bool) (ws : List ℕ) → cond b (least ws) (Some (or_least p.line (least ws))) ≡ least (cond b ws (p.line ∷ ws))
   least_by true ws = refl
@@ -88,7 +86,7 @@ module _ (old mid new : Values) (done : List PlacedAccess) (wrong told : Option 
       one.2 ∙ ap (λ o. cond one.0 o (Some (or_least a.line o))) served.wrong_line
       ∙ ap (λ l. cond one.0 (least (wrong_lines m (reverse done))) (Some (or_least l (least (wrong_lines m (reverse done)))))) placed.line
       ∙ ap (λ b. cond b (least (wrong_lines m (reverse done))) (Some (or_least p.line (least (wrong_lines m (reverse done)))))) fits_is
-      ∙ least_by (same_reply p.reply (reply_of (behind p.key) p.op)) (wrong_lines m (reverse done))
+      ∙ least_by (same_reply p.reply (reply_at behind p.asked)) (wrong_lines m (reverse done))
 
   pub served_more : AreServed (done ++ p ∷ []) old new told
   served_more = record {
@@ -100,28 +98,28 @@ module _ (old mid new : Values) (done : List PlacedAccess) (wrong told : Option 
 -- ---- the walk
 
 -- after so many turns so many are done, unless none is left
-pub record IsUnderWay (acs : List Access) (ks : List (List ℕ)) (last : Option ℕ) (ps : List PlacedAccess) (old : Values) (turn : ℕ) (at : Option ℕ) (now : Values) (wrong : Option ℕ) : Type 0 where
+pub record IsUnderWay (acs : List Access) (known : Known) (last : Option ℕ) (ps : List PlacedAccess) (old : Values) (turn : ℕ) (at : Option ℕ) (now : Values) (wrong : Option ℕ) : Type 0 where
   pub done : List PlacedAccess
   pub rest : List PlacedAccess
   pub before : Option ℕ
   pub all : ps ≡ done ++ rest
-  pub leads : Leads acs ks at before last rest
+  pub leads : Leads acs known at before last rest
   pub served : AreServed done old now wrong
   pub paced : (length done ≡ turn) ⊎ (rest ≡ [])
 
 none_served : (old : Values) → AreServed [] old old None
 none_served old = record { keys = refl; values = refl; wrong_line = refl }
 
-pub under_way_first : (acs : List Access) (ks : List (List ℕ)) (first last : Option ℕ) (ps : List PlacedAccess) (old : Values) → Leads acs ks first None last ps
-    → IsUnderWay acs ks last ps old 0 first old None
-under_way_first acs ks first last ps old leads = record { done = []; rest = ps; before = None; all = refl; leads = leads; served = none_served old; paced = inl refl }
+pub under_way_first : (acs : List Access) (known : Known) (first last : Option ℕ) (ps : List PlacedAccess) (old : Values) → Leads acs known first None last ps
+    → IsUnderWay acs known last ps old 0 first old None
+under_way_first acs known first last ps old leads = record { done = []; rest = ps; before = None; all = refl; leads = leads; served = none_served old; paced = inl refl }
 
-module _ (acs : List Access) (ks : List (List ℕ)) (last : Option ℕ) (ps : List PlacedAccess) (old : Values) (turn : ℕ) (at : Option ℕ) (now new : Values) (wrong : Option ℕ) (r : Option ℕ × Option ℕ) where
-  pub under_way_next : (u : IsUnderWay acs ks last ps old turn at now wrong) → GoesOn acs ks last u.rest now new wrong r → IsUnderWay acs ks last ps old (turn + 1) r.0 new r.1
+module _ (acs : List Access) (known : Known) (last : Option ℕ) (ps : List PlacedAccess) (old : Values) (turn : ℕ) (at : Option ℕ) (now new : Values) (wrong : Option ℕ) (r : Option ℕ × Option ℕ) where
+  pub under_way_next : (u : IsUnderWay acs known last ps old turn at now wrong) → GoesOn acs known last u.rest now new wrong r → IsUnderWay acs known last ps old (turn + 1) r.0 new r.1
   under_way_next u goes = by u.rest u.all u.leads u.paced goes
     where
-      by : (rest : List PlacedAccess) → ps ≡ u.done ++ rest → Leads acs ks at u.before last rest → (length u.done ≡ turn) ⊎ (rest ≡ []) → GoesOn acs ks last rest now new wrong r
-          → IsUnderWay acs ks last ps old (turn + 1) r.0 new r.1
+      by : (rest : List PlacedAccess) → ps ≡ u.done ++ rest → Leads acs known at u.before last rest → (length u.done ≡ turn) ⊎ (rest ≡ []) → GoesOn acs known last rest now new wrong r
+          → IsUnderWay acs known last ps old (turn + 1) r.0 new r.1
       by [] all leads paced goes = record {
         done = u.done;
         rest = [];
@@ -137,7 +135,7 @@ module _ (acs : List Access) (ks : List (List ℕ)) (last : Option ℕ) (ps : Li
         before = Some goes.0;
         all = all ∙ sym (append_more u.done);
         leads = goes.3;
-        served = served_more old now new u.done wrong r.1 goes.1 p ks u.served goes.2 goes.4;
+        served = served_more old now new u.done wrong r.1 goes.1 p known u.served goes.2 goes.4;
         paced = inl (length-append u.done (p ∷ []) ∙ ap (λ n. n + 1) pace);
       }
         where
@@ -147,9 +145,9 @@ module _ (acs : List Access) (ks : List (List ℕ)) (last : Option ℕ) (ps : Li
       by (p ∷ rest) all leads (inr none) goes = cc
 
 -- when the turns are over none is left
-pub under_way_last : (acs : List Access) (ks : List (List ℕ)) (first last : Option ℕ) (ps : List PlacedAccess) (old : Values) (turn : ℕ) (at : Option ℕ) (now : Values) (wrong : Option ℕ)
-    → Leads acs ks first None last ps → length acs ≤ turn → IsUnderWay acs ks last ps old turn at now wrong → AreServed ps old now wrong
-under_way_last acs ks first last ps old turn at now wrong leads over u = by u.rest u.all u.paced
+pub under_way_last : (acs : List Access) (known : Known) (first last : Option ℕ) (ps : List PlacedAccess) (old : Values) (turn : ℕ) (at : Option ℕ) (now : Values) (wrong : Option ℕ)
+    → Leads acs known first None last ps → length acs ≤ turn → IsUnderWay acs known last ps old turn at now wrong → AreServed ps old now wrong
+under_way_last acs known first last ps old turn at now wrong leads over u = by u.rest u.all u.paced
   where
     append_none : (xs : List PlacedAccess) → xs ++ [] ≡ xs
     append_none [] = refl
@@ -158,7 +156,7 @@ under_way_last acs ks first last ps old turn at now wrong leads over u = by u.re
     by : (rest : List PlacedAccess) → ps ≡ u.done ++ rest → (length u.done ≡ turn) ⊎ (rest ≡ []) → AreServed ps old now wrong
     by [] all paced = subst (λ (xs : List PlacedAccess). AreServed xs old now wrong) (sym (all ∙ append_none u.done)) u.served
     by (p ∷ rest) all (inl pace) =
-        let few = walk_ends acs ks first None last ps leads in
+        let few = walk_ends acs known first None last ps leads in
         let many = ap (λ (xs : List PlacedAccess). length xs) all in
         absurd (omega (arith, few, many, length-append u.done (p ∷ rest), pace, over))
     by (p ∷ rest) all (inr none) = cc

@@ -11,6 +11,7 @@ use Rattle.txn_tree.specs.Asked.{is_absent_in, is_active_in, is_live_in, has_abo
 use Rattle.txn_tree.specs.declared.status.Status.{Status as State}
 use Rattle.txn_tree.specs.declared.status.Status.TheVariants as state
 use Rattle.serial_spec.specs.declared.entry.Entry.{Entry}
+use Rattle.serial_spec.specs.declared.target.Asked.{Asked}
 use Rattle.serial_spec.specs.History.{Name, History, Effect, Begins, Accesses, Commits, Aborts, Nothing, effect, Status, Absent, Live, Committed, Aborted, status, is_absent, is_active, is_begin, is_commit, is_abort, is_live, is_live_status, top_aborted, begun, begun_by, has_begun, has_aborted, has_committed}
 use Rattle.serial_spec.specs.Allowed.{has_live_child}
 use Rattle.txn_history.specs.Steps.{sets_status}
@@ -56,7 +57,7 @@ module _ (h : History) (ended : IsEnded h) where
       let new = new_name u (ap (λ w. is_absent (status h w)) (sym e) ∙ begins_new t may) in
       ap (λ a. cond a Aborted (cond (has_committed h u) Committed Live)) new.2 ∙ ap (λ c. cond c Committed Live) new.1)
       (λ _. refl)
-  status_next_at (Accesses t q o r) may named l ls = refl
+  status_next_at (Accesses t a r) may named l ls = refl
   status_next_at (Commits t) may named l ls =
       let u = l ∷ ls in
       on_path t u (λ v. status_by (has_begun h u) (v || has_committed h u) (has_aborted h u) ≡ cond v Committed (status h u))
@@ -73,7 +74,7 @@ module _ (h : History) (ended : IsEnded h) where
 
   root_stays : (x : Effect) → IsNamed x → Live ≡ sets_status x [] Live
   root_stays (Begins t) named = on_test (path_eq t []) (λ v. Live ≡ cond v Live Live) (λ _. refl) (λ _. refl)
-  root_stays (Accesses t q o r) named = refl
+  root_stays (Accesses t a r) named = refl
   root_stays (Commits []) named = absurd (omega (arith, named))
   root_stays (Commits (l ∷ ls)) named = refl
   root_stays (Aborts []) named = absurd (omega (arith, named))
@@ -89,21 +90,21 @@ module _ (h : History) (ended : IsEnded h) where
   root_begin : (x : Effect) → IsNamed x → is_begin [] x ≡ false
   root_begin (Begins []) n = absurd (omega (arith, n))
   root_begin (Begins (l ∷ ls)) n = refl
-  root_begin (Accesses t k o r) n = refl
+  root_begin (Accesses t a r) n = refl
   root_begin (Commits t) n = refl
   root_begin (Aborts t) n = refl
   root_begin Nothing n = refl
 
   commit_begun : (x : Effect) (t : Name) → may_do h x ≡ true → IsNamed x → is_commit t x ≡ true → has_begun h t ≡ true
   commit_begun (Begins u) t may named c = absurd (true≢false (sym c))
-  commit_begun (Accesses u k o r) t may named c = absurd (true≢false (sym c))
+  commit_begun (Accesses u a r) t may named c = absurd (true≢false (sym c))
   commit_begun (Commits u) t may named c = ap (has_begun h) (sym (same_path u t c)) ∙ (acts_as h u named (commits_active u may)).has_begun
   commit_begun (Aborts u) t may named c = absurd (true≢false (sym c))
   commit_begun Nothing t may named c = absurd (true≢false (sym c))
 
   abort_begun : (x : Effect) (t : Name) → may_do h x ≡ true → IsNamed x → is_abort t x ≡ true → has_begun h t ≡ true
   abort_begun (Begins u) t may named c = absurd (true≢false (sym c))
-  abort_begun (Accesses u k o r) t may named c = absurd (true≢false (sym c))
+  abort_begun (Accesses u a r) t may named c = absurd (true≢false (sym c))
   abort_begun (Commits u) t may named c = absurd (true≢false (sym c))
   abort_begun (Aborts u) t may named c = ap (has_begun h) (sym (same_path u t c)) ∙ (acts_as h u named may).has_begun
   abort_begun Nothing t may named c = absurd (true≢false (sym c))
@@ -153,8 +154,8 @@ module _ (h : History) (e : Entry) (old new : States) (is : IsTreeOf h old) wher
       (same ∙ is.begun) (λ u. ap status_of (sets u) ∙ status_set (path_eq t u) state.Aborted (status_in old u))
 
 module _ (h : History) (e : Entry) (tree : States) (is : IsTreeOf h tree) where
-  pub tree_accessed : (t : Name) (k : List ℕ) (o : _) (r : _) → effect e ≡ Accesses t k o r → may_do h (Accesses t k o r) ≡ true → IsTreeOf (e ∷ h) tree
-  tree_accessed t k o r does may = tree_next h e tree tree is (Accesses t k o r) does may tt is.begun (λ u. refl)
+  pub tree_accessed : (t : Name) (a : Asked) (r : _) → effect e ≡ Accesses t a r → may_do h (Accesses t a r) ≡ true → IsTreeOf (e ∷ h) tree
+  tree_accessed t a r does may = tree_next h e tree tree is (Accesses t a r) does may tt is.begun (λ u. refl)
 
   pub tree_idle : effect e ≡ Nothing → IsTreeOf (e ∷ h) tree
   tree_idle does = tree_next h e tree tree is Nothing does refl tt is.begun (λ u. refl)

@@ -1,10 +1,14 @@
--- The accesses of transactions, one behind the other.
+-- The accesses of transactions, one behind the other, with keys and groups by their numbers.
 use Rattle.std.specs.Prelude.{◌≡◌, ℕ, List, [], ◌∷◌, slice_get, Option, Some, None}
 use Rattle.std.specs.Option.{option_or}
 use Rattle.txn_tree.specs.Linked.{update_at}
+use Rattle.serial_spec.specs.declared.target.Asked.{Asked}
+use Rattle.serial_spec.specs.declared.target.Asked.TheVariants as asked
 use Rattle.report_check.specs.Serving.{PlacedAccess}
 use Rattle.report_tables.specs.declared.chains.Access.{Access}
 use Rattle.report_tables.specs.declared.chains.Chain.{Chain}
+use Rattle.report_tables.specs.declared.chains.ByNumber.{ByNumber}
+use Rattle.report_tables.specs.declared.chains.ByNumber.TheVariants.{At, Over}
 
 abbrev pub no_chain : Chain
 no_chain = record { first = None; last = None }
@@ -21,7 +25,7 @@ chain_in None = no_chain
 chain_in (Some c) = c
 
 abbrev pub leading_to : Option ℕ → Access → Access
-leading_to n a = record { line = a.line; key = a.key; op = a.op; reply = a.reply; next = n }
+leading_to n a = record { line = a.line; asked = a.asked; reply = a.reply; next = n }
 
 -- the one access leads to the other, where there are both
 abbrev pub led : List Access → Option ℕ → Option ℕ → List Access
@@ -29,19 +33,30 @@ led acs None n = acs
 led acs (Some i) None = acs
 led acs (Some i) (Some n) = update_at acs i (leading_to (Some n))
 
--- the access is this one; keys stand at their numbers
-pub record IsPlaced (keys : List (List ℕ)) (a : Access) (p : PlacedAccess) : Type 0 where
+-- the keys and the groups that were named, each at its number
+pub record Known : Type 0 where
+  pub keys : List (List ℕ)
+  pub groups : List (List ℕ)
+
+-- with numbers for the key or the group this is asked
+abbrev pub Asks : Known → ByNumber → Asked → Type 0
+Asks known (At i o) (asked.At k q) = (slice_get known.keys i ≡ Some k) × (o ≡ q)
+Asks known (At i o) (asked.Over g) = ⊥
+Asks known (Over i) (asked.At k q) = ⊥
+Asks known (Over i) (asked.Over g) = slice_get known.groups i ≡ Some g
+
+-- the access is this one
+pub record IsPlaced (known : Known) (a : Access) (p : PlacedAccess) : Type 0 where
   pub line : a.line ≡ p.line
-  pub key : slice_get keys a.key ≡ Some p.key
-  pub op : a.op ≡ p.op
+  pub asked : Asks known a.asked p.asked
   pub reply : a.reply ≡ p.reply
 
 -- From the place `at` on, behind the place `before`, the accesses are these, and the last of them stands at `last`
-abbrev pub Leads : List Access → List (List ℕ) → Option ℕ → Option ℕ → Option ℕ → List PlacedAccess → Type 0
-Leads acs keys at before last [] = (at ≡ None) × (last ≡ before)
-Leads acs keys at before last (p ∷ ps) =
-    (i : ℕ) × (a : Access) × (at ≡ Some i) × (slice_get acs i ≡ Some a) × IsPlaced keys a p × Leads acs keys a.next (Some i) last ps
+abbrev pub Leads : List Access → Known → Option ℕ → Option ℕ → Option ℕ → List PlacedAccess → Type 0
+Leads acs known at before last [] = (at ≡ None) × (last ≡ before)
+Leads acs known at before last (p ∷ ps) =
+    (i : ℕ) × (a : Access) × (at ≡ Some i) × (slice_get acs i ≡ Some a) × IsPlaced known a p × Leads acs known a.next (Some i) last ps
 
 -- the accesses of the chain are these, the oldest first
-abbrev pub Holds : List Access → List (List ℕ) → Chain → List PlacedAccess → Type 0
-Holds acs keys c ps = Leads acs keys c.first None c.last ps
+abbrev pub Holds : List Access → Known → Chain → List PlacedAccess → Type 0
+Holds acs known c ps = Leads acs known c.first None c.last ps

@@ -5,14 +5,19 @@ ghost use Rattle.report_tables.specs.Chained.{chain_in, joined, leading_to, led,
 
 use serial_spec::{Op, Reply};
 
+/// What an access asks, its key or its group by number.
+#[derive(Clone, Copy)]
+pub enum ByNumber {
+    At(usize, Op),
+    Over(usize),
+}
+
 /// An access that was answered, and where the next of its transaction stands, if there is one.
 #[derive(Clone, Copy)]
 pub struct Access {
     /// The line of the report that tells of it.
     pub line: usize,
-    /// The number of its key.
-    pub key: usize,
-    pub op: Op,
+    pub asked: ByNumber,
     pub reply: Reply,
     /// Where the next access of the transaction stands.
     pub next: Option<usize>,

@@ -5,12 +5,14 @@ ghost use Rattle.txn_tree.specs.States.{IsTree, is_aborted, is_live, names};
 ghost use Rattle.txn_tree.specs.Asked.{is_active_in};
 ghost use Rattle.txn_tree.specs.Numbered.{IsClosed, live_children_at, status_at};
 ghost use Rattle.serial_spec.specs.History.{Aborts, Accesses, Begins, Commits, History};
+ghost use Rattle.serial_spec.specs.declared.target.Asked.{Asked};
+ghost use Rattle.report_tables.specs.Chained.{Asks, Known};
 ghost use Rattle.report_tables.specs.Told.{AreTransactionsOf, AboveAt, Comes};
 
 use crate::chains::{Access, Chain, append_at, chain_at};
-use serial_spec::{Answer, Event, NoMemory, Op, Reply};
+use serial_spec::NoMemory;
 use std::alloc::{AllocError, Global};
-use txn_names::{Key, Name};
+use txn_names::Name;
 use txn_tree::{Status, Tree, TreeFault, TxnNo};
 
 /// The transactions, and their accesses that were answered.
@@ -85,7 +87,7 @@ fn place_above(tree: &Tree, txn: TxnNo) -> usize
 impl Transactions {
     /// None. The only error is that memory runs out.
     pub fn new(alloc: Global) -> Result<Transactions, NoMemory>
-        ensures { IfOk result (λ x. (base : ℕ) (keys : List (List ℕ)) → AreTransactionsOf base keys [] x) }
+        ensures { IfOk result (λ x. (base : ℕ) (known : Known) → AreTransactionsOf base known [] x) }
     {
         let mut chains = Vec::new(alloc);
         chains.push(Chain::none())?;
@@ -99,9 +101,9 @@ impl Transactions {
 
 /// A transaction begins, if it may. The only error is that memory runs out.
 pub fn begin(transactions: &mut Transactions, name: &Name) -> Result<bool, NoMemory>
-    ensures { IfOk result (λ ok. (base : ℕ) (keys : List (List ℕ)) (h : History)
-        → AreTransactionsOf base keys h transactions.old
-        → Comes ok h (Begins name.now) (λ e. AreTransactionsOf base keys (e ∷ h) transactions.new)) }
+    ensures { IfOk result (λ ok. (base : ℕ) (known : Known) (h : History)
+        → AreTransactionsOf base known h transactions.old
+        → Comes ok h (Begins name.now) (λ e. AreTransactionsOf base known (e ∷ h) transactions.new)) }
 {
     name.has_labels();
     transactions.tree.has_distinct_names();
@@ -122,11 +124,11 @@ pub fn access(
     access: Access,
 ) -> Result<bool, NoMemory>
     requires { access.next ≡ None }
-    ensures { IfOk result (λ ok. (base : ℕ) (keys : List (List ℕ)) (h : History) (k : List ℕ)
-        → AreTransactionsOf base keys h transactions.old
-        → access.line ≡ base + suc (length h) → slice_get keys access.key ≡ Some k
-        → Comes ok h (Accesses name.now k access.op access.reply)
-        (λ e. AreTransactionsOf base keys (e ∷ h) transactions.new)) }
+    ensures { IfOk result (λ ok. (base : ℕ) (known : Known) (h : History) (a : Asked)
+        → AreTransactionsOf base known h transactions.old
+        → access.line ≡ base + suc (length h) → Asks known access.asked a
+        → Comes ok h (Accesses name.now a access.reply)
+        (λ e. AreTransactionsOf base known (e ∷ h) transactions.new)) }
 {
     let Some(txn) = active_number(&transactions.tree, name) else {
         return Ok(false);
@@ -144,8 +146,8 @@ pub fn access(
 
 /// A transaction commits, if it may. It takes no memory.
 pub fn commit(transactions: &mut Transactions, name: &Name) -> bool
-    ensures { (base : ℕ) (keys : List (List ℕ)) (h : History) → AreTransactionsOf base keys h transactions.old
-        → Comes result h (Commits name.now) (λ e. AreTransactionsOf base keys (e ∷ h) transactions.new) }
+    ensures { (base : ℕ) (known : Known) (h : History) → AreTransactionsOf base known h transactions.old
+        → Comes result h (Commits name.now) (λ e. AreTransactionsOf base known (e ∷ h) transactions.new) }
 {
     let Some(txn) = active_number(&transactions.tree, name) else {
         return false;
@@ -167,8 +169,8 @@ pub fn commit(transactions: &mut Transactions, name: &Name) -> bool
 
 /// A transaction aborts, if it may. It takes no memory.
 pub fn abort(transactions: &mut Transactions, name: &Name) -> bool
-    ensures { (base : ℕ) (keys : List (List ℕ)) (h : History) → AreTransactionsOf base keys h transactions.old
-        → Comes result h (Aborts name.now) (λ e. AreTransactionsOf base keys (e ∷ h) transactions.new) }
+    ensures { (base : ℕ) (known : Known) (h : History) → AreTransactionsOf base known h transactions.old
+        → Comes result h (Aborts name.now) (λ e. AreTransactionsOf base known (e ∷ h) transactions.new) }
 {
     let Some(txn) = active_number(&transactions.tree, name) else {
         return false;

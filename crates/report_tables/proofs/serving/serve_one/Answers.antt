@@ -3,9 +3,9 @@ use Rattle.report_tables.specs.Served.{IsServed}
 use Rattle.report_tables.proofs.serving.serve_one.Goals as goal
 
 pub returns-then-serve : goal.returns-then-serve
-returns-then-serve c k at =
-    (true, subst (IsServed c.args.access.now k c.args.values.now.entries c.serve.new.values.entries) c.if-serve.true (c.serve.ensures k at), refl)
+returns-then-serve c a asks =
+    (true, subst (IsServed a c.args.access.now.reply c.args.values.now.entries c.serve.new.values.entries) c.if-serve.true (c.serve.ensures a asks), refl)
 
 pub returns-else-serve : goal.returns-else-serve
-returns-else-serve c k at =
-    (false, subst (IsServed c.args.access.now k c.args.values.now.entries c.serve.new.values.entries) c.if-serve.false (c.serve.ensures k at), ap Some c.or_least.ensures)
+returns-else-serve c a asks =
+    (false, subst (IsServed a c.args.access.now.reply c.args.values.now.entries c.serve.new.values.entries) c.if-serve.false (c.serve.ensures a asks), ap Some c.or_least.ensures)

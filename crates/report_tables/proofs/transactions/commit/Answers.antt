@@ -18,7 +18,7 @@ use Rattle.report_tables.proofs.Trees.{active_in}
 use Rattle.report_tables.proofs.transactions.commit.Goals as goal
 
 pub returns-in_default : goal.returns-in_default
-returns-in_default c base keys h are = ap (λ b. b && not (has_live_child h c.args.name.now)) (sym (active_in h c.args.transactions.now.tree are.in_tree c.args.name.now) ∙ c.in_default.ensures.none)
+returns-in_default c base known h are = ap (λ b. b && not (has_live_child h c.args.name.now)) (sym (active_in h c.args.transactions.now.tree are.in_tree c.args.name.now) ∙ c.in_default.ensures.none)
 
 and_not : (a b : Bool) → b ≡ true → (a && not b) ≡ false
 and_not true true e = refl
@@ -30,13 +30,13 @@ told : (tree : States) (n : ℕ) (t : Name) (b : Bool) → slice_get (names tree
 told tree n t b at is = sym (is ∙ ap (λ o. nat_lt 0 (live_children_named tree o)) at)
 
 pub returns-then-has_live_child_at : goal.returns-then-has_live_child_at
-returns-then-has_live_child_at c base keys h are =
+returns-then-has_live_child_at c base known h are =
     let x = c.args.transactions.now in
     let t = c.args.name.now in
     and_not _ _ (children_are h x.tree are.in_tree t ∙ told x.tree c.in-Some.txn t c.has_live_child_at.result c.in-Some.ensures.number c.has_live_child_at.ensures ∙ c.if-has_live_child_at.true)
 
 pub returns : goal.returns
-returns c base keys h are =
+returns c base known h are =
     let x = c.args.transactions.now in
     let t = c.args.name.now in
     let k0 = c.place_of.result in
@@ -47,7 +47,7 @@ returns c base keys h are =
     let own : c.chain_at-own.result ≡ chain_in (slice_get x.chains.items k0) = c.chain_at-own.ensures ∙ ap (λ z. chain_in (slice_get z k0)) c.deref.ensures.value in
     let none : live_children_of x.tree t ≡ 0 = omega (arith, ltb-false 0 (live_children_of x.tree t) childless) in (
       and_from _ _ (sym (active_in h x.tree are.in_tree t) ∙ c.in-Some.ensures.active) (ap not (children_are h x.tree are.in_tree t ∙ childless)),
-      λ e does. done_commit base keys h x _ e are t k0 p c.active_number.ensures.name c.active_number.ensures.tree at0 (c.place_above-above.ensures.place t c.in-Some.ensures.number)
+      λ e does. done_commit base known h x _ e are t k0 p c.active_number.ensures.name c.active_number.ensures.tree at0 (c.place_above-above.ensures.place t c.in-Some.ensures.number)
           c.in-Some.ensures.active none does c.commit_at.ensures.names (c.commit_at.ensures.committed t c.in-Some.ensures.number)
           (written c.append_at.new.accesses (drop (length c.append_at.new.accesses) x.accesses.items) x.accesses.len (omega (arith, ap (λ (z : List Access). length z) c.deref_mut.ensures.value, c.append_at.auto.accesses, x.accesses.ok.0))
           ∙ c.append_at.ensures.accesses
