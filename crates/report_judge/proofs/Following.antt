@@ -12,11 +12,14 @@ use Rattle.txn_tree.proofs.Children.{any_counted}
 use Rattle.serial_spec.specs.declared.limits.TheConstants.{MOST_SESSIONS}
 use Rattle.serial_spec.specs.declared.entry.Entry.{Entry}
 use Rattle.serial_spec.specs.declared.event.Event.{Event}
-use Rattle.serial_spec.specs.declared.event.Event.TheVariants.{Begin, Access, Commit, Abort, After}
+use Rattle.serial_spec.specs.declared.event.Event.TheVariants.{Begin, Access, Sum, Commit, Abort, After}
 use Rattle.serial_spec.specs.declared.entry.Answer.{Answer}
 use Rattle.serial_spec.specs.declared.entry.Answer.TheVariants.{Done, Waits, Stuck, Refused}
+use Rattle.serial_spec.specs.declared.operation.Reply.{Reply}
 use Rattle.serial_spec.specs.declared.operation.Reply.TheVariants as reply
-use Rattle.serial_spec.specs.History.{Name, History, Aborts, Nothing, begun, effect_of, has_begun, is_live, or_else}
+use Rattle.serial_spec.specs.declared.target.Asked.{Asked}
+use Rattle.serial_spec.specs.declared.target.Asked.TheVariants.{At, Over}
+use Rattle.serial_spec.specs.History.{Name, History, Effect, Aborts, Nothing, begun, effect_of, event_of, has_begun, is_live, or_else}
 use Rattle.serial_spec.specs.Interleaving.{answered, closing, victim}
 use Rattle.serial_spec.specs.Legal.{first_live, is_top_level}
 use Rattle.txn_history.proofs.Begun.{any_begun, some_begun}
@@ -25,8 +28,11 @@ use Rattle.report_check.specs.Passing.{Read, entry_in, goes_on, is_close, may_do
 use Rattle.report_tables.specs.Spoken.{AreSessionsOf, IsNumberOf, Tells, line_entry}
 use Rattle.report_tables.specs.Told.{AreTransactionsOf, Comes, IsTreeOf}
 use Rattle.report_tables.specs.Valued.{value_at}
+use Rattle.report_tables.specs.Chained.{Known}
+use Rattle.report_tables.specs.declared.transactions.Transactions.{Transactions}
+use Rattle.report_tables.proofs.Doing.{done_idle}
 use Rattle.report_tables.proofs.Trees.{same_children}
-use Rattle.report_judge.specs.Kept.{Follows, IsKept, is_access, is_done_ok}
+use Rattle.report_judge.specs.Kept.{Follows, IsKept, is_access, is_done_ok, known}
 use Rattle.report_judge.specs.declared.seen.Seen.{Seen}
 
 -- what holds of a value that was returned, and of any
@@ -43,6 +49,7 @@ on_ok_both (Err e) P Q S h s f = tt
 -- without an `ok` nothing is begun, committed or aborted
 pub no_effect : (e : Event) (a : Answer) → is_access e ≡ false → is_done_ok a ≡ false → effect_of e a ≡ Nothing
 no_effect (Access t k o) a x y = absurd (true≢false x)
+no_effect (Sum t g) a x y = absurd (true≢false x)
 no_effect (Begin t) (Done reply.Ok) x y = absurd (true≢false y)
 no_effect (Begin t) (Done (reply.Value v)) x y = refl
 no_effect (Begin t) (Done reply.Absent) x y = refl
@@ -71,6 +78,21 @@ no_effect (After t w) (Done r) x y = refl
 no_effect (After t w) Waits x y = refl
 no_effect (After t w) Stuck x y = refl
 no_effect (After t w) (Refused r) x y = refl
+
+-- nor is an access made without a reply
+pub no_access : (t : Name) (q : Asked) (a : Answer) → ((r : Reply) → a ≡ Done r → ⊥) → effect_of (event_of t q) a ≡ Nothing
+no_access t (At k o) (Done r) other = absurd (other r refl)
+no_access t (At k o) Waits other = refl
+no_access t (At k o) Stuck other = refl
+no_access t (At k o) (Refused r) other = refl
+no_access t (Over g) (Done r) other = absurd (other r refl)
+no_access t (Over g) Waits other = refl
+no_access t (Over g) Stuck other = refl
+no_access t (Over g) (Refused r) other = refl
+
+-- where nothing is done, the transactions are as before
+pub comes_idle : (base : ℕ) (known : Known) (h : History) (x : Transactions) (z : Effect) → z ≡ Nothing → AreTransactionsOf base known h x → Comes true h z (λ e. AreTransactionsOf base known (e ∷ h) x)
+comes_idle base known h x z none are = (ap (may_do h) none, λ e does. done_idle base known h x x e are (does ∙ none) refl refl refl)
 
 pub no_effect_after : (t : Name) (w : _) (a : Answer) → effect_of (After t w) a ≡ Nothing
 no_effect_after t w (Done r) = refl
@@ -119,7 +141,7 @@ line_not_next h s line e a unclosed few other = line_is h s line e a unclosed fe
 pub line_follows : (r : Read) (old new : Seen) (l : List ℕ) (n line : ℕ) (e : Event) (a : Answer) (es : _) → IsKept r old → old.closing ≡ false → IsNumberOf r.labels l r.history n es
     → Tells true (with_label r.labels l) r.history n line e a new.sessions.entries → new.closing ≡ old.closing → new.table.items ≡ old.table.items
     → ((k : List ℕ) → value_at new.values.entries k ≡ value_at old.values.entries k)
-    → (ok : Bool) → Comes ok r.history (effect_of e a) (λ y. AreTransactionsOf (1 + length r.opening) (keys_of new.values.entries) (y ∷ r.history) new.transactions)
+    → (ok : Bool) → Comes ok r.history (effect_of e a) (λ y. AreTransactionsOf (1 + length r.opening) (known new) (y ∷ r.history) new.transactions)
     → Follows ok r (told.Line l line e a) new
 line_follows r old new l n line e a es kept unclosed numbered tells same_closing same_table same ok comes = by ok comes
   where
@@ -135,7 +157,7 @@ line_follows r old new l n line e a es kept unclosed numbered tells same_closing
     may_is : may_follow r.history (entry_in r.labels (told.Line l line e a)) ≡ may_do r.history (effect_of e a)
     may_is = ap (may_follow r.history) (sym is_own) ∙ line_is r.history n line e a unclosed_h numbered.allowed ∙ ap (λ c. c && may_do r.history (effect_of e a)) tells.0
 
-    by : (ok : Bool) → Comes ok r.history (effect_of e a) (λ y. AreTransactionsOf (1 + length r.opening) (keys_of new.values.entries) (y ∷ r.history) new.transactions)
+    by : (ok : Bool) → Comes ok r.history (effect_of e a) (λ y. AreTransactionsOf (1 + length r.opening) (known new) (y ∷ r.history) new.transactions)
         → Follows ok r (told.Line l line e a) new
     by true comes = (
       may_is ∙ comes.0,
@@ -152,6 +174,10 @@ line_follows r old new l n line e a es kept unclosed numbered tells same_closing
 
 -- ---- an abort that no line asked for
 
+-- nothing was named
+pub same_known : (old new : Seen) → new.values.entries ≡ old.values.entries → new.groups.keys ≡ old.groups.keys → known new ≡ known old
+same_known old new values groups = λ i. record { keys = keys_of (values i); groups = groups i }
+
 -- the sessions are as before
 sessions_beside : (labels : List (List ℕ)) (h : History) (es : _) (x : Entry) → ((s : ℕ) → answered (x ∷ h) s ≡ answered h s) → ((s : ℕ) → waiting (x ∷ h) s ≡ waiting h s) → AreSessionsOf labels h es
     → AreSessionsOf labels (x ∷ h) es
@@ -162,22 +188,22 @@ sessions_beside labels h es x same_answered same_waiting are = record {
   later = λ s past. (same_answered s ∙ (are.later s past).0, same_waiting s ∙ (are.later s past).1);
 }
 
-pub victim_follows : (r : Read) (old new : Seen) (t : Name) → IsKept r old → old.closing ≡ false → new.closing ≡ old.closing → new.table.items ≡ old.table.items → new.values.entries ≡ old.values.entries
-    → new.sessions.entries ≡ old.sessions.entries → (ok : Bool) → Comes ok r.history (Aborts t) (λ y. AreTransactionsOf (1 + length r.opening) (keys_of old.values.entries) (y ∷ r.history) new.transactions)
+pub victim_follows : (r : Read) (old new : Seen) (t : Name) → IsKept r old → old.closing ≡ false → new.closing ≡ old.closing → new.table.items ≡ old.table.items → new.values.entries ≡ old.values.entries → new.groups.keys ≡ old.groups.keys
+    → new.sessions.entries ≡ old.sessions.entries → (ok : Bool) → Comes ok r.history (Aborts t) (λ y. AreTransactionsOf (1 + length r.opening) (known old) (y ∷ r.history) new.transactions)
     → Follows ok r (told.Victim t) new
-victim_follows r old new t kept unclosed same_closing same_table same_values same_sessions ok comes = by ok comes
+victim_follows r old new t kept unclosed same_closing same_table same_values same_groups same_sessions ok comes = by ok comes
   where
     may_is : may_follow r.history (victim t) ≡ may_do r.history (Aborts t)
     may_is = ap (λ c. ((not c && true) && may_do r.history (Aborts t)) && true) (sym kept.closing ∙ unclosed) ∙ and_true _
 
-    by : (ok : Bool) → Comes ok r.history (Aborts t) (λ y. AreTransactionsOf (1 + length r.opening) (keys_of old.values.entries) (y ∷ r.history) new.transactions) → Follows ok r (told.Victim t) new
+    by : (ok : Bool) → Comes ok r.history (Aborts t) (λ y. AreTransactionsOf (1 + length r.opening) (known old) (y ∷ r.history) new.transactions) → Follows ok r (told.Victim t) new
     by true comes = (
       may_is ∙ comes.0,
       record {
         rising = kept.rising;
         values = λ k. ap (λ es. value_at es k) same_values ∙ kept.values k;
         sessions = subst (λ es. AreSessionsOf r.labels (victim t ∷ r.history) es) (sym same_sessions) (sessions_beside r.labels r.history old.sessions.entries (victim t) (λ s. refl) (λ s. refl) kept.sessions);
-        transactions = subst (λ es. AreTransactionsOf (1 + length r.opening) (keys_of es) (victim t ∷ r.history) new.transactions) (sym same_values) (comes.1 (victim t) refl);
+        transactions = subst (λ ks. AreTransactionsOf (1 + length r.opening) ks (victim t ∷ r.history) new.transactions) (sym (same_known old new same_values same_groups)) (comes.1 (victim t) refl);
         closing = same_closing ∙ kept.closing;
         table = same_table ∙ kept.table;
       },
@@ -204,22 +230,22 @@ and_false false = refl
 pub close_deep : (h : History) (t : Name) → (length t ≡ 1 → ⊥) → may_follow h (closing t) ≡ false
 close_deep h t e = ap (λ c. ((true && true) && may_do h (Aborts t)) && c) (deep t e) ∙ and_false _
 
-pub close_follows : (r : Read) (old new : Seen) (t : Name) → IsKept r old → length t ≡ 1 → new.closing ≡ true → new.table.items ≡ old.table.items → new.values.entries ≡ old.values.entries
-    → new.sessions.entries ≡ old.sessions.entries → (ok : Bool) → Comes ok r.history (Aborts t) (λ y. AreTransactionsOf (1 + length r.opening) (keys_of old.values.entries) (y ∷ r.history) new.transactions)
+pub close_follows : (r : Read) (old new : Seen) (t : Name) → IsKept r old → length t ≡ 1 → new.closing ≡ true → new.table.items ≡ old.table.items → new.values.entries ≡ old.values.entries → new.groups.keys ≡ old.groups.keys
+    → new.sessions.entries ≡ old.sessions.entries → (ok : Bool) → Comes ok r.history (Aborts t) (λ y. AreTransactionsOf (1 + length r.opening) (known old) (y ∷ r.history) new.transactions)
     → Follows ok r (told.Close t) new
-close_follows r old new t kept one now_closing same_table same_values same_sessions ok comes = by ok comes
+close_follows r old new t kept one now_closing same_table same_values same_groups same_sessions ok comes = by ok comes
   where
     may_is : may_follow r.history (closing t) ≡ may_do r.history (Aborts t)
     may_is = ap (λ c. ((true && true) && may_do r.history (Aborts t)) && c) (top_one t one) ∙ and_true _
 
-    by : (ok : Bool) → Comes ok r.history (Aborts t) (λ y. AreTransactionsOf (1 + length r.opening) (keys_of old.values.entries) (y ∷ r.history) new.transactions) → Follows ok r (told.Close t) new
+    by : (ok : Bool) → Comes ok r.history (Aborts t) (λ y. AreTransactionsOf (1 + length r.opening) (known old) (y ∷ r.history) new.transactions) → Follows ok r (told.Close t) new
     by true comes = (
       may_is ∙ comes.0,
       record {
         rising = kept.rising;
         values = λ k. ap (λ es. value_at es k) same_values ∙ kept.values k;
         sessions = subst (λ es. AreSessionsOf r.labels (closing t ∷ r.history) es) (sym same_sessions) (sessions_beside r.labels r.history old.sessions.entries (closing t) (λ s. refl) (λ s. refl) kept.sessions);
-        transactions = subst (λ es. AreTransactionsOf (1 + length r.opening) (keys_of es) (closing t ∷ r.history) new.transactions) (sym same_values) (comes.1 (closing t) refl);
+        transactions = subst (λ ks. AreTransactionsOf (1 + length r.opening) ks (closing t ∷ r.history) new.transactions) (sym (same_known old new same_values same_groups)) (comes.1 (closing t) refl);
         closing = now_closing;
         table = same_table ∙ kept.table;
       },

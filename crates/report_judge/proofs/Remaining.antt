@@ -23,7 +23,7 @@ use Rattle.report_tables.specs.Served.{AreServed}
 use Rattle.report_tables.specs.Valued.{Values, joined, present, value_at, with_present}
 use Rattle.report_tables.specs.declared.chains.Chain.{Chain}
 use Rattle.report_judge.specs.Judging.{IsComparedBy}
-use Rattle.report_judge.specs.Kept.{IsKept, IsSeen, line_of}
+use Rattle.report_judge.specs.Kept.{IsKept, IsSeen, known, line_of}
 use Rattle.report_judge.specs.declared.seen.Seen.{Seen}
 
 -- ---- keys in order
@@ -91,11 +91,11 @@ compared_by es fs table n m v sorted distinct same at is =
 
 -- the root's chain
 pub root_leads : (r : Read) (s : Seen) → IsKept r s → (c : Chain) × (slice_get s.transactions.chains.items 0 ≡ Some c)
-    × Leads s.transactions.accesses.items (keys_of s.values.entries) c.first None c.last (reverse (served r))
+    × Leads s.transactions.accesses.items (known s) c.first None c.last (reverse (served r))
 root_leads r s kept = by s.transactions.chains.items refl
   where
     by : (cs : List Chain) → s.transactions.chains.items ≡ cs → (c : Chain) × (slice_get s.transactions.chains.items 0 ≡ Some c)
-        × Leads s.transactions.accesses.items (keys_of s.values.entries) c.first None c.last (reverse (served r))
+        × Leads s.transactions.accesses.items (known s) c.first None c.last (reverse (served r))
     by [] e = let level = kept.transactions.in_chains.level in absurd (omega (arith, level, ap (λ (xs : List Chain). length xs) e))
     by (c ∷ cs) e =
         let at : slice_get s.transactions.chains.items 0 ≡ Some c = ap (λ xs. slice_get xs 0) e in

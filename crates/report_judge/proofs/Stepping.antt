@@ -1,7 +1,6 @@
 -- What is seen of a report, one line later.
 use Rattle.std.proofs.Common.{◌≡◌, ℕ, ℤ, ◌+◌, Bool, true, false, not, cond, ◌&&◌, List, [], ◌∷◌, ◌++◌, length, Option, Some, None, refl, sym, ap, subst, ◌∙◌, true≢false, arith}
 use Rattle.std.specs.Prelude.{nat_lt}
-use Rattle.std.specs.Map.{keys_of}
 use Rattle.serial_spec.specs.History.{History}
 use Rattle.serial_spec.specs.Rows.{Rows}
 use Rattle.report_lines.specs.declared.entry.ReportEntry.{ReportEntry}
@@ -10,14 +9,15 @@ use Rattle.report_lines.specs.Reading.{entry_of}
 use Rattle.report_lines.proofs.Entries.{entries_read_back}
 use Rattle.report_check.specs.Passing.{Part, Start, Opening, Entries, Final, Ended, Read, at_part, entry_in, entry_next, may_add_row, may_end, may_follow, none_waits, unread, with_entry, with_opening, with_row}
 use Rattle.txn_tree.specs.Asked.{live_children_of}
+use Rattle.report_tables.specs.Chained.{Known}
 use Rattle.report_tables.specs.Told.{AreTransactionsOf}
 use Rattle.report_tables.specs.Valued.{Values, value_at}
 use Rattle.report_tables.specs.declared.transactions.Transactions.{Transactions}
-use Rattle.report_judge.specs.Kept.{AddsRow, Follows, IsEarly, IsKept, IsMiddle, IsSeen, Opens, Steps, line_of, lines_before, part_of}
+use Rattle.report_judge.specs.Kept.{AddsRow, Follows, IsEarly, IsKept, IsMiddle, IsSeen, Opens, Steps, known, line_of, lines_before, part_of}
 use Rattle.report_judge.specs.declared.seen.Part.{Part as KeptPart}
 use Rattle.report_judge.specs.declared.seen.Seen.{Seen}
 use Rattle.report_tables.specs.Spoken.{AreSessionsOf}
-use Rattle.report_judge.proofs.Following.{tops_are}
+use Rattle.report_judge.proofs.Following.{same_known, tops_are}
 use Rattle.report_judge.proofs.Rowing.{may_past, rising_more, value_opened}
 
 -- a line that may stand exactly if a test passes
@@ -30,7 +30,7 @@ steps_if false true r s e seen = absurd (true≢false (sym e))
 -- what is kept is the same in another part, of what was read and of what is seen
 module _ (r : Read) (s : Seen) (kept : IsKept r s) (p : KeptPart) where
   abbrev again : Seen
-  again = record { part = p; values = s.values; sessions = s.sessions; transactions = s.transactions; closing = s.closing; table = s.table }
+  again = record { part = p; values = s.values; groups = s.groups; sessions = s.sessions; transactions = s.transactions; closing = s.closing; table = s.table }
 
   pub kept_again : IsKept r again
   kept_again = record { rising = kept.rising; values = kept.values; sessions = kept.sessions; transactions = kept.transactions; closing = kept.closing; table = kept.table }
@@ -82,11 +82,11 @@ ends r s b kept is = ap (λ c. c && none_waits r.history (length r.labels)) (top
 
 -- ---- rows
 
--- nothing was done: what is kept of transactions says the same over any rows and keys
-fresh_transactions : (base base2 : ℕ) (keys keys2 : List (List ℕ)) (h : History) (x : Transactions) → h ≡ [] → AreTransactionsOf base keys h x → AreTransactionsOf base2 keys2 h x
-fresh_transactions base base2 keys keys2 h x none are = subst (λ (g : History). AreTransactionsOf base2 keys2 g x) (sym none) (by (subst (λ (g : History). AreTransactionsOf base keys g x) none are))
+-- nothing was done: what is kept of transactions says the same over any rows, keys and groups
+fresh_transactions : (base base2 : ℕ) (known known2 : Known) (h : History) (x : Transactions) → h ≡ [] → AreTransactionsOf base known h x → AreTransactionsOf base2 known2 h x
+fresh_transactions base base2 known known2 h x none are = subst (λ (g : History). AreTransactionsOf base2 known2 g x) (sym none) (by (subst (λ (g : History). AreTransactionsOf base known g x) none are))
   where
-    by : AreTransactionsOf base keys [] x → AreTransactionsOf base2 keys2 [] x
+    by : AreTransactionsOf base known [] x → AreTransactionsOf base2 known2 [] x
     by now = record {
       in_tree = now.in_tree;
       grown = now.grown;
@@ -113,17 +113,17 @@ opening_steps r s new k v seen at part sessions transactions closing table ok op
             rising = rising_more r.opening k v seen.kept.rising (may_past r.opening k o.0);
             values = λ q. ap (λ es. value_at es q) o.1 ∙ value_opened (r.opening ++ (k, v) ∷ []) q;
             sessions = subst (λ es. AreSessionsOf r.labels r.history es) (sym sessions) seen.kept.sessions;
-            transactions = subst (λ (x : Transactions). AreTransactionsOf (1 + length (r.opening ++ (k, v) ∷ [])) (keys_of new.values.entries) r.history x) (sym transactions)
-                (fresh_transactions (1 + length r.opening) (1 + length (r.opening ++ (k, v) ∷ [])) (keys_of s.values.entries) (keys_of new.values.entries) r.history s.transactions early.0 seen.kept.transactions);
+            transactions = subst (λ (x : Transactions). AreTransactionsOf (1 + length (r.opening ++ (k, v) ∷ [])) (known new) r.history x) (sym transactions)
+                (fresh_transactions (1 + length r.opening) (1 + length (r.opening ++ (k, v) ∷ [])) (known s) (known new) r.history s.transactions early.0 seen.kept.transactions);
             closing = closing ∙ seen.kept.closing;
             table = table ∙ seen.kept.table;
           };
         })
 
-pub final_steps : (r : Read) (s new : Seen) (k : List ℕ) (v : ℤ) → IsSeen r s → r.part ≡ Final → new.part ≡ s.part → new.values.entries ≡ s.values.entries → new.sessions.entries ≡ s.sessions.entries
+pub final_steps : (r : Read) (s new : Seen) (k : List ℕ) (v : ℤ) → IsSeen r s → r.part ≡ Final → new.part ≡ s.part → new.values.entries ≡ s.values.entries → new.groups.keys ≡ s.groups.keys → new.sessions.entries ≡ s.sessions.entries
     → new.transactions ≡ s.transactions → new.closing ≡ s.closing → (ok : Bool) → AddsRow ok s.table.items k v new.table.items
     → Steps ok (cond (may_add_row r.table k) (Some (with_row r (k, v))) None) new
-final_steps r s new k v seen at part values sessions transactions closing ok adds = by ok adds
+final_steps r s new k v seen at part values groups sessions transactions closing ok adds = by ok adds
   where
     by : (ok : Bool) → AddsRow ok s.table.items k v new.table.items → Steps ok (cond (may_add_row r.table k) (Some (with_row r (k, v))) None) new
     by false o = steps_if (may_add_row r.table k) false (with_row r (k, v)) new (ap (λ rows. may_add_row rows k) (sym seen.kept.table) ∙ o) (λ e. absurd (true≢false (sym e)))
@@ -135,8 +135,8 @@ final_steps r s new k v seen at part values sessions transactions closing ok add
             rising = seen.kept.rising;
             values = λ q. ap (λ es. value_at es q) values ∙ seen.kept.values q;
             sessions = subst (λ es. AreSessionsOf r.labels r.history es) (sym sessions) seen.kept.sessions;
-            transactions = subst (λ es. AreTransactionsOf (1 + length r.opening) (keys_of es) r.history new.transactions) (sym values)
-                (subst (λ (x : Transactions). AreTransactionsOf (1 + length r.opening) (keys_of s.values.entries) r.history x) (sym transactions) seen.kept.transactions);
+            transactions = subst (λ ks. AreTransactionsOf (1 + length r.opening) ks r.history new.transactions) (sym (same_known s new values groups))
+                (subst (λ (x : Transactions). AreTransactionsOf (1 + length r.opening) (known s) r.history x) (sym transactions) seen.kept.transactions);
             closing = closing ∙ seen.kept.closing;
             table = o.1 ∙ ap (λ rows. rows ++ (k, v) ∷ []) seen.kept.table;
           };
@@ -155,7 +155,7 @@ opening_early r es at early = early_at r.part r es at early
 no_sessions : AreSessionsOf [] [] []
 no_sessions = record { keys = refl; few = omega arith; each = λ s x at. cc; later = λ s past. (refl, refl) }
 
-pub seen_none : (s : Seen) → part_of s.part ≡ Start → s.values.entries ≡ [] → s.sessions.entries ≡ [] → AreTransactionsOf 1 (keys_of s.values.entries) [] s.transactions → s.closing ≡ false → s.table.items ≡ []
+pub seen_none : (s : Seen) → part_of s.part ≡ Start → s.values.entries ≡ [] → s.sessions.entries ≡ [] → AreTransactionsOf 1 (known s) [] s.transactions → s.closing ≡ false → s.table.items ≡ []
     → IsSeen unread s
 seen_none s part values sessions transactions closing table = record {
   part = part;

@@ -6,12 +6,13 @@ use Rattle.serial_spec.specs.declared.operation.Reply.TheVariants.{Ok}
 use Rattle.serial_spec.specs.declared.entry.Answer.{Answer}
 use Rattle.serial_spec.specs.declared.entry.Answer.TheVariants.{Done}
 use Rattle.serial_spec.specs.declared.event.Event.{Event}
-use Rattle.serial_spec.specs.declared.event.Event.TheVariants.{Access}
+use Rattle.serial_spec.specs.declared.event.Event.TheVariants.{Access, Sum}
 use Rattle.serial_spec.specs.declared.limits.TheConstants.{MOST_ROWS}
 use Rattle.serial_spec.specs.Places.{is_below}
 use Rattle.serial_spec.specs.Rows.{IsRising, Rows, value_in}
 use Rattle.report_lines.specs.declared.entry.ReportEntry.{ReportEntry}
 use Rattle.report_check.specs.Passing.{Part, Start, Opening, Entries, Final, Ended, Read, entry_in, is_close, may_add_row, may_follow, with_entry}
+use Rattle.report_tables.specs.Chained.{Known}
 use Rattle.report_tables.specs.Spoken.{AreSessionsOf}
 use Rattle.report_tables.specs.Told.{AreTransactionsOf}
 use Rattle.report_tables.specs.Valued.{Values, value_at}
@@ -25,6 +26,7 @@ is_done_ok a = false
 
 abbrev pub is_access : Event → Bool
 is_access (Access t k o) = true
+is_access (Sum t g) = true
 is_access e = false
 
 abbrev pub part_of : KeptPart → Part
@@ -38,12 +40,16 @@ part_of kept.Ended = Ended
 abbrev pub opened : Rows → Values
 opened rows = map (λ r. (r.0, Some r.1)) rows
 
+-- the keys and the groups that were named
+abbrev pub known : Seen → Known
+known s = record { keys = keys_of s.values.entries; groups = s.groups.keys }
+
 -- what is kept, the part left aside
 pub record IsKept (r : Read) (s : Seen) : Type 0 where
   pub rising : IsRising r.opening
   pub values : (k : List ℕ) → value_at s.values.entries k ≡ value_in r.opening k
   pub sessions : AreSessionsOf r.labels r.history s.sessions.entries
-  pub transactions : AreTransactionsOf (1 + length r.opening) (keys_of s.values.entries) r.history s.transactions
+  pub transactions : AreTransactionsOf (1 + length r.opening) (known s) r.history s.transactions
   pub closing : s.closing ≡ list_any (λ e. is_close e.by) r.history
   pub table : s.table.items ≡ r.table
 

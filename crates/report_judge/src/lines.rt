@@ -148,7 +148,12 @@ fn passes(seen: &mut Seen, after: usize) -> Result<Verdict, NoMemory>
     ensures { IfOk result (λ v. (r : Read) → IsSeen r seen.old → r.part ≡ Ended → after ≡ line_of r → IsRun r (first_wrong r) v) }
 {
     let first = first_access(&seen.transactions);
-    match serve_all(&mut seen.values, &seen.transactions.accesses, first) {
+    match serve_all(
+        &mut seen.values,
+        &seen.groups,
+        &seen.transactions.accesses,
+        first,
+    ) {
         Some(wrong) => Ok(Verdict::No(wrong)),
         None => last_pass(&mut seen.values, &seen.table, after),
     }

@@ -11,18 +11,20 @@ ghost use Rattle.report_lines.specs.Laws.{IsReportEntry};
 ghost use Rattle.report_lines.specs.Reading.{entry_of, row_of};
 ghost use Rattle.report_check.specs.Passing.{Ended, Final, Opening, Read, Start, at_part, entry_next, has_ended, may_add_row, may_end, middle_next, next, next_at, opening_next, unread, with_opening, with_row};
 ghost use Rattle.report_judge.specs.Kept.{AddsRow, Follows, IsKept, IsMiddle, IsSeen, Opens, Steps, is_access, is_done_ok, line_of, may_come, opened, part_of};
+ghost use Rattle.serial_spec.specs.declared.target.Asked.TheVariants.{At, Over};
+ghost use Rattle.report_tables.specs.Chained.{Known};
 ghost use Rattle.report_tables.specs.Told.{AreTransactionsOf, Comes};
 ghost use Rattle.report_tables.specs.Valued.{value_at};
 
-use indexmap::IndexMap;
+use indexmap::{IndexMap, IndexSet};
 use report_lines::{ReportEntry, parse_row, read_entry};
 use report_tables::{
-    Access, Sessions, Transactions, Values, abort, access, begin, commit, none_waits, number_of,
-    session_number, take_line,
+    Access, ByNumber, Groups, Sessions, Transactions, Values, abort, access, begin, commit,
+    group_number, none_waits, number_of, session_number, take_line,
 };
 use serial_spec::{Answer, Event, MOST_ROWS, NoMemory, Op, Reply};
 use std::alloc::{AllocError, Global};
-use txn_names::{Key, Label, Name};
+use txn_names::{Group, Key, Label, Name};
 
 /// Which part of a report the next line is of.
 #[derive(Clone, Copy, Debug, PartialEq, Eq)]
@@ -40,6 +42,8 @@ pub(crate) struct Seen {
     pub(crate) part: Part,
     /// Every key that was named, with its value in the opening rows.
     pub(crate) values: Values,
+    /// Every group that was summed.
+    pub(crate) groups: Groups,
     pub(crate) sessions: Sessions,
     pub(crate) transactions: Transactions,
     /// Whether an abort of the close has been told.
@@ -57,6 +61,7 @@ impl Seen {
         Ok(Seen {
             part: Part::Start,
             values: IndexMap::new(alloc),
+            groups: IndexSet::new(alloc),
             sessions: IndexMap::new(alloc),
             transactions,
             closing: false,
@@ -142,7 +147,7 @@ fn is_done_ok(answer: &Answer) -> bool
     matches!(answer, Answer::Done(Reply::Ok))
 }
 
-// An access, if it may be made where it stands.
+// An access to a key, if it may be made where it stands.
 fn take_access(
     transactions: &mut Transactions,
     values: &mut Values,
@@ -152,17 +157,40 @@ fn take_access(
     op: Op,
     reply: Reply,
 ) -> Result<bool, NoMemory>
-    ensures effect { IfOk result (λ ok. (base : ℕ) (h : History)
-        → AreTransactionsOf base (keys values.old) h transactions.old → line ≡ base + suc (length h)
-        → Comes ok h (Accesses name.now key.now op reply)
-        (λ e. AreTransactionsOf base (keys values.new) (e ∷ h) transactions.new)) }
+    ensures effect { IfOk result (λ ok. (base : ℕ) (groups : List (List ℕ)) (h : History)
+        → AreTransactionsOf base (record { keys = keys values.old; groups = groups }) h transactions.old
+        → line ≡ base + suc (length h) → Comes ok h (Accesses name.now (At key.now op) reply)
+        (λ e. AreTransactionsOf base (record { keys = keys values.new; groups = groups }) (e ∷ h) transactions.new)) }
     ensures same { OnOk result ((k : List ℕ) → value_at values.new.entries k ≡ value_at values.old.entries k) }
 {
     let key = number_of(values, key)?;
     let made = Access {
         line,
-        key,
-        op,
+        asked: ByNumber::At(key, op),
+        reply,
+        next: None,
+    };
+    access(transactions, name, made)
+}
+
+// A sum over a group, if it may be made where it stands.
+fn take_sum(
+    transactions: &mut Transactions,
+    groups: &mut Groups,
+    line: usize,
+    name: &Name,
+    group: &Group,
+    reply: Reply,
+) -> Result<bool, NoMemory>
+    ensures { IfOk result (λ ok. (base : ℕ) (keys : List (List ℕ)) (h : History)
+        → AreTransactionsOf base (record { keys = keys; groups = groups.old.keys }) h transactions.old
+        → line ≡ base + suc (length h) → Comes ok h (Accesses name.now (Over group.now) reply)
+        (λ e. AreTransactionsOf base (record { keys = keys; groups = groups.new.keys }) (e ∷ h) transactions.new)) }
+{
+    let group = group_number(groups, group)?;
+    let made = Access {
+        line,
+        asked: ByNumber::Over(group),
         reply,
         next: None,
     };
@@ -173,19 +201,24 @@ fn take_access(
 fn take_effect(
     transactions: &mut Transactions,
     values: &mut Values,
+    groups: &mut Groups,
     line: usize,
     event: &Event,
     answer: &Answer,
 ) -> Result<bool, NoMemory>
     ensures effect { IfOk result (λ ok. (base : ℕ) (h : History)
-        → AreTransactionsOf base (keys values.old) h transactions.old → line ≡ base + suc (length h)
-        → Comes ok h (effect_of event.now answer.now)
-        (λ e. AreTransactionsOf base (keys values.new) (e ∷ h) transactions.new)) }
+        → AreTransactionsOf base (record { keys = keys values.old; groups = groups.old.keys }) h transactions.old
+        → line ≡ base + suc (length h) → Comes ok h (effect_of event.now answer.now)
+        (λ e. AreTransactionsOf base (record { keys = keys values.new; groups = groups.new.keys }) (e ∷ h) transactions.new)) }
     ensures same { OnOk result ((k : List ℕ) → value_at values.new.entries k ≡ value_at values.old.entries k) }
 {
     match event {
         Event::Access(name, key, op) => match answer {
             Answer::Done(reply) => take_access(transactions, values, line, name, key, *op, *reply),
+            _ => Ok(true),
+        },
+        Event::Sum(name, group) => match answer {
+            Answer::Done(reply) => take_sum(transactions, groups, line, name, group, *reply),
             _ => Ok(true),
         },
         _ => take_end(transactions, event, answer),
@@ -198,10 +231,10 @@ fn take_end(
     event: &Event,
     answer: &Answer,
 ) -> Result<bool, NoMemory>
-    ensures { IfOk result (λ ok. (base : ℕ) (keys : List (List ℕ)) (h : History)
-        → AreTransactionsOf base keys h transactions.old → is_access event.now ≡ false
+    ensures { IfOk result (λ ok. (base : ℕ) (known : Known) (h : History)
+        → AreTransactionsOf base known h transactions.old → is_access event.now ≡ false
         → Comes ok h (effect_of event.now answer.now)
-        (λ e. AreTransactionsOf base keys (e ∷ h) transactions.new)) }
+        (λ e. AreTransactionsOf base known (e ∷ h) transactions.new)) }
 {
     if !is_done_ok(answer) {
         return Ok(true);
@@ -211,6 +244,7 @@ fn take_end(
         Event::Commit(name) => Ok(commit(transactions, name)),
         Event::Abort(name) => Ok(abort(transactions, name)),
         Event::Access(_, _, _) => Ok(true),
+        Event::Sum(_, _) => Ok(true),
         Event::After(_, _) => Ok(true),
     }
 }
@@ -237,7 +271,14 @@ fn take_answer(
     if !take_line(&mut seen.sessions, number, line, event, answer) {
         return Ok(false);
     }
-    take_effect(&mut seen.transactions, &mut seen.values, at, event, answer)
+    take_effect(
+        &mut seen.transactions,
+        &mut seen.values,
+        &mut seen.groups,
+        at,
+        event,
+        answer,
+    )
 }
 
 fn take_victim(seen: &mut Seen, name: &Name) -> bool

@@ -73,11 +73,17 @@ same_some x y e = ap (λ o. unwrap_or o x) e
 abbrev pub AsksStill : Known → Known → Type 0
 AsksStill known more = (n : ByNumber) (a : Asked) → Asks known n a → Asks more n a
 
-pub asks_grown : (ks gs ks2 gs2 : List (List ℕ)) → AsksStill (record { keys = ks; groups = gs }) (record { keys = ks ++ ks2; groups = gs ++ gs2 })
-asks_grown ks gs ks2 gs2 (At i o) (asked.At k q) h = (get_front ks ks2 i k h.0, h.1)
-asks_grown ks gs ks2 gs2 (At i o) (asked.Over g) h = h
-asks_grown ks gs ks2 gs2 (Over i) (asked.At k q) h = h
-asks_grown ks gs ks2 gs2 (Over i) (asked.Over g) h = get_front gs gs2 i g h
+pub keys_grown : (ks gs more : List (List ℕ)) → AsksStill (record { keys = ks; groups = gs }) (record { keys = ks ++ more; groups = gs })
+keys_grown ks gs more (At i o) (asked.At k q) h = (get_front ks more i k h.0, h.1)
+keys_grown ks gs more (At i o) (asked.Over g) h = h
+keys_grown ks gs more (Over i) (asked.At k q) h = h
+keys_grown ks gs more (Over i) (asked.Over g) h = h
+
+pub groups_grown : (ks gs more : List (List ℕ)) → AsksStill (record { keys = ks; groups = gs }) (record { keys = ks; groups = gs ++ more })
+groups_grown ks gs more (At i o) (asked.At k q) h = h
+groups_grown ks gs more (At i o) (asked.Over g) h = h
+groups_grown ks gs more (Over i) (asked.At k q) h = h
+groups_grown ks gs more (Over i) (asked.Over g) h = get_front gs more i g h
 
 pub placed_grown : (known more : Known) (a : Access) (p : PlacedAccess) → AsksStill known more → IsPlaced known a p → IsPlaced more a p
 placed_grown known more a p still is = record { line = is.line; asked = still a.asked p.asked is.asked; reply = is.reply }

@@ -8,7 +8,7 @@ use Rattle.report_tables.specs.Served.{AreServed}
 use Rattle.report_tables.specs.Valued.{Values}
 use Rattle.report_tables.specs.declared.chains.Access.{Access}
 use Rattle.report_judge.specs.Judging.{IsComparedBy}
-use Rattle.report_judge.specs.Kept.{IsKept}
+use Rattle.report_judge.specs.Kept.{IsKept, known}
 use Rattle.report_judge.specs.declared.seen.Seen.{Seen}
 use Rattle.report_judge.proofs.Following.{on_ok}
 use Rattle.report_judge.proofs.Remaining.{root_leads, run_right, run_wrong}
@@ -17,14 +17,14 @@ use Rattle.report_judge.proofs.lines.passes.Goals as goal
 -- the root's accesses were done
 all_served : (r : Read) (s : Seen) (acs : List Access) (first : Option ℕ) (new : Values) (wrong : Option ℕ) → IsKept r s → acs ≡ s.transactions.accesses.items
     → first ≡ (chain_in (Rattle.std.specs.Prelude.slice_get s.transactions.chains.items 0)).first
-    → ((last : Option ℕ) (ps : List Rattle.report_check.specs.Serving.PlacedAccess) → Leads acs (keys_of s.values.entries) first None last ps → AreServed ps s.values.entries new wrong)
+    → ((last : Option ℕ) (ps : List Rattle.report_check.specs.Serving.PlacedAccess) → Leads acs (known s) first None last ps → AreServed ps s.values.entries new wrong)
     → AreServed (reverse (served r)) s.values.entries new wrong
 all_served r s acs first new wrong kept same at told =
     let w = root_leads r s kept in
     let begins : first ≡ w.0.first = at ∙ ap (λ o. (chain_in o).first) w.1 in
     told w.0.last (reverse (served r))
-    (subst (λ (xs : List Access). Leads xs (keys_of s.values.entries) first None w.0.last (reverse (served r))) (sym same)
-    (subst (λ (o : Option ℕ). Leads s.transactions.accesses.items (keys_of s.values.entries) o None w.0.last (reverse (served r))) (sym begins) w.2))
+    (subst (λ (xs : List Access). Leads xs (known s) first None w.0.last (reverse (served r))) (sym same)
+    (subst (λ (o : Option ℕ). Leads s.transactions.accesses.items (known s) o None w.0.last (reverse (served r))) (sym begins) w.2))
 
 pub returns-in-Some : goal.returns-in-Some
 returns-in-Some c r seen ended at =

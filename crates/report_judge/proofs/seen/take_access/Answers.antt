@@ -1,7 +1,9 @@
-use Rattle.std.proofs.Common.{ℕ, List, sym, subst}
+use Rattle.std.proofs.Common.{ℕ, List, ◌++◌, refl, sym, subst}
 use Rattle.std.specs.Map.{keys_of}
+use Rattle.serial_spec.specs.declared.target.Asked.TheVariants.{At}
 use Rattle.report_tables.specs.Told.{AreTransactionsOf}
 use Rattle.report_tables.proofs.Doing.{roomy}
+use Rattle.report_tables.proofs.Leading.{keys_grown}
 use Rattle.report_judge.proofs.Following.{on_ok}
 use Rattle.report_judge.proofs.seen.take_access.Goals as goal
 
@@ -11,6 +13,7 @@ returns-clause-effect c =
     let old = keys_of c.args.values.now.entries in
     let grown = c.in_ok-key.ensures.grown in
     on_ok c.access.result _ _ c.access.ensures
-    (λ ok told base h are line.
-    told base (keys_of c.number_of.new.values.entries) h c.args.key.now
-    (subst (λ (ks : List (List ℕ)). AreTransactionsOf base ks h x) (sym grown.1) (roomy base old grown.0 h x are)) line c.in_ok-key.ensures.key)
+    (λ ok told base groups h are line.
+    told base (record { keys = keys_of c.number_of.new.values.entries; groups = groups }) h (At c.args.key.now c.args.op)
+    (subst (λ (ks : List (List ℕ)). AreTransactionsOf base (record { keys = ks; groups = groups }) h x) (sym grown.1)
+    (roomy base (record { keys = old; groups = groups }) (record { keys = old ++ grown.0; groups = groups }) h x (keys_grown old groups grown.0) are)) line (c.in_ok-key.ensures.key, refl))

@@ -9,5 +9,5 @@ pub returns : goal.returns
 returns c =
     let s = c.args.seen.now in
     on_ok c.add_final.result _ _ c.add_final.ensures
-    (λ ok told r seen at. final_steps r s _ c.args.key.now c.args.value seen at refl refl refl refl refl ok
+    (λ ok told r seen at. final_steps r s _ c.args.key.now c.args.value seen at refl refl refl refl refl refl ok
     (subst (λ v. AddsRow ok c.args.seen.now.table.items c.args.key.now v c.add_final.new.table.items) (to_z-of_z w64 c.args.value c.ranges.value) told))
