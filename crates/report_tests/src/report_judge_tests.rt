@@ -194,3 +194,98 @@ fn whole_texts(rt: HostRuntime) {
     }
     assert!(rt; has_verdict(rt.alloc(), 0, None, Verdict::Yes));
 }
+
+// The opening rows of a report with sums, and the final ones.
+const SUMMED: [&str; 2] = [
+    "open\ng=50\ng.a=1\ng.b=2\nga.x=9\ns 1 begin a -> ok\n",
+    "table\ng=50\ng.b=2\ng.c=4\nga.x=9\nend\n",
+];
+
+fn between(alloc: Global, lines: &str) -> Option<String> {
+    let mut text = String::new(alloc);
+    text.push_str(SUMMED[0]).ok()?;
+    text.push_str(lines).ok()?;
+    text.push_str(SUMMED[1]).ok()?;
+    Some(text)
+}
+
+// Whether the lines have the verdict between the rows.
+fn is_judged_between(alloc: Global, lines: &str, verdict: Verdict) -> bool {
+    let text = match between(alloc, lines) {
+        Some(text) => Some(text),
+        None => between(alloc, lines),
+    };
+    match text {
+        Some(text) => is_judged(alloc, text.as_str(), verdict),
+        None => false,
+    }
+}
+
+#[test]
+fn sums(rt: HostRuntime) {
+    let rows = [
+        (
+            "s 2 sum a g -> value 3\ns 3 set a g.c 4 -> ok\ns 4 sum a g -> value 7\ns 5 del a g.a -> ok\ns 6 sum a g -> value 6\ns 7 sum a g.a -> value 0\ns 8 commit a -> ok\n",
+            Verdict::Yes,
+        ),
+        (
+            "s 2 set a g.c 4 -> ok\ns 3 del a g.a -> ok\ns 4 sum a g -> value 56\ns 5 commit a -> ok\n",
+            Verdict::No(9),
+        ),
+        (
+            "s 2 sum a g -> value 6\ns 3 set a g.c 4 -> ok\ns 4 del a g.a -> ok\ns 5 commit a -> ok\n",
+            Verdict::No(7),
+        ),
+        (
+            "s 2 set a g.c 4 -> ok\ns 3 del a g.a -> ok\ns 4 sum a g -> value 7\ns 5 commit a -> ok\n",
+            Verdict::No(9),
+        ),
+        (
+            "s 2 set a g.c 4 -> ok\ns 3 del a g.a -> ok\ns 4 sum a g -> overflow\ns 5 commit a -> ok\n",
+            Verdict::No(9),
+        ),
+        (
+            "s 2 begin a/b -> ok\ns 3 set a/b g.c 4 -> ok\ns 4 sum a/b g -> value 7\ns 5 commit a/b -> ok\ns 6 del a g.a -> ok\ns 7 sum a g -> value 6\ns 8 commit a -> ok\n",
+            Verdict::Yes,
+        ),
+        (
+            "t 1 begin b -> ok\nt 2 sum b g -> value 3\nt 3 commit b -> ok\ns 2 set a g.c 4 -> ok\ns 3 del a g.a -> ok\ns 4 commit a -> ok\n",
+            Verdict::Yes,
+        ),
+        (
+            "t 1 begin b -> ok\nt 2 sum b g -> value 3\ns 2 set a g.c 4 -> ok\ns 3 del a g.a -> ok\ns 4 commit a -> ok\nt 3 commit b -> ok\n",
+            Verdict::No(8),
+        ),
+        (
+            "t 1 begin b -> ok\nt 2 sum b g -> value 8\nt 3 abort b -> ok\ns 2 set a g.c 4 -> ok\ns 3 del a g.a -> ok\ns 4 commit a -> ok\n",
+            Verdict::Yes,
+        ),
+        (
+            "t 1 sum b g -> refused unknown\nt 2 begin b -> ok\ns 2 set a g.c 4 -> ok\nt 3 sum b g -> waits\ns 3 del a g.a -> ok\ns 4 commit a -> ok\nt 3 sum b g -> value 6\nt 4 commit b -> ok\n",
+            Verdict::Yes,
+        ),
+        ("s 2 sum a g -> none\n", Verdict::No(7)),
+        ("s 2 sum a g -> refused full\n", Verdict::No(7)),
+        ("s 2 sum b g -> value 3\n", Verdict::No(7)),
+    ];
+    for (lines, verdict) in rows {
+        assert!(rt; is_judged_between(rt.alloc(), lines, verdict), "{lines}");
+    }
+}
+
+#[test]
+fn sums_past_an_i64(rt: HostRuntime) {
+    let rows = [
+        (
+            "open\ng.a=9223372036854775807\ng.b=1\ns 1 begin a -> ok\ns 2 sum a g -> overflow\ns 3 set a g.c -1 -> ok\ns 4 sum a g -> value 9223372036854775807\ns 5 commit a -> ok\ntable\ng.a=9223372036854775807\ng.b=1\ng.c=-1\nend\n",
+            Verdict::Yes,
+        ),
+        (
+            "open\ng.a=9223372036854775807\ng.b=1\ns 1 begin a -> ok\ns 2 sum a g -> value -9223372036854775808\ns 3 commit a -> ok\ntable\ng.a=9223372036854775807\ng.b=1\nend\n",
+            Verdict::No(5),
+        ),
+    ];
+    for (text, verdict) in rows {
+        assert!(rt; is_judged(rt.alloc(), text, verdict), "{text}");
+    }
+}
