@@ -4,13 +4,13 @@ use Rattle.std.specs.Prelude.{◌≡◌, ◌<◌, ◌≤◌, ◌+◌, ℕ, List,
 use Rattle.std.specs.Option.{option_map, unwrap_or}
 use Rattle.slab.specs.Slab.{Slab, get, slab_len}
 use Rattle.serial_spec.specs.declared.entry.By.TheVariants.{Close}
-use Rattle.serial_spec.specs.declared.operation.Op.TheVariants.{Get}
+use Rattle.serial_spec.specs.declared.target.Asked.TheVariants.{Over}
 use Rattle.wait_cycles.specs.declared.records.Record.{Record}
 use Rattle.wait_cycles.specs.declared.waits.Wait.{Wait}
 
 -- what is read under a key that has none
 abbrev pub no_wait : Wait
-no_wait = record { txn = 0; key = []; op = Get; by = Close }
+no_wait = record { txn = 0; asked = Over []; by = Close }
 
 abbrev pub wait_under : Slab Record → ℕ → Wait
 wait_under slab k = unwrap_or (option_map (λ r. r.wait) (get slab k)) no_wait

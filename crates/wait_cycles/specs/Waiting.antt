@@ -26,6 +26,11 @@ pub record AreOnce (s : Waiting) : Type 0 where
   pub apart : (i j : ℕ) (v w : Wait) → slice_get s.waits i ≡ Some v → slice_get s.waits j ≡ Some w → v.txn ≡ w.txn → i ≡ j
   pub all : (t : ℕ) (w : Wait) → wait_of s t ≡ Some w → (i : ℕ) × (slice_get s.waits i ≡ Some w)
 
+-- one waits that did not, and all others as before
+pub record HasJoined (old new : Waiting) (w : Wait) : Type 0 where
+  pub waits : (u : ℕ) → wait_of new u ≡ (if nat_eq w.txn u then Some w else wait_of old u)
+  pub len : length new.waits ≡ length old.waits + 1
+
 -- the wait at this place is gone, and the last stands there
 pub record IsTaken (place : ℕ) (old new : List Wait) : Type 0 where
   pub len : length new + 1 ≡ length old

@@ -6,7 +6,7 @@ ghost use Rattle.wait_cycles.specs.Stored.{AreInTable};
 ghost use Rattle.wait_cycles.specs.Waiting.{AreOnce, IsTaken, wait_of};
 
 use crate::waits::Wait;
-use serial_spec::NoMemory;
+use serial_spec::{Asked, By, NoMemory};
 use slab::Slab;
 use std::alloc::Global;
 use std::marker::Model;
@@ -113,8 +113,9 @@ fn move_to(slab: &mut Slab<Record>, key: usize, place: usize)
     ensures len { slab_len slab.new ≡ slab_len slab.old }
     ensures capacity { slab.new.capacity ≡ slab.old.capacity }
 {
-    let record = slab.remove(key);
-    slab.insert_reserved(Record { place, ..record });
+    if let Some(record) = slab.get_mut(key) {
+        record.place = place;
+    }
 }
 
 // Gives the record of the key at this place, if there are so many, this place.
@@ -188,13 +189,18 @@ impl Records {
     }
 
     /// Puts a wait behind all others, where there is room for it. Its transaction did not wait.
-    pub(crate) fn push(&mut self, wait: Wait)
-        requires none { wait_of self.old wait.txn ≡ None }
+    pub(crate) fn push(&mut self, txn: TxnNo, asked: &Asked, by: By)
+        requires none { wait_of self.old txn ≡ None }
         requires room { 0 < self.old.room }
-        ensures waits { self.new.waits ≡ self.old.waits ++ wait ∷ [] }
+        ensures waits { self.new.waits ≡ self.old.waits ++ (record { txn = txn; asked = asked.now; by = by }) ∷ [] }
         ensures room { self.old.room ≡ self.new.room + 1 }
     {
-        let (txn, place) = (wait.txn, self.keys.len());
+        let place = self.keys.len();
+        let wait = Wait {
+            txn,
+            asked: *asked,
+            by,
+        };
         let key = self.slab.insert_reserved(Record { wait, place });
         self.keys.push_reserved(key);
         put_key(&mut self.table, txn, Some(key));

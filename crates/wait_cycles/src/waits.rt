@@ -1,21 +1,21 @@
 //! The accesses that wait.
 ghost use Rattle.std.specs.Prelude.{◌≡◌, ◌+◌, ◌<◌, ◌≤◌, [], ℕ, nat_eq, not, filter, length, slice_get, if◌then◌else◌, IsOk, IsSome, IsTrue, IfSome, OnOk, OnErr, None, Some};
 ghost use Rattle.std.specs.Option.{option_copied};
-ghost use Rattle.wait_cycles.specs.Waiting.{AreOnce, is_under, is_under_in, wait_of};
+ghost use Rattle.serial_spec.specs.declared.target.Asked.TheVariants.{At, Over};
+ghost use Rattle.wait_cycles.specs.Waiting.{AreOnce, HasJoined, is_under, is_under_in, wait_of};
 
 use crate::records::Records;
-use serial_spec::{By, NoMemory, Op};
+use serial_spec::{Asked, By, NoMemory, Op};
 use std::alloc::Global;
 use std::marker::Model;
-use txn_names::Key;
+use txn_names::{Group, Key};
 use txn_tree::{Tree, TxnNo};
 
 /// An access that waits: whose it is, what it asks, and by which line.
 #[derive(Clone, Copy, Debug, PartialEq, Eq)]
 pub struct Wait {
     pub txn: TxnNo,
-    pub key: Key,
-    pub op: Op,
+    pub asked: Asked,
     pub by: By,
 }
 
@@ -103,36 +103,53 @@ impl Waits {
         Some(&record.wait)
     }
 
-    /// One more waits, which did not. If memory runs out, the only error, all is as before. Where there is room for one it
-    /// succeeds.
+    /// One more waits for a key, which did not wait. If memory runs out, the only error, all is as before. Where there is room
+    /// for one it succeeds.
     pub fn add(&mut self, txn: TxnNo, key: &Key, op: Op, by: By) -> Result<(), NoMemory>
         requires { wait_of self.old txn ≡ None }
-        ensures ok { OnOk result ((u : ℕ) → wait_of self.new u ≡ (if nat_eq txn u then Some (record { txn = txn; key = key.now; op = op; by = by }) else wait_of self.old u)) }
-        ensures len { OnOk result (length self.new.waits ≡ length self.old.waits + 1) }
+        ensures ok { OnOk result (HasJoined self.old self.new (record { txn = txn; asked = At key.now op; by = by })) }
+        ensures err { OnErr result (self.new.waits ≡ self.old.waits) }
+        ensures succeeds { 0 < self.old.room → IsOk result }
+        ensures room { self.old.room ≤ self.new.room + 1 }
+    {
+        self.add_asked(txn, &Asked::At(*key, op), by)
+    }
+
+    /// One more waits for a sum over a group, which did not wait. If memory runs out, the only error, all is as before. Where
+    /// there is room for one it succeeds.
+    pub fn add_sum(&mut self, txn: TxnNo, group: &Group, by: By) -> Result<(), NoMemory>
+        requires { wait_of self.old txn ≡ None }
+        ensures ok { OnOk result (HasJoined self.old self.new (record { txn = txn; asked = Over group.now; by = by })) }
+        ensures err { OnErr result (self.new.waits ≡ self.old.waits) }
+        ensures succeeds { 0 < self.old.room → IsOk result }
+        ensures room { self.old.room ≤ self.new.room + 1 }
+    {
+        self.add_asked(txn, &Asked::Over(*group), by)
+    }
+
+    /// One more waits for what it asked, which did not wait. If memory runs out, the only error, all is as before. Where there
+    /// is room for one it succeeds.
+    pub fn add_asked(&mut self, txn: TxnNo, asked: &Asked, by: By) -> Result<(), NoMemory>
+        requires { wait_of self.old txn ≡ None }
+        ensures ok { OnOk result (HasJoined self.old self.new (record { txn = txn; asked = asked.now; by = by })) }
         ensures err { OnErr result (self.new.waits ≡ self.old.waits) }
         ensures succeeds { 0 < self.old.room → IsOk result }
         ensures room { self.old.room ≤ self.new.room + 1 }
     {
         self.reserve(1)?;
-        self.add_reserved(txn, key, op, by);
+        self.add_reserved(txn, asked, by);
         Ok(())
     }
 
     /// One more waits, which did not, where there is room for it. It takes no memory.
-    pub fn add_reserved(&mut self, txn: TxnNo, key: &Key, op: Op, by: By)
+    pub fn add_reserved(&mut self, txn: TxnNo, asked: &Asked, by: By)
         requires none { wait_of self.old txn ≡ None }
         requires room { 0 < self.old.room }
-        ensures wait { (u : ℕ) → wait_of self.new u ≡ (if nat_eq txn u then Some (record { txn = txn; key = key.now; op = op; by = by }) else wait_of self.old u) }
+        ensures wait { (u : ℕ) → wait_of self.new u ≡ (if nat_eq txn u then Some (record { txn = txn; asked = asked.now; by = by }) else wait_of self.old u) }
         ensures len { length self.new.waits ≡ length self.old.waits + 1 }
         ensures room { self.old.room ≡ self.new.room + 1 }
     {
-        let wait = Wait {
-            txn,
-            key: *key,
-            op,
-            by,
-        };
-        self.records.push(wait);
+        self.records.push(txn, asked, by);
     }
 
     /// The transaction waits no more. So fewer wait, if it did.

@@ -5,5 +5,5 @@ use Rattle.wait_cycles.proofs.waits.Waits.add_reserved.Goals as goal
 
 pub returns-clause-wait : goal.returns-clause-wait
 returns-clause-wait c =
-    let x : Wait = record { txn = c.args.txn; key = c.args.key.now; op = c.args.op; by = c.args.by } in
+    let x : Wait = record { txn = c.args.txn; asked = c.args.asked.now; by = c.args.by } in
     rw (sym c.self.view_is, c.push.ensures.waits) (added c.self.inside.records.waits x (rw (sym c.self.view_is) at c.requires.none))
