@@ -1,8 +1,8 @@
 //! The worked values of the finder, and each call on waits once. Under a trial run that refuses a growth the call is made again.
-use serial_spec::{By, NoMemory, Op};
+use serial_spec::{Asked, By, NoMemory, Op};
 use std::alloc::Global;
 use std::process::Abort;
-use txn_names::{Key, Name};
+use txn_names::{Group, Key, Name};
 use txn_tree::{Tree, TxnNo};
 use wait_cycles::{Cycle, Wait, Waits, Work, find_cycle, victim};
 
@@ -93,15 +93,25 @@ fn chains_of_64(rt: HostRuntime) {
 fn wait(rt: &impl Abort, txn: u32, line: u32) -> Wait {
     Wait {
         txn: TxnNo::new(txn),
-        key: Key::parse(b"x").expect(rt, "a key"),
-        op: Op::Get,
+        asked: Asked::At(Key::parse(b"x").expect(rt, "a key"), Op::Get),
+        by: By::Line { session: 0, line },
+    }
+}
+
+fn wait_for_sum(rt: &impl Abort, txn: u32, line: u32) -> Wait {
+    Wait {
+        txn: TxnNo::new(txn),
+        asked: Asked::Over(Group::parse(b"x").expect(rt, "a group")),
         by: By::Line { session: 0, line },
     }
 }
 
 fn add_once(waits: &mut Waits, wait: &Wait) -> Result<(), NoMemory> {
     waits.cancel(wait.txn);
-    waits.add(wait.txn, &wait.key, wait.op, wait.by)
+    match wait.asked {
+        Asked::At(key, op) => waits.add(wait.txn, &key, op, wait.by),
+        Asked::Over(group) => waits.add_sum(wait.txn, &group, wait.by),
+    }
 }
 
 fn add(rt: &impl Abort, waits: &mut Waits, wait: &Wait) {
@@ -128,6 +138,19 @@ fn waits_come_and_go(rt: HostRuntime) {
     assert!(rt; waits.of(first.txn).is_none());
     add(&rt, &mut waits, &again);
     assert!(rt; stands(&waits, &again) && stands(&waits, &second));
+}
+
+// A sum waits as an access to a key does, and is told from the read of the key that has the bytes of its group.
+#[test]
+fn sum_waits(rt: HostRuntime) {
+    let mut waits = Waits::new(rt.alloc());
+    let (first, sum) = (wait(&rt, 4, 1), wait_for_sum(&rt, 9, 2));
+    add(&rt, &mut waits, &first);
+    add(&rt, &mut waits, &sum);
+    assert!(rt; stands(&waits, &first) && stands(&waits, &sum));
+    assert!(rt; !stands(&waits, &wait(&rt, 9, 2)));
+    waits.cancel(sum.txn);
+    assert!(rt; waits.of(sum.txn).is_none() && stands(&waits, &first));
 }
 
 // Whether those of even numbers wait and no others, each met at a place.
@@ -176,7 +199,7 @@ fn begin(rt: &impl Abort, tree: &mut Tree, text: &str) -> TxnNo {
 fn add_into_room_once(waits: &mut Waits, wait: &Wait) -> Result<(), NoMemory> {
     waits.reserve(1)?;
     waits.cancel(wait.txn);
-    waits.add_reserved(wait.txn, &wait.key, wait.op, wait.by);
+    waits.add_reserved(wait.txn, &wait.asked, wait.by);
     Ok(())
 }
 
