@@ -192,7 +192,8 @@ impl Records {
     pub(crate) fn push(&mut self, txn: TxnNo, asked: &Asked, by: By)
         requires none { wait_of self.old txn ≡ None }
         requires room { 0 < self.old.room }
-        ensures waits { self.new.waits ≡ self.old.waits ++ (record { txn = txn; asked = asked.now; by = by }) ∷ [] }
+        ensures waits { self.new.waits
+            ≡ self.old.waits ++ (record { txn = txn; asked = asked.now; by = by }) ∷ [] }
         ensures room { self.old.room ≡ self.new.room + 1 }
     {
         let place = self.keys.len();

@@ -103,11 +103,12 @@ impl Waits {
         Some(&record.wait)
     }
 
-    /// One more waits for a key, which did not wait. If memory runs out, the only error, all is as before. Where there is room
-    /// for one it succeeds.
+    /// A transaction that did not wait waits for an operation at a key. If memory runs out, the only error, all is as before.
+    /// Where there is room for one it succeeds.
     pub fn add(&mut self, txn: TxnNo, key: &Key, op: Op, by: By) -> Result<(), NoMemory>
         requires { wait_of self.old txn ≡ None }
-        ensures ok { OnOk result (HasJoined self.old self.new (record { txn = txn; asked = At key.now op; by = by })) }
+        ensures ok { OnOk result
+            (HasJoined self.old self.new (record { txn = txn; asked = At key.now op; by = by })) }
         ensures err { OnErr result (self.new.waits ≡ self.old.waits) }
         ensures succeeds { 0 < self.old.room → IsOk result }
         ensures room { self.old.room ≤ self.new.room + 1 }
@@ -115,11 +116,12 @@ impl Waits {
         self.add_asked(txn, &Asked::At(*key, op), by)
     }
 
-    /// One more waits for a sum over a group, which did not wait. If memory runs out, the only error, all is as before. Where
-    /// there is room for one it succeeds.
+    /// A transaction that did not wait waits for the sum over a group. If memory runs out, the only error, all is as before.
+    /// Where there is room for one it succeeds.
     pub fn add_sum(&mut self, txn: TxnNo, group: &Group, by: By) -> Result<(), NoMemory>
         requires { wait_of self.old txn ≡ None }
-        ensures ok { OnOk result (HasJoined self.old self.new (record { txn = txn; asked = Over group.now; by = by })) }
+        ensures ok { OnOk result
+            (HasJoined self.old self.new (record { txn = txn; asked = Over group.now; by = by })) }
         ensures err { OnErr result (self.new.waits ≡ self.old.waits) }
         ensures succeeds { 0 < self.old.room → IsOk result }
         ensures room { self.old.room ≤ self.new.room + 1 }
@@ -127,11 +129,12 @@ impl Waits {
         self.add_asked(txn, &Asked::Over(*group), by)
     }
 
-    /// One more waits for what it asked, which did not wait. If memory runs out, the only error, all is as before. Where there
-    /// is room for one it succeeds.
+    /// A transaction that did not wait waits for what it asked. If memory runs out, the only error, all is as before. Where
+    /// there is room for one it succeeds.
     pub fn add_asked(&mut self, txn: TxnNo, asked: &Asked, by: By) -> Result<(), NoMemory>
         requires { wait_of self.old txn ≡ None }
-        ensures ok { OnOk result (HasJoined self.old self.new (record { txn = txn; asked = asked.now; by = by })) }
+        ensures ok { OnOk result
+            (HasJoined self.old self.new (record { txn = txn; asked = asked.now; by = by })) }
         ensures err { OnErr result (self.new.waits ≡ self.old.waits) }
         ensures succeeds { 0 < self.old.room → IsOk result }
         ensures room { self.old.room ≤ self.new.room + 1 }
@@ -141,11 +144,12 @@ impl Waits {
         Ok(())
     }
 
-    /// One more waits, which did not, where there is room for it. It takes no memory.
+    /// A transaction that did not wait waits for what it asked, where there is room for it. It takes no memory.
     pub fn add_reserved(&mut self, txn: TxnNo, asked: &Asked, by: By)
         requires none { wait_of self.old txn ≡ None }
         requires room { 0 < self.old.room }
-        ensures wait { (u : ℕ) → wait_of self.new u ≡ (if nat_eq txn u then Some (record { txn = txn; asked = asked.now; by = by }) else wait_of self.old u) }
+        ensures wait { (u : ℕ) → wait_of self.new u ≡ (if nat_eq txn u
+            then Some (record { txn = txn; asked = asked.now; by = by }) else wait_of self.old u) }
         ensures len { length self.new.waits ≡ length self.old.waits + 1 }
         ensures room { self.old.room ≡ self.new.room + 1 }
     {
