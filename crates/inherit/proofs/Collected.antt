@@ -12,7 +12,8 @@ use Rattle.txn_names.specs.declared.change.Change.{Change}
 use Rattle.serial_spec.specs.History.{or_else}
 use Rattle.serial_spec.specs.Rows.{AreRisingKeys}
 use Rattle.serial_spec.specs.Changes.{AreRising, change_at}
-use Rattle.lock_table.specs.Locked.{free, whole}
+use Rattle.lock_table.specs.Inherited.{free, whole}
+use Rattle.serial_spec.specs.declared.target.Target.TheVariants.{Key}
 use Rattle.serial_spec.specs.Locks.{is_exclusive}
 use Rattle.inherit.specs.LocksAndVersions.{LocksAndVersions, modes_of}
 use Rattle.inherit.specs.Changes.{writes}
@@ -170,7 +171,7 @@ module _ (sees : List ℕ → Option ℤ) where
 -- ---- what is locked to write
 
 -- where all keys that are locked are among these, those that are locked to write are
-pub wrote_among : (a : LocksAndVersions) (t : ℕ) (keys : List (List ℕ)) → ((q : List ℕ) → list_any (label_eq q) keys ≡ false → modes_of a t q ≡ free)
+pub wrote_among : (a : LocksAndVersions) (t : ℕ) (keys : List (List ℕ)) → ((q : List ℕ) → list_any (label_eq q) keys ≡ false → modes_of a t (Key q) ≡ free)
     → (k : List ℕ) → writes a t k ≡ true → list_any (label_eq k) keys ≡ true
 wrote_among a t keys others k w = by (list_any (label_eq k) keys) refl
   where

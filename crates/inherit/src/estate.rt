@@ -1,15 +1,17 @@
 //! The steps that touch locks and versions.
-ghost use Rattle.std.specs.Prelude.{◌≡◌, ℕ, List, None, Some, IsOk, OnOk, IfNone, IfSome};
+ghost use Rattle.std.specs.Prelude.{◌≡◌, ℕ, List, None, Some, IsOk, OnOk, IfSome};
 ghost use Rattle.txn_tree.specs.Asked.{IsNumberOf};
-ghost use Rattle.serial_spec.specs.Operations.{kind};
-ghost use Rattle.inherit.specs.LocksAndVersions.{HasRoom, IsRead, IsReady, IsSame, MayGoUp, free, has_place, left_of, modes_of};
-ghost use Rattle.inherit.specs.Steps.{HasAccessed, HasDropped, HasGoneUp, reply_in};
+ghost use Rattle.serial_spec.specs.declared.operation.Kind.TheVariants.{Read};
+ghost use Rattle.serial_spec.specs.declared.target.Target.{Target};
+ghost use Rattle.serial_spec.specs.Targets.{kind_of};
+ghost use Rattle.inherit.specs.LocksAndVersions.{HasRoom, IsRead, IsReady, IsReadyToAsk, IsSame, MayGoUp, free, left_of, modes_of};
+ghost use Rattle.inherit.specs.Steps.{HasDropped, HasGoneUp};
 
-use lock_table::Locks;
-use serial_spec::{Event, Kind, Left, NoMemory, Op, PlainTable, Reply, act};
+use lock_table::TargetLocks;
+use serial_spec::{Asked, Event, NoMemory, PlainTable};
 use std::alloc::Global;
 use std::marker::Model;
-use txn_names::{Key, Name};
+use txn_names::Name;
 use txn_tree::{Tree, TxnNo};
 use version_stack::Versions;
 
@@ -18,7 +20,7 @@ use version_stack::Versions;
 #[derive(Drop)]
 pub struct Estate {
     pub(crate) alloc: Global,
-    pub(crate) locks: Locks,
+    pub(crate) locks: TargetLocks,
     pub(crate) versions: Versions,
 }
 
@@ -36,19 +38,19 @@ impl Model for Estate {
 impl Estate {
     /// No locks and no versions over this table. It takes no memory yet.
     pub fn new(alloc: Global, base: PlainTable) -> Self
-        ensures modes { (u : ℕ) → (q : List ℕ) → modes_of result u q ≡ free }
+        ensures modes { (u : ℕ) → (s : Target) → modes_of result u s ≡ free }
         ensures left { (u : ℕ) → (q : List ℕ) → left_of result u q ≡ None }
         ensures base { result.versions.base ≡ base }
     {
         Estate {
             alloc,
-            locks: Locks::new(alloc),
+            locks: TargetLocks::new(alloc),
             versions: Versions::new(alloc, base),
         }
     }
 
     /// The locks.
-    pub fn locks(&self) -> &Locks
+    pub fn locks(&self) -> &TargetLocks
         ensures { result.now ≡ self.now.locks }
     {
         &self.locks
@@ -67,21 +69,6 @@ impl Estate {
     {
         let Estate { versions, .. } = self;
         versions.into_base()
-    }
-
-    /// Makes all growths of an access of this kind beforehand, as `reserve_for` of its event does. The only error is that
-    /// memory runs out.
-    pub fn reserve_access(&mut self, txn: TxnNo, key: &Key, kind: Kind) -> Result<(), NoMemory>
-        ensures succeeds { has_place self.old txn key.now kind → IsOk result }
-        ensures ok { OnOk result (has_place self.new txn key.now kind) }
-        ensures same { IsSame self.old self.new }
-        ensures read { kind ≡ Kind.Read → self.new.versions ≡ self.old.versions }
-    {
-        self.locks.reserve(txn, key)?;
-        match kind {
-            Kind::Read => Ok(()),
-            Kind::Write => self.versions.reserve(txn, key),
-        }
     }
 
     // Makes room for what the child hands to a parent that has begun.
@@ -123,8 +110,21 @@ impl Estate {
         }
     }
 
-    /// Makes all growths of the event's step beforehand: an access's, or a commit's. What is locked, left and seen stays.
-    /// For a read no room is made among the versions. Where the step has its room already, other than in the table, it
+    // Makes room for what a transaction asks, if it has begun.
+    fn reserve_step(&mut self, tree: &Tree, name: &Name, asked: &Asked) -> Result<(), NoMemory>
+        ensures succeeds { IsReadyToAsk tree.now self.old name.now asked.now → IsOk result }
+        ensures ok { OnOk result (IsReadyToAsk tree.now self.new name.now asked.now) }
+        ensures same { IsSame self.old self.new }
+        ensures read { kind_of asked.now ≡ Read → self.new.versions ≡ self.old.versions }
+    {
+        match tree.no_of(name) {
+            Some(txn) => self.reserve_asked(txn, asked),
+            None => Ok(()),
+        }
+    }
+
+    /// Makes all growths of the event's step beforehand: an access's, a sum's or a commit's. What is locked, left and seen stays.
+    /// For a read or a sum no room is made among the versions. Where the step has its room already, other than in the table, it
     /// takes no memory. The only error is that memory runs out.
     pub fn reserve_for(&mut self, tree: &Tree, event: &Event) -> Result<(), NoMemory>
         ensures ok { OnOk result (IsReady tree.now self.new event.now) }
@@ -133,38 +133,14 @@ impl Estate {
         ensures read { IsRead event.now → self.new.versions ≡ self.old.versions }
     {
         match event {
-            Event::Access(name, key, op) => match tree.no_of(name) {
-                Some(txn) => self.reserve_access(txn, key, op.kind()),
-                None => Ok(()),
-            },
+            Event::Access(name, key, op) => self.reserve_step(tree, name, &Asked::At(*key, *op)),
+            Event::Sum(name, group) => self.reserve_step(tree, name, &Asked::Over(*group)),
             Event::Commit(name) => match tree.no_of(name) {
                 Some(child) => self.reserve_commit(tree, child, name),
                 None => Ok(()),
             },
             _ => Ok(()),
         }
-    }
-
-    /// Accesses the key: nothing where a lock keeps the transaction out, and then nothing has changed; else the reply at
-    /// the value that it sees, and the transaction has locked the key and left there what the access leaves. It takes no
-    /// memory.
-    pub fn access(&mut self, tree: &Tree, txn: TxnNo, key: &Key, op: Op) -> Option<Reply>
-        requires place { has_place self.old txn key.now (kind op) }
-        ensures reply { result ≡ reply_in tree.now self.old txn key.now op }
-        ensures blocked { IfNone result (self.new ≡ self.old) }
-        ensures accessed { IfSome result (λ reply. HasAccessed self.old self.new txn key.now op reply) }
-    {
-        if !self.locks.may(tree, txn, key, op.kind()) {
-            return None;
-        }
-        let (_, reply) = act(self.versions.value_for(tree, txn, key), &op);
-        self.locks.hold(txn, key, op.kind());
-        match op.leaves(reply) {
-            Left::Nothing => {}
-            Left::Absent => self.versions.put(txn, key, None),
-            Left::Value(value) => self.versions.put(txn, key, Some(value)),
-        }
-        Some(reply)
     }
 
     /// Hands up what a committed child has: its parent retains its locks, and has what it left. It takes no memory.

@@ -1,6 +1,7 @@
 //! The locks of transactions: how far each one locks each key, and who keeps whom out (Moss 1981).
 #![tactic(auto)]
 
+mod asking;
 mod groups;
 mod locks;
 mod modes;

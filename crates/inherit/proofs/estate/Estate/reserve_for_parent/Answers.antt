@@ -1,7 +1,6 @@
 use Rattle.std.proofs.Common.{sym, rules}
 use Rattle.std.proofs.lemmas.Result.{on_ok_weaker}
 use Rattle.std.specs.Prelude.{IsOk}
-use Rattle.lock_table.specs.Locked as locks
 use Rattle.version_stack.specs.Versioned as versions
 use Rattle.inherit.proofs.Ready.{childs_made}
 use Rattle.inherit.proofs.estate.Estate.reserve_for_parent.Goals as goal
@@ -11,7 +10,7 @@ returns-clause-ok c =
     let child = c.args.child in
     let parent = c.args.parent in
     on_ok_weaker c.reserve_for_parent-2.result (λ made. (
-      childs_made (locks.has_place c.self.inside.locks) (locks.has_place c.reserve_for_parent.new.self) child parent c.in_ok-reserve_for_parent.ensures.ok,
+      c.in_ok-reserve_for_parent.ensures.ok,
       childs_made (versions.has_place c.self.inside.versions) (versions.has_place c.reserve_for_parent-2.new.self) child parent made,
     )) c.reserve_for_parent-2.ensures.ok
 

@@ -1,0 +1,125 @@
+//! Accesses of keys and sums over groups: what is asked, in the locks and the versions at once.
+ghost use Rattle.std.specs.Prelude.{◌≡◌, ◌↔◌, ℕ, List, IsOk, OnOk, IsSome, IfNone, IfSome, IsTrue};
+ghost use Rattle.serial_spec.specs.declared.operation.Kind.TheVariants.{Read};
+ghost use Rattle.serial_spec.specs.declared.target.Asked.TheVariants.{At, Over};
+ghost use Rattle.serial_spec.specs.declared.target.Target.TheVariants as target;
+ghost use Rattle.serial_spec.specs.Operations.{kind, reply_of};
+ghost use Rattle.serial_spec.specs.Serial.{reply_at};
+ghost use Rattle.serial_spec.specs.Sums.{reply_of_sum, sum_in};
+ghost use Rattle.serial_spec.specs.Targets.{kind_of};
+ghost use Rattle.lock_table.specs.ByAsked.{MayAsk};
+ghost use Rattle.lock_table.specs.Targeted.{MayAt, has_place};
+ghost use Rattle.version_stack.specs.Seen.{seen_in};
+ghost use Rattle.version_stack.specs.Versioned.{left_in};
+ghost use Rattle.inherit.specs.LocksAndVersions.{HasPlace, IsSame, MayLeave};
+ghost use Rattle.inherit.specs.Steps.{HasAccessed, HasSummed, left_more};
+
+use crate::estate::Estate;
+use serial_spec::{Asked, Kind, Left, NoMemory, Op, Reply, act};
+use txn_names::{Group, Key};
+use txn_tree::{Tree, TxnNo};
+use version_stack::Versions;
+
+// The reply at what the transaction sees.
+fn reply_for(versions: &Versions, tree: &Tree, txn: TxnNo, asked: &Asked) -> Reply
+    ensures { result ≡ reply_at (seen_in tree.now versions.now txn) asked.now }
+{
+    match asked {
+        Asked::At(key, op) => {
+            let (_, reply) = act(versions.value_for(tree, txn, key), op);
+            reply
+        }
+        Asked::Over(group) => match versions.sum_for(tree, txn, group) {
+            Some(sum) => Reply::Value(sum),
+            None => Reply::Overflow,
+        },
+    }
+}
+
+// The transaction leaves what its access leaves by this reply, if it is something.
+fn leave(versions: &mut Versions, txn: TxnNo, asked: &Asked, reply: Reply)
+    requires { MayLeave versions.old txn asked.now }
+    ensures left { (u : ℕ) → (q : List ℕ) →
+        left_in versions.new u q ≡ left_more versions.old txn asked.now reply u q }
+    ensures base { versions.new.base ≡ versions.old.base }
+    ensures read { kind_of asked.now ≡ Read → versions.new ≡ versions.old }
+{
+    if let Asked::At(key, op) = asked {
+        match op.leaves(reply) {
+            Left::Nothing => {}
+            Left::Absent => versions.put(txn, key, None),
+            Left::Value(value) => versions.put(txn, key, Some(value)),
+        }
+    }
+}
+
+impl Estate {
+    /// Makes all growths of an access or a sum beforehand, as `reserve_for` of its event does. The only error is that memory
+    /// runs out.
+    pub fn reserve_asked(&mut self, txn: TxnNo, asked: &Asked) -> Result<(), NoMemory>
+        ensures succeeds { HasPlace self.old txn asked.now → IsOk result }
+        ensures ok { OnOk result (HasPlace self.new txn asked.now) }
+        ensures same { IsSame self.old self.new }
+        ensures read { kind_of asked.now ≡ Read → self.new.versions ≡ self.old.versions }
+    {
+        self.locks.reserve_asked(txn, asked)?;
+        match asked {
+            Asked::At(key, op) => match op.kind() {
+                Kind::Read => Ok(()),
+                Kind::Write => self.versions.reserve(txn, key),
+            },
+            Asked::Over(_) => Ok(()),
+        }
+    }
+
+    /// Does what is asked: nothing where a lock keeps the transaction out, and then nothing has changed; else the reply at what it
+    /// sees, and the transaction has locked the key or the group and left what the access leaves. It takes no memory.
+    pub fn ask(&mut self, tree: &Tree, txn: TxnNo, asked: &Asked) -> Option<Reply>
+        requires place { HasPlace self.old txn asked.now }
+        ensures may { IsSome result ↔ MayAsk tree.now self.old.locks txn asked.now }
+        ensures reply { IfSome result (λ reply.
+            reply ≡ reply_at (seen_in tree.now self.old.versions txn) asked.now) }
+        ensures blocked { IfNone result (self.new ≡ self.old) }
+        ensures accessed { IfSome result (λ reply.
+            HasAccessed self.old self.new txn asked.now reply) }
+        ensures read { kind_of asked.now ≡ Read → self.new.versions ≡ self.old.versions }
+    {
+        if !self.locks.may_ask(tree, txn, asked) {
+            return None;
+        }
+        let reply = reply_for(&self.versions, tree, txn, asked);
+        self.locks.hold_asked(txn, asked);
+        leave(&mut self.versions, txn, asked, reply);
+        Some(reply)
+    }
+
+    /// Accesses the key: nothing where a lock keeps the transaction out, and then nothing has changed; else the reply at
+    /// the value that it sees, and the transaction has locked the key and left there what the access leaves. It takes no
+    /// memory.
+    pub fn access(&mut self, tree: &Tree, txn: TxnNo, key: &Key, op: Op) -> Option<Reply>
+        requires place { HasPlace self.old txn (At key.now op) }
+        ensures may { IsSome result
+            ↔ MayAt tree.now self.old.locks txn (target.Key key.now) (kind op) }
+        ensures reply { IfSome result (λ reply.
+            reply ≡ reply_of (seen_in tree.now self.old.versions txn key.now) op) }
+        ensures blocked { IfNone result (self.new ≡ self.old) }
+        ensures accessed { IfSome result (λ reply.
+            HasAccessed self.old self.new txn (At key.now op) reply) }
+    {
+        self.ask(tree, txn, &Asked::At(*key, op))
+    }
+
+    /// Sums over the group: nothing where a lock keeps the transaction out, and then nothing has changed; else the sum of what it
+    /// sees, or overflow where that is not an i64, and the transaction has locked the group to read. It takes no memory.
+    pub fn sum(&mut self, tree: &Tree, txn: TxnNo, group: &Group) -> Option<Reply>
+        requires place { IsTrue (has_place self.old.locks txn (target.Group group.now)) }
+        ensures may { IsSome result
+            ↔ MayAt tree.now self.old.locks txn (target.Group group.now) Read }
+        ensures reply { IfSome result (λ reply.
+            reply ≡ reply_of_sum (sum_in (seen_in tree.now self.old.versions txn) group.now)) }
+        ensures blocked { IfNone result (self.new ≡ self.old) }
+        ensures summed { IfSome result (λ _. HasSummed self.old self.new txn group.now) }
+    {
+        self.ask(tree, txn, &Asked::Over(*group))
+    }
+}
