@@ -1,9 +1,9 @@
 //! What becomes of locks and values together, and each call once. Under a trial run that refuses a growth the call is made
 //! again.
 use inherit::Estate;
-use serial_spec::{Event, Left, Mode, NoMemory, Op, PlainTable, Reply};
+use serial_spec::{Asked, Event, Left, Mode, NoMemory, Op, PlainTable, Reply};
 use std::process::Abort;
-use txn_names::{Change, Key, Name};
+use txn_names::{Change, Group, Key, Name};
 use txn_tree::{Tree, TxnNo};
 
 fn begin_once(tree: &mut Tree, name: &Name) -> Option<TxnNo> {
@@ -47,6 +47,56 @@ fn access(
     match access_once(estate, tree, name, key, op) {
         Ok(reply) => reply,
         Err(_) => access_once(estate, tree, name, key, op).expect(rt, "memory"),
+    }
+}
+
+fn sum_once(
+    estate: &mut Estate,
+    tree: &Tree,
+    name: &Name,
+    group: &Group,
+) -> Result<Option<Reply>, NoMemory> {
+    estate.reserve_for(tree, &Event::Sum(*name, *group))?;
+    match tree.no_of(name) {
+        Some(txn) => Ok(estate.sum(tree, txn, group)),
+        None => Ok(None),
+    }
+}
+
+/// The reply to a sum over the group, or nothing where a lock keeps the transaction out.
+fn sum(
+    rt: &impl Abort,
+    estate: &mut Estate,
+    tree: &Tree,
+    name: &Name,
+    group: &Group,
+) -> Option<Reply> {
+    match sum_once(estate, tree, name, group) {
+        Ok(reply) => reply,
+        Err(_) => sum_once(estate, tree, name, group).expect(rt, "memory"),
+    }
+}
+
+fn ask_once(
+    estate: &mut Estate,
+    tree: &Tree,
+    txn: TxnNo,
+    asked: &Asked,
+) -> Result<Option<Reply>, NoMemory> {
+    estate.reserve_asked(txn, asked)?;
+    Ok(estate.ask(tree, txn, asked))
+}
+
+fn ask(
+    rt: &impl Abort,
+    estate: &mut Estate,
+    tree: &Tree,
+    txn: TxnNo,
+    asked: &Asked,
+) -> Option<Reply> {
+    match ask_once(estate, tree, txn, asked) {
+        Ok(reply) => reply,
+        Err(_) => ask_once(estate, tree, txn, asked).expect(rt, "memory"),
     }
 }
 
@@ -153,6 +203,99 @@ fn an_overflow_locks_to_write(rt: HostRuntime) {
     let base = PlainTable::new(rt.alloc());
     let (mut tree, mut estate) = (Tree::new(rt.alloc()), Estate::new(rt.alloc(), base));
     overflow(&rt, &mut tree, &mut estate);
+}
+
+fn key(rt: &impl Abort, text: &[u8]) -> Key {
+    Key::parse(text).expect(rt, "a key")
+}
+
+fn group(rt: &impl Abort, text: &[u8]) -> Group {
+    Group::parse(text).expect(rt, "a group")
+}
+
+fn blockers(
+    rt: &impl Abort,
+    estate: &Estate,
+    tree: &Tree,
+    txn: TxnNo,
+    asked: &Asked,
+) -> Vec<TxnNo> {
+    match estate.locks().asked_blockers(tree, txn, asked) {
+        Ok(found) => found,
+        Err(_) => estate
+            .locks()
+            .asked_blockers(tree, txn, asked)
+            .expect(rt, "memory"),
+    }
+}
+
+fn set(
+    rt: &impl Abort,
+    estate: &mut Estate,
+    tree: &Tree,
+    name: &Name,
+    text: &[u8],
+    value: i64,
+) -> Option<Reply> {
+    access(rt, estate, tree, name, &key(rt, text), Op::Set(value))
+}
+
+// A sum sees what its ancestors left over the table, keeps others from writing any key of its group, and goes up at a commit.
+fn sum_in_a_child(rt: &impl Abort, tree: &mut Tree, estate: &mut Estate) {
+    let ((o, _), (a, top)) = (begin(rt, tree, b"o"), begin(rt, tree, b"a"));
+    let ((l, child), (r, _)) = (begin(rt, tree, b"a/l"), begin(rt, tree, b"a/r"));
+    let ((b, other), g) = (begin(rt, tree, b"b"), group(rt, b"g"));
+    for (text, value) in [(b"g.x", 1), (b"h.x", 9), (b"g.y", 5)] {
+        assert!(rt; set(rt, estate, tree, &o, text, value) == Some(Reply::Ok));
+    }
+    commit(rt, estate, tree, &o);
+    assert!(rt; set(rt, estate, tree, &a, b"g.y", 2) == Some(Reply::Ok));
+    assert!(rt; sum(rt, estate, tree, &l, &g) == Some(Reply::Value(3)));
+    assert!(rt; sum(rt, estate, tree, &b, &g).is_none());
+    let new = Asked::At(key(rt, b"g.z"), Op::Set(4));
+    assert!(rt; ask(rt, estate, tree, other, &new).is_none());
+    assert!(rt; estate.locks().blocks_asked(tree, child, other, &new));
+    assert!(rt; set(rt, estate, tree, &r, b"g.z", 4).is_none());
+    commit(rt, estate, tree, &l);
+    assert!(rt; estate.locks().group_modes_of(top, &g) == (Mode::None, Mode::Read));
+    assert!(rt; blockers(rt, estate, tree, other, &new).as_slice() == [top].as_slice());
+    assert!(rt; set(rt, estate, tree, &r, b"g.z", 4) == Some(Reply::Ok));
+    commit(rt, estate, tree, &r);
+    commit(rt, estate, tree, &a);
+    assert!(rt; ask(rt, estate, tree, other, &Asked::Over(g)) == Some(Reply::Value(7)));
+    assert!(rt; ask(rt, estate, tree, other, &new) == Some(Reply::Ok));
+}
+
+#[test]
+fn a_sum_goes_up(rt: HostRuntime) {
+    let base = PlainTable::new(rt.alloc());
+    let (mut tree, mut estate) = (Tree::new(rt.alloc()), Estate::new(rt.alloc(), base));
+    sum_in_a_child(&rt, &mut tree, &mut estate);
+}
+
+// A sum that is not an i64 locks its group all the same. It is one where a part of it is none.
+fn sum_past(rt: &impl Abort, tree: &mut Tree, estate: &mut Estate) {
+    let ((a, top), (b, other)) = (begin(rt, tree, b"a"), begin(rt, tree, b"b"));
+    let (g, most) = (group(rt, b"g"), 9223372036854775807);
+    for (text, value) in [(b"g.a", most), (b"g.b", 1)] {
+        assert!(rt; set(rt, estate, tree, &a, text, value) == Some(Reply::Ok));
+    }
+    commit(rt, estate, tree, &a);
+    assert!(rt; sum(rt, estate, tree, &b, &g) == Some(Reply::Overflow));
+    assert!(rt; estate.locks().group_modes_of(other, &g) == (Mode::Read, Mode::None));
+    let removal = Asked::At(key(rt, b"g.c"), Op::Del);
+    assert!(rt; !estate.locks().may_ask(tree, top, &removal));
+    assert!(rt; set(rt, estate, tree, &b, b"g.c", -1) == Some(Reply::Ok));
+    assert!(rt; sum(rt, estate, tree, &b, &g) == Some(Reply::Value(most)));
+    estate.abort(tree, other);
+    assert!(rt; estate.locks().may_ask(tree, top, &removal));
+}
+
+#[test]
+fn a_sum_that_overflows_locks(rt: HostRuntime) {
+    let base = PlainTable::new(rt.alloc());
+    let (mut tree, mut estate) = (Tree::new(rt.alloc()), Estate::new(rt.alloc(), base));
+    sum_past(&rt, &mut tree, &mut estate);
 }
 
 const KEYS: u8 = 40;
