@@ -1,5 +1,5 @@
 -- A top-level transaction without descendants is in nobody's branch but its own, and nobody else is in its branch.
-use Rattle.std.proofs.Common.{◌≡◌, ℕ, ◌+◌, nat_eq, nat_lt, Bool, true, false, ◌||◌, cond, List, [], ◌∷◌, ◌++◌, length, take, Option, Some, None, refl, sym, ap, subst, ◌∙◌, IsFalse, arith}
+use Rattle.std.proofs.Common.{◌≡◌, ℕ, ◌+◌, nat_eq, nat_lt, Bool, true, false, ◌||◌, cond, List, [], ◌∷◌, ◌++◌, length, take, Option, Some, None, refl, sym, ap, subst, ◌∙◌, arith}
 use Rattle.std.specs.Cmp.{both_ways}
 use Rattle.std.specs.Prelude.{slice_get}
 use Rattle.std.specs.List.{list_any}
@@ -9,15 +9,15 @@ use Rattle.txn_names.specs.Path.{Path, is_front, label_eq, meet}
 use Rattle.txn_names.proofs.Names.{label_eq_self, same_label}
 use Rattle.txn_tree.specs.States.{States, names}
 use Rattle.txn_tree.specs.Numbered.{is_front_of}
-use Rattle.lock_table.specs.Locked.{Table, modes_in, free}
-use Rattle.lock_table.specs.Blocking.{is_blocker_in, numbers}
+use Rattle.lock_table.specs.Blocking.{numbers}
 use Rattle.lock_table.proofs.Lists.{any_in_range, witness}
-use Rattle.serial_spec.specs.Operations.{kind}
+use Rattle.serial_spec.specs.declared.target.Target.{Target}
+use Rattle.serial_spec.specs.Targets.{meets, target}
 use Rattle.wait_cycles.specs.declared.waits.Wait.{Wait}
 use Rattle.serial_spec.proofs.Taking.{take_next}
 use Rattle.wait_cycles.specs.Waiting.{wait_in}
-use Rattle.manager_core.specs.Pairs.{AreAlone, IsAlone, IsNobodysWay, is_beside, is_beside_it, is_held_up, is_in_branch, waits_by_way_of, waits_for_in}
-use Rattle.manager_core.proofs.HeldUp.{free_holds_nobody, holder_begun}
+use Rattle.manager_core.specs.Pairs.{Keeps, AreAlone, IsAlone, IsNobodysWay, is_beside, is_beside_it, is_held_up, is_in_branch, waits_by_way_of, waits_for_in}
+use Rattle.manager_core.proofs.HeldUp.{holder_begun, open_holds_nobody}
 
 -- a path that shares its first label with one of one label is that or below it
 shared : (t : Path) (l : List ℕ) (b : Path) → nat_lt (meet t b) (meet (l ∷ []) b) ≡ true → is_front (l ∷ []) b ≡ true
@@ -31,11 +31,11 @@ shared t l (y ∷ ys) e = by (label_eq l y) refl
         let less = ltb-true (meet t (y ∷ ys)) (meet (l ∷ []) (y ∷ ys)) e in
         absurd (omega (arith, less, none))
 
-module _ (tree : States) (locks : Table) (w : Wait) (u : ℕ) (a : IsAlone tree u) where
-  itself : (b : ℕ) → is_held_up tree locks w u b ≡ true → u ≡ b
+module _ (tree : States) (keeps : Keeps) (w : Wait) (u : ℕ) (a : IsAlone tree u) where
+  itself : (b : ℕ) → is_held_up tree keeps w u b ≡ true → u ≡ b
   itself b e = a.alone b (below (slice_get (names tree) w.txn) (slice_get (names tree) b)
       (subst (λ o. is_beside (slice_get (names tree) w.txn) (slice_get (names tree) b) o ≡ true) a.named
-      (and_parts (is_blocker_in tree locks w.txn w.key (kind w.op) b) (is_in_branch tree w.txn b u) e).1))
+      (and_parts (keeps w.txn w.asked b) (is_in_branch tree w.txn b u) e).1))
     where
       front : (o : Option Path) → is_front_of (Some (a.label ∷ [])) o ≡ true → is_front_of (slice_get (names tree) u) o ≡ true
       front o f = subst (λ p. is_front_of p o ≡ true) (sym a.named) f
@@ -46,15 +46,15 @@ module _ (tree : States) (locks : Table) (w : Wait) (u : ℕ) (a : IsAlone tree 
       below (Some t) (Some b) f = front (Some b) (shared t a.label b f)
 
   -- so it is waited for exactly where it keeps the access from being answered itself
-  pub alone_waited_for : is_held_up tree locks w u u ≡ waits_for_in tree locks w u
+  pub alone_waited_for : is_held_up tree keeps w u u ≡ waits_for_in tree keeps w u
   alone_waited_for = both_ways (holds u) (list_any holds (numbers tree)) there here
     where
       holds : ℕ → Bool
-      holds = is_held_up tree locks w u
+      holds = is_held_up tree keeps w u
 
       there : holds u ≡ true → list_any holds (numbers tree) ≡ true
       there e =
-          let begun = holder_begun tree locks w u u e in
+          let begun = holder_begun tree keeps w u u e in
           any_in_range holds 0 (length (names tree)) u (omega arith) (omega (arith, begun)) e
 
       here : list_any holds (numbers tree) ≡ true → holds u ≡ true
@@ -95,37 +95,37 @@ module _ (tree : States) (b : ℕ) (a : IsAlone tree b) where
           let here : is_beside_it tree t b w ≡ false = false_from_ne_true _ (λ e. false≢true (sym is ∙ eq-eqb w.txn b (sym (only_itself t w.txn e)))) in
           rw here (others rest)
 
-  nobodys_way_among : (locks : Table) (k : List ℕ) (all vs : List Wait) → ((t : ℕ) → list_any (is_beside_it tree t b) all ≡ false)
-      → list_any (waits_by_way_of tree locks all b k) vs ≡ false
-  nobodys_way_among locks k all [] none = refl
-  nobodys_way_among locks k all (v ∷ vs) none =
-      let here : waits_by_way_of tree locks all b k v ≡ false = false_from_ne_true _ (λ e.
-      let blocks = (and_parts (label_eq v.key k) _ e).1 in
-      false≢true (sym (none v.txn) ∙ (and_parts (is_blocker_in tree locks v.txn k (kind v.op) b) _ blocks).1)) in
-      rw here (nobodys_way_among locks k all vs none)
+  nobodys_way_among : (keeps : Keeps) (s : Target) (all vs : List Wait) → ((t : ℕ) → list_any (is_beside_it tree t b) all ≡ false)
+      → list_any (waits_by_way_of tree keeps all b s) vs ≡ false
+  nobodys_way_among keeps s all [] none = refl
+  nobodys_way_among keeps s all (v ∷ vs) none =
+      let here : waits_by_way_of tree keeps all b s v ≡ false = false_from_ne_true _ (λ e.
+      let blocks = (and_parts (meets s (target v.asked)) _ e).1 in
+      false≢true (sym (none v.txn) ∙ (and_parts (keeps v.txn v.asked b) _ blocks).1)) in
+      rw here (nobodys_way_among keeps s all vs none)
 
   pub nobodys_way : (waits : List Wait) → wait_in waits b ≡ None → IsNobodysWay tree waits b
-  nobodys_way waits none locks k = nobodys_way_among locks k waits waits (λ t. nobody_beside t waits none)
+  nobodys_way waits none keeps s = nobodys_way_among keeps s waits waits (λ t. nobody_beside t waits none)
 
--- where all that may lock a key are alone, an access waits for whoever keeps it from being answered itself, and for nobody else
-module _ (tree : States) (locks : Table) (w : Wait) (u : ℕ) (holders : List ℕ)
-    (out : (v : ℕ) → IsFalse (list_any (nat_eq v) holders) → modes_in locks v w.key ≡ free) (alone : AreAlone tree holders) where
-  pub flat_waited_for : is_held_up tree locks w u u ≡ waits_for_in tree locks w u
+-- where all who may keep an access from being answered are alone, the access waits for whoever keeps it from being answered itself, and for nobody else
+module _ (tree : States) (keeps : Keeps) (w : Wait) (u : ℕ) (holders : List ℕ)
+    (out : (v : ℕ) → list_any (nat_eq v) holders ≡ false → keeps w.txn w.asked v ≡ false) (alone : AreAlone tree holders) where
+  pub flat_waited_for : is_held_up tree keeps w u u ≡ waits_for_in tree keeps w u
   flat_waited_for = both_ways (holds u) (list_any holds (numbers tree)) there here
     where
       holds : ℕ → Bool
-      holds = is_held_up tree locks w u
+      holds = is_held_up tree keeps w u
 
       there : holds u ≡ true → list_any holds (numbers tree) ≡ true
       there e =
-          let begun = holder_begun tree locks w u u e in
+          let begun = holder_begun tree keeps w u u e in
           any_in_range holds 0 (length (names tree)) u (omega arith) (omega (arith, begun)) e
 
       among : (b : ℕ) → holds b ≡ true → (found : Bool) → list_any (nat_eq b) holders ≡ found → holds u ≡ true
       among b e true found =
-          let beside = (and_parts (is_blocker_in tree locks w.txn w.key (kind w.op) b) (is_in_branch tree w.txn b u) e).1 in
+          let beside = (and_parts (keeps w.txn w.asked b) (is_in_branch tree w.txn b u) e).1 in
           subst (λ v. holds v ≡ true) (only_itself tree b (alone b found) w.txn u beside) e
-      among b e false found = absurd (free_holds_nobody tree locks w u b e (out b found))
+      among b e false found = absurd (open_holds_nobody tree keeps w u b e (out b found))
 
       here : list_any holds (numbers tree) ≡ true → holds u ≡ true
       here e = let b = witness holds (numbers tree) e in among b.0 b.1 (list_any (nat_eq b.0) holders) refl

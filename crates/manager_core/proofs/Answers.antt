@@ -1,18 +1,19 @@
 -- Which answers are allowed: the first cause that holds, else the reply or the wait.
-use Rattle.std.proofs.Common.{◌≡◌, ℕ, Bool, true, false, nat_le, length, List, ◌∷◌, Option, Some, None, option_map, refl, sym, ap, subst, ◌∙◌}
+use Rattle.std.proofs.Common.{◌≡◌, Bool, true, false, nat_le, length, ◌∷◌, Option, Some, None, option_map, refl, sym, ap, subst, ◌∙◌}
 use Rattle.std.proofs.lemmas.Bool.{false≢true}
 use Rattle.txn_names.specs.Path.{parent}
 use Rattle.serial_spec.specs.declared.entry.By.{By}
 use Rattle.serial_spec.specs.declared.entry.By.TheVariants.{Line, Victim, Close}
 use Rattle.serial_spec.specs.declared.entry.Refusal.{Refusal}
 use Rattle.serial_spec.specs.declared.entry.Refusal.TheVariants.{Unknown, Used, NoParent, Done as HasCommitted, Orphan, Children, Waiting, Full, Store}
-use Rattle.serial_spec.specs.declared.operation.Op.{Op}
+use Rattle.serial_spec.specs.declared.target.Asked.{Asked}
 use Rattle.serial_spec.specs.declared.event.Event.{Event}
-use Rattle.serial_spec.specs.declared.event.Event.TheVariants.{Begin, Access, Commit, Abort}
+use Rattle.serial_spec.specs.declared.event.Event.TheVariants.{Begin, Access, Sum, Commit, Abort}
 use Rattle.serial_spec.specs.declared.entry.Answer.{Answer}
+use Rattle.serial_spec.specs.declared.entry.Entry.{Entry}
 use Rattle.serial_spec.specs.declared.entry.Answer.TheVariants.{Done, Waits, Stuck, Refused}
-use Rattle.serial_spec.specs.History.{Name, History, or_else, status, is_absent, is_committed, begun, top_aborted, is_active}
-use Rattle.serial_spec.specs.Operations.{kind, reply_of}
+use Rattle.serial_spec.specs.History.{Name, History, event_of, or_else, status, is_absent, is_committed, begun, top_aborted, is_active}
+use Rattle.serial_spec.specs.Serial.{reply_at}
 use Rattle.serial_spec.specs.Locks.{is_blocked}
 use Rattle.serial_spec.specs.Values.{seen}
 use Rattle.serial_spec.specs.Rows.{Rows, value_in}
@@ -30,6 +31,7 @@ use Rattle.manager_core.specs.Lines.{IsLine, IsFree, IsWaitOf}
 use Rattle.manager_core.specs.Sound.{is_store_refusal}
 use Rattle.manager_core.specs.Outcomes.{answer_of, outcome_of}
 use Rattle.manager_core.specs.State.{entry}
+use Rattle.manager_core.proofs.Events.{answer_at, is_wait}
 use Rattle.manager_core.proofs.Waits.{not_waited}
 
 -- an allowed entry of a line may come
@@ -76,8 +78,8 @@ no_store_at_begin h t =
 no_store_at_end : (h : History) (t : Name) → NoStore (cause_at_end h t)
 no_store_at_end h t = none_of_two (when_other _ Unknown refl) (none_of_two (orphan_other _) (when_other _ HasCommitted refl))
 
-no_store_at_access : (rows : Rows) (h : History) (by : By) (t : Name) (k : List ℕ) → NoStore (cause_at_access rows h by t k)
-no_store_at_access rows h by t k = none_of_two (no_store_at_end h t) (none_of_two (when_other _ Waiting refl) (when_other _ Full refl))
+no_store_at_access : (rows : Rows) (h : History) (by : By) (t : Name) (asked : Asked) → NoStore (cause_at_access rows h by t asked)
+no_store_at_access rows h by t asked = none_of_two (no_store_at_end h t) (none_of_two (when_other _ Waiting refl) (when_other _ Full refl))
 
 no_store_at_commit : (h : History) (by : By) (t : Name) → NoStore (cause_at_commit h by t)
 no_store_at_commit h by t = none_of_two (no_store_at_end h t) (none_of_two (when_other _ Children refl) (when_other _ Waiting refl))
@@ -93,8 +95,8 @@ begin_other h t o e = other_than_store o _ (no_store_at_begin h t) e
 pub abort_other : (h : History) (t : Name) (o : Option Refusal) → o ≡ cause_at_end h t → is_store_refusal (answer_of (outcome_of o)) ≡ false
 abort_other h t o e = other_than_store o _ (no_store_at_end h t) e
 
-pub access_other : (rows : Rows) (h : History) (by : By) (t : Name) (k : List ℕ) (r : Refusal) → Some r ≡ cause_at_access rows h by t k → is_store_refusal (Refused r) ≡ false
-access_other rows h by t k r e = (no_store_at_access rows h by t k).other r (sym e)
+pub access_other : (rows : Rows) (h : History) (by : By) (t : Name) (asked : Asked) (r : Refusal) → Some r ≡ cause_at_access rows h by t asked → is_store_refusal (Refused r) ≡ false
+access_other rows h by t asked r e = (no_store_at_access rows h by t asked).other r (sym e)
 
 pub commit_other : (h : History) (by : By) (t : Name) (o : Option Refusal) → o ≡ cause_at_commit h by t → is_store_refusal (answer_of (outcome_of o)) ≡ false
 commit_other h by t o e = other_than_store o _ (no_store_at_commit h by t) e
@@ -132,51 +134,51 @@ active_at_commit h by t e = acts_active h t (acts_at_end h t (neither _ _ (sym e
 
 -- ---- accesses
 
-pub access_refused : (rows : Rows) (h : History) (by : By) (t : Name) (k : List ℕ) (op : Op) (r : Refusal) → Some r ≡ cause_at_access rows h by t k
-    → Allowed rows h by (Access t k op) (Refused r)
-access_refused rows h by t k op r e = refused_allowed rows h by (Access t k op) r (access_other rows h by t k r e) (rw (← e) refl)
+pub access_refused : (rows : Rows) (h : History) (by : By) (t : Name) (asked : Asked) (r : Refusal) → Some r ≡ cause_at_access rows h by t asked
+    → Allowed rows h by (event_of t asked) (Refused r)
+access_refused rows h by t asked r e = refused_allowed rows h by (event_of t asked) r (access_other rows h by t asked r e) (answer_at rows h by t asked ∙ rw (← e) refl)
 
 -- one whose access has no cause acts
-pub active_at_access : (rows : Rows) (h : History) (by : By) (t : Name) (k : List ℕ) → None ≡ cause_at_access rows h by t k → is_active h t ≡ true
-active_at_access rows h by t k e = acts_active h t (acts_at_end h t (neither _ _ (sym e)).0).1
+pub active_at_access : (rows : Rows) (h : History) (by : By) (t : Name) (asked : Asked) → None ≡ cause_at_access rows h by t asked → is_active h t ≡ true
+active_at_access rows h by t asked e = acts_active h t (acts_at_end h t (neither _ _ (sym e)).0).1
 
-pub access_waits : (rows : Rows) (h : History) (by : By) (t : Name) (k : List ℕ) (op : Op) → IsFree h by (Access t k op) → None ≡ cause_at_access rows h by t k
-    → is_blocked h t k (kind op) ≡ true → Allowed rows h by (Access t k op) Waits
-access_waits rows h by t k op free e blocked =
-    rw (← e, blocked, not_waited h by t k op free (active_at_access rows h by t k e)) refl
+pub access_waits : (rows : Rows) (h : History) (by : By) (t : Name) (asked : Asked) → IsFree h by (event_of t asked) → None ≡ cause_at_access rows h by t asked
+    → is_blocked h t asked ≡ true → Allowed rows h by (event_of t asked) Waits
+access_waits rows h by t asked free e blocked =
+    answer_at rows h by t asked ∙ rw (← e, blocked, not_waited h by t asked free (active_at_access rows h by t asked e)) refl
 
-pub access_done : (rows : Rows) (h : History) (by : By) (t : Name) (k : List ℕ) (op : Op) → None ≡ cause_at_access rows h by t k
-    → is_blocked h t k (kind op) ≡ false → Allowed rows h by (Access t k op) (Done (reply_of (seen (value_in rows) h t k) op))
-access_done rows h by t k op e free = rw (← e, free) refl
+pub access_done : (rows : Rows) (h : History) (by : By) (t : Name) (asked : Asked) → None ≡ cause_at_access rows h by t asked
+    → is_blocked h t asked ≡ false → Allowed rows h by (event_of t asked) (Done (reply_at (seen (value_in rows) h t) asked))
+access_done rows h by t asked e free = answer_at rows h by t asked ∙ rw (← e, free) refl
 
 -- so an access that comes to this may be answered so
-pub access_comes : (rows : Rows) (h : History) (by : By) (t : Name) (k : List ℕ) (op : Op) → IsFree h by (Access t k op) → (outcome : Outcome)
-    → ComesTo rows h by t k op outcome → Allowed rows h by (Access t k op) (answer_of outcome)
-access_comes rows h by t k op free (made.Done reply) comes =
-    subst (λ r. Allowed rows h by (Access t k op) (Done r)) (sym comes.2) (access_done rows h by t k op comes.0 comes.1)
-access_comes rows h by t k op free made.Waits comes = access_waits rows h by t k op free comes.0 comes.1
-access_comes rows h by t k op free (made.Refused r) comes = access_refused rows h by t k op r comes
+pub access_comes : (rows : Rows) (h : History) (by : By) (t : Name) (asked : Asked) → IsFree h by (event_of t asked) → (outcome : Outcome)
+    → ComesTo rows h by t asked outcome → Allowed rows h by (event_of t asked) (answer_of outcome)
+access_comes rows h by t asked free (made.Done reply) comes =
+    subst (λ r. Allowed rows h by (event_of t asked) (Done r)) (sym comes.2) (access_done rows h by t asked comes.0 comes.1)
+access_comes rows h by t asked free made.Waits comes = access_waits rows h by t asked free comes.0 comes.1
+access_comes rows h by t asked free (made.Refused r) comes = access_refused rows h by t asked r comes
 
 -- and that is no refusal of the store
-pub comes_other : (rows : Rows) (h : History) (by : By) (t : Name) (k : List ℕ) (op : Op) (outcome : Outcome)
-    → ComesTo rows h by t k op outcome → is_store_refusal (answer_of outcome) ≡ false
-comes_other rows h by t k op (made.Done reply) comes = refl
-comes_other rows h by t k op made.Waits comes = refl
-comes_other rows h by t k op (made.Refused r) comes = access_other rows h by t k r comes
+pub comes_other : (rows : Rows) (h : History) (by : By) (t : Name) (asked : Asked) (outcome : Outcome)
+    → ComesTo rows h by t asked outcome → is_store_refusal (answer_of outcome) ≡ false
+comes_other rows h by t asked (made.Done reply) comes = refl
+comes_other rows h by t asked made.Waits comes = refl
+comes_other rows h by t asked (made.Refused r) comes = access_other rows h by t asked r comes
 
 -- a line that has waited is answered only when it waits no more
-pub retry_comes : (rows : Rows) (h : History) (by : By) (t : Name) (k : List ℕ) (op : Op) (outcome : Outcome)
-    → ComesTo rows h by t k op outcome → (outcome ≡ made.Waits → ⊥) → Allowed rows h by (Access t k op) (answer_of outcome)
-retry_comes rows h by t k op (made.Done reply) comes other =
-    subst (λ r. Allowed rows h by (Access t k op) (Done r)) (sym comes.2) (access_done rows h by t k op comes.0 comes.1)
-retry_comes rows h by t k op made.Waits comes other = absurd (other refl)
-retry_comes rows h by t k op (made.Refused r) comes other = access_refused rows h by t k op r comes
+pub retry_comes : (rows : Rows) (h : History) (by : By) (t : Name) (asked : Asked) (outcome : Outcome)
+    → ComesTo rows h by t asked outcome → (outcome ≡ made.Waits → ⊥) → Allowed rows h by (event_of t asked) (answer_of outcome)
+retry_comes rows h by t asked (made.Done reply) comes other =
+    subst (λ r. Allowed rows h by (event_of t asked) (Done r)) (sym comes.2) (access_done rows h by t asked comes.0 comes.1)
+retry_comes rows h by t asked made.Waits comes other = absurd (other refl)
+retry_comes rows h by t asked (made.Refused r) comes other = access_refused rows h by t asked r comes
 
-pub still_waits : (rows : Rows) (h : History) (by : By) (t : Name) (k : List ℕ) (op : Op) (outcome : Outcome)
-    → ComesTo rows h by t k op outcome → outcome ≡ made.Waits → has_waited h by ≡ true → answer rows h by (Access t k op) ≡ None
-still_waits rows h by t k op (made.Done reply) comes same waited = absurd (cc)
-still_waits rows h by t k op made.Waits comes same waited = rw (← comes.0, comes.1, waited) refl
-still_waits rows h by t k op (made.Refused r) comes same waited = absurd (cc)
+pub still_waits : (rows : Rows) (h : History) (by : By) (t : Name) (asked : Asked) (outcome : Outcome)
+    → ComesTo rows h by t asked outcome → outcome ≡ made.Waits → has_waited h by ≡ true → answer rows h by (event_of t asked) ≡ None
+still_waits rows h by t asked (made.Done reply) comes same waited = absurd (cc)
+still_waits rows h by t asked made.Waits comes same waited = answer_at rows h by t asked ∙ rw (← comes.0, comes.1, waited) refl
+still_waits rows h by t asked (made.Refused r) comes same waited = absurd (cc)
 
 -- ---- lines that are given up
 
@@ -190,17 +192,21 @@ same_line_is Close by e = absurd (false≢true e)
 
 pub line_of_wait : (h : History) (by : By) (event : Event) → IsWaitOf h by event → IsLine by
 line_of_wait h by (Access t k o) waits = same_line_is waits.0.by by waits.2
+line_of_wait h by (Sum t g) waits = same_line_is waits.0.by by waits.2
 line_of_wait h by event waits = absurd waits
 
 -- an access may give up the wait that its own line made
 pub stuck_allowed : (rows : Rows) (h : History) (by : By) (event : Event) → IsWaitOf h by event → Allowed rows h by event Stuck
 stuck_allowed rows h by (Access t k o) waits = rw (waits.1, waits.2) refl
+stuck_allowed rows h by (Sum t g) waits = rw (waits.1, waits.2) refl
 stuck_allowed rows h by event waits = absurd waits
 
 -- ---- lines that begin to wait
 
-pub waits_by_line : (rows : Rows) (h : History) (by : By) (t : Name) (k : List ℕ) (o : Op) → IsLine by → Allowed rows h by (Access t k o) Waits
-    → IsWaitOf (entry by (Access t k o) Waits ∷ h) by (Access t k o)
-waits_by_line rows h (Line s l) t k o line due = (entry (Line s l) (Access t k o) Waits, (wait_holds rows _ h s l t k o refl due).0, line_self s l, refl)
-waits_by_line rows h Victim t k o line due = absurd line
-waits_by_line rows h Close t k o line due = absurd line
+pub waits_by_line : (rows : Rows) (h : History) (by : By) (t : Name) (asked : Asked) → IsLine by → Allowed rows h by (event_of t asked) Waits
+    → IsWaitOf (entry by (event_of t asked) Waits ∷ h) by (event_of t asked)
+waits_by_line rows h (Line s l) t asked line due =
+    let x : Entry = entry (Line s l) (event_of t asked) Waits in
+    is_wait (x ∷ h) (Line s l) t asked (record { wait = x; waits = (wait_holds rows x h s l t asked refl due).0; of_line = line_self s l; event_is = refl })
+waits_by_line rows h Victim t asked line due = absurd line
+waits_by_line rows h Close t asked line due = absurd line

@@ -1,5 +1,5 @@
 -- The cause that the tables tell is the definitions' first.
-use Rattle.std.proofs.Common.{◌≡◌, ℕ, ◌<◌, Bool, true, false, not, List, length, Option, Some, None, refl, sym, ap, ◌∙◌}
+use Rattle.std.proofs.Common.{◌≡◌, ℕ, ◌<◌, Bool, true, false, not, length, Option, Some, None, refl, sym, ap, ◌∙◌}
 use Rattle.std.proofs.lemmas.Bool.{true≢false}
 use Rattle.std.specs.Prelude.{option_map}
 use Rattle.std.specs.List.{list_any}
@@ -10,6 +10,7 @@ use Rattle.txn_tree.specs.States.{names, is_committed}
 use Rattle.txn_tree.specs.Asked.{IsNumberOf, has_committed_in, is_absent_in, is_live_child_in}
 use Rattle.txn_tree.specs.Numbered.{status_at, status_named}
 use Rattle.orphans.specs.Marked.{is_marked}
+use Rattle.serial_spec.specs.declared.target.Asked.{Asked}
 use Rattle.serial_spec.specs.declared.entry.By.{By}
 use Rattle.serial_spec.specs.declared.entry.Refusal.{Refusal}
 use Rattle.serial_spec.specs.declared.entry.Refusal.TheVariants.{Children, Done, Full, Orphan, Unknown, Waiting}
@@ -56,20 +57,20 @@ module _ (rows : Rows) (h : History) (tables : Tabled) (allowed : AreAllowed row
     at_end o e = e ∙ same_at_end rows h tables allowed are t some
 
     -- the cause at the end stands first
-    pub access_by_end : (k : List ℕ) (r : Refusal) → Some r ≡ cause_in tables t → Some r ≡ cause_at_access rows h by t k
-    access_by_end k r e = ap (λ o. or_else o (or_else (when (waits_elsewhere h by t) Waiting) (when (is_full_for rows h k) Full))) (at_end (Some r) e)
+    pub access_by_end : (asked : Asked) (r : Refusal) → Some r ≡ cause_in tables t → Some r ≡ cause_at_access rows h by t asked
+    access_by_end asked r e = ap (λ o. or_else o (or_else (when (waits_elsewhere h by t) Waiting) (when (is_full_for rows h asked) Full))) (at_end (Some r) e)
 
     pub commit_by_end : (r : Refusal) → Some r ≡ cause_in tables t → Some r ≡ cause_at_commit h by t
     commit_by_end r e = ap (λ o. or_else o (or_else (when (has_live_child h t) Children) (when (waits_elsewhere h by t) Waiting))) (at_end (Some r) e)
 
     -- else come the others, in their order
-    pub access_cause : (k : List ℕ) → None ≡ cause_in tables t → (w f : Bool) → w ≡ waits_elsewhere h by t → f ≡ is_full_for rows h k
-        → or_else (when w Waiting) (when f Full) ≡ cause_at_access rows h by t k
-    access_cause k none w f waits full =
+    pub access_cause : (asked : Asked) → None ≡ cause_in tables t → (w f : Bool) → w ≡ waits_elsewhere h by t → f ≡ is_full_for rows h asked
+        → or_else (when w Waiting) (when f Full) ≡ cause_at_access rows h by t asked
+    access_cause asked none w f waits full =
         let ends : None ≡ cause_at_end h t = at_end None none in
         ap (λ b. or_else (when b Waiting) (when f Full)) waits
         ∙ ap (λ b. or_else (when (waits_elsewhere h by t) Waiting) (when b Full)) full
-        ∙ ap (λ o. or_else o (or_else (when (waits_elsewhere h by t) Waiting) (when (is_full_for rows h k) Full))) ends
+        ∙ ap (λ o. or_else o (or_else (when (waits_elsewhere h by t) Waiting) (when (is_full_for rows h asked) Full))) ends
 
     pub commit_cause : None ≡ cause_in tables t → (c w : Bool) → c ≡ list_any (is_live_child_in tables.tree t) (names tables.tree) → w ≡ waits_elsewhere h by t
         → or_else (when c Children) (when w Waiting) ≡ cause_at_commit h by t

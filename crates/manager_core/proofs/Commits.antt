@@ -24,6 +24,7 @@ use Rattle.serial_spec.specs.Items.{items}
 use Rattle.serial_spec.specs.Serial.{Map, stored}
 use Rattle.serial_spec.specs.declared.mode.Mode.{Mode}
 use Rattle.serial_spec.specs.declared.mode.Mode.TheVariants as mode
+use Rattle.serial_spec.specs.declared.target.Target.TheVariants.{Key}
 use Rattle.serial_spec.specs.Locks.{foot, is_exclusive}
 use Rattle.serial_spec.specs.Values.{seen}
 use Rattle.serial_spec.specs.Rows.{Rows, value_in}
@@ -60,7 +61,7 @@ is_some_change false v w (Some y) e = cc
 
 -- whether t has touched k to write
 abbrev wrote : History → Name → List ℕ → Bool
-wrote h t k = is_exclusive (foot h t k)
+wrote h t k = is_exclusive (foot h t (Key k))
 
 exclusive_is : (m : Mode) → is_exclusive m ≡ true → m ≡ mode.Write
 exclusive_is mode.None e = absurd (false≢true e)

@@ -1,13 +1,13 @@
--- What a transaction has at a key, its lock or what it left there: each entry changes it as a step on numbers does.
+-- What a transaction has at a target or a key, its lock or what it left there: each entry changes it as a step on numbers does.
 use Rattle.std.proofs.Common.{◌≡◌, ℕ, zero, suc, Bool, true, false, cond, not, ◌&&◌, ◌||◌, nat_eq, List, [], ◌∷◌, ◌++◌, Option, Some, None, refl, sym, ap, subst, ◌∙◌}
 use Rattle.std.specs.Prelude.{slice_get}
-use Rattle.std.proofs.lemmas.Bool.{false≢true, and_parts}
-use Rattle.txn_names.specs.Path.{path_eq, label_eq, is_front, parent}
+use Rattle.std.proofs.lemmas.Bool.{false≢true}
+use Rattle.txn_names.specs.Path.{path_eq, is_front, parent}
 use Rattle.txn_names.proofs.Names.{on_test, same_path, path_eq_self, is_front-parent}
 use Rattle.txn_tree.specs.States.{States, names}
 use Rattle.txn_tree.specs.Asked.{is_name, IsNumberOf}
 use Rattle.txn_cells.specs.Cells.{is_it}
-use Rattle.serial_spec.specs.declared.operation.Op.{Op}
+use Rattle.serial_spec.specs.declared.target.Asked.{Asked}
 use Rattle.serial_spec.specs.declared.operation.Reply.{Reply}
 use Rattle.serial_spec.specs.declared.entry.Entry.{Entry}
 use Rattle.serial_spec.specs.History.{Name, History, Effect, Begins, Accesses, Commits, Aborts, Nothing, effect, is_active, has_begun}
@@ -20,27 +20,27 @@ use Rattle.manager_core.specs.Tables.{IsParentNumber, is_below}
 use Rattle.manager_core.proofs.Locks.{name_at}
 
 -- an access raises what its transaction has, and a commit merges it into what the parent has
-abbrev pub value_next : {X : Type 0} → List ℕ → (Op → Reply → X → X) → (X → X → X) → Effect → Name → (Name → X) → X → X
-value_next k raise merge (Accesses t q o r) u all v = cond (path_eq t u && label_eq q k) (raise o r v) v
-value_next k raise merge (Commits t) u all v = cond (path_eq (parent t) u) (merge (all t) v) v
-value_next k raise merge x u all v = v
+abbrev pub value_next : {X : Type 0} → (Asked → Reply → X → X) → (X → X → X) → Effect → Name → (Name → X) → X → X
+value_next raise merge (Accesses t a r) u all v = cond (path_eq t u) (raise a r v) v
+value_next raise merge (Commits t) u all v = cond (path_eq (parent t) u) (merge (all t) v) v
+value_next raise merge x u all v = v
 
 -- the value is told by the entries so, and whoever has not begun has nothing
-pub record IsTold {X : Type 0} (k : List ℕ) (nothing : X) (value : History → Name → X) (raise : Op → Reply → X → X) (merge : X → X → X) : Type 0 where
-  pub next : (e : Entry) (h : History) (u : Name) → value (e ∷ h) u ≡ value_next k raise merge (effect e) u (value h) (value h u)
+pub record IsTold {X : Type 0} (nothing : X) (value : History → Name → X) (raise : Asked → Reply → X → X) (merge : X → X → X) : Type 0 where
+  pub next : (e : Entry) (h : History) (u : Name) → value (e ∷ h) u ≡ value_next raise merge (effect e) u (value h) (value h u)
   pub empty : (rows : Rows) (h : History) → AreAllowed rows h → (l : List ℕ) (ls : Name) → has_begun h (l ∷ ls) ≡ false → value h (l ∷ ls) ≡ nothing
 
-module _ {X : Type 0} (k : List ℕ) (nothing : X) (value : History → Name → X) (raise : Op → Reply → X → X) (merge : X → X → X)
-    (told : IsTold k nothing value raise merge) (rows : Rows) (e : Entry) (h : History) (allowed : AreAllowed rows (e ∷ h)) where
+module _ {X : Type 0} (nothing : X) (value : History → Name → X) (raise : Asked → Reply → X → X) (merge : X → X → X)
+    (told : IsTold nothing value raise merge) (rows : Rows) (e : Entry) (h : History) (allowed : AreAllowed rows (e ∷ h)) where
   abbrev pub content : History → Option Name → X
   content g o = content_of nothing value g o
 
   content_after : (x : Effect) → effect e ≡ x → (u : Name)
-      → content (e ∷ h) (Some u) ≡ cond (acts_next x u (is_active h u)) (value_next k raise merge x u (value h) (value h u)) nothing
+      → content (e ∷ h) (Some u) ≡ cond (acts_next x u (is_active h u)) (value_next raise merge x u (value h) (value h u)) nothing
   content_after x does u =
-      let step : content (e ∷ h) (Some u) ≡ cond (acts_next (effect e) u (is_active h u)) (value_next k raise merge (effect e) u (value h) (value h u)) nothing =
+      let step : content (e ∷ h) (Some u) ≡ cond (acts_next (effect e) u (is_active h u)) (value_next raise merge (effect e) u (value h) (value h u)) nothing =
       λ i. cond (active_after rows e h allowed u i) (told.next e h u i) nothing in
-      step ∙ ap (λ y. cond (acts_next y u (is_active h u)) (value_next k raise merge y u (value h) (value h u)) nothing) does
+      step ∙ ap (λ y. cond (acts_next y u (is_active h u)) (value_next raise merge y u (value h) (value h u)) nothing) does
 
   before : (x : Effect) → effect e ≡ x → Before h x
   before x does = subst (Before h) does (before_each rows e h allowed)
@@ -51,15 +51,15 @@ module _ {X : Type 0} (k : List ℕ) (nothing : X) (value : History → Name →
   content_nothing (Some u) does = sym (content_after Nothing does u)
 
   -- an access that was answered
-  pub content_raised : (t : Name) (q : List ℕ) (op : Op) (r : Reply) → effect e ≡ Accesses t q op r → (o : Option Name)
-      → cond (is_name o t && label_eq q k) (raise op r (content h o)) (content h o) ≡ content (e ∷ h) o
-  content_raised t q op r does None = refl
-  content_raised t q op r does (Some u) =
-      raised (path_eq t u && label_eq q k) (is_active h u) (value h u)
-      (λ b. subst (λ (v : Name). is_active h v ≡ true) (same_path t u (and_parts (path_eq t u) (label_eq q k) b).0) (before (Accesses t q op r) does))
-      ∙ sym (content_after (Accesses t q op r) does u)
+  pub content_raised : (t : Name) (asked : Asked) (r : Reply) → effect e ≡ Accesses t asked r → (o : Option Name)
+      → cond (is_name o t) (raise asked r (content h o)) (content h o) ≡ content (e ∷ h) o
+  content_raised t asked r does None = refl
+  content_raised t asked r does (Some u) =
+      raised (path_eq t u) (is_active h u) (value h u)
+      (λ b. subst (λ (v : Name). is_active h v ≡ true) (same_path t u b) (before (Accesses t asked r) does))
+      ∙ sym (content_after (Accesses t asked r) does u)
     where
-      raised : (b a : Bool) (v : X) → (b ≡ true → a ≡ true) → cond b (raise op r (cond a v nothing)) (cond a v nothing) ≡ cond a (cond b (raise op r v) v) nothing
+      raised : (b a : Bool) (v : X) → (b ≡ true → a ≡ true) → cond b (raise asked r (cond a v nothing)) (cond a v nothing) ≡ cond a (cond b (raise asked r v) v) nothing
       raised true a v f = rw (f refl) refl
       raised false a v f = refl
 

@@ -1,19 +1,19 @@
 -- How each call keeps what the manager's type says.
-use Rattle.std.proofs.Common.{◌≡◌, ℕ, ◌<◌, true, false, List, ◌∷◌, Option, Some, None, length, refl, sym, ap, subst, ◌∙◌}
+use Rattle.std.proofs.Common.{◌≡◌, ℕ, ◌<◌, true, false, ◌∷◌, Option, Some, None, length, refl, sym, ap, subst, ◌∙◌}
 use Rattle.txn_tree.specs.Causes as tree
 use Rattle.orphans.specs.Marked.{Marked}
 use Rattle.inherit.specs.LocksAndVersions.{LocksAndVersions, left_of, modes_of, rows_of}
 use Rattle.serial_spec.specs.declared.entry.By.{By}
 use Rattle.serial_spec.specs.declared.entry.Refusal.{Refusal}
 use Rattle.serial_spec.specs.declared.event.Event.{Event}
-use Rattle.serial_spec.specs.declared.event.Event.TheVariants.{Begin, Access, Abort}
+use Rattle.serial_spec.specs.declared.event.Event.TheVariants.{Begin, Abort}
 use Rattle.serial_spec.specs.declared.entry.Answer.{Answer}
 use Rattle.serial_spec.specs.declared.entry.Answer.TheVariants.{Done as IsDone, Waits as IsWaits, Refused as Refuses, Stuck}
-use Rattle.serial_spec.specs.declared.operation.Op.{Op}
+use Rattle.serial_spec.specs.declared.target.Asked.{Asked}
 use Rattle.serial_spec.specs.declared.operation.Reply.TheVariants.{Ok}
 use Rattle.txn_tree.specs.States.{names}
 use Rattle.serial_spec.specs.declared.entry.Entry.{Entry}
-use Rattle.serial_spec.specs.History.{Name, History, Begins, Accesses, Aborts, Nothing, effect_of}
+use Rattle.serial_spec.specs.History.{Name, History, Begins, Accesses, Aborts, Nothing, effect_of, event_of}
 use Rattle.serial_spec.specs.Waits.{is_waits, same_line, wait_of}
 use Rattle.serial_spec.specs.Rows.{Rows}
 use Rattle.serial_spec.specs.Legal.{AreAllowed}
@@ -27,6 +27,7 @@ use Rattle.manager_core.specs.Lines.{IsFree, IsLine, IsWaitOf}
 use Rattle.manager_core.specs.Sound.{IsBacked, is_store_refusal}
 use Rattle.manager_core.specs.Kept.{AreTablesOf, AreWaitsOf, IsKept}
 use Rattle.manager_core.specs.Tables.{Tabled, BeginsIn, AbortsIn, ComesTo, HasOtherRoom, IsBeside, MadeUnless, ReachesIn, SetsWait, WaitsFrom, WaitsUntil, rows_in, wait_at}
+use Rattle.manager_core.proofs.Events.{done_at, own_wait, refused_at, stuck_at, waits_at}
 use Rattle.manager_core.proofs.Trees.{same_at_begin, same_at_abort}
 use Rattle.manager_core.proofs.Answers.{active_at_access, allowed_next, begin_allowed, abort_allowed, begin_other, abort_other, access_other, stuck_allowed, line_of_wait}
 use Rattle.manager_core.proofs.Facts.{backed_next}
@@ -44,7 +45,7 @@ beside_parts old new tree marks estate = record {
   tree = tree;
   marks = ap (λ (v : Marked). v.names) marks;
   estate = record {
-    modes = λ n k. ap (λ (v : LocksAndVersions). modes_of v n k) estate;
+    modes = λ n s. ap (λ (v : LocksAndVersions). modes_of v n s) estate;
     left = λ n k. ap (λ (v : LocksAndVersions). left_of v n k) estate;
     rows = ap (λ (v : LocksAndVersions). rows_of v) estate;
   };
@@ -93,14 +94,14 @@ module _ {S : Type 0} (g : Ghosts S) (rows : Rows) (h : History) (old new : Tabl
   abort_cause t o some e = e ∙ same_at_abort rows h old.tree kept.allowed kept.are.in_tree t some
 
   -- an access however it is answered
-  kept_access : (t : Name) (k : List ℕ) (op : Op) (outcome : Outcome) → IsLine by → Allowed rows h by (Access t k op) (answer_of outcome)
-      → ComesTo rows h by t k op outcome → ReachesIn old new t k op outcome → AreWaitsOf (entry by (Access t k op) (answer_of outcome) ∷ h) new.tree new.waits
-      → IsKept g rows (entry by (Access t k op) (answer_of outcome) ∷ h) new opened store
-  kept_access t k op (Done r) line due comes has waiting =
-      let allowed = allowed_next rows h by (Access t k op) (IsDone r) kept.allowed line due in
-      kept_over (Access t k op) (IsDone r) allowed (tables_accessed rows (entry by (Access t k op) (IsDone r)) h allowed old new kept.are waiting t k op r refl has) has.rows refl
-  kept_access t k op Waits line due comes same waiting = kept_beside (Access t k op) IsWaits line due refl refl same waiting
-  kept_access t k op (Refused r) line due comes same waiting = kept_beside (Access t k op) (Refuses r) line due refl (access_other rows h by t k r comes) same waiting
+  kept_access : (t : Name) (asked : Asked) (outcome : Outcome) → IsLine by → Allowed rows h by (event_of t asked) (answer_of outcome)
+      → ComesTo rows h by t asked outcome → ReachesIn old new t asked outcome → AreWaitsOf (entry by (event_of t asked) (answer_of outcome) ∷ h) new.tree new.waits
+      → IsKept g rows (entry by (event_of t asked) (answer_of outcome) ∷ h) new opened store
+  kept_access t asked (Done r) line due comes has waiting =
+      let allowed = allowed_next rows h by (event_of t asked) (IsDone r) kept.allowed line due in
+      kept_over (event_of t asked) (IsDone r) allowed (tables_accessed rows (entry by (event_of t asked) (IsDone r)) h allowed old new kept.are waiting t asked r (done_at t asked r) has) has.rows refl
+  kept_access t asked Waits line due comes same waiting = kept_beside (event_of t asked) IsWaits line due (waits_at t asked) refl same waiting
+  kept_access t asked (Refused r) line due comes same waiting = kept_beside (event_of t asked) (Refuses r) line due (refused_at t asked r) (access_other rows h by t asked r comes) same waiting
 
   -- ---- by a line that is free
 
@@ -137,46 +138,46 @@ module _ {S : Type 0} (g : Ghosts S) (rows : Rows) (h : History) (old new : Tabl
       kept_same (Abort t) (Refuses r) free (abort_allowed rows h by t (Some r) cause) refl refl (abort_other h t (Some r) cause) same
 
   -- an access, and who waits after it
-  waits_asked : (t : Name) (k : List ℕ) (op : Op) (outcome : Outcome) → IsFree h by (Access t k op) → AreAllowed rows (entry by (Access t k op) (answer_of outcome) ∷ h)
-      → ComesTo rows h by t k op outcome → ReachesIn old new t k op outcome → WaitsFrom old new by t k op outcome
-      → AreWaitsOf (entry by (Access t k op) (answer_of outcome) ∷ h) new.tree new.waits
-  waits_asked t k op (Done r) free allowed comes has keeps =
-      waits_stay h (entry by (Access t k op) (IsDone r) ∷ h) old new kept.are.waiting (ap names has.tree) keeps
-      (wait_lasts rows (entry by (Access t k op) (IsDone r)) h allowed (Accesses t k op r) refl refl (unless_free h by (Access t k op) free) refl)
-  waits_asked t k op Waits free allowed comes same sets =
-      waits_set h (entry by (Access t k op) IsWaits ∷ h) old new kept.are.waiting t (Some (entry by (Access t k op) IsWaits)) (ap names same.tree) sets
-      (wait_starts rows h by t k op allowed (active_at_access rows h by t k comes.0) (unless_free h by (Access t k op) free))
-  waits_asked t k op (Refused r) free allowed comes same keeps =
-      waits_stay h (entry by (Access t k op) (Refuses r) ∷ h) old new kept.are.waiting (ap names same.tree) keeps
-      (wait_lasts rows (entry by (Access t k op) (Refuses r)) h allowed Nothing refl refl (unless_free h by (Access t k op) free) refl)
+  waits_asked : (t : Name) (asked : Asked) (outcome : Outcome) → IsFree h by (event_of t asked) → AreAllowed rows (entry by (event_of t asked) (answer_of outcome) ∷ h)
+      → ComesTo rows h by t asked outcome → ReachesIn old new t asked outcome → WaitsFrom old new by t asked outcome
+      → AreWaitsOf (entry by (event_of t asked) (answer_of outcome) ∷ h) new.tree new.waits
+  waits_asked t asked (Done r) free allowed comes has keeps =
+      waits_stay h (entry by (event_of t asked) (IsDone r) ∷ h) old new kept.are.waiting (ap names has.tree) keeps
+      (wait_lasts rows (entry by (event_of t asked) (IsDone r)) h allowed (Accesses t asked r) (done_at t asked r) refl (unless_free h by (event_of t asked) free) refl)
+  waits_asked t asked Waits free allowed comes same sets =
+      waits_set h (entry by (event_of t asked) IsWaits ∷ h) old new kept.are.waiting t (Some (entry by (event_of t asked) IsWaits)) (ap names same.tree) sets
+      (wait_starts rows h by t asked allowed (active_at_access rows h by t asked comes.0) (unless_free h by (event_of t asked) free))
+  waits_asked t asked (Refused r) free allowed comes same keeps =
+      waits_stay h (entry by (event_of t asked) (Refuses r) ∷ h) old new kept.are.waiting (ap names same.tree) keeps
+      (wait_lasts rows (entry by (event_of t asked) (Refuses r)) h allowed Nothing (refused_at t asked r) refl (unless_free h by (event_of t asked) free) refl)
 
-  pub kept_asked : (t : Name) (k : List ℕ) (op : Op) (outcome : Outcome) → IsFree h by (Access t k op) → Allowed rows h by (Access t k op) (answer_of outcome)
-      → ComesTo rows h by t k op outcome → ReachesIn old new t k op outcome → WaitsFrom old new by t k op outcome
-      → IsKept g rows (entry by (Access t k op) (answer_of outcome) ∷ h) new opened store
-  kept_asked t k op outcome free due comes has waits =
-      let allowed = allowed_next rows h by (Access t k op) (answer_of outcome) kept.allowed free.line due in
-      kept_access t k op outcome free.line due comes has (waits_asked t k op outcome free allowed comes has waits)
+  pub kept_asked : (t : Name) (asked : Asked) (outcome : Outcome) → IsFree h by (event_of t asked) → Allowed rows h by (event_of t asked) (answer_of outcome)
+      → ComesTo rows h by t asked outcome → ReachesIn old new t asked outcome → WaitsFrom old new by t asked outcome
+      → IsKept g rows (entry by (event_of t asked) (answer_of outcome) ∷ h) new opened store
+  kept_asked t asked outcome free due comes has waits =
+      let allowed = allowed_next rows h by (event_of t asked) (answer_of outcome) kept.allowed free.line due in
+      kept_access t asked outcome free.line due comes has (waits_asked t asked outcome free allowed comes has waits)
 
   -- ---- by the line of a wait
 
   module _ (t : Name) (wait : Entry) (waits : wait_of h t ≡ Some wait) (of_line : same_line wait.by by ≡ true) (line : IsLine by) where
     -- the access is answered
-    pub kept_answered : (k : List ℕ) (op : Op) (outcome : Outcome) → Allowed rows h by (Access t k op) (answer_of outcome) → (outcome ≡ Waits → ⊥)
-        → ComesTo rows h by t k op outcome → ReachesIn old new t k op outcome → WaitsUntil old new t outcome
-        → IsKept g rows (entry by (Access t k op) (answer_of outcome) ∷ h) new opened store
-    kept_answered k op (Done r) due answered comes has sets =
-        let x : Entry = entry by (Access t k op) (IsDone r) in
-        let allowed = allowed_next rows h by (Access t k op) (IsDone r) kept.allowed line due in
-        kept_access t k op (Done r) line due comes has
+    pub kept_answered : (asked : Asked) (outcome : Outcome) → Allowed rows h by (event_of t asked) (answer_of outcome) → (outcome ≡ Waits → ⊥)
+        → ComesTo rows h by t asked outcome → ReachesIn old new t asked outcome → WaitsUntil old new t outcome
+        → IsKept g rows (entry by (event_of t asked) (answer_of outcome) ∷ h) new opened store
+    kept_answered asked (Done r) due answered comes has sets =
+        let x : Entry = entry by (event_of t asked) (IsDone r) in
+        let allowed = allowed_next rows h by (event_of t asked) (IsDone r) kept.allowed line due in
+        kept_access t asked (Done r) line due comes has
         (waits_set h (x ∷ h) old new kept.are.waiting t None (ap names has.tree) sets
-        (wait_answered rows x h allowed (Accesses t k op r) refl refl refl t (unless_own h by t wait waits of_line)))
-    kept_answered k op Waits due answered comes same sets = absurd (answered refl)
-    kept_answered k op (Refused r) due answered comes same sets =
-        let x : Entry = entry by (Access t k op) (Refuses r) in
-        let allowed = allowed_next rows h by (Access t k op) (Refuses r) kept.allowed line due in
-        kept_access t k op (Refused r) line due comes same
+        (wait_answered rows x h allowed (Accesses t asked r) (done_at t asked r) refl refl t (unless_own h by t wait waits of_line)))
+    kept_answered asked Waits due answered comes same sets = absurd (answered refl)
+    kept_answered asked (Refused r) due answered comes same sets =
+        let x : Entry = entry by (event_of t asked) (Refuses r) in
+        let allowed = allowed_next rows h by (event_of t asked) (Refuses r) kept.allowed line due in
+        kept_access t asked (Refused r) line due comes same
         (waits_set h (x ∷ h) old new kept.are.waiting t None (ap names same.tree) sets
-        (wait_answered rows x h allowed Nothing refl refl refl t (unless_own h by t wait waits of_line)))
+        (wait_answered rows x h allowed Nothing (refused_at t asked r) refl refl t (unless_own h by t wait waits of_line)))
 
     -- it is given up
     pub kept_given_up : (event : Event) → Allowed rows h by event Stuck → effect_of event Stuck ≡ Nothing → IsBeside old new → SetsWait old new t None
@@ -188,18 +189,19 @@ module _ {S : Type 0} (g : Ghosts S) (rows : Rows) (h : History) (old new : Tabl
         (waits_set h (x ∷ h) old new kept.are.waiting t None (ap names same.tree) sets
         (wait_answered rows x h allowed Nothing does refl refl t (unless_own h by t wait waits of_line)))
 
-  pub kept_stuck : (event : Event) → IsWaitOf h by event → (t : Name) (k : List ℕ) (op : Op) → event ≡ Access t k op → new ≡ record old { waits = new.waits } → SetsWait old new t None
+  pub kept_stuck : (event : Event) → IsWaitOf h by event → (t : Name) (asked : Asked) → event ≡ event_of t asked → new ≡ record old { waits = new.waits } → SetsWait old new t None
       → IsKept g rows (entry by event Stuck ∷ h) new opened store
-  kept_stuck event waits t k op is same sets =
-      let own = subst (IsWaitOf h by) is waits in
+  kept_stuck event waits t asked is same sets =
+      let of_it = subst (IsWaitOf h by) is waits in
+      let own = own_wait h by t asked of_it in
       subst (λ (x : Event). IsKept g rows (entry by x Stuck ∷ h) new opened store) (sym is)
-      (kept_given_up t own.0 own.1 own.2 (line_of_wait h by (Access t k op) own) (Access t k op) (stuck_allowed rows h by (Access t k op) own) refl (beside_but old new same) sets)
+      (kept_given_up t own.wait own.waits own.of_line (line_of_wait h by (event_of t asked) of_it) (event_of t asked) (stuck_allowed rows h by (event_of t asked) of_it) (stuck_at t asked) (beside_but old new same) sets)
 
 -- no access changes the table
-pub same_rows : (old new : Tabled) (t : Name) (k : List ℕ) (op : Op) (outcome : Outcome) → ReachesIn old new t k op outcome → rows_in new ≡ rows_in old
-same_rows old new t k op (Done reply) has = has.rows
-same_rows old new t k op Waits same = same.estate.rows
-same_rows old new t k op (Refused refusal) same = same.estate.rows
+pub same_rows : (old new : Tabled) (t : Name) (asked : Asked) (outcome : Outcome) → ReachesIn old new t asked outcome → rows_in new ≡ rows_in old
+same_rows old new t asked (Done reply) has = has.rows
+same_rows old new t asked Waits same = same.estate.rows
+same_rows old new t asked (Refused refusal) same = same.estate.rows
 
 -- nor does a begin
 pub begin_rows : (old new : Tabled) (t : Name) (o : Option Refusal) → MadeUnless o old new (BeginsIn old new t) → rows_in new ≡ rows_in old

@@ -1,8 +1,8 @@
 -- What keeps a line from its answer, by the tables and by the history.
-use Rattle.std.proofs.Common.{◌≡◌, ℕ, ◌<◌, Bool, true, false, not, cond, ◌&&◌, ◌||◌, List, length, Option, Some, None, option_map, is_some, refl, sym, ap, subst, ◌∙◌}
+use Rattle.std.proofs.Common.{◌≡◌, ◌<◌, Bool, true, false, not, cond, ◌&&◌, ◌||◌, length, Option, Some, None, option_map, is_some, unwrap_or, refl, sym, ap, subst, ◌∙◌}
 use Rattle.std.specs.Prelude.{IsTrue, ◌↔◌}
 use Rattle.std.proofs.lemmas.Bool.{and_parts, not-true, true≢false}
-use Rattle.serial_spec.specs.declared.operation.Op.{Op}
+use Rattle.serial_spec.specs.declared.target.Asked.{Asked}
 use Rattle.serial_spec.specs.declared.operation.Reply.{Reply}
 use Rattle.serial_spec.specs.declared.operation.Reply.TheVariants.{Ok}
 use Rattle.serial_spec.specs.declared.entry.By.{By}
@@ -10,12 +10,12 @@ use Rattle.serial_spec.specs.declared.entry.Refusal.{Refusal}
 use Rattle.serial_spec.specs.declared.entry.Refusal.TheVariants.{Unknown, Done as HasCommitted, Orphan, Waiting, Full}
 use Rattle.serial_spec.specs.declared.event.When.{When}
 use Rattle.serial_spec.specs.declared.event.When.TheVariants.{Begun, Done as Ended}
-use Rattle.serial_spec.specs.declared.event.Event.TheVariants.{Access, After}
+use Rattle.serial_spec.specs.declared.event.Event.TheVariants.{After}
 use Rattle.serial_spec.specs.declared.entry.Answer.{Answer}
 use Rattle.serial_spec.specs.declared.entry.Answer.TheVariants.{Done, Waits}
 use Rattle.serial_spec.specs.declared.entry.Entry.{Entry}
-use Rattle.serial_spec.specs.Operations.{kind, reply_of}
-use Rattle.serial_spec.specs.History.{Name, History, Status, Absent, Live, Committed, Aborted, or_else, has_begun, top_aborted, status, is_active, is_committed, is_live_status, is_orphan}
+use Rattle.serial_spec.specs.Serial.{reply_at}
+use Rattle.serial_spec.specs.History.{Name, History, event_of, Status, Absent, Live, Committed, Aborted, or_else, has_begun, top_aborted, status, is_active, is_committed, is_live_status, is_orphan}
 use Rattle.serial_spec.specs.Locks.{is_blocked}
 use Rattle.serial_spec.specs.Values.{seen}
 use Rattle.serial_spec.specs.Rows.{Rows, value_in}
@@ -27,6 +27,7 @@ use Rattle.manager_core.specs.Lines.{IsWaitOf, waiting_access}
 use Rattle.manager_core.specs.Parking.{IsKeptOut, come_by}
 use Rattle.manager_core.specs.Tables.{Tabled, cause_in}
 use Rattle.txn_history.proofs.Lists.{any-find}
+use Rattle.manager_core.proofs.Events.{access_by_at, answer_at, is_wait, may_give_up, own_wait, same_asked}
 use Rattle.manager_core.proofs.Lasting.{is_open}
 use Rattle.manager_core.proofs.Trees.{same_at_end}
 use Rattle.manager_core.proofs.Waits.{same_by}
@@ -64,8 +65,10 @@ after_due rows h by t w e = ap (λ b. cond b (Some (Done Ok)) None) e
 -- ---- accesses
 
 -- the wait as it is kept
-pub waiting_of : (h : History) (by : By) (t : Name) (k : List ℕ) (o : Op) → IsWaitOf h by (Access t k o) → waiting_access (wait_of h t) ≡ Some (by, k, o)
-waiting_of h by t k o (w, waits, own, is) = rw (waits, is, same_by w.by by own) refl
+pub waiting_of : (h : History) (by : By) (t : Name) (asked : Asked) → IsWaitOf h by (event_of t asked) → waiting_access (wait_of h t) ≡ Some (by, asked)
+waiting_of h by t asked of_it =
+    let own = own_wait h by t asked of_it in
+    rw (own.waits, own.event_is, same_by own.wait.by by own.of_line) (access_by_at by t asked)
 
 refused_some : (c : Option Refusal) (a : Option Answer) → is_some c ≡ true → refused_or c a ≡ None → ⊥
 refused_some None a s e = cc
@@ -98,29 +101,30 @@ none_at_end h t begun acts =
     let p = and_parts (is_live_status (status h t)) (not (is_orphan h t)) acts in
     rw (begun, none_of (top_aborted h t) (not-true (is_orphan h t) p.1), live_not_committed (status h t) p.0) refl
 
-module _ (rows : Rows) (h : History) (by : By) (t : Name) (k : List ℕ) (o : Op) where
+module _ (rows : Rows) (h : History) (by : By) (t : Name) (asked : Asked) where
   -- of the causes only the bound on keys can hold for one that waits by this line
-  pub none_but_full : AreAllowed rows h → IsWaitOf h by (Access t k o) → is_full_for rows h k ≡ false → cause_at_access rows h by t k ≡ None
-  none_but_full allowed (w, waits, own, is) room =
-      let stands = is_open h t w waits in
-      let begun = (waits_kept rows h allowed).begun t (any-find (λ v. accesses t v.event) (λ v. accesses t v.event) (open_waits h) w stands.found stands.of_it) in
-      rw (none_at_end h t begun stands.acts, waits, own, room) refl
+  pub none_but_full : AreAllowed rows h → IsWaitOf h by (event_of t asked) → is_full_for rows h asked ≡ false → cause_at_access rows h by t asked ≡ None
+  none_but_full allowed of_it room =
+      let own = own_wait h by t asked of_it in
+      let stands = is_open h t own.wait own.waits in
+      let begun = (waits_kept rows h allowed).begun t (any-find (λ v. accesses t v.event) (λ v. accesses t v.event) (open_waits h) own.wait stands.found stands.of_it) in
+      rw (none_at_end h t begun stands.acts, own.waits, own.of_line, room) refl
 
   -- one that a cause refuses is answered
-  pub refused_out : is_some (cause_at_access rows h by t k) ≡ true → IsKeptOut rows h by (Access t k o) → ⊥
-  refused_out some out = refused_some (cause_at_access rows h by t k) _ some out.none
+  pub refused_out : is_some (cause_at_access rows h by t asked) ≡ true → IsKeptOut rows h by (event_of t asked) → ⊥
+  refused_out some out = refused_some (cause_at_access rows h by t asked) _ some (sym (answer_at rows h by t asked) ∙ out.none)
 
   -- so is one whose key would be one too many
-  pub full_out : is_full_for rows h k ≡ true → IsKeptOut rows h by (Access t k o) → ⊥
-  full_out full = refused_out (full_refused (cause_at_end h t) (when (waits_elsewhere h by t) Waiting) (is_full_for rows h k) full)
+  pub full_out : is_full_for rows h asked ≡ true → IsKeptOut rows h by (event_of t asked) → ⊥
+  full_out full = refused_out (full_refused (cause_at_end h t) (when (waits_elsewhere h by t) Waiting) (is_full_for rows h asked) full)
 
   -- one that waits, and is refused by no cause, is kept out exactly where it is blocked
-  pub kept_out_as : AreAllowed rows h → IsWaitOf h by (Access t k o) → cause_at_access rows h by t k ≡ None
-      → IsTrue (is_blocked h t k (kind o)) ↔ IsKeptOut rows h by (Access t k o)
+  pub kept_out_as : AreAllowed rows h → IsWaitOf h by (event_of t asked) → cause_at_access rows h by t asked ≡ None
+      → IsTrue (is_blocked h t asked) ↔ IsKeptOut rows h by (event_of t asked)
   kept_out_as allowed waits none =
-      let is = waiting_is rows h allowed t by k o (waiting_of h by t k o waits) in
-      let both = by_block (cause_at_access rows h by t k) (is_blocked h t k (kind o)) (has_waited h by) (reply_of (seen (value_in rows) h t k) o) none is.waited in
-      (λ b. record { can = waits; none = both.0 b }, λ out. both.1 out.none)
+      let is = waiting_is rows h allowed t by asked (waiting_of h by t asked waits) in
+      let both = by_block (cause_at_access rows h by t asked) (is_blocked h t asked) (has_waited h by) (reply_at (seen (value_in rows) h t) asked) none is.waited in
+      (λ b. record { can = may_give_up h by t asked waits; none = answer_at rows h by t asked ∙ both.0 b }, λ out. both.1 (sym (answer_at rows h by t asked) ∙ out.none))
 
 -- told by whether no lock keeps it out
 pub by_may : {X : Type 0} (b m : Bool) → m ≡ not b → IsTrue b ↔ X → IsTrue (not m) ↔ X
@@ -130,30 +134,25 @@ by_may false m is both = (λ e. both.0 (sym (ap not is) ∙ e), λ x. ap not is 
 -- ---- whether an access waits by a line
 
 -- one that is not kept does not
-pub none_waits_by : (h : History) (by : By) (t : Name) (k : List ℕ) (o : Op) → waiting_access (wait_of h t) ≡ None → IsWaitOf h by (Access t k o) → ⊥
-none_waits_by h by t k o none waits = let no : Some (by, k, o) ≡ None = sym (waiting_of h by t k o waits) ∙ none in true≢false (ap is_some no)
+pub none_waits_by : (h : History) (by : By) (t : Name) (asked : Asked) → waiting_access (wait_of h t) ≡ None → IsWaitOf h by (event_of t asked) → ⊥
+none_waits_by h by t asked none waits = let no : Some (by, asked) ≡ None = sym (waiting_of h by t asked waits) ∙ none in true≢false (ap is_some no)
 
-module _ (rows : Rows) (h : History) (allowed : AreAllowed rows h) (by line : By) (t : Name) (k q : List ℕ) (o p : Op) (kept : waiting_access (wait_of h t) ≡ Some (line, q, p)) where
-  -- the wait is this one exactly where it is by this line, of this key and this operation
-  pub waits_by_both : (b : Bool) → IsTrue b ↔ (IsTrue (same_line line by) × ((q ≡ k) × (p ≡ o))) → IsTrue b ↔ IsWaitOf h by (Access t k o)
-  waits_by_both b same = (forth, back)
+module _ (rows : Rows) (h : History) (allowed : AreAllowed rows h) (by line : By) (t : Name) (a b : Asked) (kept : waiting_access (wait_of h t) ≡ Some (line, b)) where
+  -- the wait is this one exactly where it is by this line, and the same is asked
+  pub waits_by_both : (r : Bool) → IsTrue r ↔ (IsTrue (same_line line by) × (b ≡ a)) → IsTrue r ↔ IsWaitOf h by (event_of t a)
+  waits_by_both r same = (forth, back)
     where
-      is : IsWaiting h t line q p
-      is = waiting_is rows h allowed t line q p kept
+      is : IsWaiting h t line b
+      is = waiting_is rows h allowed t line b kept
 
-      forth : IsTrue b → IsWaitOf h by (Access t k o)
+      forth : IsTrue r → IsWaitOf h by (event_of t a)
       forth e =
           let both = same.0 e in
-          (is.wait, is.waits, ap (λ y. same_line y by) is.by_is ∙ both.0, is.event_is ∙ ap (λ y. Access t y p) both.1.0 ∙ ap (Access t k) both.1.1)
+          is_wait h by t a (record { wait = is.wait; waits = is.waits; of_line = ap (λ y. same_line y by) is.by_is ∙ both.0; event_is = is.event_is ∙ ap (event_of t) both.1 })
 
-      back : IsWaitOf h by (Access t k o) → IsTrue b
-      back (w, waits, own, asked) =
-          let found : w ≡ is.wait = let both : Some w ≡ Some is.wait = sym waits ∙ is.waits in cc in
-          let event : Access t q p ≡ Access t k o = sym is.event_is ∙ ap (λ (y : Entry). y.event) (sym found) ∙ asked in
-          same.1 (ap (λ y. same_line y by) (sym is.by_is) ∙ ap (λ (y : Entry). same_line y.by by) (sym found) ∙ own, (key_of event, op_of event))
-        where
-          key_of : Access t q p ≡ Access t k o → q ≡ k
-          key_of e = cc
-
-          op_of : Access t q p ≡ Access t k o → p ≡ o
-          op_of e = cc
+      back : IsWaitOf h by (event_of t a) → IsTrue r
+      back of_it =
+          let own = own_wait h by t a of_it in
+          let found : own.wait ≡ is.wait = ap (λ o. unwrap_or o own.wait) (sym own.waits ∙ is.waits) in
+          let event : event_of t b ≡ event_of t a = sym is.event_is ∙ ap (λ (y : Entry). y.event) (sym found) ∙ own.event_is in
+          same.1 (ap (λ y. same_line y by) (sym is.by_is) ∙ ap (λ (y : Entry). same_line y.by by) (sym found) ∙ own.of_line, same_asked t t b a event)

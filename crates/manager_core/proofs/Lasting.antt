@@ -1,18 +1,18 @@
 -- How long a wait lasts: what each kind of entry does to who waits.
-use Rattle.std.proofs.Common.{◌≡◌, ℕ, Bool, true, false, not, cond, ◌&&◌, ◌||◌, List, [], ◌∷◌, filter, find, Option, Some, None, is_some, inl, inr, ⊎_elim, refl, sym, ap, subst, ◌∙◌}
+use Rattle.std.proofs.Common.{◌≡◌, Bool, true, false, not, cond, ◌&&◌, ◌||◌, List, [], ◌∷◌, filter, find, Option, Some, None, is_some, inl, inr, ⊎_elim, refl, sym, ap, subst, ◌∙◌}
 use Rattle.std.proofs.lemmas.Bool.{false≢true, and_parts, and_from, and_right, or_from, or_left, or_right, or_cases, not-true, false_from_ne_true}
 use Rattle.std.proofs.lemmas.Map.Views.{any-filter_same}
 use Rattle.std.specs.List.{list_any}
 use Rattle.txn_names.specs.Path.{path_eq, is_front}
 use Rattle.txn_names.proofs.Names.{on_test, same_path, path_eq_self}
-use Rattle.serial_spec.specs.declared.operation.Op.{Op}
+use Rattle.serial_spec.specs.declared.target.Asked.{Asked}
 use Rattle.serial_spec.specs.declared.entry.By.{By}
 use Rattle.serial_spec.specs.declared.entry.By.TheVariants.{Line, Victim, Close}
 use Rattle.serial_spec.specs.declared.event.Event.{Event}
-use Rattle.serial_spec.specs.declared.event.Event.TheVariants.{Begin, Access, Commit, Abort}
+use Rattle.serial_spec.specs.declared.event.Event.TheVariants.{Begin, Access, Sum, Commit, Abort}
 use Rattle.serial_spec.specs.declared.entry.Answer.TheVariants.{Waits}
 use Rattle.serial_spec.specs.declared.entry.Entry.{Entry}
-use Rattle.serial_spec.specs.History.{Name, History, Effect, Begins, Accesses, Commits, Aborts, Nothing, Status, Absent, Live, Committed, Aborted, effect, is_active, is_absent, is_live_status, is_orphan, status}
+use Rattle.serial_spec.specs.History.{Name, History, event_of, Effect, Begins, Accesses, Commits, Aborts, Nothing, Status, Absent, Live, Committed, Aborted, effect, is_active, is_absent, is_live_status, is_orphan, status}
 use Rattle.serial_spec.specs.Waits.{same_line, is_waits, open_waits, accesses, wait_of}
 use Rattle.serial_spec.specs.Allowed.{is_other_line, waits_elsewhere}
 use Rattle.serial_spec.specs.Rows.{Rows}
@@ -23,6 +23,7 @@ use Rattle.txn_history.proofs.Lists.{any_cases, any-filter, any-find, found_pass
 use Rattle.txn_history.proofs.Theorems.{active_after, wait_after, before_each}
 use Rattle.manager_core.specs.State.{entry}
 use Rattle.manager_core.specs.Lines.{entries_of, accessor, waits_no_more, IsRetried, IsFree}
+use Rattle.manager_core.proofs.Events.{accesses_at, waits_at}
 use Rattle.manager_core.proofs.Steps.{is_plain}
 use Rattle.manager_core.proofs.Waits.{any_weaker, same_by}
 
@@ -58,6 +59,7 @@ still_in p (e ∷ h) some =
 -- an access is of one transaction
 same_accessor : (t u : Name) (event : Event) → accesses t event ≡ true → accesses u event ≡ true → t ≡ u
 same_accessor t u (Access v k o) a b = sym (same_path v t a) ∙ same_path v u b
+same_accessor t u (Sum v g) a b = sym (same_path v t a) ∙ same_path v u b
 same_accessor t u (Begin v) a b = absurd (false≢true a)
 same_accessor t u (Commit v) a b = absurd (false≢true a)
 same_accessor t u (Abort v) a b = absurd (false≢true a)
@@ -67,6 +69,7 @@ same_accessor t u event a b = absurd (false≢true a)
 
 ended_of : (h : History) (u : Name) (event : Event) → accesses u event ≡ true → waits_no_more h (accessor event) ≡ true → is_some (wait_of h u) ≡ false
 ended_of h u (Access t k o) acc ended = not-true (is_some (wait_of h u)) (subst (λ (v : Name). not (is_some (wait_of h v)) ≡ true) (same_path t u acc) ended)
+ended_of h u (Sum t g) acc ended = not-true (is_some (wait_of h u)) (subst (λ (v : Name). not (is_some (wait_of h v)) ≡ true) (same_path t u acc) ended)
 ended_of h u (Begin t) acc ended = absurd (false≢true acc)
 ended_of h u (Commit t) acc ended = absurd (false≢true acc)
 ended_of h u (Abort t) acc ended = absurd (false≢true acc)
@@ -229,7 +232,7 @@ widened false false x = refl
 
 plain_acts : (x : Effect) (u : Name) (b : Bool) → is_plain x ≡ true → acts_next x u b ≡ b
 plain_acts (Begins t) u b p = absurd (false≢true p)
-plain_acts (Accesses t k o r) u b p = refl
+plain_acts (Accesses t a r) u b p = refl
 plain_acts (Commits t) u b p = absurd (false≢true p)
 plain_acts (Aborts t) u b p = absurd (false≢true p)
 plain_acts Nothing u b p = refl
@@ -292,13 +295,14 @@ module _ (rows : Rows) (e : Entry) (h : History) (allowed : AreAllowed rows (e �
           (λ _. idle (is_active h u) (find (λ v. accesses u v.event) (open_waits h)))
 
 -- an access that has to wait
-pub wait_starts : (rows : Rows) (h : History) (by : By) (t : Name) (k : List ℕ) (o : Op) → AreAllowed rows (entry by (Access t k o) Waits ∷ h) → is_active h t ≡ true
+pub wait_starts : (rows : Rows) (h : History) (by : By) (t : Name) (asked : Asked) → AreAllowed rows (entry by (event_of t asked) Waits ∷ h) → is_active h t ≡ true
     → ((u : Name) → unless_by by (wait_of h u) ≡ wait_of h u)
-    → (u : Name) → wait_of (entry by (Access t k o) Waits ∷ h) u ≡ cond (path_eq t u) (Some (entry by (Access t k o) Waits)) (wait_of h u)
-wait_starts rows h by t k o allowed acts lasts u =
-    let e : Entry = entry by (Access t k o) Waits in
+    → (u : Name) → wait_of (entry by (event_of t asked) Waits ∷ h) u ≡ cond (path_eq t u) (Some (entry by (event_of t asked) Waits)) (wait_of h u)
+wait_starts rows h by t asked allowed acts lasts u =
+    let e : Entry = entry by (event_of t asked) Waits in
+    let active_waits : is_active (e ∷ h) u ≡ is_active h u = active_after rows e h allowed u ∙ ap (λ x. acts_next x u (is_active h u)) (waits_at t asked) in
     wait_after rows e h allowed u
-    ∙ (λ i. cond (active_after rows e h allowed u i) (cond (path_eq t u) (Some e) (lasts u i)) None)
+    ∙ (λ i. cond (active_waits i) (cond (accesses_at u t asked i) (Some e) (lasts u i)) None)
     ∙ on_test (path_eq t u) (λ b. cond (is_active h u) (cond b (Some e) (wait_of h u)) None ≡ cond b (Some e) (wait_of h u))
     (λ same. ap (λ b. cond b (Some e) None) (subst (λ (v : Name). is_active h v ≡ true) (same_path t u same) acts))
     (λ _. idle (is_active h u) (find (λ v. accesses u v.event) (open_waits h)))

@@ -11,6 +11,7 @@ pub mod Steps
 pub mod Tabled
 -- An entry more
 pub mod Answers
+pub mod Events
 pub mod Facts
 pub mod Kept
 pub mod Commits

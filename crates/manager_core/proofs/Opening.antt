@@ -3,6 +3,7 @@ use Rattle.std.proofs.Common.{◌≡◌, ℕ, ◌<◌, ◌^◌, List, [], ◌∷
 use Rattle.std.specs.List.{list_any}
 use Rattle.txn_names.specs.Path.{path_eq}
 use Rattle.txn_tree.specs.States.{States}
+use Rattle.serial_spec.specs.declared.target.Target.{Target}
 use Rattle.inherit.specs.LocksAndVersions.{LocksAndVersions, free, modes_of, left_of}
 use Rattle.serial_spec.specs.History.{Name, status}
 use Rattle.serial_spec.specs.Serial.{Map}
@@ -35,7 +36,7 @@ empty_tree states e = record {
     absent (l ∷ ls) = refl
 
 -- nor has anybody locked or left anything
-empty_estate : (states : States) (estate : LocksAndVersions) → states ≡ [] → ((n : ℕ) (k : List ℕ) → modes_of estate n k ≡ free) → ((n : ℕ) (k : List ℕ) → left_of estate n k ≡ None)
+empty_estate : (states : States) (estate : LocksAndVersions) → states ≡ [] → ((n : ℕ) (s : Target) → modes_of estate n s ≡ free) → ((n : ℕ) (k : List ℕ) → left_of estate n k ≡ None)
     → IsEstateOf [] states estate
 empty_estate states estate e unlocked unleft = record {
   modes = λ n k. rw e (unlocked n k);
@@ -44,7 +45,7 @@ empty_estate states estate e unlocked unleft = record {
 
 -- so the tables are what an empty history says, over any rows in order
 pub tables_open : (rows : Rows) (tables : Tabled) → value_in (rows_in tables) ≡ value_in rows → tables.tree ≡ [] → tables.marks.names ≡ []
-    → ((n : ℕ) (k : List ℕ) → modes_of tables.estate n k ≡ free) → ((n : ℕ) (k : List ℕ) → left_of tables.estate n k ≡ None) → tables.waits.waits ≡ [] → AreTablesOf rows [] tables
+    → ((n : ℕ) (s : Target) → modes_of tables.estate n s ≡ free) → ((n : ℕ) (k : List ℕ) → left_of tables.estate n k ≡ None) → tables.waits.waits ≡ [] → AreTablesOf rows [] tables
 tables_open rows tables e empty unmarked unlocked unleft unwaited = record {
   in_tree = empty_tree tables.tree empty;
   marked = λ t. ap (list_any (path_eq t)) unmarked;

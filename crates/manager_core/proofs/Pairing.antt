@@ -9,13 +9,14 @@ use Rattle.std.proofs.lemmas.List.{reverse-append, length-reverse}
 use Rattle.txn_names.specs.Path.{is_front, meet, path_eq}
 use Rattle.txn_names.proofs.Names.{on_path, on_test, path_eq_self, same_path}
 use Rattle.txn_tree.specs.States.{States, names}
-use Rattle.lock_table.specs.Locked.{Table}
 use Rattle.serial_spec.specs.declared.entry.Entry.{Entry}
 use Rattle.serial_spec.specs.declared.event.Event.{Event}
-use Rattle.serial_spec.specs.declared.event.Event.TheVariants.{Abort, Access, After, Begin, Commit}
-use Rattle.serial_spec.specs.Operations.{kind}
-use Rattle.serial_spec.specs.History.{Name, History, begun, has_begun, is_active}
-use Rattle.serial_spec.specs.Locks.{conflicts, foot, is_blocker}
+use Rattle.serial_spec.specs.declared.event.Event.TheVariants.{Abort, Access, Sum, After, Begin, Commit}
+use Rattle.serial_spec.specs.declared.target.Asked.{Asked}
+use Rattle.serial_spec.specs.declared.target.Asked.TheVariants.{At, Over}
+use Rattle.serial_spec.specs.Targets.{kind_of, target}
+use Rattle.serial_spec.specs.History.{Name, History, event_of, begun, has_begun, is_active}
+use Rattle.serial_spec.specs.Locks.{conflicts, is_blocker, reach}
 use Rattle.serial_spec.specs.Rows.{Rows}
 use Rattle.serial_spec.specs.Legal.{AreAllowed}
 use Rattle.serial_spec.specs.Waits.{accesses, blocks_event, branch_of, number, number_in, open_waits, wait_of as wait_by, waits_by, waits_for}
@@ -29,12 +30,13 @@ use Rattle.wait_cycles.specs.Waiting.{AreOnce, Waiting, wait_of}
 use Rattle.wait_cycles.specs.declared.waits.Wait.{Wait}
 use Rattle.txn_tree.proofs.Places.{get_front, get_pushed}
 use Rattle.manager_core.specs.Kept.{AreTablesOf, wait_of_any}
-use Rattle.manager_core.specs.Pairs.{is_beside, is_held_up, is_in_branch, pairs_of, pairs_with, waits_for_in}
+use Rattle.manager_core.specs.Pairs.{Keeps, is_beside, is_held_up, is_in_branch, pairs_of, pairs_with, waits_for_in}
 use Rattle.manager_core.specs.Tables.{Tabled, wait_by as kept_by, wait_for}
 use Rattle.manager_core.proofs.Blocking.{any_named}
 use Rattle.manager_core.proofs.Branches.{in_branch}
 use Rattle.manager_core.proofs.Lasting.{is_open}
-use Rattle.manager_core.proofs.Locks.{any_numbered, blocker_as}
+use Rattle.manager_core.proofs.Events.{blocks_at}
+use Rattle.manager_core.proofs.Locks.{any_numbered, keeps_as, keeps_by}
 use Rattle.manager_core.proofs.Named.{any_got}
 
 -- ---- numbers
@@ -86,7 +88,7 @@ place_is (u ∷ us) apart a t at =
 -- ---- pairs
 
 -- who waits and for whom, of a pair that was made
-record IsMade (tree : States) (locks : Table) (ws others : List Wait) (a b : ℕ) : Type 0 where
+record IsMade (tree : States) (keeps : Keeps) (ws others : List Wait) (a b : ℕ) : Type 0 where
   w : Wait
   i : ℕ
   first : slice_get ws i ≡ Some w
@@ -95,31 +97,31 @@ record IsMade (tree : States) (locks : Table) (ws others : List Wait) (a b : ℕ
   j : ℕ
   second : slice_get others j ≡ Some v
   v_is : v.txn ≡ b
-  waiting : waits_for_in tree locks w v.txn ≡ true
+  waiting : waits_for_in tree keeps w v.txn ≡ true
 
-module _ (tree : States) (locks : Table) (a b : ℕ) where
+module _ (tree : States) (keeps : Keeps) (a b : ℕ) where
   is_it : ℕ × ℕ → Bool
   is_it p = nat_eq p.0 a && nat_eq p.1 b
 
   -- one that waits, with one of these for which it waits
   IsInRow : Wait → List Wait → Type 0
-  IsInRow w others = (w.txn ≡ a) × (v : Wait) × (j : ℕ) × (slice_get others j ≡ Some v) × (v.txn ≡ b) × (waits_for_in tree locks w v.txn ≡ true)
+  IsInRow w others = (w.txn ≡ a) × (v : Wait) × (j : ℕ) × (slice_get others j ≡ Some v) × (v.txn ≡ b) × (waits_for_in tree keeps w v.txn ≡ true)
 
   row_of : Wait → Bool → Wait → List Wait → Pairs
-  row_of w t x xs = map (λ v. (w.txn, v.txn)) (cond t (x ∷ filter (λ v. waits_for_in tree locks w v.txn) xs) (filter (λ v. waits_for_in tree locks w v.txn) xs))
+  row_of w t x xs = map (λ v. (w.txn, v.txn)) (cond t (x ∷ filter (λ v. waits_for_in tree keeps w v.txn) xs) (filter (λ v. waits_for_in tree keeps w v.txn) xs))
 
-  in_row : (w : Wait) (others : List Wait) → list_any is_it (pairs_with tree locks others w) ≡ true → IsInRow w others
+  in_row : (w : Wait) (others : List Wait) → list_any is_it (pairs_with tree keeps others w) ≡ true → IsInRow w others
   unfolding is_it IsInRow row_of
   in_row w [] e = absurd (false≢true e)
-  in_row w (x ∷ xs) e = by (in_row w xs) (waits_for_in tree locks w x.txn) refl e
+  in_row w (x ∷ xs) e = by (in_row w xs) (waits_for_in tree keeps w x.txn) refl e
     where
       further : IsInRow w xs → IsInRow w (x ∷ xs)
       further r = (r.0, r.1, suc r.2, r.3, r.4, r.5)
 
-      by : (list_any is_it (pairs_with tree locks xs w) ≡ true → IsInRow w xs) → (t : Bool) → waits_for_in tree locks w x.txn ≡ t
+      by : (list_any is_it (pairs_with tree keeps xs w) ≡ true → IsInRow w xs) → (t : Bool) → waits_for_in tree keeps w x.txn ≡ t
           → list_any is_it (row_of w t x xs) ≡ true → IsInRow w (x ∷ xs)
       by rest true is f =
-          elim (or_cases (is_it (w.txn, x.txn)) (list_any is_it (pairs_with tree locks xs w)) f) [
+          elim (or_cases (is_it (w.txn, x.txn)) (list_any is_it (pairs_with tree keeps xs w)) f) [
             | inl here ↦
                 let p = and_parts (nat_eq w.txn a) (nat_eq x.txn b) here in
                 (eqb-true w.txn a p.0, x, 0, refl, eqb-true x.txn b p.1, is)
@@ -127,11 +129,11 @@ module _ (tree : States) (locks : Table) (a b : ℕ) where
           ]
       by rest false is f = further (rest f)
 
-  in_rows : (ws others : List Wait) → list_any is_it (pairs_of tree locks ws others) ≡ true → IsMade tree locks ws others a b
+  in_rows : (ws others : List Wait) → list_any is_it (pairs_of tree keeps ws others) ≡ true → IsMade tree keeps ws others a b
   unfolding IsInRow
   in_rows [] others e = absurd (false≢true e)
   in_rows (x ∷ ws) others e =
-      elim (or_cases _ _ (sym (list_any-append is_it (pairs_with tree locks others x) (pairs_of tree locks ws others)) ∙ e)) [
+      elim (or_cases _ _ (sym (list_any-append is_it (pairs_with tree keeps others x) (pairs_of tree keeps ws others)) ∙ e)) [
         | inl here ↦
             let r = in_row x others here in
             record { w = x; i = 0; first = refl; w_is = r.0; v = r.1; j = r.2; second = r.3; v_is = r.4; waiting = r.5 }
@@ -140,36 +142,36 @@ module _ (tree : States) (locks : Table) (a b : ℕ) where
             record { w = r.w; i = suc r.i; first = r.first; w_is = r.w_is; v = r.v; j = r.j; second = r.second; v_is = r.v_is; waiting = r.waiting }
       ]
 
-  row_made : (w : Wait) (others : List Wait) (j : ℕ) (v : Wait) → slice_get others j ≡ Some v → w.txn ≡ a → v.txn ≡ b → waits_for_in tree locks w v.txn ≡ true
-      → list_any is_it (pairs_with tree locks others w) ≡ true
+  row_made : (w : Wait) (others : List Wait) (j : ℕ) (v : Wait) → slice_get others j ≡ Some v → w.txn ≡ a → v.txn ≡ b → waits_for_in tree keeps w v.txn ≡ true
+      → list_any is_it (pairs_with tree keeps others w) ≡ true
   unfolding is_it row_of
   row_made w [] j v at is_a is_b e = absurd (false≢true (ap is_some at))
   row_made w (x ∷ xs) zero v at is_a is_b e =
       let same : x ≡ v = ap (λ o. unwrap_or o x) at in
-      let passes : waits_for_in tree locks w x.txn ≡ true = ap (λ (y : Wait). waits_for_in tree locks w y.txn) same ∙ e in
+      let passes : waits_for_in tree keeps w x.txn ≡ true = ap (λ (y : Wait). waits_for_in tree keeps w y.txn) same ∙ e in
       ap (λ t. list_any is_it (row_of w t x xs)) passes
       ∙ or_left (is_it (w.txn, x.txn)) _ (and_true (eq-eqb w.txn a is_a) (eq-eqb x.txn b (ap (λ (y : Wait). y.txn) same ∙ is_b)))
     where
       and_true : {p q : Bool} → p ≡ true → q ≡ true → (p && q) ≡ true
       and_true {p} {q} x y = ap (λ c. c && q) x ∙ y
-  row_made w (x ∷ xs) (suc j) v at is_a is_b e = by (row_made w xs j v at is_a is_b e) (waits_for_in tree locks w x.txn)
+  row_made w (x ∷ xs) (suc j) v at is_a is_b e = by (row_made w xs j v at is_a is_b e) (waits_for_in tree keeps w x.txn)
     where
-      by : list_any is_it (pairs_with tree locks xs w) ≡ true → (t : Bool) → list_any is_it (row_of w t x xs) ≡ true
+      by : list_any is_it (pairs_with tree keeps xs w) ≡ true → (t : Bool) → list_any is_it (row_of w t x xs) ≡ true
       by rest true = or_right (is_it (w.txn, x.txn)) _ rest
       by rest false = rest
 
-  rows_made : (ws others : List Wait) → IsMade tree locks ws others a b → list_any is_it (pairs_of tree locks ws others) ≡ true
+  rows_made : (ws others : List Wait) → IsMade tree keeps ws others a b → list_any is_it (pairs_of tree keeps ws others) ≡ true
   rows_made ws others m = by ws m.i m.first
     where
-      by : (xs : List Wait) (i : ℕ) → slice_get xs i ≡ Some m.w → list_any is_it (pairs_of tree locks xs others) ≡ true
+      by : (xs : List Wait) (i : ℕ) → slice_get xs i ≡ Some m.w → list_any is_it (pairs_of tree keeps xs others) ≡ true
       by [] i at = absurd (false≢true (ap is_some at))
       by (x ∷ xs) zero at =
           let same : x ≡ m.w = ap (λ o. unwrap_or o x) at in
-          list_any-append is_it (pairs_with tree locks others x) (pairs_of tree locks xs others)
-          ∙ or_left _ _ (ap (λ (y : Wait). list_any is_it (pairs_with tree locks others y)) same ∙ row_made m.w others m.j m.v m.second m.w_is m.v_is m.waiting)
+          list_any-append is_it (pairs_with tree keeps others x) (pairs_of tree keeps xs others)
+          ∙ or_left _ _ (ap (λ (y : Wait). list_any is_it (pairs_with tree keeps others y)) same ∙ row_made m.w others m.j m.v m.second m.w_is m.v_is m.waiting)
       by (x ∷ xs) (suc i) at =
-          list_any-append is_it (pairs_with tree locks others x) (pairs_of tree locks xs others)
-          ∙ or_right (list_any is_it (pairs_with tree locks others x)) _ (by xs i at)
+          list_any-append is_it (pairs_with tree keeps others x) (pairs_of tree keeps xs others)
+          ∙ or_right (list_any is_it (pairs_with tree keeps others x)) _ (by xs i at)
 
 -- ---- the waits that stand
 
@@ -192,21 +194,26 @@ stands waits once_each i w at = by (wait_of waits w.txn) refl
 -- the waits that are kept, each by a number, are those of the history, each by a name
 pub record TellWaits (h : History) (tree : States) (waits : Waiting) : Type 0 where
   pub known : (n : ℕ) (w : Wait) → wait_of waits n ≡ Some w
-      → (t : Name) × (e : Entry) × (slice_get (names tree) n ≡ Some t) × (wait_by h t ≡ Some e) × (e.event ≡ Access t w.key w.op) × (w.txn ≡ n)
+      → (t : Name) × (e : Entry) × (slice_get (names tree) n ≡ Some t) × (wait_by h t ≡ Some e) × (e.event ≡ event_of t w.asked) × (w.txn ≡ n)
   pub all : (t : Name) (e : Entry) → wait_by h t ≡ Some e → (n : ℕ) × (w : Wait) × (slice_get (names tree) n ≡ Some t) × (wait_of waits n ≡ Some w)
 
 -- a wait that is kept is that of an entry
 read_wait : (n : ℕ) (t : Name) (x : Entry) (w : Wait) → accesses t x.event ≡ true → wait_for n (Some x) ≡ Some w
-    → (x.event ≡ Access t w.key w.op) × (w.txn ≡ n)
+    → (x.event ≡ event_of t w.asked) × (w.txn ≡ n)
 read_wait n t x w of_it is = by x.event refl of_it is
   where
-    by : (e : Event) → x.event ≡ e → accesses t e ≡ true → kept_by n x.by e ≡ Some w → (x.event ≡ Access t w.key w.op) × (w.txn ≡ n)
-    by (Access u k o) event f g =
+    by_asked : (u : Name) (a : Asked) → x.event ≡ event_of u a → path_eq u t ≡ true → Some (record { txn = n; asked = a; by = x.by }) ≡ Some w
+        → (x.event ≡ event_of t w.asked) × (w.txn ≡ n)
+    by_asked u a event f g =
         let same : u ≡ t = same_path u t f in
-        let made : record { txn = n; key = k; op = o; by = x.by } ≡ w = ap (λ p. unwrap_or p w) g in (
-          event ∙ ap (λ v. Access v k o) same ∙ ap (λ (v : Wait). Access t v.key v.op) made,
+        let made : record { txn = n; asked = a; by = x.by } ≡ w = ap (λ p. unwrap_or p w) g in (
+          event ∙ ap (λ v. event_of v a) same ∙ ap (λ (v : Wait). event_of t v.asked) made,
           sym (ap (λ (v : Wait). v.txn) made),
         )
+
+    by : (e : Event) → x.event ≡ e → accesses t e ≡ true → kept_by n x.by e ≡ Some w → (x.event ≡ event_of t w.asked) × (w.txn ≡ n)
+    by (Access u k o) event f g = by_asked u (At k o) event f g
+    by (Sum u k) event f g = by_asked u (Over k) event f g
     by (Begin u) event f g = absurd (false≢true f)
     by (Commit u) event f g = absurd (false≢true f)
     by (Abort u) event f g = absurd (false≢true f)
@@ -218,6 +225,7 @@ kept_some n t x of_it = by x.event of_it
   where
     by : (e : Event) → accesses t e ≡ true → is_some (kept_by n x.by e) ≡ true
     by (Access u k o) f = refl
+    by (Sum u k) f = refl
     by (Begin u) f = absurd (false≢true f)
     by (Commit u) f = absurd (false≢true f)
     by (Abort u) f = absurd (false≢true f)
@@ -241,18 +249,18 @@ pub tell_waits : (rows : Rows) (h : History) (tables : Tabled) → AreAllowed ro
 tell_waits rows h tables allowed are = record { known = known; all = all }
   where
     known : (n : ℕ) (w : Wait) → wait_of tables.waits n ≡ Some w
-        → (t : Name) × (e : Entry) × (slice_get (names tables.tree) n ≡ Some t) × (wait_by h t ≡ Some e) × (e.event ≡ Access t w.key w.op) × (w.txn ≡ n)
+        → (t : Name) × (e : Entry) × (slice_get (names tables.tree) n ≡ Some t) × (wait_by h t ≡ Some e) × (e.event ≡ event_of t w.asked) × (w.txn ≡ n)
     known n w is = named (slice_get (names tables.tree) n) refl (sym (are.waiting n) ∙ is)
       where
         waited : (t : Name) → slice_get (names tables.tree) n ≡ Some t → (o : Option Entry) → wait_by h t ≡ o → wait_for n o ≡ Some w
-            → (u : Name) × (e : Entry) × (slice_get (names tables.tree) n ≡ Some u) × (wait_by h u ≡ Some e) × (e.event ≡ Access u w.key w.op) × (w.txn ≡ n)
+            → (u : Name) × (e : Entry) × (slice_get (names tables.tree) n ≡ Some u) × (wait_by h u ≡ Some e) × (e.event ≡ event_of u w.asked) × (w.txn ≡ n)
         waited t at None waits f = absurd (false≢true (ap is_some f))
         waited t at (Some x) waits f =
             let read = read_wait n t x w (is_open h t x waits).of_it f in
             (t, x, at, waits, read.0, read.1)
 
         named : (o : Option Name) → slice_get (names tables.tree) n ≡ o → wait_for n (wait_of_any h o) ≡ Some w
-            → (u : Name) × (e : Entry) × (slice_get (names tables.tree) n ≡ Some u) × (wait_by h u ≡ Some e) × (e.event ≡ Access u w.key w.op) × (w.txn ≡ n)
+            → (u : Name) × (e : Entry) × (slice_get (names tables.tree) n ≡ Some u) × (wait_by h u ≡ Some e) × (e.event ≡ event_of u w.asked) × (w.txn ≡ n)
         named None at f = absurd (false≢true (ap is_some f))
         named (Some t) at f = waited t at (wait_by h t) refl f
 
@@ -273,37 +281,38 @@ module _ (rows : Rows) (h : History) (tables : Tabled) (are : AreTablesOf rows h
   abbrev tree : States
   tree = tables.tree
 
-  abbrev locks : Table
-  locks = tables.estate.locks
+  abbrev keeps : Keeps
+  keeps = keeps_by h tables.tree
 
   -- by numbers one waits for another exactly where it does by names
   pub as_named : (w : Wait) (m : ℕ) (t u : Name) (e f : Entry) → slice_get (names tree) w.txn ≡ Some t → slice_get (names tree) m ≡ Some u
-      → wait_by h t ≡ Some e → wait_by h u ≡ Some f → e.event ≡ Access t w.key w.op → waits_for_in tree locks w m ≡ waits_for h t u
+      → wait_by h t ≡ Some e → wait_by h u ≡ Some f → e.event ≡ event_of t w.asked → waits_for_in tree keeps w m ≡ waits_for h t u
   as_named w m t u e f at_t at_u is_e is_f event =
-      any_numbered (is_held_up tree locks w m) (λ b. blocks_event h (Access t w.key w.op) b && is_front (branch_of t b) u) h tree are.in_tree each
+      any_numbered (is_held_up tree keeps w m) (λ b. blocks_event h (event_of t w.asked) b && is_front (branch_of t b) u) h tree are.in_tree each
       ∙ sym (
       ap (λ o. waits_by h t u o (wait_by h u)) is_e
       ∙ ap (waits_by h t u (Some e)) is_f
       ∙ ap (λ x. list_any (λ b. blocks_event h x b && is_front (branch_of t b) u) (begun h)) event)
     where
       each : (n : ℕ) (b : Name) → slice_get (names tree) n ≡ Some b
-          → is_held_up tree locks w m n ≡ (blocks_event h (Access t w.key w.op) b && is_front (branch_of t b) u)
+          → is_held_up tree keeps w m n ≡ (blocks_event h (event_of t w.asked) b && is_front (branch_of t b) u)
       each n b at =
-          ap (λ x. x && is_in_branch tree w.txn n m) (blocker_as rows h tables are t w.txn at_t w.key (kind w.op) n b at)
-          ∙ ap (λ o. is_blocker h t w.key (kind w.op) b && is_beside o (slice_get (names tree) n) (slice_get (names tree) m)) at_t
-          ∙ ap (λ o. is_blocker h t w.key (kind w.op) b && is_beside (Some t) o (slice_get (names tree) m)) at
-          ∙ ap (λ o. is_blocker h t w.key (kind w.op) b && is_beside (Some t) (Some b) o) at_u
-          ∙ by (is_blocker h t w.key (kind w.op) b) refl
+          ap (λ x. x && is_in_branch tree w.txn n m) (keeps_as rows h tables are w.txn n t b at_t at w.asked)
+          ∙ ap (λ o. is_blocker h t w.asked b && is_beside o (slice_get (names tree) n) (slice_get (names tree) m)) at_t
+          ∙ ap (λ o. is_blocker h t w.asked b && is_beside (Some t) o (slice_get (names tree) m)) at
+          ∙ ap (λ o. is_blocker h t w.asked b && is_beside (Some t) (Some b) o) at_u
+          ∙ by (is_blocker h t w.asked b) refl
+          ∙ ap (λ x. x && is_front (branch_of t b) u) (sym (blocks_at h t w.asked b))
         where
-          by : (x : Bool) → is_blocker h t w.key (kind w.op) b ≡ x → (x && nat_lt (meet t b) (meet u b)) ≡ (x && is_front (branch_of t b) u)
+          by : (x : Bool) → is_blocker h t w.asked b ≡ x → (x && nat_lt (meet t b) (meet u b)) ≡ (x && is_front (branch_of t b) u)
           by false is = refl
           by true is =
-              let more = and_parts (is_active h b) (not (is_front b t) && conflicts (foot h b w.key) (kind w.op)) is in
-              in_branch t b u (not-true (is_front b t) (and_parts (not (is_front b t)) (conflicts (foot h b w.key) (kind w.op)) more.1).0)
+              let more = and_parts (is_active h b) (not (is_front b t) && conflicts (reach h b (target w.asked)) (kind_of w.asked)) is in
+              in_branch t b u (not-true (is_front b t) (and_parts (not (is_front b t)) (conflicts (reach h b (target w.asked)) (kind_of w.asked)) more.1).0)
 
   -- the pairs are those of the definitions
   pub are_waits : AreAllowed rows h → IsDistinct path_eq (names tables.tree) → AreOnce tables.waits
-      → AreWaits h (names tables.tree) (pairs_of tables.tree tables.estate.locks tables.waits.waits tables.waits.waits)
+      → AreWaits h (names tables.tree) (pairs_of tables.tree (keeps_by h tables.tree) tables.waits.waits tables.waits.waits)
   unfolding is_it
   are_waits allowed distinct once_each = record { numbered = numbered; sound = sound; whole = whole }
     where
@@ -315,10 +324,10 @@ module _ (rows : Rows) (h : History) (tables : Tabled) (are : AreTablesOf rows h
           place_is (begun h) (once (reverse (begun h)) (subst (λ (ns : List Name). IsDistinct path_eq ns) are.in_tree.begun distinct)) a t
           (ap (λ ns. slice_get ns a) (sym are.in_tree.begun) ∙ at)
 
-      sound : (a b : ℕ) → IsTrue (waits_in (pairs_of tree locks waits.waits waits.waits) a b)
+      sound : (a b : ℕ) → IsTrue (waits_in (pairs_of tree keeps waits.waits waits.waits) a b)
           → (t : Name) × (u : Name) × (slice_get (names tree) a ≡ Some t) × (slice_get (names tree) b ≡ Some u) × IsTrue (waits_for h t u)
       sound a b e =
-          let m = in_rows tree locks a b waits.waits waits.waits e in
+          let m = in_rows tree keeps a b waits.waits waits.waits e in
           let one = tell.known m.w.txn m.w (stands waits once_each m.i m.w m.first) in
           let other = tell.known m.v.txn m.v (stands waits once_each m.j m.v m.second) in (
             one.0,
@@ -329,7 +338,7 @@ module _ (rows : Rows) (h : History) (tables : Tabled) (are : AreTablesOf rows h
           )
 
       made : (t u : Name) (e f : Entry) → wait_by h t ≡ Some e → wait_by h u ≡ Some f → IsTrue (waits_for h t u)
-          → (a : ℕ) × (b : ℕ) × (slice_get (names tree) a ≡ Some t) × (slice_get (names tree) b ≡ Some u) × IsTrue (waits_in (pairs_of tree locks waits.waits waits.waits) a b)
+          → (a : ℕ) × (b : ℕ) × (slice_get (names tree) a ≡ Some t) × (slice_get (names tree) b ≡ Some u) × IsTrue (waits_in (pairs_of tree keeps waits.waits waits.waits) a b)
       made t u e f is_e is_f for =
           let one = tell.all t e is_e in
           let other = tell.all u f is_f in
@@ -343,12 +352,12 @@ module _ (rows : Rows) (h : History) (tables : Tabled) (are : AreTablesOf rows h
           let at_w : slice_get (names tree) w.txn ≡ Some t = ap (slice_get (names tree)) same_w.5 ∙ one.2 in
           let at_v : slice_get (names tree) v.txn ≡ Some u = ap (slice_get (names tree)) same_v.5 ∙ other.2 in
           let entry_is : same_w.1 ≡ e = ap (λ o. unwrap_or o e) (sym same_w.3 ∙ ap (wait_by h) there ∙ is_e) in
-          let event : e.event ≡ Access t w.key w.op = ap (λ (x : Entry). x.event) (sym entry_is) ∙ same_w.4 ∙ ap (λ x. Access x w.key w.op) there in (
+          let event : e.event ≡ event_of t w.asked = ap (λ (x : Entry). x.event) (sym entry_is) ∙ same_w.4 ∙ ap (λ x. event_of x w.asked) there in (
             one.0,
             other.0,
             one.2,
             other.2,
-            rows_made tree locks one.0 other.0 waits.waits waits.waits (record {
+            rows_made tree keeps one.0 other.0 waits.waits waits.waits (record {
               w = w;
               i = i.0;
               first = i.1;
@@ -362,18 +371,18 @@ module _ (rows : Rows) (h : History) (tables : Tabled) (are : AreTablesOf rows h
           )
 
       whole : (t u : Name) → IsTrue (waits_for h t u)
-          → (a : ℕ) × (b : ℕ) × (slice_get (names tree) a ≡ Some t) × (slice_get (names tree) b ≡ Some u) × IsTrue (waits_in (pairs_of tree locks waits.waits waits.waits) a b)
+          → (a : ℕ) × (b : ℕ) × (slice_get (names tree) a ≡ Some t) × (slice_get (names tree) b ≡ Some u) × IsTrue (waits_in (pairs_of tree keeps waits.waits waits.waits) a b)
       whole t u e = by (wait_by h t) (wait_by h u) refl refl e
         where
           by : (o p : Option Entry) → wait_by h t ≡ o → wait_by h u ≡ p → IsTrue (waits_by h t u o p)
-              → (a : ℕ) × (b : ℕ) × (slice_get (names tree) a ≡ Some t) × (slice_get (names tree) b ≡ Some u) × IsTrue (waits_in (pairs_of tree locks waits.waits waits.waits) a b)
+              → (a : ℕ) × (b : ℕ) × (slice_get (names tree) a ≡ Some t) × (slice_get (names tree) b ≡ Some u) × IsTrue (waits_in (pairs_of tree keeps waits.waits waits.waits) a b)
           by None p is_o is_p f = absurd (false≢true f)
           by (Some x) None is_o is_p f = absurd (false≢true f)
           by (Some x) (Some y) is_o is_p f = made t u x y is_o is_p e
 
 -- so the numbers on cycles tell of those of the definitions
 pub agreed : (rows : Rows) (h : History) (tables : Tabled) → AreTablesOf rows h tables → AreAllowed rows h → IsDistinct path_eq (names tables.tree) → AreOnce tables.waits
-    → Agree h (names tables.tree) (pairs_of tables.tree tables.estate.locks tables.waits.waits tables.waits.waits)
+    → Agree h (names tables.tree) (pairs_of tables.tree (keeps_by h tables.tree) tables.waits.waits tables.waits.waits)
 agreed rows h tables are allowed distinct once_each =
-    cycles_agree h (names tables.tree) (pairs_of tables.tree tables.estate.locks tables.waits.waits tables.waits.waits)
+    cycles_agree h (names tables.tree) (pairs_of tables.tree (keeps_by h tables.tree) tables.waits.waits tables.waits.waits)
     (are_waits rows h tables are allowed distinct once_each)

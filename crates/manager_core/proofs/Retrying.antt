@@ -1,18 +1,18 @@
 -- The access by which a transaction waits.
-use Rattle.std.proofs.Common.{◌≡◌, ℕ, Bool, true, false, not, cond, ◌==◌, List, [], ◌∷◌, filter, find, Option, Some, None, unwrap_or, inl, inr, refl, sym, ap, subst, ◌∙◌}
+use Rattle.std.proofs.Common.{◌≡◌, Bool, true, false, not, cond, ◌==◌, [], ◌∷◌, filter, find, Option, Some, None, unwrap_or, inl, inr, refl, sym, ap, subst, ◌∙◌}
 use Rattle.std.proofs.lemmas.Bool.{false≢true, and_from, eq-eqb}
 use Rattle.std.specs.List.{list_any}
 use Rattle.txn_names.proofs.Names.{on_test, same_path}
-use Rattle.serial_spec.specs.declared.operation.Op.{Op}
+use Rattle.serial_spec.specs.declared.target.Asked.{Asked}
 use Rattle.serial_spec.specs.declared.operation.Reply.TheVariants.{Ok}
 use Rattle.serial_spec.specs.declared.entry.By.{By}
 use Rattle.serial_spec.specs.declared.entry.By.TheVariants.{Line, Victim, Close}
 use Rattle.serial_spec.specs.declared.event.Event.{Event}
-use Rattle.serial_spec.specs.declared.event.Event.TheVariants.{Begin, Access, Commit, Abort}
+use Rattle.serial_spec.specs.declared.event.Event.TheVariants.{Begin, Access, Sum, Commit, Abort}
 use Rattle.serial_spec.specs.declared.entry.Answer.{Answer}
 use Rattle.serial_spec.specs.declared.entry.Answer.TheVariants.{Done}
 use Rattle.serial_spec.specs.declared.entry.Entry.{Entry}
-use Rattle.serial_spec.specs.History.{Name, History}
+use Rattle.serial_spec.specs.History.{Name, History, event_of}
 use Rattle.serial_spec.specs.Waits.{same_line, is_waits, open_waits, accesses, wait_of}
 use Rattle.serial_spec.specs.Rows.{Rows}
 use Rattle.serial_spec.specs.Allowed.{has_waited}
@@ -54,11 +54,11 @@ only_lines rows (e ∷ h) allowed =
     (λ _. others)
 
 -- what is known of it
-pub record IsWaiting (h : History) (t : Name) (by : By) (k : List ℕ) (o : Op) : Type 0 where
+pub record IsWaiting (h : History) (t : Name) (by : By) (asked : Asked) : Type 0 where
   pub wait : Entry
   pub waits : wait_of h t ≡ Some wait
   pub by_is : wait.by ≡ by
-  pub event_is : wait.event ≡ Access t k o
+  pub event_is : wait.event ≡ event_of t asked
   pub line : IsLine by
   pub of_line : same_line wait.by by ≡ true
   pub waited : has_waited h by ≡ true
@@ -68,20 +68,21 @@ line_is (Line s l) e = (tt, and_from (s == s) (l == l) (eq-eqb s s refl) (eq-eqb
 line_is Victim e = absurd (false≢true e)
 line_is Close e = absurd (false≢true e)
 
-module _ (rows : Rows) (h : History) (allowed : AreAllowed rows h) (t : Name) (by : By) (k : List ℕ) (o : Op) where
-  parts : (w : Entry) (event : Event) → w.event ≡ event → accesses t event ≡ true → access_by w.by event ≡ Some (by, k, o)
-      → (w.by ≡ by) × (w.event ≡ Access t k o)
+module _ (rows : Rows) (h : History) (allowed : AreAllowed rows h) (t : Name) (by : By) (asked : Asked) where
+  parts : (w : Entry) (event : Event) → w.event ≡ event → accesses t event ≡ true → access_by w.by event ≡ Some (by, asked)
+      → (w.by ≡ by) × (w.event ≡ event_of t asked)
   parts w (Access u q p) e acc same =
-      let other : By × List ℕ × Op = (by, k, o) in
-      let key : q ≡ k = ap (λ x. (unwrap_or x other).1) same in
-      let op : p ≡ o = ap (λ x. (unwrap_or x other).2) same in
-      (ap (λ x. (unwrap_or x other).0) same, e ∙ (λ i. Access (same_path u t acc i) (key i) (op i)))
+      let other : By × Asked = (by, asked) in
+      (ap (λ x. (unwrap_or x other).0) same, e ∙ (λ i. event_of (same_path u t acc i) ((unwrap_or (same i) other).1)))
+  parts w (Sum u g) e acc same =
+      let other : By × Asked = (by, asked) in
+      (ap (λ x. (unwrap_or x other).0) same, e ∙ (λ i. event_of (same_path u t acc i) ((unwrap_or (same i) other).1)))
   parts w (Begin u) e acc same = absurd (false≢true acc)
   parts w (Commit u) e acc same = absurd (false≢true acc)
   parts w (Abort u) e acc same = absurd (false≢true acc)
   parts w event e acc same = absurd (false≢true acc)
 
-  found : (w : Entry) → wait_of h t ≡ Some w → access_by w.by w.event ≡ Some (by, k, o) → IsWaiting h t by k o
+  found : (w : Entry) → wait_of h t ≡ Some w → access_by w.by w.event ≡ Some (by, asked) → IsWaiting h t by asked
   found w waits same =
       let stands = is_open h t w waits in
       let p = parts w w.event refl stands.of_it same in
@@ -103,32 +104,32 @@ module _ (rows : Rows) (h : History) (allowed : AreAllowed rows h) (t : Name) (b
           (λ e. absurd (false≢true (sym (only_lines rows h allowed)
           ∙ any-find (λ w. accesses t w.event) (λ w. not (is_line w.by)) (open_waits h) w at (ap not e))))
 
-  pub waiting_is : waiting_access (wait_of h t) ≡ Some (by, k, o) → IsWaiting h t by k o
+  pub waiting_is : waiting_access (wait_of h t) ≡ Some (by, asked) → IsWaiting h t by asked
   waiting_is same = go (wait_of h t) refl same
     where
-      go : (x : Option Entry) → wait_of h t ≡ x → waiting_access x ≡ Some (by, k, o) → IsWaiting h t by k o
+      go : (x : Option Entry) → wait_of h t ≡ x → waiting_access x ≡ Some (by, asked) → IsWaiting h t by asked
       go None at e = absurd (cc)
       go (Some w) at e = found w at e
 
 -- ---- what a caller is told
 
 -- it waits on
-pub waits_on : {S : Type 0} (m : State S) (t : Name) (by : By) (k : List ℕ) (o : Op) → IsWaiting m.history t by k o → (outcome : Outcome)
-    → ComesTo m.rows m.history by t k o outcome → outcome ≡ made.Waits → Retried m m t outcome
-waits_on m t by k o is outcome comes same = record {
+pub waits_on : {S : Type 0} (m : State S) (t : Name) (by : By) (asked : Asked) → IsWaiting m.history t by asked → (outcome : Outcome)
+    → ComesTo m.rows m.history by t asked outcome → outcome ≡ made.Waits → Retried m m t outcome
+waits_on m t by asked is outcome comes same = record {
   wait = is.wait;
   waits = is.waits;
   told = inr record {
-    none = rw (is.by_is, is.event_is) (still_waits m.rows m.history by t k o outcome comes same is.waited);
+    none = rw (is.by_is, is.event_is) (still_waits m.rows m.history by t asked outcome comes same is.waited);
     outcome_is = same;
     same = refl;
   };
 }
 
 -- it was answered
-pub retried : {S : Type 0} (old new : State S) (t : Name) (by : By) (k : List ℕ) (o : Op) → IsWaiting old.history t by k o → (outcome : Outcome)
-    → Answered old new by (Access t k o) outcome → Retried old new t outcome
-retried old new t by k o is outcome answered = record {
+pub retried : {S : Type 0} (old new : State S) (t : Name) (by : By) (asked : Asked) → IsWaiting old.history t by asked → (outcome : Outcome)
+    → Answered old new by (event_of t asked) outcome → Retried old new t outcome
+retried old new t by asked is outcome answered = record {
   wait = is.wait;
   waits = is.waits;
   told = inl (rw (is.by_is, is.event_is) answered);

@@ -4,7 +4,7 @@ use Rattle.std.proofs.lemmas.Bool.{false≢true}
 use Rattle.serial_spec.specs.declared.entry.Answer.TheVariants.{Stuck}
 use Rattle.serial_spec.specs.declared.entry.Refusal.{Refusal}
 use Rattle.serial_spec.specs.declared.event.Event.{Event}
-use Rattle.serial_spec.specs.declared.event.Event.TheVariants.{Begin, Access, Commit, Abort, After}
+use Rattle.serial_spec.specs.declared.event.Event.TheVariants.{Begin, Access, Sum, Commit, Abort, After}
 use Rattle.serial_spec.specs.declared.entry.Entry.{Entry}
 use Rattle.serial_spec.specs.History.{Name, History, is_active}
 use Rattle.serial_spec.specs.Waits.{Quiet}
@@ -33,6 +33,7 @@ aborts_no_wait t (Some r) = refl
 pub stuck_no_wait : (e : Event) → may_add_pair e Stuck ≡ false
 stuck_no_wait (Begin t) = refl
 stuck_no_wait (Access t k o) = refl
+stuck_no_wait (Sum t g) = refl
 stuck_no_wait (Commit t) = refl
 stuck_no_wait (Abort t) = refl
 stuck_no_wait (After t w) = refl

@@ -24,20 +24,20 @@ status_set false s old = refl
 
 -- begins nobody and ends nobody
 abbrev pub is_plain : Effect → Bool
-is_plain (Accesses t k o r) = true
+is_plain (Accesses t a r) = true
 is_plain Nothing = true
 is_plain x = false
 
 plain_begun : (x : Effect) (ts : List Name) → is_plain x ≡ true → begun_by x ts ≡ ts
 plain_begun (Begins t) ts p = absurd (false≢true p)
-plain_begun (Accesses t k o r) ts p = refl
+plain_begun (Accesses t a r) ts p = refl
 plain_begun (Commits t) ts p = absurd (false≢true p)
 plain_begun (Aborts t) ts p = absurd (false≢true p)
 plain_begun Nothing ts p = refl
 
 plain_status : (x : Effect) (u : Name) (s : Status) → is_plain x ≡ true → s ≡ sets_status x u s
 plain_status (Begins t) u s p = absurd (false≢true p)
-plain_status (Accesses t k o r) u s p = refl
+plain_status (Accesses t a r) u s p = refl
 plain_status (Commits t) u s p = absurd (false≢true p)
 plain_status (Aborts t) u s p = absurd (false≢true p)
 plain_status Nothing u s p = refl

@@ -12,6 +12,7 @@ use Rattle.serial_spec.specs.declared.operation.Reply.TheVariants.{Ok}
 use Rattle.serial_spec.specs.declared.event.Event.TheVariants.{Commit}
 use Rattle.serial_spec.specs.declared.entry.Answer.TheVariants.{Done}
 use Rattle.serial_spec.specs.History.{Name, History, is_active}
+use Rattle.serial_spec.specs.declared.target.Target.TheVariants.{Key}
 use Rattle.serial_spec.specs.Locks.{is_exclusive}
 use Rattle.serial_spec.specs.Serial.{Map, stored}
 use Rattle.serial_spec.specs.Values.{seen, value_or}
@@ -33,8 +34,8 @@ module _ (rows : Rows) (h : History) (old : Tabled) (allowed : AreAllowed rows h
   acts : is_active h t ≡ true
   acts = active_at_commit h by t none
 
-  modes_as : (k : List ℕ) → modes_of old.estate n k ≡ lock_at k h t
-  modes_as k = are.estate.modes n k ∙ ap (content_of free (lock_at k) h) (name_at old.tree t n number) ∙ ap (λ b. cond b (lock_at k h t) free) acts
+  modes_as : (k : List ℕ) → modes_of old.estate n (Key k) ≡ lock_at (Key k) h t
+  modes_as k = are.estate.modes n (Key k) ∙ ap (content_of free (lock_at (Key k)) h) (name_at old.tree t n number) ∙ ap (λ b. cond b (lock_at (Key k) h t) free) acts
 
   left_is : (k : List ℕ) → left_of old.estate n k ≡ left_at k h t
   left_is k = are.estate.left n k ∙ ap (content_of None (left_at k) h) (name_at old.tree t n number) ∙ ap (λ b. cond b (left_at k h t) None) acts
@@ -46,7 +47,7 @@ module _ (rows : Rows) (h : History) (old : Tabled) (allowed : AreAllowed rows h
     each = λ k.
         told.each k
         ∙ (λ i. cond (is_exclusive (whole (modes_as k i))) (Some (sees k i)) None)
-        ∙ ap (λ m. cond (is_exclusive m) (Some (seen (value_in rows) h t k)) None) (sym (foot_is_greater h t k));
+        ∙ ap (λ m. cond (is_exclusive m) (Some (seen (value_in rows) h t k)) None) (sym (foot_is_greater h t (Key k)));
   }
     where
       sees : (k : List ℕ) → seen_in old.tree old.estate.versions n k ≡ seen (value_in rows) h t k

@@ -5,7 +5,7 @@ use Rattle.txn_names.specs.Path.{path_eq}
 use Rattle.txn_tree.specs.Asked.{IsNumberOf}
 use Rattle.inherit.specs.LocksAndVersions.{LocksAndVersions, rows_of}
 use Rattle.txn_tree.specs.States.{States}
-use Rattle.serial_spec.specs.declared.operation.Op.{Op}
+use Rattle.serial_spec.specs.declared.target.Asked.{Asked}
 use Rattle.serial_spec.specs.declared.operation.Reply.{Reply}
 use Rattle.serial_spec.specs.declared.entry.Entry.{Entry}
 use Rattle.serial_spec.specs.History.{Name, History, Effect, Begins, Accesses, Commits, Aborts, Nothing, effect, is_abort}
@@ -70,13 +70,13 @@ module _ (rows : Rows) (e : Entry) (h : History) (allowed : AreAllowed rows (e �
   }
 
   -- an access that was answered
-  pub tables_accessed : (t : Name) (q : List ℕ) (op : Op) (r : Reply) → effect e ≡ Accesses t q op r → AccessesIn old new t q op r → AreTablesOf rows (e ∷ h) new
-  tables_accessed t q op r does has = record {
-    in_tree = subst (IsTreeOf (e ∷ h)) (sym has.tree) (tree_plain rows e h allowed old.tree (Accesses t q op r) are.in_tree does refl);
+  pub tables_accessed : (t : Name) (a : Asked) (r : Reply) → effect e ≡ Accesses t a r → AccessesIn old new t a r → AreTablesOf rows (e ∷ h) new
+  tables_accessed t a r does has = record {
+    in_tree = subst (IsTreeOf (e ∷ h)) (sym has.tree) (tree_plain rows e h allowed old.tree (Accesses t a r) are.in_tree does refl);
     marked = subst (AreMarksOf (e ∷ h)) (sym has.marks) (marks_same rows e h allowed old.marks are.marked (λ u. ap (is_abort u) does));
-    estate = subst (λ (s : States). IsEstateOf (e ∷ h) s new.estate) (sym has.tree) (estate_accessed rows e h allowed old new t q op r are.estate does has);
+    estate = subst (λ (s : States). IsEstateOf (e ∷ h) s new.estate) (sym has.tree) (estate_accessed rows e h allowed old new t a r are.estate does has);
     waiting = waiting;
-    current = λ k. same_current (Accesses t q op r) does has.rows k refl;
+    current = λ k. same_current (Accesses t a r) does has.rows k refl;
   }
 
   -- a commit, with the table that is due

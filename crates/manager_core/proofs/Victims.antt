@@ -9,9 +9,8 @@ use Rattle.serial_spec.specs.declared.entry.By.{By}
 use Rattle.serial_spec.specs.declared.entry.By.TheVariants.{Line, Victim, Close}
 use Rattle.serial_spec.specs.declared.entry.Refusal.TheVariants.{Unknown, Orphan, Done as HasCommitted}
 use Rattle.serial_spec.specs.declared.entry.Entry.{Entry}
-use Rattle.serial_spec.specs.declared.event.Event.TheVariants.{Access}
-use Rattle.serial_spec.specs.declared.operation.Op.{Op}
-use Rattle.serial_spec.specs.History.{Name, History, Status, Absent, Live, Committed, Aborted, Aborts, or_else, is_active, is_committed, is_live, is_live_status, is_orphan, has_begun, has_committed, has_aborted, top_aborted}
+use Rattle.serial_spec.specs.declared.target.Asked.{Asked}
+use Rattle.serial_spec.specs.History.{Name, History, event_of, Status, Absent, Live, Committed, Aborted, Aborts, or_else, is_active, is_committed, is_live, is_live_status, is_orphan, has_begun, has_committed, has_aborted, top_aborted}
 use Rattle.serial_spec.specs.Waits.{IsVictim, Quiet, WaitInTurn, accesses, open_waits, same_line, waits_by, wait_of}
 use Rattle.serial_spec.specs.Rows.{Rows}
 use Rattle.serial_spec.specs.Allowed.{cause_at_end, when}
@@ -24,6 +23,7 @@ use Rattle.manager_core.specs.Lines.{IsWaitOf}
 use Rattle.manager_core.specs.Sound.{IsBacked}
 use Rattle.manager_core.specs.Tables.{Tabled, AbortsIn, is_below, wait_at}
 use Rattle.manager_core.specs.Victims.{Breaks}
+use Rattle.manager_core.proofs.Events.{is_wait, own_wait}
 use Rattle.manager_core.proofs.Trees.{same_at_abort}
 use Rattle.manager_core.proofs.Facts.{backed_next}
 use Rattle.txn_history.specs.Steps.{unless_by}
@@ -224,11 +224,13 @@ module _ (h h2 : History) (vs : List Name) (after : AfterVictims h vs h2) where
       ∙ sym (ap (λ b. cond b (find (λ v. accesses t v.event) (open_waits h)) None) acts)
       ∙ waits
 
-  pub waits_or_is_undone : (by : By) (t : Name) (k : List ℕ) (op : Op) → IsWaitOf h by (Access t k op) → WaitsOrIsUndone h2 by t k op
-  waits_or_is_undone by t k op (w, waits, of_line, event) = record {
-    waits = λ some. (w, waits_still t w waits (not_orphan some), of_line, event);
-    undone = λ none. true_from_ne_false (is_orphan h2 t) (λ alone. false≢true (sym none ∙ ap is_some (waits_still t w waits alone)));
-  }
+  pub waits_or_is_undone : (by : By) (t : Name) (asked : Asked) → IsWaitOf h by (event_of t asked) → WaitsOrIsUndone h2 by t asked
+  waits_or_is_undone by t asked is =
+      let own = own_wait h by t asked is in
+      record {
+        waits = λ some. is_wait h2 by t asked (record { wait = own.wait; waits = waits_still t own.wait own.waits (not_orphan some); of_line = own.of_line; event_is = own.event_is });
+        undone = λ none. true_from_ne_false (is_orphan h2 t) (λ alone. false≢true (sym none ∙ ap is_some (waits_still t own.wait own.waits alone)));
+      }
     where
       not_orphan : is_some (wait_of h2 t) ≡ true → is_orphan h2 t ≡ false
       not_orphan some = not-true (is_orphan h2 t) (and_parts (is_live h2 t) (not (is_orphan h2 t)) (some_if (is_active h2 t) _ some)).1

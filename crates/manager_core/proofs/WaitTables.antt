@@ -7,12 +7,12 @@ use Rattle.txn_tree.specs.States.{States, names}
 use Rattle.txn_tree.specs.Asked.{IsNumberOf, is_name}
 use Rattle.wait_cycles.specs.declared.waits.Wait.{Wait}
 use Rattle.wait_cycles.specs.Waiting.{Waiting, wait_of as kept_wait}
-use Rattle.serial_spec.specs.declared.operation.Op.{Op}
+use Rattle.serial_spec.specs.declared.target.Asked.{Asked}
 use Rattle.serial_spec.specs.declared.entry.By.{By}
 use Rattle.serial_spec.specs.declared.event.Event.{Event}
-use Rattle.serial_spec.specs.declared.event.Event.TheVariants.{Begin, Access, Commit, Abort}
+use Rattle.serial_spec.specs.declared.event.Event.TheVariants.{Begin, Access, Sum, Commit, Abort}
 use Rattle.serial_spec.specs.declared.entry.Entry.{Entry}
-use Rattle.serial_spec.specs.History.{Name, History}
+use Rattle.serial_spec.specs.History.{Name, History, event_of}
 use Rattle.serial_spec.specs.Waits.{accesses, same_line, wait_of}
 use Rattle.serial_spec.specs.Allowed.{cause_at_access, is_other_line, waits_elsewhere}
 use Rattle.serial_spec.specs.Rows.{Rows}
@@ -72,10 +72,10 @@ module _ (h g : History) (old new : Tabled) (are : AreWaitsOf h old.tree old.wai
 
 -- ---- what is kept under a name
 
--- the line, the key and the operation
-abbrev pub access_of : Option Wait → Option (By × List ℕ × Op)
+-- the line, and what is asked
+abbrev pub access_of : Option Wait → Option (By × Asked)
 access_of None = None
-access_of (Some w) = Some (w.by, w.key, w.op)
+access_of (Some w) = Some (w.by, w.asked)
 
 access_kept : (n : ℕ) (x : Option Entry) → access_of (wait_for n x) ≡ waiting_access x
 access_kept n None = refl
@@ -83,6 +83,7 @@ access_kept n (Some e) = by e.event
   where
     by : (event : Event) → access_of (wait_by n e.by event) ≡ access_by e.by event
     by (Access t k o) = refl
+    by (Sum t g) = refl
     by (Begin t) = refl
     by (Commit t) = refl
     by (Abort t) = refl
@@ -97,6 +98,7 @@ kept_access_of h tree waits are t n number =
 
 some_kept : (b : By) (t : Name) (event : Event) → accesses t event ≡ true → is_some (access_by b event) ≡ true
 some_kept b t (Access u q p) e = refl
+some_kept b t (Sum u g) e = refl
 some_kept b t (Begin u) e = absurd (false≢true e)
 some_kept b t (Commit u) e = absurd (false≢true e)
 some_kept b t (Abort u) e = absurd (false≢true e)
@@ -110,12 +112,13 @@ waits_as_access h t = go (wait_of h t) refl
     go (Some w) e = some_kept w.by t w.event (is_open h t w e).of_it
 
 -- whether its line is another
-abbrev pub differs : By → Option (By × List ℕ × Op) → Bool
+abbrev pub differs : By → Option (By × Asked) → Bool
 differs by None = false
 differs by (Some a) = not (same_line a.0 by)
 
 differs_so : (b by : By) (t : Name) (event : Event) → accesses t event ≡ true → differs by (access_by b event) ≡ not (same_line b by)
 differs_so b by t (Access u q p) e = refl
+differs_so b by t (Sum u g) e = refl
 differs_so b by t (Begin u) e = absurd (false≢true e)
 differs_so b by t (Commit u) e = absurd (false≢true e)
 differs_so b by t (Abort u) e = absurd (false≢true e)
@@ -131,16 +134,16 @@ elsewhere_as_access h by t = go (wait_of h t) refl
 -- ---- an access that has to wait
 
 -- its transaction did not wait, and nothing is kept for it
-pub none_kept_for : (rows : Rows) (h : History) (tables : Tabled) → AreWaitsOf h tables.tree tables.waits → (by : By) (t : Name) (k : List ℕ) (op : Op) → IsFree h by (Access t k op)
-    → None ≡ cause_at_access rows h by t k → (n : ℕ) → IsNumberOf tables.tree t n → wait_at tables n ≡ None
-none_kept_for rows h tables are by t k op free none n number =
+pub none_kept_for : (rows : Rows) (h : History) (tables : Tabled) → AreWaitsOf h tables.tree tables.waits → (by : By) (t : Name) (asked : Asked) → IsFree h by (event_of t asked)
+    → None ≡ cause_at_access rows h by t asked → (n : ℕ) → IsNumberOf tables.tree t n → wait_at tables n ≡ None
+none_kept_for rows h tables are by t asked free none n number =
     let alone : waits_elsewhere h by t ≡ false = not_when _ _ (neither _ _ (neither _ _ (sym none)).1).0 in
-    are n ∙ ap (λ o. wait_for n (wait_of_any h o)) (name_at tables.tree t n number) ∙ ap (wait_for n) (none_waiting h by (Access t k op) free t alone)
+    are n ∙ ap (λ o. wait_for n (wait_of_any h o)) (name_at tables.tree t n number) ∙ ap (wait_for n) (none_waiting h by (event_of t asked) free t alone)
 
 -- beside the waits it does what it does
-pub reaches_beside : (old mid : Tabled) (before after : Waiting) (t : Name) (k : List ℕ) (op : Op) (outcome : Outcome)
-    → ReachesIn (record old { waits = before }) mid t k op outcome → ReachesIn old (record mid { waits = after }) t k op outcome
-reaches_beside old mid before after t k op (Done reply) has =
+pub reaches_beside : (old mid : Tabled) (before after : Waiting) (t : Name) (asked : Asked) (outcome : Outcome)
+    → ReachesIn (record old { waits = before }) mid t asked outcome → ReachesIn old (record mid { waits = after }) t asked outcome
+reaches_beside old mid before after t asked (Done reply) has =
     record { tree = has.tree; marks = has.marks; modes = has.modes; left = has.left; rows = has.rows }
-reaches_beside old mid before after t k op Waits same = record { tree = same.tree; marks = same.marks; estate = same.estate }
-reaches_beside old mid before after t k op (Refused refusal) same = record { tree = same.tree; marks = same.marks; estate = same.estate }
+reaches_beside old mid before after t asked Waits same = record { tree = same.tree; marks = same.marks; estate = same.estate }
+reaches_beside old mid before after t asked (Refused refusal) same = record { tree = same.tree; marks = same.marks; estate = same.estate }

@@ -4,19 +4,19 @@ use Rattle.std.specs.Cmp.{both_ways}
 use Rattle.std.proofs.lemmas.Bool.{false≢true, and_parts, and_from, and_left, or_parts, or_from, or_left, or_right, not-true, not_from_false, eqb-true, eq-eqb}
 use Rattle.std.proofs.lemmas.Map.Views.{any-filter_same}
 use Rattle.std.specs.List.{list_any}
-use Rattle.txn_names.proofs.Names.{on_test, path_eq_self}
-use Rattle.serial_spec.specs.declared.operation.Op.{Op}
+use Rattle.txn_names.proofs.Names.{on_test}
+use Rattle.serial_spec.specs.declared.target.Asked.{Asked}
 use Rattle.serial_spec.specs.declared.entry.By.{By}
 use Rattle.serial_spec.specs.declared.entry.By.TheVariants.{Line, Victim, Close}
 use Rattle.serial_spec.specs.declared.event.Event.{Event}
-use Rattle.serial_spec.specs.declared.event.Event.TheVariants.{Access}
 use Rattle.serial_spec.specs.declared.entry.Entry.{Entry}
-use Rattle.serial_spec.specs.History.{Name, History, is_active}
+use Rattle.serial_spec.specs.History.{Name, History, event_of, is_active}
 use Rattle.serial_spec.specs.Waits.{same_line, is_waits, open_waits, accesses, wait_of}
 use Rattle.serial_spec.specs.Allowed.{has_waited}
 use Rattle.txn_history.proofs.Tests.{clash}
 use Rattle.txn_history.proofs.Lists.{any_cases}
-use Rattle.manager_core.specs.Lines.{entries_of, OnlyWaits, IsRetried, IsFree}
+use Rattle.manager_core.specs.Lines.{entries_of, OnlyWaits, IsRetried, IsFree, waits_no_more}
+use Rattle.manager_core.proofs.Events.{accesses_own, accessor_at}
 use Rattle.manager_core.proofs.Lines.{filtered_none}
 
 -- ---- lines
@@ -95,17 +95,17 @@ any_weaker p q (x ∷ xs) w a =
     (any_cases p x xs a)
 
 -- one that acts and has a line's only entry, a wait, waits
-retried_waits : (h : History) (by : By) (t : Name) (k : List ℕ) (o : Op) → OnlyWaits h by (Access t k o) → is_active h t ≡ true → is_some (wait_of h t) ≡ true
-retried_waits h by t k o only acts =
+retried_waits : (h : History) (by : By) (t : Name) (asked : Asked) → OnlyWaits h by (event_of t asked) → is_active h t ≡ true → is_some (wait_of h t) ≡ true
+retried_waits h by t asked only acts =
     let p = λ (v : Entry). accesses t v.event in
-    let passes : p only.waited ≡ true = ap (λ (e : Event). accesses t e) only.event_is ∙ path_eq_self t in
+    let passes : p only.waited ≡ true = ap (λ (e : Event). accesses t e) only.event_is ∙ accesses_own t asked in
     ap is_some (wait_found h t acts) ∙ found_any p (open_waits h)
     ∙ any_weaker (λ v. same_line v.by by && p v) p (open_waits h) (λ v q. (and_parts (same_line v.by by) (p v) q).1)
     (still_open p h by only.waited only.alone (ap is_waits only.waits) passes)
 
 -- whoever may add an entry to an access of one that acts has not waited by this line
-pub not_waited : (h : History) (by : By) (t : Name) (k : List ℕ) (o : Op) → IsFree h by (Access t k o) → is_active h t ≡ true → has_waited h by ≡ false
-not_waited h by t k o free acts =
+pub not_waited : (h : History) (by : By) (t : Name) (asked : Asked) → IsFree h by (event_of t asked) → is_active h t ≡ true → has_waited h by ≡ false
+not_waited h by t asked free acts =
     ⊎_elim (λ (e : entries_of h by ≡ []). not_waited_unused h by (filtered_none (λ e. same_line e.by by) h e))
-    (λ (r : IsRetried h by (Access t k o)). clash (retried_waits h by t k o r.only acts) (not-true (is_some (wait_of h t)) r.ended))
+    (λ (r : IsRetried h by (event_of t asked)). clash (retried_waits h by t asked r.only acts) (not-true (is_some (wait_of h t)) (subst (λ o. waits_no_more h o ≡ true) (accessor_at t asked) r.ended)))
     free.unused

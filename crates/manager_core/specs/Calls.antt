@@ -3,9 +3,9 @@ use Rattle.std.specs.Prelude.{is_some, ◌≡◌, ◌⊎◌, ℕ, ◌&&◌, IsTr
 use Rattle.txn_names.specs.declared.change.Change.{Change}
 use Rattle.serial_spec.specs.declared.entry.By.{By}
 use Rattle.serial_spec.specs.declared.event.Event.{Event}
-use Rattle.serial_spec.specs.declared.operation.Op.{Op}
-use Rattle.serial_spec.specs.declared.event.Event.TheVariants.{Access, Commit}
-use Rattle.serial_spec.specs.History.{Name, History, is_live, is_orphan, begun}
+use Rattle.serial_spec.specs.declared.target.Asked.{Asked}
+use Rattle.serial_spec.specs.declared.event.Event.TheVariants.{Commit}
+use Rattle.serial_spec.specs.History.{Name, History, event_of, is_live, is_orphan, begun}
 use Rattle.serial_spec.specs.Waits.{wait_of}
 use Rattle.serial_spec.specs.Rows.{value_in}
 use Rattle.serial_spec.specs.Changes.{IsChanges}
@@ -36,8 +36,8 @@ pub record Answered {S : Type 0} (old new : State S) (by : By) (event : Event) (
   pub beside : new ≡ record old { history = new.history }
 
 -- whoever had to wait by this line does so, or has been aborted with a victim
-pub record WaitsOrIsUndone (h : History) (by : By) (t : Name) (k : List ℕ) (op : Op) : Type 0 where
-  pub waits : IsTrue (is_some (wait_of h t)) → IsWaitOf h by (Access t k op)
+pub record WaitsOrIsUndone (h : History) (by : By) (t : Name) (a : Asked) : Type 0 where
+  pub waits : IsTrue (is_some (wait_of h t)) → IsWaitOf h by (event_of t a)
   pub undone : IsFalse (is_some (wait_of h t)) → IsTrue (is_orphan h t)
 
 -- the definition has no answer for the line yet

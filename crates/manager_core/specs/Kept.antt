@@ -8,6 +8,7 @@ use Rattle.lock_table.specs.declared.modes.Modes.{Modes}
 use Rattle.lock_table.specs.Inherited.{free}
 use Rattle.inherit.specs.LocksAndVersions.{LocksAndVersions, modes_of, left_of}
 use Rattle.serial_spec.specs.History.{Name, History, Status, Absent, Live, Committed, Aborted, status, is_active, begun, has_aborted}
+use Rattle.serial_spec.specs.declared.target.Target.{Target}
 use Rattle.serial_spec.specs.Locks.{held, retained}
 use Rattle.serial_spec.specs.Items.{items}
 use Rattle.serial_spec.specs.Values.{last_left}
@@ -37,20 +38,20 @@ pub record IsTreeOf (h : History) (tree : States) : Type 0 where
 abbrev pub AreMarksOf : History → Marked → Type 0
 AreMarksOf h marks = (t : Name) → is_marked marks t ≡ has_aborted h t
 
--- what a transaction has at a key, read off the history: one that does not act has nothing, nor has a number that is nobody's
+-- what a transaction has at a target or a key, read off the history: one that does not act has nothing, nor has a number that is nobody's
 abbrev pub content_of : {X : Type 0} → X → (History → Name → X) → History → Option Name → X
 content_of nothing value h None = nothing
 content_of nothing value h (Some t) = if is_active h t then value h t else nothing
 
-abbrev pub lock_at : List ℕ → History → Name → Modes
-lock_at k h t = record { held = held h t k; retained = retained h t k }
+abbrev pub lock_at : Target → History → Name → Modes
+lock_at s h t = record { held = held h t s; retained = retained h t s }
 
 abbrev pub left_at : List ℕ → History → Name → Option (Option ℤ)
 left_at k h t = last_left (items h t) k
 
 -- so is what live transactions lock, and what they left
 pub record IsEstateOf (h : History) (tree : States) (estate : LocksAndVersions) : Type 0 where
-  pub modes : (n : ℕ) (k : List ℕ) → modes_of estate n k ≡ content_of free (lock_at k) h (slice_get (names tree) n)
+  pub modes : (n : ℕ) (s : Target) → modes_of estate n s ≡ content_of free (lock_at s) h (slice_get (names tree) n)
   pub left : (n : ℕ) (k : List ℕ) → left_of estate n k ≡ content_of None (left_at k) h (slice_get (names tree) n)
 
 -- the entry by which it waits, where there is a name

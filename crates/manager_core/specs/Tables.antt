@@ -1,6 +1,6 @@
 -- The tables as contracts see them, what is asked of them, and what each step does to them.
 use Rattle.std.specs.Prelude.{◌≡◌, ℕ, Bool, true, false, ◌&&◌, ◌||◌, if◌then◌else◌, List, [], ◌∷◌, ◌++◌, slice_get, Option, Some, None, option_map}
-use Rattle.txn_names.specs.Path.{path_eq, label_eq, is_front, parent, top_of}
+use Rattle.txn_names.specs.Path.{path_eq, is_front, parent, top_of}
 use Rattle.txn_tree.specs.States.{States, names, status_in}
 use Rattle.txn_tree.specs.Asked.{is_absent_in, is_live_in, has_committed_in, is_name}
 use Rattle.txn_tree.specs.declared.status.Status.TheVariants.{Live, Committed, Aborted}
@@ -11,17 +11,20 @@ use Rattle.inherit.specs.Steps.{HasGoneUp}
 use Rattle.wait_cycles.specs.declared.waits.Wait.{Wait}
 use Rattle.wait_cycles.specs.Waiting.{Waiting, wait_of as kept_wait}
 use Rattle.serial_spec.specs.declared.entry.By.{By}
-use Rattle.serial_spec.specs.declared.operation.Op.{Op}
+use Rattle.serial_spec.specs.declared.target.Asked.{Asked}
+use Rattle.serial_spec.specs.declared.target.Asked.TheVariants.{At, Over}
+use Rattle.serial_spec.specs.declared.target.Target.{Target}
+use Rattle.serial_spec.specs.Targets.{kind_of, target, target_eq}
 use Rattle.serial_spec.specs.declared.event.Event.{Event}
-use Rattle.serial_spec.specs.declared.event.Event.TheVariants.{Access}
+use Rattle.serial_spec.specs.declared.event.Event.TheVariants.{Access, Sum}
 use Rattle.serial_spec.specs.declared.entry.Answer.TheVariants as answer
 use Rattle.serial_spec.specs.declared.entry.Entry.{Entry}
 use Rattle.serial_spec.specs.declared.operation.Reply.{Reply}
-use Rattle.serial_spec.specs.Operations.{kind, leaves, reply_of}
-use Rattle.serial_spec.specs.History.{Name, History, or_else}
+use Rattle.serial_spec.specs.History.{Name, History, event_of, or_else}
 use Rattle.serial_spec.specs.Locks.{mode_of, is_blocked}
 use Rattle.txn_cells.specs.Cells.{is_it}
-use Rattle.serial_spec.specs.Values.{seen}
+use Rattle.serial_spec.specs.Serial.{reply_at}
+use Rattle.serial_spec.specs.Values.{leaves_at, seen}
 use Rattle.serial_spec.specs.Rows.{Rows, value_in}
 use Rattle.serial_spec.specs.Allowed.{when, cause_at_access}
 use Rattle.manager_core.specs.declared.outcome.Outcome.{Outcome}
@@ -69,7 +72,8 @@ wait_at tables n = kept_wait tables.waits n
 
 -- the wait that an entry begins, as it is kept for the number n
 abbrev pub wait_by : ℕ → By → Event → Option Wait
-wait_by n by (Access t k o) = Some (record { txn = n; key = k; op = o; by = by })
+wait_by n by (Access t k o) = Some (record { txn = n; asked = At k o; by = by })
+wait_by n by (Sum t g) = Some (record { txn = n; asked = Over g; by = by })
 wait_by n by e = None
 
 abbrev pub wait_for : ℕ → Option Entry → Option Wait
@@ -109,7 +113,7 @@ pub record AbortsIn (old new : Tabled) (t : Name) : Type 0 where
   pub same_names : names new.tree ≡ names old.tree
   pub status : (u : Name) → status_in new.tree u ≡ (if path_eq t u then Aborted else status_in old.tree u)
   pub marks : (u : Name) → is_marked new.marks u ≡ (path_eq t u || is_marked old.marks u)
-  pub modes : (n : ℕ) (k : List ℕ) → modes_of new.estate n k ≡ (if is_below (slice_get (names old.tree) n) t then free else modes_of old.estate n k)
+  pub modes : (n : ℕ) (s : Target) → modes_of new.estate n s ≡ (if is_below (slice_get (names old.tree) n) t then free else modes_of old.estate n s)
   pub left : (n : ℕ) (k : List ℕ) → left_of new.estate n k ≡ (if is_below (slice_get (names old.tree) n) t then None else left_of old.estate n k)
   pub rows : rows_in new ≡ rows_in old
   pub waits : (n : ℕ) → wait_at new n ≡ (if is_below (slice_get (names old.tree) n) t then None else wait_at old n)
@@ -122,18 +126,20 @@ pub record CommitsIn (old new : Tabled) (t : Name) (child : ℕ) (above : Option
   pub up : HasGoneUp old.estate new.estate child above
   pub waits : new.waits ≡ old.waits
 
--- t has locked k and left there what its access leaves
-pub record AccessesIn (old new : Tabled) (t : Name) (k : List ℕ) (op : Op) (reply : Reply) : Type 0 where
+-- t has locked what its access is of, and left what it leaves
+pub record AccessesIn (old new : Tabled) (t : Name) (a : Asked) (reply : Reply) : Type 0 where
   pub tree : new.tree ≡ old.tree
   pub marks : new.marks ≡ old.marks
-  pub modes : (n : ℕ) (q : List ℕ) → modes_of new.estate n q ≡ (if is_name (slice_get (names old.tree) n) t && label_eq k q then with_held (modes_of old.estate n q) (mode_of (kind op)) else modes_of old.estate n q)
-  pub left : (n : ℕ) (q : List ℕ) → left_of new.estate n q ≡ (if is_name (slice_get (names old.tree) n) t && label_eq k q then or_else (leaves op reply) (left_of old.estate n q) else left_of old.estate n q)
+  pub modes : (n : ℕ) (s : Target) → modes_of new.estate n s
+      ≡ (if is_name (slice_get (names old.tree) n) t && target_eq (target a) s then with_held (modes_of old.estate n s) (mode_of (kind_of a)) else modes_of old.estate n s)
+  pub left : (n : ℕ) (q : List ℕ) → left_of new.estate n q
+      ≡ (if is_name (slice_get (names old.tree) n) t then or_else (leaves_at a reply q) (left_of old.estate n q) else left_of old.estate n q)
   pub rows : rows_in new ≡ rows_in old
 
 -- the access was made, if it was done
-abbrev pub ReachesIn : Tabled → Tabled → Name → List ℕ → Op → Outcome → Type 0
-ReachesIn old new t k op (Done reply) = AccessesIn old new t k op reply
-ReachesIn old new t k op outcome = IsBeside old new
+abbrev pub ReachesIn : Tabled → Tabled → Name → Asked → Outcome → Type 0
+ReachesIn old new t a (Done reply) = AccessesIn old new t a reply
+ReachesIn old new t a outcome = IsBeside old new
 
 -- all wait as before
 abbrev pub KeepsWaits : Tabled → Tabled → Type 0
@@ -144,9 +150,9 @@ abbrev pub SetsWait : Tabled → Tabled → Name → Option Entry → Type 0
 SetsWait old new t w = (n : ℕ) → wait_at new n ≡ (if is_name (slice_get (names old.tree) n) t then wait_for n w else wait_at old n)
 
 -- an access that has to wait does so from then on
-abbrev pub WaitsFrom : Tabled → Tabled → By → Name → List ℕ → Op → Outcome → Type 0
-WaitsFrom old new by t k op Waits = SetsWait old new t (Some (entry by (Access t k op) answer.Waits))
-WaitsFrom old new by t k op outcome = KeepsWaits old new
+abbrev pub WaitsFrom : Tabled → Tabled → By → Name → Asked → Outcome → Type 0
+WaitsFrom old new by t a Waits = SetsWait old new t (Some (entry by (event_of t a) answer.Waits))
+WaitsFrom old new by t a outcome = KeepsWaits old new
 
 -- one that waited does so until it is answered
 abbrev pub WaitsUntil : Tabled → Tabled → Name → Outcome → Type 0
@@ -154,8 +160,8 @@ WaitsUntil old new t Waits = KeepsWaits old new
 WaitsUntil old new t outcome = SetsWait old new t None
 
 -- what an access comes to
-abbrev pub ComesTo : Rows → History → By → Name → List ℕ → Op → Outcome → Type 0
-ComesTo rows h by t k op (Done reply) =
-    (None ≡ cause_at_access rows h by t k) × (is_blocked h t k (kind op) ≡ false) × (reply ≡ reply_of (seen (value_in rows) h t k) op)
-ComesTo rows h by t k op Waits = (None ≡ cause_at_access rows h by t k) × (is_blocked h t k (kind op) ≡ true)
-ComesTo rows h by t k op (Refused refusal) = Some refusal ≡ cause_at_access rows h by t k
+abbrev pub ComesTo : Rows → History → By → Name → Asked → Outcome → Type 0
+ComesTo rows h by t a (Done reply) =
+    (None ≡ cause_at_access rows h by t a) × (is_blocked h t a ≡ false) × (reply ≡ reply_at (seen (value_in rows) h t) a)
+ComesTo rows h by t a Waits = (None ≡ cause_at_access rows h by t a) × (is_blocked h t a ≡ true)
+ComesTo rows h by t a (Refused refusal) = Some refusal ≡ cause_at_access rows h by t a

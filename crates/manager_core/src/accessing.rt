@@ -1,6 +1,6 @@
 //! An access, in the tables.
 ghost use Rattle.std.specs.Prelude.{◌≡◌, ◌≤◌, ◌+◌, length, IfOk, IsTrue, OnErr, OnOk, is_some};
-ghost use Rattle.serial_spec.specs.declared.event.Event.TheVariants.{Access};
+ghost use Rattle.serial_spec.specs.History.{event_of};
 ghost use Rattle.serial_spec.specs.Legal.{AreAllowed};
 ghost use Rattle.serial_spec.specs.Waits.{wait_of};
 ghost use Rattle.manager_core.specs.Lines.{IsFree};
@@ -10,16 +10,15 @@ ghost use Rattle.manager_core.specs.Tables.{ComesTo, HasOtherRoom, ReachesIn, Wa
 use crate::log::Log;
 use crate::outcome::Outcome;
 use crate::tables::Tables;
-use serial_spec::{By, NoMemory, Op};
-use txn_names::{Key, Name};
+use serial_spec::{Asked, By, NoMemory};
+use txn_names::Name;
 
 /// An access that is asked for, with its line.
 #[derive(Clone, Copy)]
 pub(crate) struct Request {
     pub(crate) by: By,
     pub(crate) name: Name,
-    pub(crate) key: Key,
-    pub(crate) op: Op,
+    pub(crate) asked: Asked,
 }
 
 impl Tables {
@@ -27,10 +26,10 @@ impl Tables {
     pub(crate) fn ask(&mut self, log: &Log, request: &Request) -> Result<Outcome, NoMemory>
         requires allowed { AreAllowed log.now.rows log.now.entries }
         requires are { AreTablesOf log.now.rows log.now.entries self.old }
-        requires free { IsFree log.now.entries request.now.by (Access request.now.name request.now.key request.now.op) }
-        ensures comes { IfOk result (λ outcome. ComesTo log.now.rows log.now.entries request.now.by request.now.name request.now.key request.now.op outcome) }
-        ensures reaches { IfOk result (λ outcome. ReachesIn self.old self.new request.now.name request.now.key request.now.op outcome) }
-        ensures waits { IfOk result (λ outcome. WaitsFrom self.old self.new request.now.by request.now.name request.now.key request.now.op outcome) }
+        requires free { IsFree log.now.entries request.now.by (event_of request.now.name request.now.asked) }
+        ensures comes { IfOk result (λ outcome. ComesTo log.now.rows log.now.entries request.now.by request.now.name request.now.asked outcome) }
+        ensures reaches { IfOk result (λ outcome. ReachesIn self.old self.new request.now.name request.now.asked outcome) }
+        ensures waits { IfOk result (λ outcome. WaitsFrom self.old self.new request.now.by request.now.name request.now.asked outcome) }
         ensures grown { OnOk result (length self.new.waits.waits ≤ length self.old.waits.waits + 1) }
         ensures marks { self.new.marks ≡ self.old.marks }
         ensures err { OnErr result (HasOtherRoom self.old self.new) }
@@ -48,8 +47,8 @@ impl Tables {
         requires allowed { AreAllowed log.now.rows log.now.entries }
         requires are { AreTablesOf log.now.rows log.now.entries self.old }
         requires waits { IsTrue (is_some (wait_of log.now.entries request.now.name)) }
-        ensures comes { IfOk result (λ outcome. ComesTo log.now.rows log.now.entries request.now.by request.now.name request.now.key request.now.op outcome) }
-        ensures reaches { IfOk result (λ outcome. ReachesIn self.old self.new request.now.name request.now.key request.now.op outcome) }
+        ensures comes { IfOk result (λ outcome. ComesTo log.now.rows log.now.entries request.now.by request.now.name request.now.asked outcome) }
+        ensures reaches { IfOk result (λ outcome. ReachesIn self.old self.new request.now.name request.now.asked outcome) }
         ensures waits { IfOk result (λ outcome. WaitsUntil self.old self.new request.now.name outcome) }
         ensures grown { OnOk result (length self.new.waits.waits ≤ length self.old.waits.waits) }
         ensures marks { self.new.marks ≡ self.old.marks }
@@ -67,22 +66,22 @@ impl Tables {
     fn access(&mut self, log: &Log, request: &Request) -> Result<Outcome, NoMemory>
         requires allowed { AreAllowed log.now.rows log.now.entries }
         requires are { AreTablesOf log.now.rows log.now.entries self.old }
-        ensures comes { IfOk result (λ outcome. ComesTo log.now.rows log.now.entries request.now.by request.now.name request.now.key request.now.op outcome) }
-        ensures reaches { IfOk result (λ outcome. ReachesIn self.old self.new request.now.name request.now.key request.now.op outcome) }
+        ensures comes { IfOk result (λ outcome. ComesTo log.now.rows log.now.entries request.now.by request.now.name request.now.asked outcome) }
+        ensures reaches { IfOk result (λ outcome. ReachesIn self.old self.new request.now.name request.now.asked outcome) }
         ensures waits { self.new.waits ≡ self.old.waits }
         ensures marks { self.new.marks ≡ self.old.marks }
         ensures err { OnErr result (HasOtherRoom self.old self.new) }
     {
-        let Request { by, name, key, op } = request;
-        match self.number_at_access(log, *by, name, key) {
+        let Request { by, name, asked } = request;
+        match self.number_at_access(log, *by, name, asked) {
             Err(refusal) => Ok(Outcome::Refused(refusal)),
             Ok(txn) => {
-                // One that has to wait takes no place at the key, so that those with a place are those with a lock.
-                if !self.may(txn, key, *op) {
+                // One that has to wait takes no place at what it asks for, so that those with a place are those with a lock.
+                if !self.may(txn, asked) {
                     return Ok(Outcome::Waits);
                 }
-                self.estate.reserve_access(txn, key, op.kind())?;
-                match self.estate.access(&self.tree, txn, key, *op) {
+                self.estate.reserve_asked(txn, asked)?;
+                match self.estate.ask(&self.tree, txn, asked) {
                     Some(reply) => Ok(Outcome::Done(reply)),
                     None => Ok(Outcome::Waits),
                 }

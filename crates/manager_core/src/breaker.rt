@@ -1,10 +1,10 @@
 //! The search for a victim among those that wait.
 ghost use Rattle.std.specs.Prelude.{◌≡◌, ◌≤◌, ◌*◌, ℕ, List, length, IfNone, IfSome, IsOk, OnOk};
 ghost use Rattle.wait_cycles.specs.Cycles.{IsCycle, IsLastOn};
-ghost use Rattle.manager_core.specs.Pairs.{pairs_of};
+ghost use Rattle.manager_core.specs.Pairs.{ByLocks, pairs_of};
 
 use crate::pairs::collect_pairs;
-use lock_table::Locks;
+use lock_table::TargetLocks;
 use serial_spec::NoMemory;
 use std::alloc::{AllocError, Global};
 use std::marker::Model;
@@ -49,10 +49,17 @@ impl Breaker {
     }
 
     /// The last begun of those that lie on a cycle of waits, if there is a cycle.
-    pub(crate) fn victim(&mut self, tree: &Tree, locks: &Locks, waits: &Waits) -> Option<TxnNo>
+    pub(crate) fn victim(
+        &mut self,
+        tree: &Tree,
+        locks: &TargetLocks,
+        waits: &Waits,
+    ) -> Option<TxnNo>
         requires { length waits.now.waits * length waits.now.waits ≤ self.old }
-        ensures some { IfSome result (λ txn. IsLastOn (pairs_of tree.now locks.now waits.now.waits waits.now.waits) txn) }
-        ensures none { IfNone result ((xs : List ℕ) → IsCycle (pairs_of tree.now locks.now waits.now.waits waits.now.waits) xs → ⊥) }
+        ensures some { IfSome result (λ txn.
+            ByLocks tree.now locks.now (λ keeps. IsLastOn (pairs_of tree.now keeps waits.now.waits waits.now.waits) txn)) }
+        ensures none { IfNone result (ByLocks tree.now locks.now (λ keeps.
+            (xs : List ℕ) → IsCycle (pairs_of tree.now keeps waits.now.waits waits.now.waits) xs → ⊥)) }
         ensures room { self.old ≤ self.new }
     {
         collect_pairs(tree, locks, waits, &mut self.pairs);

@@ -9,16 +9,19 @@ ghost use Rattle.manager_core.specs.Tables.{cause_in};
 
 use crate::log::Log;
 use crate::tables::Tables;
-use serial_spec::{By, MOST_KEYS, Refusal};
-use txn_names::{Key, Name};
+use serial_spec::{Asked, By, MOST_KEYS, Refusal};
+use txn_names::Name;
 use txn_tree::{Status, TxnNo};
 
-/// Whether the key would be one too many.
-pub(crate) fn is_full_for(log: &Log, key: &Key) -> bool
-    ensures { result ≡ is_full_for log.now.rows log.now.entries key.now }
+/// Whether the key would be one too many. A sum makes no key known.
+pub(crate) fn is_full_for(log: &Log, asked: &Asked) -> bool
+    ensures { result ≡ is_full_for log.now.rows log.now.entries asked.now }
 {
-    // Few know so many, and to count costs less than to look the key up.
-    log.known() >= MOST_KEYS && !log.knows(key)
+    match asked {
+        // Few know so many, and to count costs less than to look the key up.
+        Asked::At(key, _) => log.known() >= MOST_KEYS && !log.knows(key),
+        Asked::Over(_) => false,
+    }
 }
 
 impl Tables {
@@ -49,17 +52,17 @@ impl Tables {
         log: &Log,
         by: By,
         name: &Name,
-        key: &Key,
+        asked: &Asked,
     ) -> Result<TxnNo, Refusal>
         requires allowed { AreAllowed log.now.rows log.now.entries }
         requires are { AreTablesOf log.now.rows log.now.entries self.now }
-        ensures cause { result_err result ≡ cause_at_access log.now.rows log.now.entries by name.now key.now }
+        ensures cause { result_err result ≡ cause_at_access log.now.rows log.now.entries by name.now asked.now }
         ensures number { IfOk result (IsNumberOf self.now.tree name.now) }
     {
         let txn = self.active_number(name)?;
         if self.waits_elsewhere(txn, by) {
             Err(Refusal::Waiting)
-        } else if is_full_for(log, key) {
+        } else if is_full_for(log, asked) {
             Err(Refusal::Full)
         } else {
             Ok(txn)

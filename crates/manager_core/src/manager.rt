@@ -1,6 +1,6 @@
 //! The manager.
 ghost use Rattle.std.specs.Prelude.{◌≡◌, ◌≤◌, ◌<◌, ◌↔◌, ℕ, [], ◌∷◌, length, reverse, IfOk, IfErr, OnOk, OnErr, IsFalse, IsTrue, is_some, Some, None};
-ghost use Rattle.serial_spec.specs.declared.event.Event.TheVariants.{Abort, Access, Begin, Commit};
+ghost use Rattle.serial_spec.specs.declared.event.Event.TheVariants.{Abort, Begin, Commit};
 ghost use Rattle.serial_spec.specs.declared.entry.Answer.TheVariants.{Refused, Stuck};
 ghost use Rattle.serial_spec.specs.Allowed.{Allowed, cause_at_commit};
 ghost use Rattle.serial_spec.specs.Rows.{IsRising, value_in};
@@ -10,21 +10,19 @@ ghost use Rattle.manager_core.specs.Lines.{IsFree, IsWaitOf, waits_no_more, acce
 ghost use Rattle.manager_core.specs.Outcomes.{answer_of};
 ghost use Rattle.manager_core.specs.State.{entry};
 
+mod asking;
 mod parked;
 
-use crate::accessing::Request;
 use crate::breaker::Breaker;
-use crate::breaking::reserve_step;
 use crate::changes::are_taken;
 use crate::log::Log;
 use crate::outcome::{OpenFault, Outcome};
-use crate::settling::settle;
 use crate::tables::Tables;
 use durable_top::{Row, TopStore, table_of};
-use serial_spec::{By, Entry, Event, MOST_ROWS, NoMemory, Op, PlainTable, Refusal, Reply};
+use serial_spec::{By, Entry, Event, MOST_ROWS, NoMemory, PlainTable, Refusal, Reply};
 use std::alloc::Global;
 use std::marker::Model;
-use txn_names::{Key, Name};
+use txn_names::Name;
 
 /// Runs nested transactions over a store, by locks that are inherited (Moss 1981). Each call that takes a line
 /// asks that the line is free for its event (`free` tells), and adds one entry to the history. After want of
@@ -70,7 +68,7 @@ pub struct Parts<S: TopStore> {
 }
 
 impl<S: TopStore> Manager<S> {
-    ghost use Rattle.manager_core.specs.Calls.{Added, Answered, Closed, Committed, Retried, WaitsOrIsUndone};
+    ghost use Rattle.manager_core.specs.Calls.{Added, Closed, Committed};
     ghost use Rattle.manager_core.specs.Opening.{HasCause, IsOpened};
     ghost use Rattle.manager_core.specs.Sound.{IsSound, is_store_refusal};
 
@@ -133,68 +131,6 @@ impl<S: TopStore> Manager<S> {
         self.log.reserve(1)?;
         let outcome = Outcome::of(self.tables.begin(name)?);
         self.log.add(by, Event::Begin(*name), &outcome);
-        Ok(outcome)
-    }
-
-    /// Reads or writes a key. It is refused by the first of these that holds: the transaction never began
-    /// (Unknown), has an aborted ancestor, itself included (Orphan), or has committed (Done); it waits by another
-    /// line (Waiting); the key is new where 4,096 are known (Full). Else it waits where a lock keeps it out. If a
-    /// cycle of waits comes of it, the last begun of those that lie on any is aborted as a victim, until none is
-    /// left; the accessing transaction may be one, and then it waits no more.
-    pub fn access(&mut self, by: By, name: &Name, key: &Key, op: Op) -> Result<Outcome, NoMemory>
-        requires free { IsFree self.old.history by (Access name.now key.now op) }
-        ensures ok { IfOk result (λ outcome. Answered self.old self.new by (Access name.now key.now op) outcome) }
-        ensures waits { IfOk result (λ outcome. outcome ≡ Outcome.Waits → WaitsOrIsUndone self.new.history by name.now key.now op) }
-        ensures err { OnErr result (self.new ≡ self.old) }
-        ensures sound { OnOk result (IsSound S.TopStore self.new) }
-    {
-        reserve_step(&mut self.log, &mut self.tables, &mut self.breaker)?;
-        let request = Request {
-            by,
-            name: *name,
-            key: *key,
-            op,
-        };
-        let outcome = self.tables.ask(&self.log, &request)?;
-        settle(
-            &mut self.log,
-            &mut self.tables,
-            &mut self.breaker,
-            &request,
-            &outcome,
-        );
-        Ok(outcome)
-    }
-
-    /// Asks again for the access by which the transaction waits. It is answered now, by its own line, and victims are aborted
-    /// as by `access`; or it waits on, and then nothing changes.
-    pub fn retry(&mut self, name: &Name) -> Result<Outcome, NoMemory>
-        requires waits { IsTrue (is_some (wait_of self.old.history name.now)) }
-        ensures ok { IfOk result (λ outcome. Retried self.old self.new name.now outcome) }
-        ensures err { OnErr result (self.new ≡ self.old) }
-        ensures sound { OnOk result (IsSound S.TopStore self.new) }
-    {
-        reserve_step(&mut self.log, &mut self.tables, &mut self.breaker)?;
-        let (by, key, op) = self.tables.waiting_access(name).unwrap();
-        let request = Request {
-            by,
-            name: *name,
-            key,
-            op,
-        };
-        let outcome = self.tables.ask_again(&self.log, &request)?;
-        match outcome {
-            Outcome::Waits => {}
-            _ => {
-                settle(
-                    &mut self.log,
-                    &mut self.tables,
-                    &mut self.breaker,
-                    &request,
-                    &outcome,
-                );
-            }
-        }
         Ok(outcome)
     }
 
@@ -322,7 +258,7 @@ impl<S: TopStore> Manager<S> {
         ensures { result ≡ waits_no_more self.now.history (accessor event.now) }
     {
         match event {
-            Event::Access(name, _, _) => !self.waiting(name),
+            Event::Access(name, _, _) | Event::Sum(name, _) => !self.waiting(name),
             _ => true,
         }
     }

@@ -1,11 +1,11 @@
 //! Which of those that wait wait for which.
-ghost use Rattle.std.specs.Prelude.{◌≡◌, ◌≤◌, ◌+◌, ◌*◌, ◌++◌, ℕ, nat_eq, length, vec_len, vec_capacity, IsFalse, IsTrue};
+ghost use Rattle.std.specs.Prelude.{◌≡◌, ◌≤◌, ◌+◌, ◌*◌, ◌++◌, length, vec_len, vec_capacity, IfSome, IsTrue};
 ghost use Rattle.std.specs.List.{list_any};
-ghost use Rattle.lock_table.specs.Locked.{free, modes_in};
-ghost use Rattle.manager_core.specs.Pairs.{AreAlone, IsAlone, is_held_up, is_in_branch, pairs_of, pairs_with, waits_for_in};
+ghost use Rattle.txn_tree.specs.States.{States};
+ghost use Rattle.manager_core.specs.Pairs.{AreAlone, AreLockers, ByLocks, IsAlone, is_held_up, is_in_branch, pairs_of, pairs_with, waits_for_in};
 
-use lock_table::Locks;
-use txn_names::{Key, Name};
+use lock_table::TargetLocks;
+use txn_names::Name;
 use txn_tree::{Tree, TxnNo};
 use wait_cycles::{Wait, Waits};
 
@@ -28,26 +28,29 @@ pub(crate) fn is_in_branch(tree: &Tree, txn: TxnNo, blocker: TxnNo, other: TxnNo
 }
 
 // Whether the holder keeps this access from being answered, and the other is in its branch.
-fn is_held_up(tree: &Tree, locks: &Locks, wait: &Wait, other: TxnNo, holder: TxnNo) -> bool
-    ensures { result ≡ is_held_up tree.now locks.now wait.now other holder }
+fn is_held_up(tree: &Tree, locks: &TargetLocks, wait: &Wait, other: TxnNo, holder: TxnNo) -> bool
+    ensures { ByLocks tree.now locks.now (λ keeps. result ≡ is_held_up tree.now keeps wait.now other holder) }
 {
     // Few are in the branch, and a look at the locks costs more.
     is_in_branch(tree, wait.txn, holder, other)
-        && locks.blocks(tree, holder, wait.txn, &wait.key, wait.op.kind())
+        && locks.blocks_asked(tree, holder, wait.txn, &wait.asked)
 }
 
 fn is_held_up_by_any(
     tree: &Tree,
-    locks: &Locks,
+    locks: &TargetLocks,
     wait: &Wait,
     other: TxnNo,
     holders: &[TxnNo],
 ) -> bool
-    ensures { result ≡ list_any (is_held_up tree.now locks.now wait.now other) holders.now }
+    ensures { ByLocks tree.now locks.now (λ keeps. result ≡ list_any (is_held_up tree.now keeps wait.now other) holders.now) }
 {
-    holders
-        .iter()
-        .any(|holder| is_held_up(tree, locks, wait, other, *holder))
+    for place in 0..holders.len() {
+        if is_held_up(tree, locks, wait, other, holders[place]) {
+            return true;
+        }
+    }
+    false
 }
 
 /// Whether the transaction is top-level and has no descendants. Then it is in nobody's branch but its own, and nobody else is in
@@ -64,9 +67,9 @@ pub(crate) fn is_alone(tree: &Tree, txn: TxnNo) -> bool
     tree.first_child(txn).is_none()
 }
 
-/// Whether each of them is top-level and has no descendants.
+// Whether each of them is top-level and has no descendants.
 #[tactic(auto, using(crate::proofs::Alone::one_more_alone))]
-pub(crate) fn are_alone(tree: &Tree, txns: &[TxnNo]) -> bool
+fn are_alone(tree: &Tree, txns: &[TxnNo]) -> bool
     ensures { IsTrue result → AreAlone tree.now txns.now }
 {
     for place in 0..txns.len() {
@@ -77,18 +80,17 @@ pub(crate) fn are_alone(tree: &Tree, txns: &[TxnNo]) -> bool
     true
 }
 
-// Whether a transaction keeps the access from being answered, of which the list has all that lock the key. Most are not in the
-// list, and a look at the locks costs more.
-#[tactic(auto, using(crate::proofs::HeldUp::left_out_holds_nobody))]
+// Whether a transaction keeps the access from being answered, of which the list has all who may. Most are not in the list, and a
+// look at the locks costs more.
 fn is_held_up_by_itself(
     tree: &Tree,
-    locks: &Locks,
+    locks: &TargetLocks,
     wait: &Wait,
     other: TxnNo,
     holders: &[TxnNo],
 ) -> bool
-    requires { (u : ℕ) → IsFalse (list_any (nat_eq u) holders.now) → modes_in locks.now u wait.now.key ≡ free }
-    ensures { result ≡ is_held_up tree.now locks.now wait.now other other }
+    requires { AreLockers tree.now locks.now wait.now holders.now }
+    ensures { ByLocks tree.now locks.now (λ keeps. result ≡ is_held_up tree.now keeps wait.now other other) }
 {
     if holders.contains(&other) {
         is_held_up(tree, locks, wait, other, other)
@@ -97,28 +99,62 @@ fn is_held_up_by_itself(
     }
 }
 
-/// Those that lock the key, and maybe others.
-pub(crate) fn lockers<'a>(locks: &'a Locks, key: &Key) -> &'a [TxnNo]
-    ensures { (u : ℕ) → IsFalse (list_any (nat_eq u) result.now) → modes_in locks.now u key.now ≡ free }
+// Whether the access waits for the other, where those who may keep it from being answered stand in several lists.
+fn waits_for_listed(tree: &Tree, locks: &TargetLocks, wait: &Wait, other: TxnNo) -> bool
+    ensures { ByLocks tree.now locks.now (λ keeps. result ≡ waits_for_in tree.now keeps wait.now other) }
 {
-    locks.holders(key)
+    let target = wait.asked.target();
+    let lists = locks.lists(&target);
+    for place in 0..lists {
+        if is_held_up_by_any(tree, locks, wait, other, locks.list_at(&target, place)) {
+            return true;
+        }
+    }
+    false
 }
 
-/// Whether the access waits for the other, as `waits_for` tells it, where these are all that lock the wait's key: for many others
-/// they are asked for once. So is whether all of them are known to be top-level without descendants: then nobody else is in the
-/// branch of one, and most are told by the list alone.
+/// Those who may keep the access from being answered, and maybe others, where one list has them all.
+pub(crate) fn lockers<'a>(locks: &'a TargetLocks, wait: &Wait) -> Option<&'a [TxnNo]>
+    ensures { IfSome result (λ all. (tree : States) → AreLockers tree locks.now wait.now all.now) }
+{
+    let target = wait.asked.target();
+    let lists = locks.lists(&target);
+    for place in 1..lists {
+        if !locks.list_at(&target, place).is_empty() {
+            return None;
+        }
+    }
+    Some(locks.list_at(&target, 0))
+}
+
+/// Whether they stand in one list, and each of them is top-level and has no descendants.
+pub(crate) fn all_alone(tree: &Tree, all: Option<&[TxnNo]>) -> bool
+    ensures { IsTrue result → IfSome all.entry (λ us. AreAlone tree.now us.now) }
+{
+    match all {
+        Some(txns) => are_alone(tree, txns),
+        None => false,
+    }
+}
+
+/// Whether the access waits for the other, as `waits_for` tells it, where these are all who may keep it from being answered, if one
+/// list has them: for many others they are asked for once. So is whether all of them are known to be top-level without
+/// descendants: then nobody else is in the branch of one, and most are told by the list alone.
 pub(crate) fn waits_for_among(
     tree: &Tree,
-    locks: &Locks,
+    locks: &TargetLocks,
     wait: &Wait,
     other: TxnNo,
-    holders: &[TxnNo],
+    all: Option<&[TxnNo]>,
     alone: bool,
 ) -> bool
-    requires holders { (u : ℕ) → IsFalse (list_any (nat_eq u) holders.now) → modes_in locks.now u wait.now.key ≡ free }
-    requires alone { IsTrue alone → AreAlone tree.now holders.now }
-    ensures { result ≡ waits_for_in tree.now locks.now wait.now other }
+    requires all { IfSome all (λ us. AreLockers tree.now locks.now wait.now us.now) }
+    requires alone { IsTrue alone → IfSome all (λ us. AreAlone tree.now us.now) }
+    ensures { ByLocks tree.now locks.now (λ keeps. result ≡ waits_for_in tree.now keeps wait.now other) }
 {
+    let Some(holders) = all else {
+        return waits_for_listed(tree, locks, wait, other);
+    };
     if alone {
         return is_held_up_by_itself(tree, locks, wait, other, holders);
     }
@@ -131,30 +167,30 @@ pub(crate) fn waits_for_among(
 
 /// Whether the access waits for the other: that, or one that it is in the branch of, has to end or to go on before one that
 /// keeps the access from being answered can.
-pub(crate) fn waits_for(tree: &Tree, locks: &Locks, wait: &Wait, other: TxnNo) -> bool
-    ensures { result ≡ waits_for_in tree.now locks.now wait.now other }
+pub(crate) fn waits_for(tree: &Tree, locks: &TargetLocks, wait: &Wait, other: TxnNo) -> bool
+    ensures { ByLocks tree.now locks.now (λ keeps. result ≡ waits_for_in tree.now keeps wait.now other) }
 {
-    waits_for_among(tree, locks, wait, other, lockers(locks, &wait.key), false)
+    waits_for_among(tree, locks, wait, other, lockers(locks, wait), false)
 }
 
 // Adds the pairs of this one that waits.
 fn add_pairs_of(
     tree: &Tree,
-    locks: &Locks,
+    locks: &TargetLocks,
     waits: &Waits,
     wait: &Wait,
     pairs: &mut Vec<(TxnNo, TxnNo)>,
 )
     requires room { vec_len pairs.old + length waits.now.waits ≤ vec_capacity pairs.old }
-    ensures pairs { pairs.new.items ≡ pairs.old.items ++ pairs_with tree.now locks.now waits.now.waits wait.now }
+    ensures pairs { ByLocks tree.now locks.now (λ keeps. pairs.new.items ≡ pairs.old.items ++ pairs_with tree.now keeps waits.now.waits wait.now) }
     ensures len { vec_len pairs.new ≤ vec_len pairs.old + length waits.now.waits }
     ensures capacity { vec_capacity pairs.old ≤ vec_capacity pairs.new }
 {
-    let holders = lockers(locks, &wait.key);
-    let alone = are_alone(tree, holders);
+    let all = lockers(locks, wait);
+    let alone = all_alone(tree, all);
     for place in 0..waits.len() {
         if let Some(other) = waits.at(place) {
-            if waits_for_among(tree, locks, wait, other.txn, holders, alone) {
+            if waits_for_among(tree, locks, wait, other.txn, all, alone) {
                 pairs.push_reserved((wait.txn, other.txn));
             }
         }
@@ -164,12 +200,12 @@ fn add_pairs_of(
 /// All pairs of those that wait of which the first waits for the second. It takes no memory.
 pub(crate) fn collect_pairs(
     tree: &Tree,
-    locks: &Locks,
+    locks: &TargetLocks,
     waits: &Waits,
     pairs: &mut Vec<(TxnNo, TxnNo)>,
 )
     requires room { length waits.now.waits * length waits.now.waits ≤ vec_capacity pairs.old }
-    ensures pairs { pairs.new.items ≡ pairs_of tree.now locks.now waits.now.waits waits.now.waits }
+    ensures pairs { ByLocks tree.now locks.now (λ keeps. pairs.new.items ≡ pairs_of tree.now keeps waits.now.waits waits.now.waits) }
     ensures len { vec_len pairs.new ≤ length waits.now.waits * length waits.now.waits }
     ensures capacity { vec_capacity pairs.old ≤ vec_capacity pairs.new }
 {

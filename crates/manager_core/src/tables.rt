@@ -2,6 +2,7 @@
 ghost use Rattle.std.specs.Prelude.{◌≡◌, ◌≤◌, ◌<◌, ℕ, List, [], length, None, IsFalse, OnOk};
 ghost use Rattle.txn_names.specs.Path.{parent};
 ghost use Rattle.txn_tree.specs.Asked.{IsNumberOf, IsRootless, is_absent_in};
+ghost use Rattle.serial_spec.specs.declared.target.Target.{Target};
 ghost use Rattle.inherit.specs.LocksAndVersions.{free, left_of, modes_of};
 ghost use Rattle.manager_core.specs.Tables.{HasOtherRoom, rows_in};
 
@@ -42,7 +43,7 @@ impl Tables {
     pub(crate) fn new(alloc: Global, base: PlainTable) -> Tables
         ensures tree { result.tree ≡ [] }
         ensures marks { result.marks.names ≡ [] }
-        ensures modes { (n : ℕ) → (k : List ℕ) → modes_of result.estate n k ≡ free }
+        ensures modes { (n : ℕ) → (s : Target) → modes_of result.estate n s ≡ free }
         ensures left { (n : ℕ) → (k : List ℕ) → left_of result.estate n k ≡ None }
         ensures base { result.estate.versions.base ≡ base }
         ensures waits { result.waits.waits ≡ [] }

@@ -3,9 +3,8 @@ ghost use Rattle.std.specs.Prelude.{◌≡◌, ◌<◌, ◌≤◌, ◌+◌, leng
 ghost use Rattle.txn_names.specs.Path.{Path};
 ghost use Rattle.txn_tree.specs.Asked.{IsNumberOf, is_absent_in};
 ghost use Rattle.serial_spec.specs.declared.entry.Answer.TheVariants as answer;
-ghost use Rattle.serial_spec.specs.declared.event.Event.TheVariants.{Access};
 ghost use Rattle.serial_spec.specs.Allowed.{waits_elsewhere};
-ghost use Rattle.serial_spec.specs.History.{History};
+ghost use Rattle.serial_spec.specs.History.{History, event_of};
 ghost use Rattle.serial_spec.specs.Rows.{Rows};
 ghost use Rattle.serial_spec.specs.Waits.{same_line, wait_of};
 ghost use Rattle.manager_core.specs.Kept.{AreTablesOf};
@@ -15,8 +14,8 @@ ghost use Rattle.manager_core.specs.Tables.{SetsWait, wait_at};
 
 use crate::accessing::Request;
 use crate::tables::Tables;
-use serial_spec::{By, Op};
-use txn_names::{Key, Name};
+use serial_spec::{Asked, By};
+use txn_names::Name;
 use txn_tree::TxnNo;
 
 /// Whether both are of one line of a session.
@@ -37,15 +36,15 @@ pub(crate) fn same_line(a: By, b: By) -> bool
 
 impl Tables {
     /// The access by which the transaction with this number waits, with its line.
-    pub(crate) fn waiting_access_at(&self, txn: TxnNo) -> Option<(By, Key, Op)>
+    pub(crate) fn waiting_access_at(&self, txn: TxnNo) -> Option<(By, Asked)>
         ensures { (t : Path) → IsNumberOf self.now.tree t txn → (rows : Rows) (h : History) → AreTablesOf rows h self.now → result ≡ waiting_access (wait_of h t) }
     {
         let wait = self.waits.of(txn)?;
-        Some((wait.by, wait.key, wait.op))
+        Some((wait.by, wait.asked))
     }
 
     /// The access by which the transaction waits, with its line.
-    pub(crate) fn waiting_access(&self, name: &Name) -> Option<(By, Key, Op)>
+    pub(crate) fn waiting_access(&self, name: &Name) -> Option<(By, Asked)>
         ensures { (rows : Rows) (h : History) → AreTablesOf rows h self.now → result ≡ waiting_access (wait_of h name.now) }
     {
         self.waiting_access_at(self.tree.no_of(name)?)
@@ -56,7 +55,7 @@ impl Tables {
         ensures { (t : Path) → IsNumberOf self.now.tree t txn → (rows : Rows) (h : History) → AreTablesOf rows h self.now → result ≡ waits_elsewhere h by t }
     {
         match self.waiting_access_at(txn) {
-            Some((line, _, _)) => !same_line(line, by),
+            Some((line, _)) => !same_line(line, by),
             None => false,
         }
     }
@@ -67,12 +66,11 @@ impl Tables {
         requires none { (n : ℕ) → IsNumberOf self.old.tree request.now.name n → wait_at self.old n ≡ None }
         requires room { 0 < self.old.waits.room }
         ensures beside { self.new ≡ record self.old { waits = self.new.waits } }
-        ensures waits { SetsWait self.old self.new request.now.name (Some (entry request.now.by (Access request.now.name request.now.key request.now.op) answer.Waits)) }
+        ensures waits { SetsWait self.old self.new request.now.name (Some (entry request.now.by (event_of request.now.name request.now.asked) answer.Waits)) }
         ensures grown { length self.new.waits.waits ≡ length self.old.waits.waits + 1 }
     {
         let txn = self.number_of(&request.name);
-        self.waits
-            .add_reserved(txn, &request.key, request.op, request.by);
+        self.waits.add_reserved(txn, &request.asked, request.by);
     }
 
     /// The transaction waits no more.

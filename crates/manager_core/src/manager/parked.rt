@@ -9,7 +9,7 @@ ghost use Rattle.manager_core.specs.State.{entry};
 use crate::manager::Manager;
 use crate::outcome::Outcome;
 use durable_top::TopStore;
-use serial_spec::{By, Event, NoMemory, Reply, When};
+use serial_spec::{Asked, By, Event, NoMemory, Reply, When};
 use txn_names::Name;
 
 impl<S: TopStore> Manager<S> {
@@ -39,7 +39,12 @@ impl<S: TopStore> Manager<S> {
     {
         match event {
             Event::Access(name, key, op) => {
-                self.tables.is_kept_out(&self.log, by, name, key, *op)
+                let asked = Asked::At(*key, *op);
+                self.tables.is_kept_out(&self.log, by, name, &asked)
+            }
+            Event::Sum(name, group) => {
+                let asked = Asked::Over(*group);
+                self.tables.is_kept_out(&self.log, by, name, &asked)
             }
             Event::After(name, when) => self.free(by, event) && !self.tables.has_come(name, *when),
             _ => false,
@@ -53,7 +58,7 @@ impl<S: TopStore> Manager<S> {
         ensures err { OnErr result (self.new ≡ self.old) }
         ensures sound { OnOk result (IsSound S.TopStore self.new) }
     {
-        let Event::Access(name, _, _) = event else {
+        let (Event::Access(name, _, _) | Event::Sum(name, _)) = event else {
             unreachable!()
         };
         self.log.reserve(1)?;

@@ -2,7 +2,7 @@ use Rattle.std.proofs.Common.{◌≡◌, ℕ, ◌+◌, Bool, true, false, cond, 
 use Rattle.std.specs.Prelude.{slice_get}
 use Rattle.std.proofs.lemmas.List.{append_assoc, append-nil}
 use Rattle.wait_cycles.specs.declared.waits.Wait.{Wait}
-use Rattle.manager_core.specs.Pairs.{pairs_with, waits_for_in}
+use Rattle.manager_core.specs.Pairs.{Keeps, pairs_with, waits_for_in}
 use Rattle.serial_spec.proofs.Taking.{take_past}
 use Rattle.manager_core.proofs.HeldUp.{pairs_more}
 use Rattle.manager_core.proofs.pairs.add_pairs_of.Goals as goal
@@ -14,31 +14,33 @@ loop-place-preserved c =
     let wait : Wait = c.args.wait.now in
     let i : ℕ = c.loop-place.place in
     let first : List (ℕ × ℕ) = c.args.pairs.now.items in
-    let made : List (ℕ × ℕ) = pairs_with c.args.tree.now c.args.locks.now (take i vs) wait in
     let inv = c.loop-place.invariant in
-    let next : (v : Wait) → slice_get vs i ≡ Some v → (b : Bool) → waits_for_in c.args.tree.now c.args.locks.now wait v.txn ≡ b
-    → (first ++ made) ++ cond b ((wait.txn, v.txn) ∷ []) [] ≡ first ++ pairs_with c.args.tree.now c.args.locks.now (take (i + 1) vs) wait
-    = λ v at b is.
-    append_assoc first made (cond b ((wait.txn, v.txn) ∷ []) [])
-    ∙ ap (λ xs. first ++ xs) (sym (pairs_more c.args.tree.now c.args.locks.now wait vs i v at ∙ ap (λ x. made ++ cond x ((wait.txn, v.txn) ∷ []) []) is)) in
+    let next : (keeps : Keeps) (v : Wait) → slice_get vs i ≡ Some v → (b : Bool) → waits_for_in c.args.tree.now keeps wait v.txn ≡ b
+    → (first ++ pairs_with c.args.tree.now keeps (take i vs) wait) ++ cond b ((wait.txn, v.txn) ∷ []) [] ≡ first ++ pairs_with c.args.tree.now keeps (take (i + 1) vs) wait
+    = λ keeps v at b is.
+    append_assoc first (pairs_with c.args.tree.now keeps (take i vs) wait) (cond b ((wait.txn, v.txn) ∷ []) [])
+    ∙ ap (λ xs. first ++ xs) (sym (pairs_more c.args.tree.now keeps wait vs i v at ∙ ap (λ x. pairs_with c.args.tree.now keeps (take i vs) wait ++ cond x ((wait.txn, v.txn) ∷ []) []) is)) in
     elim c.match-at.branch [
       | in-Some+then-waits_for_among w ↦
           rw w.pairs-is (
-            w.push_reserved.ensures.items
-                ∙ ap (λ xs. xs ++ (wait.txn, w.in-Some.other.now.txn) ∷ []) inv.0
-                ∙ next w.in-Some.other.now (sym w.in-Some.ensures.wait) true (sym w.waits_for_among.ensures ∙ w.if-waits_for_among.true),
+            λ keeps tells.
+                w.push_reserved.ensures.items
+                ∙ ap (λ xs. xs ++ (wait.txn, w.in-Some.other.now.txn) ∷ []) (inv.0 keeps tells)
+                ∙ next keeps w.in-Some.other.now (sym w.in-Some.ensures.wait) true (sym (w.waits_for_among.ensures keeps tells) ∙ w.if-waits_for_among.true),
             omega (arith, inv.1, w.push_reserved.ensures.len),
             omega (arith, inv.2, w.push_reserved.ensures.capacity),
           )
       | in-Some+else-waits_for_among w ↦
           rw w.pairs-is (
-            inv.0 ∙ sym (append-nil _) ∙ next w.in-Some.other.now (sym w.in-Some.ensures.wait) false (sym w.waits_for_among.ensures ∙ w.if-waits_for_among.false),
+            λ keeps tells.
+                inv.0 keeps tells ∙ sym (append-nil _)
+                ∙ next keeps w.in-Some.other.now (sym w.in-Some.ensures.wait) false (sym (w.waits_for_among.ensures keeps tells) ∙ w.if-waits_for_among.false),
             omega (arith, inv.1),
             inv.2,
           )
       | in_default w ↦
           rw w.pairs-is (
-            inv.0 ∙ ap (λ xs. first ++ pairs_with c.args.tree.now c.args.locks.now xs wait) (sym (take_past vs i (sym w.in_default.ensures.wait))),
+            λ keeps tells. inv.0 keeps tells ∙ ap (λ xs. first ++ pairs_with c.args.tree.now keeps xs wait) (sym (take_past vs i (sym w.in_default.ensures.wait))),
             omega (arith, inv.1),
             inv.2,
           )

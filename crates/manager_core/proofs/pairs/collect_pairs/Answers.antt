@@ -16,15 +16,16 @@ loop-place-preserved c =
     elim c.match-at.branch [
       | in-Some w ↦
           rw w.pairs-is (
-            w.add_pairs_of.ensures.pairs
-                ∙ ap (λ xs. xs ++ pairs_with c.args.tree.now c.args.locks.now vs w.in-Some.wait.now) inv.0
-                ∙ sym (pairs_next c.args.tree.now c.args.locks.now vs vs i w.in-Some.wait.now (sym w.in-Some.ensures.wait)),
+            λ keeps tells.
+                w.add_pairs_of.ensures.pairs keeps tells
+                ∙ ap (λ xs. xs ++ pairs_with c.args.tree.now keeps vs w.in-Some.wait.now) (inv.0 keeps tells)
+                ∙ sym (pairs_next c.args.tree.now keeps vs vs i w.in-Some.wait.now (sym w.in-Some.ensures.wait)),
             omega (arith, inv.1, w.add_pairs_of.ensures.len, more),
             omega (arith, inv.2, w.add_pairs_of.ensures.capacity),
           )
       | in_default w ↦
           rw w.pairs-is (
-            inv.0 ∙ ap (λ xs. pairs_of c.args.tree.now c.args.locks.now xs vs) (sym (take_past vs i (sym w.in_default.ensures.wait))),
+            λ keeps tells. inv.0 keeps tells ∙ ap (λ xs. pairs_of c.args.tree.now keeps xs vs) (sym (take_past vs i (sym w.in_default.ensures.wait))),
             omega (arith, inv.1, more),
             inv.2,
           )

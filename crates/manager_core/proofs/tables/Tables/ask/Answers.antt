@@ -18,7 +18,7 @@ start_wait-requires-clause-none c n number =
     let beside = rw c.in-Waits.is at c.in_ok-outcome.ensures.reaches in
     ap (λ (s : Waiting). kept_wait s n) c.in_ok-outcome.ensures.waits
     ∙ ap (λ (ws : List Wait). wait_in ws n) c.reserve.ensures.waits
-    ∙ none_kept_for log.rows log.entries m are.waiting asked.by asked.name asked.key asked.op c.requires.free comes.0 n
+    ∙ none_kept_for log.rows log.entries m are.waiting asked.by asked.name asked.asked c.requires.free comes.0 n
     (subst (λ (s : States). IsNumberOf s asked.name n) beside.tree number)
 
 pub returns-clause-reaches : goal.returns-clause-reaches
@@ -27,6 +27,6 @@ returns-clause-reaches c =
     let m : Tabled = record { tree = c.self.inside.tree; marks = c.self.inside.marks; estate = c.self.inside.estate; waits = c.self.inside.waits } in
     let on = reaches_beside m c.access.new.self c.reserve.new.self in
     elim c.match-outcome.branch [
-      | in-Waits w ↦ rw (w.self-is, ← c.self.view_is, w.start_wait.ensures.beside) (on _ asked.name asked.key asked.op c.in_ok-outcome.outcome c.in_ok-outcome.ensures.reaches)
-      | in_default w ↦ rw (w.self-is, ← c.self.view_is) (on c.access.new.self.waits asked.name asked.key asked.op c.in_ok-outcome.outcome c.in_ok-outcome.ensures.reaches)
+      | in-Waits w ↦ rw (w.self-is, ← c.self.view_is, w.start_wait.ensures.beside) (on _ asked.name asked.asked c.in_ok-outcome.outcome c.in_ok-outcome.ensures.reaches)
+      | in_default w ↦ rw (w.self-is, ← c.self.view_is) (on c.access.new.self.waits asked.name asked.asked c.in_ok-outcome.outcome c.in_ok-outcome.ensures.reaches)
     ]

@@ -8,5 +8,5 @@ returns-clause-reaches c =
     elim c.match-outcome.branch [
       | in-Waits w ↦ rw w.self-is c.in_ok-outcome.ensures.reaches
       | in_default w ↦ rw (w.self-is, w.end_wait.ensures.beside)
-          (reaches_beside c.args.self.now c.access.new.self c.args.self.now.waits _ asked.name asked.key asked.op c.in_ok-outcome.outcome c.in_ok-outcome.ensures.reaches)
+          (reaches_beside c.args.self.now c.access.new.self c.args.self.now.waits _ asked.name asked.asked c.in_ok-outcome.outcome c.in_ok-outcome.ensures.reaches)
     ]
