@@ -43,9 +43,9 @@ attempts one line of every session that has lines left. A line that waits is att
 
 Limits of a text: 134,217,728 bytes; 64 sessions of 1,024 lines each; 4,096 transactions, those of
 all levels together; names of 8 labels, joined by '/'; labels of 1 to 16 bytes of a-z and 0-9; keys of
-1 to 32 bytes of a-z, 0-9, '.', '_' and '-'; 4,096 keys, and as many rows of the table. Values are
-whole numbers of 64 bits, from -9223372036854775808 to 9223372036854775807. A text has no comments and
-no blank lines. FILE is a path: '-' is not standard input, but /dev/stdin is.
+1 to 32 bytes of a-z, 0-9, '.', '_' and '-', and groups of 1 to 31; 4,096 keys, and as many rows of the
+table. Values are whole numbers of 64 bits, from -9223372036854775808 to 9223372036854775807. A text has
+no comments and no blank lines. FILE is a path: '-' is not standard input, but /dev/stdin is.
 
 The database is made if there is none. One run at a time has it, from its opening to its end. When the
 program has ended, whatever its exit status, the file at PATH holds the results by itself; it stays in
@@ -65,9 +65,9 @@ holds of each of them. 'tx replay' has one order that is always the same.
 
 Limits of a text: 134,217,728 bytes; 64 sessions of 1,024 lines each; 4,096 transactions, those of
 all levels together; names of 8 labels, joined by '/'; labels of 1 to 16 bytes of a-z and 0-9; keys of
-1 to 32 bytes of a-z, 0-9, '.', '_' and '-'; 4,096 keys, and as many rows of the table. Values are
-whole numbers of 64 bits, from -9223372036854775808 to 9223372036854775807. A text has no comments and
-no blank lines. FILE is a path: '-' is not standard input, but /dev/stdin is.
+1 to 32 bytes of a-z, 0-9, '.', '_' and '-', and groups of 1 to 31; 4,096 keys, and as many rows of the
+table. Values are whole numbers of 64 bits, from -9223372036854775808 to 9223372036854775807. A text has
+no comments and no blank lines. FILE is a path: '-' is not standard input, but /dev/stdin is.
 
 The database is made if there is none. One run at a time has it, from its opening to its end. When the
 program has ended, whatever its exit status, the file at PATH holds the results by itself; it stays in
@@ -93,9 +93,9 @@ to be replied, or which text was run.
 
 Limits of a report: 64 sessions of 1,024 lines each; 4,096 transactions, those of all levels together;
 names of 8 labels, joined by '/'; labels of 1 to 16 bytes of a-z and 0-9; keys of 1 to 32 bytes of a-z,
-0-9, '.', '_' and '-'; 4,096 rows of each table. Values are whole numbers of 64 bits, from
--9223372036854775808 to 9223372036854775807. It has no comments and no blank lines. REPORT is a path:
-'-' is not standard input, but /dev/stdin is. Its end has to come within 134,217,728 reads.
+0-9, '.', '_' and '-', and groups of 1 to 31; 4,096 rows of each table. Values are whole numbers of 64
+bits, from -9223372036854775808 to 9223372036854775807. It has no comments and no blank lines. REPORT is
+a path: '-' is not standard input, but /dev/stdin is. Its end has to come within 134,217,728 reads.
 
 Exit status: 0 if the verdict is yes; 1 if it is no, or one line on standard error says why there is
 none; 2 if the words are no command line or ask for help.
