@@ -1,17 +1,16 @@
 -- What each call of the manager is as an attempt.
-use Rattle.std.proofs.Common.{◌≡◌, ℕ, ◌⊎◌, inl, inr, ⊎_elim, Bool, true, false, List, [], ◌∷◌, Some, is_some, Result, Ok, Err, OnOk, IfOk, IsTrue, ◌↔◌, refl, sym, ap, subst, ◌∙◌}
+use Rattle.std.proofs.Common.{◌≡◌, ◌⊎◌, inl, inr, ⊎_elim, Bool, true, false, [], ◌∷◌, Some, Result, Ok, Err, OnOk, IfOk, IsTrue, ◌↔◌, refl, sym, ap, subst, ◌∙◌}
 use Rattle.std.proofs.Common.{None as Nothing}
-use Rattle.serial_spec.specs.declared.operation.Op.{Op}
+use Rattle.std.proofs.lemmas.Option.{none-some}
 use Rattle.serial_spec.specs.declared.entry.By.{By}
 use Rattle.serial_spec.specs.declared.entry.Entry.{Entry}
 use Rattle.serial_spec.specs.declared.event.Event.{Event}
-use Rattle.serial_spec.specs.declared.event.Event.TheVariants.{Begin, Access, Commit, Abort, After}
+use Rattle.serial_spec.specs.declared.event.Event.TheVariants.{Begin, Access, Sum, Commit, Abort, After}
 use Rattle.serial_spec.specs.declared.entry.Answer.{Answer}
-use Rattle.serial_spec.specs.declared.event.When.{When}
 use Rattle.serial_spec.specs.History.{Name, History}
-use Rattle.serial_spec.specs.Waits.{Quiet, wait_of}
+use Rattle.serial_spec.specs.Waits.{Quiet, same_line, wait_of}
 use Rattle.serial_spec.specs.Allowed.{answer}
-use Rattle.txn_history.specs.Lines.{IsFree, IsWaitOf}
+use Rattle.txn_history.specs.Lines.{IsFree, IsWaitOf, accessor}
 use Rattle.txn_history.proofs.Tests.{clash}
 use Rattle.durable_top.specs.declared.store.TopStore.{Ghosts}
 use Rattle.manager_core.specs.declared.outcome.Outcome.{Outcome}
@@ -27,6 +26,7 @@ use Rattle.interleavings.specs.Trails.{EntryAsks, Trail}
 use Rattle.interleavings.specs.Attempts.{Attempts, GoesOn}
 use Rattle.interleavings.proofs.Trails.{committed_asks, trail_more, trail_one, trail_victims}
 use Rattle.interleavings.proofs.Schedules.{on_same}
+use Rattle.interleavings.proofs.Numbers.{unsome}
 
 -- an entry of this event asks nothing of the store, whatever its answer
 abbrev pub AsksNothing : {S : Type 0} → Ghosts S → State S → Event → Type 0
@@ -90,12 +90,33 @@ committed_attempt {S} g old new by t o quiet c = record {
     history : new.history ≡ entry by (Commit t) (answer_of o) ∷ old.history
     history = ap (λ (m : State S). m.history) c.added
 
+-- an access asks nothing of the store
+pub access_asks : {S : Type 0} (g : Ghosts S) (old : State S) (e : Event) (t : Name) → accessor e ≡ Some t → AsksNothing g old e
+access_asks g old (Access u k op) t is a s = refl
+access_asks g old (Sum u group) t is a s = refl
+access_asks g old (Begin u) t is a s = absurd (none-some t is)
+access_asks g old (Commit u) t is a s = absurd (none-some t is)
+access_asks g old (Abort u) t is a s = absurd (none-some t is)
+access_asks g old (After u when) t is a s = absurd (none-some t is)
+
+-- the wait of this line is that of the access's transaction
+own_wait : (h : History) (by : By) (e : Event) (t : Name) → accessor e ≡ Some t → IsWaitOf h by e
+    → (w : Entry) × (wait_of h t ≡ Some w) × IsTrue (same_line w.by by) × (w.event ≡ e)
+own_wait h by (Access u k op) t is waits =
+    subst (λ v. (w : Entry) × (wait_of h v ≡ Some w) × IsTrue (same_line w.by by) × (w.event ≡ Access u k op)) (unsome u t is) waits
+own_wait h by (Sum u group) t is waits =
+    subst (λ v. (w : Entry) × (wait_of h v ≡ Some w) × IsTrue (same_line w.by by) × (w.event ≡ Sum u group)) (unsome u t is) waits
+own_wait h by (Begin u) t is none = absurd none
+own_wait h by (Commit u) t is none = absurd none
+own_wait h by (Abort u) t is none = absurd none
+own_wait h by (After u when) t is none = absurd none
+
 -- the wait that is asked for again is the one of this line
-pub retried_attempt : {S : Type 0} (g : Ghosts S) (old new : State S) (by : By) (t : Name) (k : List ℕ) (op : Op) (o : Outcome) → IsWaitOf old.history by (Access t k op)
-    → Retried old new t o → Attempts g old new by (Access t k op) o
-retried_attempt {S} g old new by t k op o (w, waits, own, is) r = ⊎_elim
+pub retried_attempt : {S : Type 0} (g : Ghosts S) (old new : State S) (by : By) (e : Event) (t : Name) (o : Outcome) → accessor e ≡ Some t → IsWaitOf old.history by e
+    → Retried old new t o → Attempts g old new by e o
+retried_attempt {S} g old new by e t o of waits r = ⊎_elim
     (λ (a : Answered old new r.wait.by r.wait.event o).
-    answered_attempt g old new by (Access t k op) o (λ a s. refl) (subst (λ x. Answered old new by x o) event_is (subst (λ b. Answered old new b r.wait.event o) by_is a)))
+    answered_attempt g old new by e o (access_asks g old e t of) (subst (λ x. Answered old new by x o) event_is (subst (λ b. Answered old new b r.wait.event o) by_is a)))
     (λ (out : WaitsOn old new r.wait o). record {
       told = inr (record {
         none = subst (λ x. answer old.rows old.history by x ≡ Nothing) event_is (subst (λ b. answer old.rows old.history b r.wait.event ≡ Nothing) by_is out.none);
@@ -106,14 +127,17 @@ retried_attempt {S} g old new by t k op o (w, waits, own, is) r = ⊎_elim
     })
     r.told
   where
-    found : w ≡ r.wait
-    found = let both : Some w ≡ Some r.wait = sym waits ∙ r.waits in cc
+    own : (w : Entry) × (wait_of old.history t ≡ Some w) × IsTrue (same_line w.by by) × (w.event ≡ e)
+    own = own_wait old.history by e t of waits
+
+    found : own.0 ≡ r.wait
+    found = unsome own.0 r.wait (sym own.1 ∙ r.waits)
 
     by_is : r.wait.by ≡ by
-    by_is = ap (λ (x : Entry). x.by) (sym found) ∙ same_by w.by by own
+    by_is = ap (λ (x : Entry). x.by) (sym found) ∙ same_by own.0.by by own.2
 
-    event_is : r.wait.event ≡ Access t k op
-    event_is = ap (λ (x : Entry). x.event) (sym found) ∙ is
+    event_is : r.wait.event ≡ e
+    event_is = ap (λ (x : Entry). x.event) (sym found) ∙ own.3
 
 -- one that is kept out still has no answer yet
 pub kept_out_attempt : {S : Type 0} (g : Ghosts S) (m : State S) (by : By) (e : Event) (b : Bool) → IsTrue b ↔ IsKeptOut m.rows m.history by e → b ≡ true → Attempts g m m by e Waits
@@ -129,9 +153,9 @@ module _ {S E : Type 0} (g : Ghosts S) (old new : State S) (by : By) where
   if_added e nothing (Ok o) a sound = added_attempt g old new by e o nothing sound.quiet a
   if_added e nothing (Err x) a sound = tt
 
-  pub if_answered : (t : Name) (k : List ℕ) (op : Op) (r : Result Outcome E) → IfOk r (λ o. Answered old new by (Access t k op) o) → IfOk r (λ o. Attempts g old new by (Access t k op) o)
-  if_answered t k op (Ok o) a = answered_attempt g old new by (Access t k op) o (λ x s. refl) a
-  if_answered t k op (Err x) a = tt
+  pub if_answered : (e : Event) → AsksNothing g old e → (r : Result Outcome E) → IfOk r (λ o. Answered old new by e o) → IfOk r (λ o. Attempts g old new by e o)
+  if_answered e nothing (Ok o) a = answered_attempt g old new by e o nothing a
+  if_answered e nothing (Err x) a = tt
 
   pub if_awaited : (e : Event) → AsksNothing g old e → (r : Result Outcome E) → IfOk r (λ o. Awaited old new by e o) → OnOk r (IsSound g new) → IfOk r (λ o. Attempts g old new by e o)
   if_awaited e nothing (Ok o) a sound = awaited_attempt g old new by e o nothing sound.quiet a
@@ -141,34 +165,24 @@ module _ {S E : Type 0} (g : Ghosts S) (old new : State S) (by : By) where
   if_committed t (Ok o) a sound = committed_attempt g old new by t o sound.quiet a
   if_committed t (Err x) a sound = tt
 
-  pub if_retried : (t : Name) (k : List ℕ) (op : Op) (r : Result Outcome E) → IsWaitOf old.history by (Access t k op) → IfOk r (λ o. Retried old new t o)
-      → IfOk r (λ o. Attempts g old new by (Access t k op) o)
-  if_retried t k op (Ok o) waits a = retried_attempt g old new by t k op o waits a
-  if_retried t k op (Err x) waits a = tt
+  pub if_retried : (e : Event) (t : Name) → accessor e ≡ Some t → IsWaitOf old.history by e → (r : Result Outcome E) → IfOk r (λ o. Retried old new t o)
+      → IfOk r (λ o. Attempts g old new by e o)
+  if_retried e t of waits (Ok o) a = retried_attempt g old new by e t o of waits a
+  if_retried e t of waits (Err x) a = tt
 
 -- ---- which call may be made
 
 -- what waits is an access, so that every other line is free
-pub free_begin : (h : History) (by : By) (t : Name) → IsFree h by (Begin t) ⊎ IsWaitOf h by (Begin t) → IsFree h by (Begin t)
-free_begin h by t (inl free) = free
-free_begin h by t (inr none) = absurd none
-
-pub free_commit : (h : History) (by : By) (t : Name) → IsFree h by (Commit t) ⊎ IsWaitOf h by (Commit t) → IsFree h by (Commit t)
-free_commit h by t (inl free) = free
-free_commit h by t (inr none) = absurd none
-
-pub free_abort : (h : History) (by : By) (t : Name) → IsFree h by (Abort t) ⊎ IsWaitOf h by (Abort t) → IsFree h by (Abort t)
-free_abort h by t (inl free) = free
-free_abort h by t (inr none) = absurd none
-
-pub free_after : (h : History) (by : By) (t : Name) (w : When) → IsFree h by (After t w) ⊎ IsWaitOf h by (After t w) → IsFree h by (After t w)
-free_after h by t w (inl free) = free
-free_after h by t w (inr none) = absurd none
+pub free_unless_access : (h : History) (by : By) (e : Event) → accessor e ≡ Nothing → IsFree h by e ⊎ IsWaitOf h by e → IsFree h by e
+free_unless_access h by e is (inl free) = free
+free_unless_access h by (Access t k op) is (inr waits) = absurd (none-some t (sym is))
+free_unless_access h by (Sum t group) is (inr waits) = absurd (none-some t (sym is))
+free_unless_access h by (Begin t) is (inr none) = absurd none
+free_unless_access h by (Commit t) is (inr none) = absurd none
+free_unless_access h by (Abort t) is (inr none) = absurd none
+free_unless_access h by (After t when) is (inr none) = absurd none
 
 -- and an access that is not free waits
 pub waits_unless_free : (h : History) (by : By) (e : Event) (b : Bool) → IsTrue b ↔ IsFree h by e → b ≡ false → IsFree h by e ⊎ IsWaitOf h by e → IsWaitOf h by e
 waits_unless_free h by e b is other (inl free) = clash (is.1 free) other
 waits_unless_free h by e b is other (inr waits) = waits
-
-pub some_wait : (h : History) (by : By) (t : Name) (k : List ℕ) (op : Op) → IsWaitOf h by (Access t k op) → is_some (wait_of h t) ≡ true
-some_wait h by t k op (w, waits, own, is) = ap is_some waits

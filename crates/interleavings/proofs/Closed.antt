@@ -1,5 +1,5 @@
 -- The close, and what a whole run comes to.
-use Rattle.std.proofs.Common.{◌≡◌, ℕ, ◌+◌, ◌≤◌, List, [], ◌∷◌, ◌++◌, length, map, None, Result, Ok, Err, OnOk, OnErr, IfOk, IfErr, sym, ap, subst, ◌∙◌, arith}
+use Rattle.std.proofs.Common.{◌≡◌, ℕ, ◌+◌, ◌≤◌, List, [], ◌∷◌, ◌++◌, length, map, None, Result, Ok, Err, OnOk, OnErr, IfErr, sym, ap, subst, ◌∙◌, arith}
 use Rattle.serial_spec.specs.History.{Name, History, begun}
 use Rattle.serial_spec.specs.Legal.{first_live, Legal}
 use Rattle.serial_spec.specs.Rows.{Rows, value_in}

@@ -6,20 +6,20 @@ use Rattle.serial_spec.specs.declared.entry.Entry.{Entry}
 use Rattle.serial_spec.specs.declared.entry.Answer.TheVariants as answer
 use Rattle.serial_spec.specs.declared.entry.Refusal.TheVariants.{Store}
 use Rattle.serial_spec.specs.declared.event.Event.{Event}
-use Rattle.serial_spec.specs.declared.event.Event.TheVariants.{Begin, Access, Commit, Abort, After}
+use Rattle.serial_spec.specs.declared.event.Event.TheVariants.{Begin, Access, Sum, Commit, Abort, After}
 use Rattle.serial_spec.specs.History.{Name, History}
 use Rattle.serial_spec.specs.Rows.{Rows}
 use Rattle.serial_spec.specs.Allowed.{asks_store}
-use Rattle.serial_spec.specs.Interleaving.{AfterVictims, victim, closing}
+use Rattle.serial_spec.specs.Interleaving.{AfterVictims, victim}
 use Rattle.durable_top.specs.declared.store.TopStore.{Ghosts}
 use Rattle.manager_core.specs.declared.outcome.Outcome.{Outcome}
 use Rattle.manager_core.specs.declared.outcome.Outcome.TheVariants.{Done, Waits, Refused}
 use Rattle.manager_core.specs.Outcomes.{answer_of}
 use Rattle.manager_core.specs.Outcomes.{is_done as done_outcome, is_of_store as of_store_outcome}
-use Rattle.manager_core.specs.State.{State, entry}
+use Rattle.manager_core.specs.State.{State}
 use Rattle.manager_core.specs.Calls.{Committed, IsDecided}
 use Rattle.manager_core.specs.Closing.{closings}
-use Rattle.interleavings.specs.Trails.{CommitAsks, EntryAsks, HandsOver, Trail, is_done, is_of_store}
+use Rattle.interleavings.specs.Trails.{EntryAsks, HandsOver, Trail, is_done, is_of_store}
 
 module _ {S : Type 0} (g : Ghosts S) (rows : Rows) where
   -- nothing has happened
@@ -56,6 +56,7 @@ module _ {S : Type 0} (g : Ghosts S) (rows : Rows) where
   pub stuck_asks : (h : History) (e : Event) (s : S) → EntryAsks g rows h e answer.Stuck s s
   stuck_asks h (Begin t) s = refl
   stuck_asks h (Access t k op) s = refl
+  stuck_asks h (Sum t group) s = refl
   stuck_asks h (Commit t) s = record { asked = λ is. absurd (never _ is); unasked = λ is. refl }
   stuck_asks h (Abort t) s = refl
   stuck_asks h (After t when) s = refl

@@ -5,7 +5,7 @@ use Rattle.serial_spec.specs.declared.entry.Answer.{Answer}
 use Rattle.serial_spec.specs.declared.entry.Answer.TheVariants.{Done, Refused}
 use Rattle.serial_spec.specs.declared.entry.Refusal.TheVariants.{Store}
 use Rattle.serial_spec.specs.declared.event.Event.{Event}
-use Rattle.serial_spec.specs.declared.event.Event.TheVariants.{Begin, Access, Commit, Abort, After}
+use Rattle.serial_spec.specs.declared.event.Event.TheVariants.{Begin, Access, Sum, Commit, Abort, After}
 use Rattle.serial_spec.specs.History.{Name, History}
 use Rattle.serial_spec.specs.Rows.{Rows, value_in}
 use Rattle.serial_spec.specs.Changes.{IsChanges}
@@ -39,6 +39,7 @@ abbrev pub EntryAsks : {S : Type 0} → Ghosts S → Rows → History → Event 
 EntryAsks g rows h (Commit t) a old new = CommitAsks g rows h t a old new
 EntryAsks g rows h (Begin t) a old new = new ≡ old
 EntryAsks g rows h (Access t k op) a old new = new ≡ old
+EntryAsks g rows h (Sum t group) a old new = new ≡ old
 EntryAsks g rows h (Abort t) a old new = new ≡ old
 EntryAsks g rows h (After t when) a old new = new ≡ old
 

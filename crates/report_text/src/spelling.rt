@@ -9,7 +9,7 @@ ghost use Rattle.serial_spec.specs.Printing.{spelled_access, spelled_answer, spe
 use itoa::Buffer;
 use serial_spec::{Answer, Event, Op, Refusal, Reply, When};
 use txn_bytes::{Sink, WriteFault, put};
-use txn_names::{Key, Name};
+use txn_names::{Group, Key, Name};
 
 pub(crate) fn put_number<W: Sink>(out: &mut W, number: i64) -> Result<(), WriteFault>
     ensures ok { OnOk result (Appends (W.contents out.old) (W.contents out.new) (spelled_number number)) }
@@ -48,15 +48,29 @@ pub(crate) fn put_named<W: Sink>(out: &mut W, word: &[u8], name: &Name) -> Resul
     name.write_to(out)
 }
 
+// A word with its space, a name and the bytes of a key or a group.
+fn put_spaced<W: Sink>(
+    out: &mut W,
+    word: &[u8],
+    name: &Name,
+    bytes: &[u8],
+) -> Result<(), WriteFault>
+    ensures ok { OnOk result (Appends (W.contents out.old) (W.contents out.new) (word.now ++ spelled_name name.now ++ codes " " ++ bytes.now)) }
+    ensures err { OnErr result (AppendsFront (W.contents out.old) (W.contents out.new) (word.now ++ spelled_name name.now ++ codes " " ++ bytes.now)) }
+    ensures asked { OnErr result (IsStopped W.takes out.new) }
+{
+    put_named(out, word, name)?;
+    put(out, b" ")?;
+    put(out, bytes)
+}
+
 // A word with its space, a name and a key.
 fn put_keyed<W: Sink>(out: &mut W, word: &[u8], name: &Name, key: &Key) -> Result<(), WriteFault>
     ensures ok { OnOk result (Appends (W.contents out.old) (W.contents out.new) (word.now ++ spelled_name name.now ++ codes " " ++ key.now)) }
     ensures err { OnErr result (AppendsFront (W.contents out.old) (W.contents out.new) (word.now ++ spelled_name name.now ++ codes " " ++ key.now)) }
     ensures asked { OnErr result (IsStopped W.takes out.new) }
 {
-    put_named(out, word, name)?;
-    put(out, b" ")?;
-    put(out, key.as_bytes())
+    put_spaced(out, word, name, key.as_bytes())
 }
 
 // A word with its space, a name, a key and a number.
@@ -89,6 +103,14 @@ fn put_access<W: Sink>(out: &mut W, name: &Name, key: &Key, op: Op) -> Result<()
     }
 }
 
+fn put_sum<W: Sink>(out: &mut W, name: &Name, group: &Group) -> Result<(), WriteFault>
+    ensures ok { OnOk result (Appends (W.contents out.old) (W.contents out.new) (codes "sum " ++ spelled_name name.now ++ codes " " ++ group.now)) }
+    ensures err { OnErr result (AppendsFront (W.contents out.old) (W.contents out.new) (codes "sum " ++ spelled_name name.now ++ codes " " ++ group.now)) }
+    ensures asked { OnErr result (IsStopped W.takes out.new) }
+{
+    put_spaced(out, b"sum ", name, group.as_bytes())
+}
+
 fn put_when<W: Sink>(out: &mut W, when: When) -> Result<(), WriteFault>
     ensures ok { OnOk result (Appends (W.contents out.old) (W.contents out.new) (spelled_when when)) }
     ensures err { OnErr result (AppendsFront (W.contents out.old) (W.contents out.new) (spelled_when when)) }
@@ -118,6 +140,7 @@ pub(crate) fn put_event<W: Sink>(out: &mut W, event: &Event) -> Result<(), Write
     match event {
         Event::Begin(name) => put_named(out, b"begin ", name),
         Event::Access(name, key, op) => put_access(out, name, key, *op),
+        Event::Sum(name, group) => put_sum(out, name, group),
         Event::Commit(name) => put_named(out, b"commit ", name),
         Event::Abort(name) => put_named(out, b"abort ", name),
         Event::After(name, when) => put_after(out, name, *when),

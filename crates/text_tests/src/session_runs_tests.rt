@@ -1,5 +1,6 @@
 //! Texts with their reports, over stores of all kinds.
 mod faults;
+mod groups;
 mod runs;
 mod serial;
 mod sessions;

@@ -2,19 +2,21 @@
 //! succeed when it is made again: a trial run refuses each growth in turn.
 //!
 //! What fails ends the process. So no function drops a manager on its way out, which would make a long proof.
-ghost use Rattle.std.specs.Prelude.{◌≡◌, OnErr};
+ghost use Rattle.std.specs.Prelude.{◌≡◌, IfOk, IfSome, OnErr};
 ghost use Rattle.serial_spec.specs.declared.entry.By.TheVariants.{Line};
-ghost use Rattle.serial_spec.specs.declared.event.Event.TheVariants.{Access};
+ghost use Rattle.serial_spec.specs.History.{event_of};
 ghost use Rattle.manager_core.specs.Calls.{WaitsOrIsUndone};
 ghost use Rattle.manager_core.specs.Lines.{IsFree};
 
 use durable_top::{MemStore, Row, TopStore, are_rising};
 use manager_core::{Manager, OpenFault, Outcome, Parts};
-use serial_spec::{Answer, By, Entry, Event, NoMemory, Op, PlainTable, Refusal, Reply, When};
+use serial_spec::{
+    Answer, Asked, By, Entry, Event, NoMemory, Op, PlainTable, Refusal, Reply, When,
+};
 use std::alloc::Global;
 use std::hash::{DefaultHasher, Hash, Hasher};
 use std::process::Abort;
-use txn_names::{Key, Name};
+use txn_names::{Group, Key, Name};
 
 fn line(line: u32) -> By
     ensures { result ≡ Line 0 line }
@@ -32,6 +34,10 @@ fn name(rt: &impl Abort, text: &str) -> Name {
 
 fn key(rt: &impl Abort, text: &str) -> Key {
     Key::parse(text.as_bytes()).expect(rt, text)
+}
+
+fn group(rt: &impl Abort, text: &str) -> Group {
+    Group::parse(text.as_bytes()).expect(rt, text)
 }
 
 fn op(rt: &impl Abort, verb: &str, amount: &str) -> Op {
@@ -62,6 +68,7 @@ fn event(rt: &impl Abort, text: &str) -> Event {
         "commit" => Event::Commit(name),
         "abort" => Event::Abort(name),
         "after" => Event::After(name, when(rt, rest)),
+        "sum" => Event::Sum(name, group(rt, rest)),
         _ => {
             let (what, amount) = rest.split_once(' ').unwrap_or((rest, ""));
             Event::Access(name, key(rt, what), op(rt, verb, amount))
@@ -152,6 +159,7 @@ fn name_of(event: &Event) -> &Name {
     match event {
         Event::Begin(name) => name,
         Event::Access(name, _, _) => name,
+        Event::Sum(name, _) => name,
         Event::Commit(name) => name,
         Event::Abort(name) => name,
         Event::After(name, _) => name,
@@ -225,6 +233,7 @@ pub fn call<S: TopStore>(
     match event {
         Event::Begin(name) => manager.begin(by, name),
         Event::Access(name, key, op) => manager.access(by, name, key, *op),
+        Event::Sum(name, group) => manager.sum(by, name, group),
         Event::Commit(name) => manager.commit(by, name),
         Event::Abort(name) => manager.abort(by, name),
         Event::After(name, when) => manager.after(by, name, *when),
@@ -334,28 +343,52 @@ fn ask_again<S: TopStore>(
     answer_of(&outcome)
 }
 
+// The manager's call for what an access asks.
+fn access_once<S: TopStore>(
+    manager: &mut Manager<S>,
+    by: By,
+    name: &Name,
+    asked: &Asked,
+) -> Result<Outcome, NoMemory>
+    requires { IsFree manager.old.history by (event_of name.now asked.now) }
+    ensures waits { IfOk result (λ outcome. outcome ≡ Outcome.Waits → WaitsOrIsUndone manager.new.history by name.now asked.now) }
+    ensures err { OnErr result (manager.new ≡ manager.old) }
+{
+    match asked {
+        Asked::At(key, op) => manager.access(by, name, key, *op),
+        Asked::Over(group) => manager.sum(by, name, group),
+    }
+}
+
 // Makes the call of an access.
 fn access<S: TopStore>(
     rt: &impl Abort,
     watched: &mut Watched<S>,
     by: By,
     name: &Name,
-    key: &Key,
-    op: Op,
+    asked: &Asked,
 ) -> Outcome
-    requires { IsFree watched.old.manager.history by (Access name.now key.now op) }
-    ensures { result ≡ Outcome.Waits → WaitsOrIsUndone watched.new.manager.history by name.now key.now op }
+    requires { IsFree watched.old.manager.history by (event_of name.now asked.now) }
+    ensures { result ≡ Outcome.Waits → WaitsOrIsUndone watched.new.manager.history by name.now asked.now }
 {
     let before = look(watched);
-    match watched.manager.access(by, name, key, op) {
+    match access_once(&mut watched.manager, by, name, asked) {
         Ok(outcome) => outcome,
         Err(_) => {
             assert!(rt; is_as_before(watched, before));
-            watched
-                .manager
-                .access(by, name, key, op)
-                .expect(rt, "memory")
+            access_once(&mut watched.manager, by, name, asked).expect(rt, "memory")
         }
+    }
+}
+
+// What an access asks.
+fn asked_by(event: &Event) -> Option<(Name, Asked)>
+    ensures { IfSome result (λ access. event.now ≡ event_of access.0 access.1) }
+{
+    match event {
+        Event::Access(name, key, op) => Some((*name, Asked::At(*key, *op))),
+        Event::Sum(name, group) => Some((*name, Asked::Over(*group))),
+        _ => None,
     }
 }
 
@@ -375,13 +408,13 @@ fn give_up<S: TopStore>(rt: &impl Abort, watched: &mut Watched<S>, by: By, event
 
 // An access that has to wait is given up.
 fn wait_and_give_up<S: TopStore>(rt: &impl Abort, watched: &mut Watched<S>, by: By, event: &Event) {
-    let Event::Access(name, key, op) = event else {
+    let Some((name, asked)) = asked_by(event) else {
         rt.panic("only an access waits")
     };
     assert!(rt; watched.manager.free(by, event));
-    let outcome = access(rt, watched, by, name, key, *op);
+    let outcome = access(rt, watched, by, &name, &asked);
     assert!(rt; outcome == Outcome::Waits);
-    assert!(rt; watched.manager.waiting(name));
+    assert!(rt; watched.manager.waiting(&name));
     owe(rt, &mut watched.due, by, event, Answer::Waits);
     assert!(rt; is_due(watched));
     give_up(rt, watched, by, event);

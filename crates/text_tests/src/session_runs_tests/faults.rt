@@ -60,6 +60,11 @@ fn lines_of_texts(rt: HostRuntime) {
         ("put a x 1\n", "tx: line 2: word\n"),
         ("after a gone\n", "tx: line 2: word\n"),
         ("get a x,\n", "tx: line 2: key\n"),
+        ("sum a\n", "tx: line 2: shape\n"),
+        (
+            "sum a gggggggggggggggggggggggggggggggg\n",
+            "tx: line 2: key\n",
+        ),
         ("\n", "tx: line 2: empty\n"),
         ("session s\n", "tx: line 2: header\n"),
         ("session s,\n", "tx: line 2: label\n"),
@@ -155,8 +160,8 @@ fn stores_without_their_rows(rt: HostRuntime) {
 
 const LETTERS: [u8; 16] = *b"abcdefghijklmnop";
 
-// As many rows as a manager takes.
-fn most_rows(rt: &impl Abort, alloc: Global) -> Vec<Row> {
+/// As many rows as a manager takes.
+pub fn most_rows(rt: &impl Abort, alloc: Global) -> Vec<Row> {
     let mut rows = Vec::new(alloc);
     for a in LETTERS {
         for b in LETTERS {

@@ -51,8 +51,9 @@ fn enter(rt: &impl Abort, alloc: Global, under: &mut Vec<Under>, entry: &Entry) 
         Event::Access(name, key, op) => {
             add(rt, under, Some(name), Item::Access { key, op, reply });
         }
+        Event::Sum(name, group) => add(rt, under, Some(name), Item::Sum { group, reply }),
         Event::Commit(name) => commit(rt, under, name),
-        _ => {}
+        Event::Abort(_) | Event::After(_, _) => {}
     }
 }
 

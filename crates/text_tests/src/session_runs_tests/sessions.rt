@@ -262,7 +262,8 @@ fn add_session(rt: &impl Abort, text: &mut String, report: &str, label: &str) {
     }
 }
 
-fn text_of(rt: &impl Abort, alloc: Global, report: &str, labels: &str) -> String {
+/// The sessions of these labels, whose lines are the texts of the report's entries.
+pub fn text_of(rt: &impl Abort, alloc: Global, report: &str, labels: &str) -> String {
     let mut text = String::new(alloc);
     for label in labels.split_whitespace() {
         add_session(rt, &mut text, report, label);
@@ -270,8 +271,8 @@ fn text_of(rt: &impl Abort, alloc: Global, report: &str, labels: &str) -> String
     text
 }
 
-// Whether the sessions' run over this store has this report, to the byte.
-fn is_printed<S: TopStore>(
+/// Whether the sessions' run over this store has this report, to the byte.
+pub fn is_printed<S: TopStore>(
     rt: &impl Abort,
     alloc: Global,
     text: &str,
@@ -287,7 +288,7 @@ fn is_printed<S: TopStore>(
     }
 }
 
-// Whether the report of that run is one of a serial run, judged apart from the proofs.
+/// Whether the report of that run is one of a serial run, judged apart from the proofs.
 pub fn is_judged<S: TopStore>(
     rt: &impl Abort,
     alloc: Global,

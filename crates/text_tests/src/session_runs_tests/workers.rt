@@ -28,6 +28,11 @@ session s2\nbegin t2\nadd t2 x 1\ncommit t2\nsession s3\nbegin t3\nadd t3 x 1\nc
 session s4\nbegin t4\nadd t4 x 1\ncommit t4\nsession s5\nbegin t5\nadd t5 x 1\ncommit t5\n\
 session s6\nbegin t6\nadd t6 x 1\ncommit t6\nsession s7\nbegin t7\nadd t7 x 1\ncommit t7\n";
 
+/// Two sessions that move an amount between keys of a group, and two that sum over it: no sum is of half a move.
+const MOVES: &[u8] =
+    b"session p0\nbegin a0\nadd a0 g.x 5\nadd a0 g.y -5\ncommit a0\nsession q0\nbegin b0\nsum b0 g\nsum b0 g\ncommit b0\n\
+session p1\nbegin a1\nadd a1 g.x 5\nadd a1 g.y -5\ncommit a1\nsession q1\nbegin b1\nsum b1 g\nsum b1 g\ncommit b1\n";
+
 // Whether so many workers leave this table.
 fn leaves<R: Threads + Wait + Clock + Abort + Sync>(
     rt: &R,
@@ -77,6 +82,7 @@ fn tables_by_workers(rt: HostRuntime) {
             (SIBLINGS, b"\ntable\nx=1\ny=3\nend\n".as_slice()),
             (RETAINED, b"\ntable\nx=7\nend\n".as_slice()),
             (EIGHT, b"\ntable\nx=8\nend\n".as_slice()),
+            (MOVES, b"\ntable\ng.x=10\ng.y=-10\nend\n".as_slice()),
             (b"".as_slice(), b"open\ntable\nend\n".as_slice()),
         ] {
             assert!(rt; leaves(&rt, rt.alloc(), text, workers, table), "{workers}");

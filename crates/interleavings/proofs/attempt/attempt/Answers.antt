@@ -1,24 +1,20 @@
-use Rattle.std.proofs.Common.{refl}
-use Rattle.serial_spec.specs.declared.event.Event.TheVariants.{Begin, Abort, After}
-use Rattle.interleavings.proofs.Calls.{if_added, if_awaited, if_committed}
+use Rattle.std.proofs.Common.{option_copied, sym, ap, ◌∙◌}
+use Rattle.interleavings.proofs.Calls.{free_unless_access, if_retried, kept_out_attempt, waits_unless_free}
 use Rattle.interleavings.proofs.attempt.attempt.Goals as goal
 
-pub returns-in-Begin-clause-ok : goal.returns-in-Begin-clause-ok
-returns-in-Begin-clause-ok g c =
-    rw c.in-Begin.is
-    (if_added g.S.TopStore c.args.manager.now c.begin.new.self c.args.by (Begin c.in-Begin.name) (λ a s. refl) c.begin.result c.begin.ensures.ok c.begin.ensures.sound)
+pub attempt_free-requires : goal.attempt_free-requires
+attempt_free-requires g c = record {
+  free =
+      free_unless_access c.args.manager.now.history c.args.by c.args.event.now (sym c.accessor.ensures ∙ ap option_copied c.in_default.is) c.requires.next;
+}
 
-pub returns-in-Commit-clause-ok : goal.returns-in-Commit-clause-ok
-returns-in-Commit-clause-ok g c =
-    rw c.in-Commit.is
-    (if_committed g.S.TopStore c.args.manager.now c.commit.new.self c.args.by c.in-Commit.name c.commit.result c.commit.ensures.ok c.commit.ensures.sound)
+pub returns-then-held_up-clause-ok : goal.returns-then-held_up-clause-ok
+returns-then-held_up-clause-ok g c =
+    kept_out_attempt g.S.TopStore c.args.manager.now c.args.by c.args.event.now c.held_up.result c.held_up.ensures c.if-held_up.true
 
-pub returns-in-Abort-clause-ok : goal.returns-in-Abort-clause-ok
-returns-in-Abort-clause-ok g c =
-    rw c.in-Abort.is
-    (if_added g.S.TopStore c.args.manager.now c.abort.new.self c.args.by (Abort c.in-Abort.name) (λ a s. refl) c.abort.result c.abort.ensures.ok c.abort.ensures.sound)
-
-pub returns-in-After-clause-ok : goal.returns-in-After-clause-ok
-returns-in-After-clause-ok g c =
-    rw c.in-After.is
-    (if_awaited g.S.TopStore c.args.manager.now c.after.new.self c.args.by (After c.in-After.name c.in-After.when) (λ a s. refl) c.after.result c.after.ensures.ok c.after.ensures.sound)
+pub returns-else-free-clause-ok : goal.returns-else-free-clause-ok
+returns-else-free-clause-ok g c =
+    let m = c.args.manager.now in
+    if_retried g.S.TopStore m c.retry.new.self c.args.by c.args.event.now c.in-Some.name.now (sym c.in-Some.ensures)
+    (waits_unless_free m.history c.args.by c.args.event.now c.free.result c.free.ensures c.if-free.false c.requires.next)
+    c.retry.result c.retry.ensures.ok

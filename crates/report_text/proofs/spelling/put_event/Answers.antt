@@ -6,6 +6,12 @@ returns-in-Begin-clause-ok g c = rw c.in-Begin.is c.put_named.ensures.ok
 pub returns-in-Begin-clause-err : goal.returns-in-Begin-clause-err
 returns-in-Begin-clause-err g c = rw c.in-Begin.is c.put_named.ensures.err
 
+pub returns-in-Sum-clause-ok : goal.returns-in-Sum-clause-ok
+returns-in-Sum-clause-ok g c = rw c.in-Sum.is c.put_sum.ensures.ok
+
+pub returns-in-Sum-clause-err : goal.returns-in-Sum-clause-err
+returns-in-Sum-clause-err g c = rw c.in-Sum.is c.put_sum.ensures.err
+
 pub returns-in-Commit-clause-ok : goal.returns-in-Commit-clause-ok
 returns-in-Commit-clause-ok g c = rw c.in-Commit.is c.put_named-in-Commit.ensures.ok
 

@@ -1,6 +1,6 @@
 use Rattle.std.proofs.Common.{[], ◌∷◌}
 use Rattle.txn_bytes.proofs.Appending.{front_of, on_err, then, then_front, then_on_err}
-use Rattle.report_text.proofs.spelling.put_keyed.Goals as goal
+use Rattle.report_text.proofs.spelling.put_spaced.Goals as goal
 
 pub returns-in_err-put_named-clause-err : goal.returns-in_err-put_named-clause-err
 returns-in_err-put_named-clause-err g c =
@@ -12,4 +12,4 @@ returns-in_err-put-clause-err g c =
 
 pub returns-clause-err : goal.returns-clause-err
 returns-clause-err g c =
-    then_on_err _ _ _ _ _ _ (then _ _ _ _ (32 ∷ []) c.in_ok-put_named.ensures.ok c.in_ok-put.ensures.ok) (rw c.as_bytes.ensures.value at c.put-2.ensures.err)
+    then_on_err _ _ _ _ _ _ (then _ _ _ _ (32 ∷ []) c.in_ok-put_named.ensures.ok c.in_ok-put.ensures.ok) c.put-2.ensures.err
