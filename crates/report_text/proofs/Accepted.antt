@@ -1,5 +1,5 @@
 -- What every report says is what the law of accepted reports asks.
-use Rattle.std.proofs.Common.{List, [], ◌∷◌, Result, Ok, Err}
+use Rattle.std.proofs.Common.{[], ◌∷◌, Result, Ok, Err}
 use Rattle.std.specs.Prelude.{OnOk}
 use Rattle.std.specs.List.{AllByRecursion}
 use Rattle.serial_spec.specs.Report.{report}
@@ -9,7 +9,7 @@ use Rattle.interleavings.specs.Reports.{IsRow as IsSpelledRow}
 use Rattle.interleavings.specs.Told.{Told}
 use Rattle.report_check.specs.Verdicts.{HasVerdict}
 use Rattle.report_check.specs.declared.verdict.Verdict.TheVariants.{Yes}
-use Rattle.report_laws.specs.Whole.{IsRow, IsTable, IsWhole}
+use Rattle.report_laws.specs.Whole.{IsRow, IsWhole}
 use Rattle.report_laws.proofs.Accepted.{every_report_is_accepted}
 
 rows_are : (rows : Rows) → AllByRecursion IsSpelledRow rows → AllByRecursion IsRow rows
