@@ -11,11 +11,11 @@ use std::cmp::Ordering;
 use std::hash::{Hash, Hasher};
 use std::marker::Model;
 
-/// At most `N` bytes. It takes no memory, and is compared and ordered as its bytes are.
+/// At most `N` bytes, where `N` is at most 255. It takes no memory, and is compared and ordered as its bytes are.
 #[derive(Clone, Copy, Debug)]
 pub struct Held<const N: usize> {
     bytes: [u8; N],
-    len: usize,
+    len: u8,
 }
 
 impl<const N: usize> Model for Held<N> {
@@ -49,14 +49,15 @@ impl<const N: usize> Held<N> {
 
     /// A copy of `bytes`, which fit.
     pub fn of(bytes: &[u8]) -> Self
-        requires { length bytes.now ≤ N }
+        requires fits { length bytes.now ≤ N }
+        requires small { N ≤ 255 }
         ensures { result ≡ bytes.now }
     {
         let mut held = [0; N];
         held[..bytes.len()].copy_from_slice(bytes);
         Held {
             bytes: held,
-            len: bytes.len(),
+            len: bytes.len() as u8,
         }
     }
 
@@ -65,7 +66,7 @@ impl<const N: usize> Held<N> {
         ensures value { result.now ≡ self.now }
         ensures fits { length result.now ≤ N }
     {
-        &self.bytes[..self.len]
+        &self.bytes[..self.len as usize]
     }
 }
 

@@ -56,12 +56,12 @@ pub all_more : (xs : Path) (x : List ℕ) → AllByRecursion IsLabel xs → IsLa
 all_more [] x all h = (h, tt)
 all_more (y ∷ xs) x all h = (all.0, all_more xs x all.1 h)
 
-pub blank_more : (xs : Path) (d : ℕ) (x : List ℕ) → d < 8 → length xs ≡ 8 → drop d xs ≡ replicate (8 - d) [] → drop (d + 1) (set xs d x) ≡ replicate (8 - (d + 1)) []
+pub blank_more : (xs : Path) (d : ℕ) (x : List ℕ) → d < 16 → length xs ≡ 16 → drop d xs ≡ replicate (16 - d) [] → drop (d + 1) (set xs d x) ≡ replicate (16 - (d + 1)) []
 blank_more xs d x h w e =
     let next : suc d ≡ d + 1 = omega arith in
-    let less : 8 - d ≡ suc (8 - (d + 1)) = omega (arith, h) in
-    let rest : get_or xs d [] ∷ drop (suc d) xs ≡ [] ∷ replicate (8 - (d + 1)) [] = sym (drop-cons xs d [] (omega (arith, h, w))) ∙ e ∙ ap (λ n. replicate n []) less in
-    let tail : drop (suc d) xs ≡ replicate (8 - (d + 1)) [] = cc in
+    let less : 16 - d ≡ suc (16 - (d + 1)) = omega (arith, h) in
+    let rest : get_or xs d [] ∷ drop (suc d) xs ≡ [] ∷ replicate (16 - (d + 1)) [] = sym (drop-cons xs d [] (omega (arith, h, w))) ∙ e ∙ ap (λ n. replicate n []) less in
+    let tail : drop (suc d) xs ≡ replicate (16 - (d + 1)) [] = cc in
     drop-set-lt (d + 1) xs d x (omega arith) ∙ ap (λ n. drop n xs) (sym next) ∙ tail
 
 -- ---- names, and what is none
@@ -70,11 +70,11 @@ pub named : (bs : List ℕ) (n : Path) → n ≡ pieces bs → IsName n → Ok n
 named bs n e h =
     let spelled : spelled_name n ≡ bs = ap spelled_name e ∙ spelled_pieces bs in sym (name_of-spelled n h) ∙ ap name_of spelled
 
-deep_by : (bs : List ℕ) (t : Bool) → nat_lt 8 (length (pieces bs)) ≡ t → list_any is_empty (pieces bs) ≡ false → list_all is_name_byte bs ≡ true → list_any is_long (pieces bs) ≡ false → (IsName (pieces bs) → ⊥) → t ≡ true
+deep_by : (bs : List ℕ) (t : Bool) → nat_lt 16 (length (pieces bs)) ≡ t → list_any is_empty (pieces bs) ≡ false → list_all is_name_byte bs ≡ true → list_any is_long (pieces bs) ≡ false → (IsName (pieces bs) → ⊥) → t ≡ true
 deep_by bs true d e n l not = refl
 deep_by bs false d e n l not =
     absurd (not (record { some = some bs; short = grind (arith, nat_tests, d); labels = labels bs n e l }))
 
 pub deep : (bs : List ℕ) → list_any is_empty (pieces bs) ≡ false → list_all is_name_byte bs ≡ true → list_any is_long (pieces bs) ≡ false → (IsName (pieces bs) → ⊥) → name_of bs ≡ Err name.Deep
 deep bs e n l not =
-    let d : nat_lt 8 (length (pieces bs)) ≡ true = deep_by bs (nat_lt 8 (length (pieces bs))) refl e n l not in rw (e, n, l, d) refl
+    let d : nat_lt 16 (length (pieces bs)) ≡ true = deep_by bs (nat_lt 16 (length (pieces bs))) refl e n l not in rw (e, n, l, d) refl
