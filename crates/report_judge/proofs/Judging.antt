@@ -55,7 +55,7 @@ bytes_kept bs p cs line s false due = (
   λ rest. moved bs cs rest ∙ due.3 (cs ++ rest) ∙ ap (λ xs. read_from line due.0 (cut_at 10 xs)) (sym (append_assoc p cs rest)),
 )
 
-pub bytes_long : (bs p cs q : List ℕ) (line : ℕ) (s z : Seen) (b : Bool) → IsLine p → IsLine cs → 361 < length p + length cs → GoesFrom bs p line s b → GoesFrom (bs ++ cs) q line z true
+pub bytes_long : (bs p cs q : List ℕ) (line : ℕ) (s z : Seen) (b : Bool) → IsLine p → IsLine cs → 633 < length p + length cs → GoesFrom bs p line s b → GoesFrom (bs ++ cs) q line z true
 bytes_long bs p cs q line s z true whole more long due = faulty_stays bs cs p q line s z due
 bytes_long bs p cs q line s z false whole more long due = λ rest.
     moved bs cs rest ∙ due.3 (cs ++ rest) ∙ ap (λ xs. read_from line due.0 (cut_at 10 xs)) (sym (append_assoc p cs rest))

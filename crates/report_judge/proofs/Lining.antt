@@ -88,7 +88,7 @@ length-slashed : (p : Path) → AllByRecursion IsLabel p → length (slashed p) 
 length-slashed [] h = omega arith
 length-slashed (l ∷ ls) h = omega (arith, h.0.short, length-slashed ls h.1, length-append {A = ℕ} l (slashed ls))
 
-length-name : (n : Path) → IsName n → length (spelled_name n) ≤ 135
+length-name : (n : Path) → IsName n → length (spelled_name n) ≤ 271
 length-name [] h = omega arith
 length-name (l ∷ ls) h = omega (arith, h.short, h.labels.0.short, length-slashed ls h.labels.1, length-append {A = ℕ} l (slashed ls))
 
@@ -100,7 +100,7 @@ length-number (negsuc n) h =
     let small : n < 2 ^ 63 = ltb-true n (2 ^ 63) h in
     omega (arith, length-decimal-le 19 (suc n) (lit< tt) (omega arith) (omega arith))
 
-length-answer : (a : Answer) → IsAnswer a → length (spelled_answer a) ≤ 142
+length-answer : (a : Answer) → IsAnswer a → length (spelled_answer a) ≤ 278
 length-answer (Done reply.Ok) h = omega arith
 length-answer (Done (reply.Value v)) h = omega (arith, length-number v h)
 length-answer (Done reply.Absent) h = omega arith
@@ -118,7 +118,7 @@ length-answer (Refused refusal.Waiting) h = omega arith
 length-answer (Refused refusal.Full) h = omega arith
 length-answer (Refused refusal.Store) h = omega arith
 
-length-entry : (x : ReportEntry) → IsReportEntry x → length (spelled_report_entry x) ≤ 361
+length-entry : (x : ReportEntry) → IsReportEntry x → length (spelled_report_entry x) ≤ 633
 length-entry (told.Line l n e a) h =
     let digits : length (decimal n) ≤ 4 = length-decimal-le 4 n (lit< tt) (omega arith) (omega (arith, h.last)) in
     omega (
@@ -137,8 +137,8 @@ length-entry (told.Line l n e a) h =
 length-entry (told.Victim t) h = omega (arith, length-name t h, length-append {A = ℕ} (codes "* victim ") (spelled_name t))
 length-entry (told.Close t) h = omega (arith, length-name t h, length-append {A = ℕ} (codes "* close ") (spelled_name t))
 
-module _ (w : List ℕ) (long : 361 < length w) where
-  long_word : (v : List ℕ) → length v ≤ 361 → bytes_eq w v ≡ false
+module _ (w : List ℕ) (long : 633 < length w) where
+  long_word : (v : List ℕ) → length v ≤ 633 → bytes_eq w v ≡ false
   long_word v short = false_from_ne_true _ (λ e. let same = ap (λ (xs : List ℕ). length xs) ((bytes_eq-Decides w v).0 e) in omega (arith, long, short, same))
 
   long_entry : entry_of w ≡ None
@@ -226,7 +226,7 @@ split (b ∷ bs) = by (nat_eq b 10) refl (split bs)
 some_bytes : (xs : List ℕ) → 0 < length xs → nat_eq (length xs) 0 ≡ false
 some_bytes xs h = ne_eqb (length xs) 0 (λ e. omega (arith, e, h))
 
-pub long_faulty : (n : ℕ) (r : Read) (p rest : List ℕ) → IsLine p → 361 < length p → read_from n r (cut_at 10 (p ++ rest)) ≡ Err n
+pub long_faulty : (n : ℕ) (r : Read) (p rest : List ℕ) → IsLine p → 633 < length p → read_from n r (cut_at 10 (p ++ rest)) ≡ Err n
 long_faulty n r p rest line long = by (split rest)
   where
     by : IsLine rest ⊎ IsSplit rest → read_from n r (cut_at 10 (p ++ rest)) ≡ Err n

@@ -5,7 +5,7 @@ use std::marker::Model;
 
 /// How many bytes the longest line of a report has, without its line feed: a label, the number of a line, the longest line of
 /// a session, and the answer `orphan` with the longest name, with what stands between them.
-pub const MOST_BYTES: usize = 361;
+pub const MOST_BYTES: usize = 633;
 
 /// The bytes of a line that has not ended yet, at most `MOST_BYTES`. It takes no memory.
 #[derive(Drop)]
@@ -21,7 +21,7 @@ impl Model for Kept {
 
     ghost view = { λ k. take k.len k.bytes };
 
-    ghost invariant = { λ k. (k.len ≤ 361) × (length k.bytes ≡ 361) };
+    ghost invariant = { λ k. (k.len ≤ 633) × (length k.bytes ≡ 633) };
 }
 
 impl Kept {

@@ -141,7 +141,7 @@ length-slashed : (ls : Path) → AllByRecursion IsLabel ls → length (slashed l
 length-slashed [] h = omega arith
 length-slashed (l ∷ ls) h = omega (arith, h.0.short, length-slashed ls h.1, length-append {A = ℕ} l (slashed ls))
 
-length-name : (n : Path) → IsName n → length (spelled_name n) ≤ 135
+length-name : (n : Path) → IsName n → length (spelled_name n) ≤ 271
 length-name [] h = omega arith
 length-name (l ∷ ls) h = omega (arith, h.short, h.labels.0.short, length-slashed ls h.labels.1, length-append {A = ℕ} l (slashed ls))
 
@@ -157,7 +157,7 @@ length-when : (t : When) → length (spelled_when t) ≤ 5
 length-when Begun = omega arith
 length-when Done = omega arith
 
-joined_short : (e : Event) → IsEvent e → length (join_with_byte 32 (words_of e)) ≤ 193
+joined_short : (e : Event) → IsEvent e → length (join_with_byte 32 (words_of e)) ≤ 329
 joined_short (Begin n) h = omega (arith, length-name n h)
 joined_short (Access n k Get) h = omega (arith, length-name n h.0, h.1.short, length-append {A = ℕ})
 joined_short (Access n k (Set v)) h = omega (arith, length-name n h.0, h.1.short, length-number v h.2, length-append {A = ℕ})
@@ -168,5 +168,5 @@ joined_short (Commit n) h = omega (arith, length-name n h)
 joined_short (Abort n) h = omega (arith, length-name n h)
 joined_short (After n t) h = omega (arith, length-name n h, length-when t, length-append {A = ℕ})
 
-pub event_short : (e : Event) → IsEvent e → length (spelled_event e) ≤ 193
+pub event_short : (e : Event) → IsEvent e → length (spelled_event e) ≤ 329
 event_short e h = omega (arith, joined_short e h, ap (λ (bs : List ℕ). length bs) (joined_words e))

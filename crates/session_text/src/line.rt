@@ -1,5 +1,5 @@
 //! Command lines.
-ghost use Rattle.std.specs.Prelude.{◌≡◌, IfOk};
+ghost use Rattle.std.specs.Prelude.{◌≡◌, ◌≤◌, IfOk, length, take};
 ghost use Rattle.serial_spec.specs.Printing.{spelled_event};
 ghost use Rattle.session_text.specs.Commands.{event_of};
 ghost use Rattle.session_text.specs.Grammar.{IsEvent};
@@ -8,17 +8,20 @@ use crate::command;
 use crate::fault::LineKind;
 use serial_spec::Event;
 use std::marker::Model;
-use txn_bytes::Held;
+
+// The most bytes of a command line, without its line feed: `set`, a name, a key and a value, and the spaces between them.
+const MOST_BYTES: usize = 329;
 
 /// A command line: what it asks, and its text, which is the one spelling of that. It takes no memory.
 #[derive(Drop)]
 pub struct Line {
     event: Event,
-    text: Held<193>,
+    bytes: [u8; MOST_BYTES],
+    len: u16,
 }
 
 impl Model for Line {
-    ghost use Rattle.std.specs.Prelude.{◌≡◌};
+    ghost use Rattle.std.specs.Prelude.{◌≡◌, ◌≤◌, length, take};
     ghost use Rattle.serial_spec.specs.declared.event.Event.{Event};
     ghost use Rattle.serial_spec.specs.Printing.{spelled_event};
     ghost use Rattle.session_text.specs.Grammar.{IsEvent};
@@ -27,7 +30,7 @@ impl Model for Line {
 
     ghost view = { λ l. l.event };
 
-    ghost invariant = { λ l. IsEvent l.event × (l.text ≡ spelled_event l.event) };
+    ghost invariant = { λ l. IsEvent l.event × (l.len ≤ 329) × (length l.bytes ≡ 329) × (take l.len l.bytes ≡ spelled_event l.event) };
 }
 
 impl Line {
@@ -39,13 +42,24 @@ impl Line {
         &self.event
     }
 
-    /// The line without its line feed: at most 193 bytes.
+    /// The line without its line feed: at most 329 bytes.
     pub fn text(&self) -> &[u8]
         ensures spelled { result.now ≡ spelled_event self.now }
         ensures read { event_of result.now ≡ Ok self.now }
     {
-        self.text.as_bytes()
+        &self.bytes[..self.len as usize]
     }
+}
+
+// The bytes in a field of fixed length, the rest of which is zeros.
+fn filled(bytes: &[u8]) -> [u8; MOST_BYTES]
+    requires { length bytes.now ≤ 329 }
+    ensures length { length result ≡ 329 }
+    ensures front { take (length bytes.now) result ≡ bytes.now }
+{
+    let mut held = [0; MOST_BYTES];
+    held[..bytes.len()].copy_from_slice(bytes);
+    held
 }
 
 /// Reads a command line, without its line feed. A header is refused as `Word`; of several faults the first of
@@ -57,7 +71,8 @@ pub fn parse_line(bytes: &[u8]) -> Result<Line, LineKind>
     let event = command::event_of(bytes)?;
     Ok(Line {
         event,
-        text: Held::of(bytes),
+        bytes: filled(bytes),
+        len: bytes.len() as u16,
     })
 }
 

@@ -19,6 +19,9 @@ pub struct Key {
     text: Held<32>,
 }
 
+// A key takes no memory but its own, and of that no more than this.
+const _: () = prove!(size_of::<Key>() <= 34);
+
 impl Model for Key {
     ghost use Rattle.std.specs.Prelude.{ℕ, List};
     ghost use Rattle.txn_names.specs.Text.{IsKey};

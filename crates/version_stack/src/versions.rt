@@ -157,8 +157,8 @@ impl Versions {
     // By how much what the transaction left changes the sum over the group, over what another, its parent, sees.
     fn own_part(&self, tree: &Tree, above: &Option<TxnNo>, txn: TxnNo, group: &Group) -> i128
         ensures part { sum_in (with_own self.now txn (seen_at tree.now self.now above.now)) group.now ≡ sum_in (seen_at tree.now self.now above.now) group.now +ℤ result }
-        ensures least { neg_ℤ (pos (2 ^ 123)) ≤ℤ result }
-        ensures most { result ≤ℤ pos (2 ^ 123) }
+        ensures least { neg_ℤ (pos (2 ^ 122)) ≤ℤ result }
+        ensures most { result ≤ℤ pos (2 ^ 122) }
     {
         let mut part: i128 = 0;
         for key in self.written.keys(txn) {

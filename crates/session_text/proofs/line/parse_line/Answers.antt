@@ -1,14 +1,15 @@
-use Rattle.std.proofs.Common.{◌≤◌, List, ℕ, length, subst, sym, ◌∙◌, lit<}
+use Rattle.std.proofs.Common.{◌≤◌, List, ℕ, length, subst, sym, ◌∙◌}
 use Rattle.session_text.proofs.Reading.{event_reads}
 use Rattle.session_text.proofs.Spelling.{event_short}
 use Rattle.session_text.proofs.line.parse_line.Goals as goal
 
-pub of-requires : goal.of-requires
-of-requires c =
+pub filled-requires : goal.filled-requires
+filled-requires c =
     let r = event_reads c.args.bytes.now c.in_ok-event.event (sym c.in_ok-event.ensures) in
-    (lit< tt, subst (λ (bs : List ℕ). length bs ≤ 193) (sym r.1) (event_short c.in_ok-event.event r.0))
+    subst (λ (bs : List ℕ). length bs ≤ 329) (sym r.1) (event_short c.in_ok-event.event r.0)
 
 pub invariant_of-result : goal.invariant_of-result
 invariant_of-result c =
     let r = event_reads c.args.bytes.now c.in_ok-event.event (sym c.in_ok-event.ensures) in
-    (r.0, c.of.ensures ∙ r.1)
+    let short : length c.args.bytes.now ≤ 329 = subst (λ (bs : List ℕ). length bs ≤ 329) (sym r.1) (event_short c.in_ok-event.event r.0) in
+    (r.0, short, c.filled.ensures.length, c.filled.ensures.front ∙ r.1)

@@ -5,6 +5,6 @@ use Rattle.session_text.proofs.line.Line.text.Goals as goal
 
 pub returns-clause-read : goal.returns-clause-read
 returns-clause-read c =
-    ap event_of (c.as_bytes.ensures.value ∙ c.self.invariant.1)
+    ap event_of c.self.invariant.3
     ∙ event_again c.self.inside.event c.self.invariant.0
     ∙ ap Ok c.self.view_is
