@@ -120,7 +120,7 @@ impl<S: TopStore> Manager<S> {
 
     /// Begins a transaction in its parent, which is the root where the name has one label. It is refused by the
     /// first of these that holds: the name began before (Used); the parent never began (NoParent), has an aborted
-    /// ancestor, itself included (Orphan), or has committed (NoParent); 4,096 have begun (Full).
+    /// ancestor, itself included (Orphan), or has committed (NoParent); 16,384 have begun (Full).
     pub fn begin(&mut self, by: By, name: &Name) -> Result<Outcome, NoMemory>
         requires free { IsFree self.old.history by (Begin name.now) }
         ensures ok { IfOk result (λ outcome. Added self.old self.new by (Begin name.now) outcome) }

@@ -56,7 +56,7 @@ fn texts_and_their_faults(rt: HostRuntime) {
         ("session s\nbegin a\nset a x 5\nget a x\ncommit a\n", None),
         ("session s\nbegin a\ncommit a\nget a x\ncommit a\n", None),
         (
-            "session s\nbegin a/b/c/d/e/f/g/h/i\n",
+            "session s\nbegin a/b/c/d/e/f/g/h/i/j/k/l/m/n/o/p/q\n",
             Some((2, LineKind::Name)),
         ),
         (
@@ -101,7 +101,8 @@ fn every_command_is_served(rt: HostRuntime) {
         "session s\nafter a begun\nafter a/b done\n",
         "session s\nsession q\nsession r\nbegin a\nsession t\n",
         "session s\nget a x\n",
-        "session s\nbegin a/b/c/d/e/f/g/h\n",
+        "session s\nbegin a/b/c/d/e/f/g/h/i\n",
+        "session s\nbegin a/b/c/d/e/f/g/h/i/j/k/l/m/n/o/p\n",
         "session s\nbegin a\nbegin a\nbegin b\nbegin a/b\n",
         "session s\nbegin a\nget a/b x\nget b x\nset c/d x 1\n",
         "session s\nadd a x 1\ndel b x\nabort a/b\ncommit c\nbegin a\n",

@@ -85,7 +85,7 @@ fn refuses_names(rt: HostRuntime) {
         ("A", NameFault::BadByte),
         ("a b", NameFault::BadByte),
         ("aaaaaaaaaaaaaaaaa", NameFault::Long),
-        ("a/b/c/d/e/f/g/h/i", NameFault::Deep),
+        ("a/b/c/d/e/f/g/h/i/j/k/l/m/n/o/p/q", NameFault::Deep),
     ] {
         assert!(rt; Name::parse(text.as_bytes()).err() == Some(fault), "{text}");
     }
@@ -96,10 +96,11 @@ fn reads_names(rt: HostRuntime) {
     for (text, depth, parent) in [
         ("a", 1, ""),
         ("a/b", 2, "a"),
+        ("a/b/c/d/e/f/g/h/i", 9, "a/b/c/d/e/f/g/h"),
         (
-            "0123456789abcdef/b/c/d/e/f/g/z",
-            8,
-            "0123456789abcdef/b/c/d/e/f/g",
+            "0123456789abcdef/b/c/d/e/f/g/h/i/j/k/l/m/n/o/z",
+            16,
+            "0123456789abcdef/b/c/d/e/f/g/h/i/j/k/l/m/n/o",
         ),
     ] {
         assert!(rt; name(&rt, text).depth() == depth, "{text}");

@@ -281,16 +281,16 @@ fn hangs_below(tree: &Tree, above: u32, below: u32) -> bool {
 #[test]
 fn goes_up_a_chain(rt: HostRuntime) {
     let mut tree = Tree::new(rt.alloc());
-    let text = b"a/a/a/a/a/a/a/a";
-    for above in 0..8 {
+    let text = b"a/a/a/a/a/a/a/a/a/a/a/a/a/a/a/a";
+    for above in 0..16 {
         let name = Name::parse(&text[..2 * above + 1]).expect(&rt, "a name");
         assert!(rt; begins_at(&mut tree, &name, above as u32), "{above}");
     }
-    for above in 0..7 {
+    for above in 0..15 {
         assert!(rt; hangs_below(&tree, above, above + 1), "{above}");
     }
     let script = "
-        abort a/a/a/a -> 5
+        abort a/a/a/a -> 13
         abort a/a/a/a/a -> orphan a/a/a/a
         children a/a/a -> 0
         abort a -> 3

@@ -41,8 +41,8 @@ LIST is session numbers joined by commas, counted from 0 in the order of the hea
 next line of that session. Then, or without --schedule at once, the sessions run in rounds: a round
 attempts one line of every session that has lines left. A line that waits is attempted again.
 
-Limits of a text: 134,217,728 bytes; 64 sessions of 1,024 lines each; 4,096 transactions, those of
-all levels together; names of 8 labels, joined by '/'; labels of 1 to 16 bytes of a-z and 0-9; keys of
+Limits of a text: 134,217,728 bytes; 64 sessions of 1,024 lines each; 16,384 transactions, those of
+all levels together; names of 16 labels, joined by '/'; labels of 1 to 16 bytes of a-z and 0-9; keys of
 1 to 32 bytes of a-z, 0-9, '.', '_' and '-', and groups of 1 to 31; 4,096 keys, and as many rows of the
 table. Values are whole numbers of 64 bits, from -9223372036854775808 to 9223372036854775807. A text has
 no comments and no blank lines. FILE is a path: '-' is not standard input, but /dev/stdin is.
@@ -63,8 +63,8 @@ The workers share the sessions: each takes the next line of some session, attemp
 session on. Two runs of one text may answer its lines in other orders; what is guaranteed of a report
 holds of each of them. 'tx replay' has one order that is always the same.
 
-Limits of a text: 134,217,728 bytes; 64 sessions of 1,024 lines each; 4,096 transactions, those of
-all levels together; names of 8 labels, joined by '/'; labels of 1 to 16 bytes of a-z and 0-9; keys of
+Limits of a text: 134,217,728 bytes; 64 sessions of 1,024 lines each; 16,384 transactions, those of
+all levels together; names of 16 labels, joined by '/'; labels of 1 to 16 bytes of a-z and 0-9; keys of
 1 to 32 bytes of a-z, 0-9, '.', '_' and '-', and groups of 1 to 31; 4,096 keys, and as many rows of the
 table. Values are whole numbers of 64 bits, from -9223372036854775808 to 9223372036854775807. A text has
 no comments and no blank lines. FILE is a path: '-' is not standard input, but /dev/stdin is.
@@ -91,8 +91,8 @@ begun, done and ended could be; and that the lines of each session stand in orde
 each. It does not say that a wait, a victim, a refusal or a stuck line had its cause, what an orphan had
 to be replied, or which text was run.
 
-Limits of a report: 64 sessions of 1,024 lines each; 4,096 transactions, those of all levels together;
-names of 8 labels, joined by '/'; labels of 1 to 16 bytes of a-z and 0-9; keys of 1 to 32 bytes of a-z,
+Limits of a report: 64 sessions of 1,024 lines each; 16,384 transactions, those of all levels together;
+names of 16 labels, joined by '/'; labels of 1 to 16 bytes of a-z and 0-9; keys of 1 to 32 bytes of a-z,
 0-9, '.', '_' and '-', and groups of 1 to 31; 4,096 rows of each table. Values are whole numbers of 64
 bits, from -9223372036854775808 to 9223372036854775807. It has no comments and no blank lines. REPORT is
 a path: '-' is not standard input, but /dev/stdin is. Its end has to come within 134,217,728 reads.

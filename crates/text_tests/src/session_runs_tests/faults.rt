@@ -52,7 +52,10 @@ fn is_faulty(rt: &impl Abort, alloc: Global, second: &str, line: &str) -> bool {
 #[test]
 fn lines_of_texts(rt: HostRuntime) {
     for (second, line) in [
-        ("begin a/b/c/d/e/f/g/h/i\n", "tx: line 2: name\n"),
+        (
+            "begin a/b/c/d/e/f/g/h/i/j/k/l/m/n/o/p/q\n",
+            "tx: line 2: name\n",
+        ),
         ("begin aaaaaaaaaaaaaaaaa\n", "tx: line 2: name\n"),
         ("set a x -0\n", "tx: line 2: number\n"),
         ("set a x 9223372036854775808\n", "tx: line 2: number\n"),
@@ -88,6 +91,37 @@ fn a_line_past_the_limit(rt: HostRuntime) {
     let text = long_text(&rt, rt.alloc(), 1025);
     let told = replayed(rt.alloc(), text.as_bytes(), empty(&rt, rt.alloc()));
     assert!(rt; told.is_fault("tx: line 1026: limit\n"));
+}
+
+// Seventeen sessions that begin 16,385 transactions of the top level: the last has one line, each other 1,024.
+fn crowded_text(rt: &impl Abort, alloc: Global) -> String {
+    let mut text = String::new(alloc);
+    for number in 0..16385u32 {
+        if number % 1024 == 0 {
+            let header = format!(in alloc; "session s{number}\n").expect(rt, "memory");
+            text.push_str(&header).expect(rt, "memory");
+        }
+        let line = format!(in alloc; "begin t{number}\n").expect(rt, "memory");
+        text.push_str(&line).expect(rt, "memory");
+    }
+    text
+}
+
+// How many lines end with these bytes.
+fn count_of(out: &[u8], end: &[u8]) -> usize {
+    out.split(|b| *b == b'\n')
+        .filter(|line| line.ends_with(end))
+        .count()
+}
+
+#[test]
+fn a_transaction_past_the_limit(rt: HostRuntime) {
+    let text = crowded_text(&rt, rt.alloc());
+    let told = replayed(rt.alloc(), text.as_bytes(), empty(&rt, rt.alloc()));
+    assert!(rt; told.status == 0 && told.err.is_empty());
+    assert!(rt; count_of(&told.out, b" -> refused full") == 1);
+    assert!(rt; count_of(&told.out, b"s15360 1024 begin t16383 -> refused full") == 1);
+    assert!(rt; count_of(&told.out, b" -> ok") == 16384);
 }
 
 /// A store that answers this fault in place of its rows.

@@ -189,8 +189,9 @@ end
 /// Names at their bounds, and the least number.
 const BOUNDS: &str = "\
 open
-s 1 begin aaaaaaaaaaaaaaaa/aaaaaaaaaaaaaaaa/aaaaaaaaaaaaaaaa/aaaaaaaaaaaaaaaa/aaaaaaaaaaaaaaaa/aaaaaaaaaaaaaaaa/aaaaaaaaaaaaaaaa/aaaaaaaaaaaaaaaa -> refused no-parent
-s 2 set a x -9223372036854775808 -> refused unknown
+s 1 begin aaaaaaaaaaaaaaaa/aaaaaaaaaaaaaaaa/aaaaaaaaaaaaaaaa/aaaaaaaaaaaaaaaa/aaaaaaaaaaaaaaaa/aaaaaaaaaaaaaaaa/aaaaaaaaaaaaaaaa/aaaaaaaaaaaaaaaa/aaaaaaaaaaaaaaaa/aaaaaaaaaaaaaaaa/aaaaaaaaaaaaaaaa/aaaaaaaaaaaaaaaa/aaaaaaaaaaaaaaaa/aaaaaaaaaaaaaaaa/aaaaaaaaaaaaaaaa/aaaaaaaaaaaaaaaa -> refused no-parent
+s 2 begin a/b/c/d/e/f/g/h/i -> refused no-parent
+s 3 set a x -9223372036854775808 -> refused unknown
 table
 end
 ";
