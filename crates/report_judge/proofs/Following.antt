@@ -28,7 +28,7 @@ use Rattle.report_check.specs.Passing.{Read, entry_in, goes_on, is_close, may_do
 use Rattle.report_tables.specs.Spoken.{AreSessionsOf, IsNumberOf, Tells, line_entry}
 use Rattle.report_tables.specs.Told.{AreTransactionsOf, Comes, IsTreeOf}
 use Rattle.report_tables.specs.Valued.{value_at}
-use Rattle.report_tables.specs.Chained.{Known}
+use Rattle.report_tables.specs.Chained.{Known, known_by}
 use Rattle.report_tables.specs.declared.transactions.Transactions.{Transactions}
 use Rattle.report_tables.proofs.Doing.{done_idle}
 use Rattle.report_tables.proofs.Trees.{same_children}
@@ -175,8 +175,8 @@ line_follows r old new l n line e a es kept unclosed numbered tells same_closing
 -- ---- an abort that no line asked for
 
 -- nothing was named
-pub same_known : (old new : Seen) → new.values.entries ≡ old.values.entries → new.groups.keys ≡ old.groups.keys → known new ≡ known old
-same_known old new values groups = λ i. record { keys = keys_of (values i); groups = groups i }
+pub same_known : (old new : Seen) → new.values.entries ≡ old.values.entries → keys_of new.groups.entries ≡ keys_of old.groups.entries → known new ≡ known old
+same_known old new values groups = λ i. known_by (keys_of (values i)) (groups i)
 
 -- the sessions are as before
 sessions_beside : (labels : List (List ℕ)) (h : History) (es : _) (x : Entry) → ((s : ℕ) → answered (x ∷ h) s ≡ answered h s) → ((s : ℕ) → waiting (x ∷ h) s ≡ waiting h s) → AreSessionsOf labels h es
@@ -188,7 +188,7 @@ sessions_beside labels h es x same_answered same_waiting are = record {
   later = λ s past. (same_answered s ∙ (are.later s past).0, same_waiting s ∙ (are.later s past).1);
 }
 
-pub victim_follows : (r : Read) (old new : Seen) (t : Name) → IsKept r old → old.closing ≡ false → new.closing ≡ old.closing → new.table.items ≡ old.table.items → new.values.entries ≡ old.values.entries → new.groups.keys ≡ old.groups.keys
+pub victim_follows : (r : Read) (old new : Seen) (t : Name) → IsKept r old → old.closing ≡ false → new.closing ≡ old.closing → new.table.items ≡ old.table.items → new.values.entries ≡ old.values.entries → keys_of new.groups.entries ≡ keys_of old.groups.entries
     → new.sessions.entries ≡ old.sessions.entries → (ok : Bool) → Comes ok r.history (Aborts t) (λ y. AreTransactionsOf (1 + length r.opening) (known old) (y ∷ r.history) new.transactions)
     → Follows ok r (told.Victim t) new
 victim_follows r old new t kept unclosed same_closing same_table same_values same_groups same_sessions ok comes = by ok comes
@@ -230,7 +230,7 @@ and_false false = refl
 pub close_deep : (h : History) (t : Name) → (length t ≡ 1 → ⊥) → may_follow h (closing t) ≡ false
 close_deep h t e = ap (λ c. ((true && true) && may_do h (Aborts t)) && c) (deep t e) ∙ and_false _
 
-pub close_follows : (r : Read) (old new : Seen) (t : Name) → IsKept r old → length t ≡ 1 → new.closing ≡ true → new.table.items ≡ old.table.items → new.values.entries ≡ old.values.entries → new.groups.keys ≡ old.groups.keys
+pub close_follows : (r : Read) (old new : Seen) (t : Name) → IsKept r old → length t ≡ 1 → new.closing ≡ true → new.table.items ≡ old.table.items → new.values.entries ≡ old.values.entries → keys_of new.groups.entries ≡ keys_of old.groups.entries
     → new.sessions.entries ≡ old.sessions.entries → (ok : Bool) → Comes ok r.history (Aborts t) (λ y. AreTransactionsOf (1 + length r.opening) (known old) (y ∷ r.history) new.transactions)
     → Follows ok r (told.Close t) new
 close_follows r old new t kept one now_closing same_table same_values same_groups same_sessions ok comes = by ok comes

@@ -1,6 +1,7 @@
 -- What is seen of a report, one line later.
 use Rattle.std.proofs.Common.{◌≡◌, ℕ, ℤ, ◌+◌, Bool, true, false, not, cond, ◌&&◌, List, [], ◌∷◌, ◌++◌, length, Option, Some, None, refl, sym, ap, subst, ◌∙◌, true≢false, arith}
 use Rattle.std.specs.Prelude.{nat_lt}
+use Rattle.std.specs.Map.{keys_of}
 use Rattle.serial_spec.specs.History.{History}
 use Rattle.serial_spec.specs.Rows.{Rows}
 use Rattle.report_lines.specs.declared.entry.ReportEntry.{ReportEntry}
@@ -120,7 +121,7 @@ opening_steps r s new k v seen at part sessions transactions closing table ok op
           };
         })
 
-pub final_steps : (r : Read) (s new : Seen) (k : List ℕ) (v : ℤ) → IsSeen r s → r.part ≡ Final → new.part ≡ s.part → new.values.entries ≡ s.values.entries → new.groups.keys ≡ s.groups.keys → new.sessions.entries ≡ s.sessions.entries
+pub final_steps : (r : Read) (s new : Seen) (k : List ℕ) (v : ℤ) → IsSeen r s → r.part ≡ Final → new.part ≡ s.part → new.values.entries ≡ s.values.entries → keys_of new.groups.entries ≡ keys_of s.groups.entries → new.sessions.entries ≡ s.sessions.entries
     → new.transactions ≡ s.transactions → new.closing ≡ s.closing → (ok : Bool) → AddsRow ok s.table.items k v new.table.items
     → Steps ok (cond (may_add_row r.table k) (Some (with_row r (k, v))) None) new
 final_steps r s new k v seen at part values groups sessions transactions closing ok adds = by ok adds

@@ -12,7 +12,7 @@ use Rattle.serial_spec.specs.Places.{is_below}
 use Rattle.serial_spec.specs.Rows.{IsRising, Rows, value_in}
 use Rattle.report_lines.specs.declared.entry.ReportEntry.{ReportEntry}
 use Rattle.report_check.specs.Passing.{Part, Start, Opening, Entries, Final, Ended, Read, entry_in, is_close, may_add_row, may_follow, with_entry}
-use Rattle.report_tables.specs.Chained.{Known}
+use Rattle.report_tables.specs.Chained.{Known, known_by}
 use Rattle.report_tables.specs.Spoken.{AreSessionsOf}
 use Rattle.report_tables.specs.Told.{AreTransactionsOf}
 use Rattle.report_tables.specs.Valued.{Values, value_at}
@@ -42,7 +42,7 @@ opened rows = map (λ r. (r.0, Some r.1)) rows
 
 -- the keys and the groups that were named
 abbrev pub known : Seen → Known
-known s = record { keys = keys_of s.values.entries; groups = s.groups.keys }
+known s = known_by (keys_of s.values.entries) (keys_of s.groups.entries)
 
 -- what is kept, the part left aside
 pub record IsKept (r : Read) (s : Seen) : Type 0 where

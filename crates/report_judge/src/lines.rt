@@ -150,7 +150,7 @@ fn passes(seen: &mut Seen, after: usize) -> Result<Verdict, NoMemory>
     let first = first_access(&seen.transactions);
     match serve_all(
         &mut seen.values,
-        &seen.groups,
+        &mut seen.groups,
         &seen.transactions.accesses,
         first,
     ) {

@@ -12,11 +12,11 @@ ghost use Rattle.report_lines.specs.Reading.{entry_of, row_of};
 ghost use Rattle.report_check.specs.Passing.{Ended, Final, Opening, Read, Start, at_part, entry_next, has_ended, may_add_row, may_end, middle_next, next, next_at, opening_next, unread, with_opening, with_row};
 ghost use Rattle.report_judge.specs.Kept.{AddsRow, Follows, IsKept, IsMiddle, IsSeen, Opens, Steps, is_access, is_done_ok, line_of, may_come, opened, part_of};
 ghost use Rattle.serial_spec.specs.declared.target.Asked.TheVariants.{At, Over};
-ghost use Rattle.report_tables.specs.Chained.{Known};
+ghost use Rattle.report_tables.specs.Chained.{Known, known_by};
 ghost use Rattle.report_tables.specs.Told.{AreTransactionsOf, Comes};
 ghost use Rattle.report_tables.specs.Valued.{value_at};
 
-use indexmap::{IndexMap, IndexSet};
+use indexmap::IndexMap;
 use report_lines::{ReportEntry, parse_row, read_entry};
 use report_tables::{
     Access, ByNumber, Groups, Sessions, Transactions, Values, abort, access, begin, commit,
@@ -42,7 +42,7 @@ pub(crate) struct Seen {
     pub(crate) part: Part,
     /// Every key that was named, with its value in the opening rows.
     pub(crate) values: Values,
-    /// Every group that was summed.
+    /// Every group that was summed. Its sum is made in the second pass.
     pub(crate) groups: Groups,
     pub(crate) sessions: Sessions,
     pub(crate) transactions: Transactions,
@@ -61,7 +61,7 @@ impl Seen {
         Ok(Seen {
             part: Part::Start,
             values: IndexMap::new(alloc),
-            groups: IndexSet::new(alloc),
+            groups: IndexMap::new(alloc),
             sessions: IndexMap::new(alloc),
             transactions,
             closing: false,
@@ -158,9 +158,9 @@ fn take_access(
     reply: Reply,
 ) -> Result<bool, NoMemory>
     ensures effect { IfOk result (λ ok. (base : ℕ) (groups : List (List ℕ)) (h : History)
-        → AreTransactionsOf base (record { keys = keys values.old; groups = groups }) h transactions.old
+        → AreTransactionsOf base (known_by (keys values.old) groups) h transactions.old
         → line ≡ base + suc (length h) → Comes ok h (Accesses name.now (At key.now op) reply)
-        (λ e. AreTransactionsOf base (record { keys = keys values.new; groups = groups }) (e ∷ h) transactions.new)) }
+        (λ e. AreTransactionsOf base (known_by (keys values.new) groups) (e ∷ h) transactions.new)) }
     ensures same { OnOk result ((k : List ℕ) → value_at values.new.entries k ≡ value_at values.old.entries k) }
 {
     let key = number_of(values, key)?;
@@ -182,10 +182,10 @@ fn take_sum(
     group: &Group,
     reply: Reply,
 ) -> Result<bool, NoMemory>
-    ensures { IfOk result (λ ok. (base : ℕ) (keys : List (List ℕ)) (h : History)
-        → AreTransactionsOf base (record { keys = keys; groups = groups.old.keys }) h transactions.old
+    ensures { IfOk result (λ ok. (base : ℕ) (ks : List (List ℕ)) (h : History)
+        → AreTransactionsOf base (known_by ks (keys groups.old)) h transactions.old
         → line ≡ base + suc (length h) → Comes ok h (Accesses name.now (Over group.now) reply)
-        (λ e. AreTransactionsOf base (record { keys = keys; groups = groups.new.keys }) (e ∷ h) transactions.new)) }
+        (λ e. AreTransactionsOf base (known_by ks (keys groups.new)) (e ∷ h) transactions.new)) }
 {
     let group = group_number(groups, group)?;
     let made = Access {
@@ -207,9 +207,9 @@ fn take_effect(
     answer: &Answer,
 ) -> Result<bool, NoMemory>
     ensures effect { IfOk result (λ ok. (base : ℕ) (h : History)
-        → AreTransactionsOf base (record { keys = keys values.old; groups = groups.old.keys }) h transactions.old
+        → AreTransactionsOf base (known_by (keys values.old) (keys groups.old)) h transactions.old
         → line ≡ base + suc (length h) → Comes ok h (effect_of event.now answer.now)
-        (λ e. AreTransactionsOf base (record { keys = keys values.new; groups = groups.new.keys }) (e ∷ h) transactions.new)) }
+        (λ e. AreTransactionsOf base (known_by (keys values.new) (keys groups.new)) (e ∷ h) transactions.new)) }
     ensures same { OnOk result ((k : List ℕ) → value_at values.new.entries k ≡ value_at values.old.entries k) }
 {
     match event {

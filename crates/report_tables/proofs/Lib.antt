@@ -1,11 +1,13 @@
 pub mod Appending
 pub mod Climbing
+pub mod Counting
 pub mod Doing
 pub mod Leading
 pub mod Numbered
 pub mod Running
 pub mod Speaking
 pub mod Summing
+pub mod Tallying
 pub mod Matching
 pub mod Trees
 pub mod Walking

@@ -1,5 +1,5 @@
 -- The sum over a group, key by key.
-use Rattle.std.proofs.Common.{◌≡◌, ℕ, ℤ, zero, suc, pos, ◌+◌, ◌<◌, ◌≤◌, ◌+ℤ◌, ◌-ℤ◌, true, false, cond, Bool, List, [], ◌∷◌, length, take, Option, Some, None, is_some, unwrap_or, refl, sym, ap, subst, ◌∙◌, arith}
+use Rattle.std.proofs.Common.{◌≡◌, ℕ, ℤ, zero, suc, pos, ◌+◌, ◌<◌, ◌+ℤ◌, ◌-ℤ◌, true, false, cond, Bool, List, [], ◌∷◌, length, take, Option, Some, None, is_some, unwrap_or, refl, ap, ◌∙◌, arith}
 use Rattle.std.specs.Prelude.{slice_get}
 use Rattle.std.specs.List.{AllByRecursion, IsDistinct}
 use Rattle.std.specs.Map.{keys_of, lookup}
@@ -15,7 +15,11 @@ use Rattle.serial_spec.specs.Rows.{value_in}
 use Rattle.serial_spec.specs.Serial.{Map, put}
 use Rattle.serial_spec.specs.Sums.{sum_in}
 use Rattle.serial_spec.proofs.Sums.{sum_in-cong, sum_in-else, sum_in-put, sum_in-rows}
-use Rattle.report_tables.specs.Valued.{Values, joined, part_of, value_at}
+use Rattle.report_tables.specs.Valued.{Values, joined, value_at}
+
+-- what a key with this value adds to the sum of the group
+abbrev pub part_of : List ℕ → List ℕ → Option ℤ → ℤ
+part_of g k v = cond (has g k) (amount v) (pos 0)
 
 -- what all keys add
 abbrev pub total : List ℕ → Values → ℤ
@@ -74,26 +78,7 @@ total_more g (x ∷ es) (suc n) k v at =
     let front : total g (take (suc n + 1) (x ∷ es)) ≡ total g (take (n + 1) es) +ℤ part_of g x.0 x.1 = ap (λ m. total g (take m (x ∷ es))) more in
     omega (arith, ints, rest, front)
 
-pub keys_more : (es : Values) (n : ℕ) (k : List ℕ) (v : Option ℤ) → slice_get es n ≡ Some (k, v) → IsKey k → AllByRecursion IsKey (keys_of (take n es)) → AllByRecursion IsKey (keys_of (take (n + 1) es))
-keys_more [] n k v at key front = absurd (false≢true (ap is_some at))
-keys_more (x ∷ es) zero k v at key front = (subst (λ (e : List ℕ × Option ℤ). IsKey e.0) (sym (same_entry x (k, v) at)) key, tt)
-keys_more (x ∷ es) (suc n) k v at key front =
-    let more : suc n + 1 ≡ suc (n + 1) = omega arith in
-    subst (λ m. AllByRecursion IsKey (keys_of (take m (x ∷ es)))) (sym more) (front.0, keys_more es n k v at key front.1)
-
 pub entry_within : (es : Values) (n : ℕ) → n < length es → (k : List ℕ) × (v : Option ℤ) × (slice_get es n ≡ Some (k, v))
 entry_within [] n h = absurd (omega (arith, h))
 entry_within (e ∷ es) zero h = (e.0, e.1, refl)
 entry_within (e ∷ es) (suc n) h = entry_within es n (omega (arith, h))
-
-take_all : (es : Values) (n : ℕ) → length es ≤ n → take n es ≡ es
-take_all [] zero h = refl
-take_all [] (suc n) h = refl
-take_all (e ∷ es) zero h = absurd (omega (arith, h))
-take_all (e ∷ es) (suc n) h = ap (λ (xs : Values). e ∷ xs) (take_all es n (omega (arith, h)))
-
--- behind the last key the total is the sum
-pub total_last : (g : List ℕ) (es : Values) (n : ℕ) → length es ≤ n → IsDistinct label_eq (keys_of es) → AllByRecursion IsKey (keys_of (take n es)) → total g (take n es) ≡ sum_in (value_at es) g
-total_last g es n h distinct keys =
-    let all : take n es ≡ es = take_all es n h in
-    ap (total g) all ∙ sym (sum_is_total g es distinct (subst (λ (xs : Values). AllByRecursion IsKey (keys_of xs)) all keys))

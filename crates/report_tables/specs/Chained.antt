@@ -38,6 +38,9 @@ pub record Known : Type 0 where
   pub keys : List (List ℕ)
   pub groups : List (List ℕ)
 
+abbrev pub known_by : List (List ℕ) → List (List ℕ) → Known
+known_by ks gs = record { keys = ks; groups = gs }
+
 -- with numbers for the key or the group this is asked
 abbrev pub Asks : Known → ByNumber → Asked → Type 0
 Asks known (At i o) (asked.At k q) = (slice_get known.keys i ≡ Some k) × (o ≡ q)

@@ -1,4 +1,5 @@
 pub mod Valued
+pub mod Tallied
 pub mod Chained
 pub mod Spoken
 pub mod Told

@@ -1,9 +1,7 @@
 -- The keys that a report names, each with its number, and their values.
-use Rattle.std.specs.Prelude.{◌≡◌, ℕ, ℤ, pos, if◌then◌else◌, List, [], ◌∷◌, ◌++◌, Option, Some, None}
+use Rattle.std.specs.Prelude.{◌≡◌, ℕ, ℤ, List, [], ◌∷◌, ◌++◌, Option, Some, None}
 use Rattle.std.specs.Map.{lookup}
 use Rattle.txn_names.specs.Path.{label_eq}
-use Rattle.txn_names.specs.Groups.{has}
-use Rattle.serial_spec.specs.Operations.{amount}
 use Rattle.serial_spec.specs.Rows.{Rows}
 use Rattle.serial_spec.specs.Serial.{Map}
 
@@ -18,10 +16,6 @@ joined (Some v) = v
 -- what each key has
 abbrev pub value_at : Values → Map
 value_at es k = joined (lookup (label_eq k) es)
-
--- what a key with this value adds to the sum of the group
-abbrev pub part_of : List ℕ → List ℕ → Option ℤ → ℤ
-part_of g k v = if has g k then amount v else pos 0
 
 -- the second list is the first with more behind it
 abbrev pub Extends : {X : Type 0} → List X → List X → Type 0

@@ -5,6 +5,7 @@ mod chains;
 mod comparing;
 mod serving;
 mod sessions;
+mod tallies;
 mod transactions;
 mod values;
 

@@ -1,21 +1,21 @@
 //! The second pass: the committed top-level transactions are run over one plain map.
-ghost use Rattle.std.specs.Prelude.{◌≡◌, ◌≤◌, ℕ, ℤ, List, length, slice_get, Option, Some, None};
+ghost use Rattle.std.specs.Prelude.{◌≡◌, ◌≤◌, ℕ, List, length, slice_get, Option, Some, None};
 ghost use Rattle.indexmap.specs.IndexMap.{keys};
-ghost use Rattle.txn_names.specs.Text.{IsKey};
 ghost use Rattle.serial_spec.specs.declared.target.Asked.{Asked};
 ghost use Rattle.serial_spec.specs.declared.target.Asked.TheVariants.{At, Over};
 ghost use Rattle.serial_spec.specs.Flat.{same_reply};
 ghost use Rattle.serial_spec.specs.Serial.{reply_at};
-ghost use Rattle.serial_spec.specs.Sums.{sum_in};
+ghost use Rattle.serial_spec.specs.Sums.{reply_of_sum};
 ghost use Rattle.report_check.specs.Serving.{PlacedAccess, or_least};
-ghost use Rattle.report_tables.specs.Chained.{Asks, Leads};
+ghost use Rattle.report_tables.specs.Chained.{Asks, Leads, known_by};
 ghost use Rattle.report_tables.specs.Served.{AreServed, GoesOn, IsServed, IsToldBy};
-ghost use Rattle.report_tables.specs.Valued.{part_of, value_at};
+ghost use Rattle.report_tables.specs.Tallied.{AreTallied};
+ghost use Rattle.report_tables.specs.Valued.{Values as Valued, value_at};
 
 use crate::chains::{Access, ByNumber};
+use crate::tallies::{set_value, tally};
 use crate::values::{Groups, Values};
 use serial_spec::{Op, Reply, act};
-use txn_names::{Group, Key};
 
 // The smaller of a line and one that may have been found.
 fn or_least(line: usize, found: Option<usize>) -> usize
@@ -40,97 +40,74 @@ fn is_same_reply(one: &Reply, other: &Reply) -> bool
     }
 }
 
-// What a key with this value adds to the sum of the group.
-fn part_of(key: &Key, value: &Option<i64>, group: &Group) -> i64
-    ensures part { result ≡ part_of group.now key.now value.now }
-    ensures key { IsKey key.now }
+// What a sum is replied.
+fn reply_over(sum: i128) -> Reply
+    ensures { result ≡ reply_of_sum sum }
 {
-    let _bytes = key.as_bytes();
-    if group.has(key) {
-        value.unwrap_or(0)
-    } else {
-        0
-    }
-}
-
-// What the key with this number adds to the sum of the group.
-fn part_at(values: &Values, group: &Group, number: usize) -> i64
-    ensures part { (k : List ℕ) (v : Option ℤ) → slice_get values.now.entries number ≡ Some (k, v)
-        → result ≡ part_of group.now k v }
-    ensures key { (k : List ℕ) (v : Option ℤ) → slice_get values.now.entries number ≡ Some (k, v) → IsKey k }
-{
-    match values.get_index(number) {
-        Some((key, value)) => part_of(key, value, group),
-        None => 0,
-    }
-}
-
-// The sum over the group: it goes through all keys that were named. No partial sum is lost, since an i128 holds each.
-fn sum_over(values: &Values, group: &Group) -> i128
-    ensures { result ≡ sum_in (value_at values.now.entries) group.now }
-{
-    let mut sum: i128 = 0;
-    for number in 0..values.len() {
-        sum += i128::from(part_at(values, group, number));
-    }
-    sum
-}
-
-// What a sum over the group is replied.
-fn reply_over(values: &Values, group: &Group) -> Reply
-    ensures { result ≡ reply_at (value_at values.now.entries) (Over group.now) }
-{
-    match i64::try_from(sum_over(values, group)) {
+    match i64::try_from(sum) {
         Ok(sum) => Reply::Value(sum),
         Err(_) => Reply::Overflow,
     }
 }
 
 // Does the access to the key with this number, whatever its reply, and tells whether that was the one due.
-fn serve_at_key(values: &mut Values, number: usize, op: &Op, reply: &Reply) -> bool
-    ensures { (k : List ℕ) → slice_get (keys values.old) number ≡ Some k
+fn serve_at_key(
+    values: &mut Values,
+    groups: &mut Groups,
+    number: usize,
+    op: &Op,
+    reply: &Reply,
+) -> bool
+    requires { AreTallied values.old.entries groups.old.entries }
+    ensures keys { keys groups.new ≡ keys groups.old }
+    ensures tallied { AreTallied values.new.entries groups.new.entries }
+    ensures served { (k : List ℕ) → slice_get (keys values.old) number ≡ Some k
         → IsServed (At k op.now) reply.now values.old.entries values.new.entries result }
 {
-    match values.get_index_mut(number) {
-        Some(value) => {
-            let (after, due) = act(*value, op);
-            *value = after;
-            is_same_reply(reply, &due)
-        }
-        None => true,
-    }
+    let Some((_, value)) = values.get_index(number) else {
+        return true;
+    };
+    let (after, due) = act(*value, op);
+    set_value(values, groups, number, after);
+    is_same_reply(reply, &due)
 }
 
 // Whether the reply is that of a sum over the group with this number.
-fn is_due_over(values: &Values, groups: &Groups, number: usize, reply: &Reply) -> bool
-    ensures { (g : List ℕ) → slice_get groups.now.keys number ≡ Some g
-        → result ≡ same_reply reply.now (reply_at (value_at values.now.entries) (Over g)) }
+fn is_due_over(groups: &Groups, number: usize, reply: &Reply) -> bool
+    ensures { (g : List ℕ) (es : Valued) → AreTallied es groups.now.entries → slice_get (keys groups.now) number ≡ Some g
+        → result ≡ same_reply reply.now (reply_at (value_at es) (Over g)) }
 {
     match groups.get_index(number) {
-        Some(group) => is_same_reply(reply, &reply_over(values, group)),
+        Some((_, sum)) => is_same_reply(reply, &reply_over(*sum)),
         None => true,
     }
 }
 
 // Does the access, whatever its reply, and tells whether that was the one due.
-fn serve(values: &mut Values, groups: &Groups, access: &Access) -> bool
-    ensures { (a : Asked) → Asks (record { keys = keys values.old; groups = groups.now.keys }) access.now.asked a
+fn serve(values: &mut Values, groups: &mut Groups, access: &Access) -> bool
+    requires { AreTallied values.old.entries groups.old.entries }
+    ensures keys { keys groups.new ≡ keys groups.old }
+    ensures tallied { AreTallied values.new.entries groups.new.entries }
+    ensures served { (a : Asked) → Asks (known_by (keys values.old) (keys groups.old)) access.now.asked a
         → IsServed a access.now.reply values.old.entries values.new.entries result }
 {
     match &access.asked {
-        ByNumber::At(number, op) => serve_at_key(values, *number, op, &access.reply),
-        ByNumber::Over(number) => is_due_over(values, groups, *number, &access.reply),
+        ByNumber::At(number, op) => serve_at_key(values, groups, *number, op, &access.reply),
+        ByNumber::Over(number) => is_due_over(groups, *number, &access.reply),
     }
 }
 
 // Does the access, and tells the least of the lines that were wrong.
 fn serve_one(
     values: &mut Values,
-    groups: &Groups,
+    groups: &mut Groups,
     access: &Access,
     wrong: Option<usize>,
 ) -> Option<usize>
-    ensures { (a : Asked) → Asks (record { keys = keys values.old; groups = groups.now.keys }) access.now.asked a
+    requires { AreTallied values.old.entries groups.old.entries }
+    ensures keys { keys groups.new ≡ keys groups.old }
+    ensures tallied { AreTallied values.new.entries groups.new.entries }
+    ensures told { (a : Asked) → Asks (known_by (keys values.old) (keys groups.old)) access.now.asked a
         → IsToldBy access.now a values.old.entries values.new.entries wrong result }
 {
     if serve(values, groups, access) {
@@ -143,14 +120,17 @@ fn serve_one(
 // Does the access at this place, if there is one, and tells where the next one stands and the least of the lines that were wrong.
 fn serve_at(
     values: &mut Values,
-    groups: &Groups,
+    groups: &mut Groups,
     accesses: &[Access],
     at: Option<usize>,
     wrong: Option<usize>,
 ) -> (Option<usize>, Option<usize>)
-    ensures { (before last : Option ℕ) (rest : List PlacedAccess)
-        → Leads accesses.now (record { keys = keys values.old; groups = groups.now.keys }) at before last rest
-        → GoesOn accesses.now (record { keys = keys values.old; groups = groups.now.keys }) last rest
+    requires { AreTallied values.old.entries groups.old.entries }
+    ensures keys { keys groups.new ≡ keys groups.old }
+    ensures tallied { AreTallied values.new.entries groups.new.entries }
+    ensures told { (before last : Option ℕ) (rest : List PlacedAccess)
+        → Leads accesses.now (known_by (keys values.old) (keys groups.old)) at before last rest
+        → GoesOn accesses.now (known_by (keys values.old) (keys groups.old)) last rest
         values.old.entries values.new.entries wrong result }
 {
     let Some(place) = at else {
@@ -165,16 +145,16 @@ fn serve_at(
     }
 }
 
-/// Does the accesses from this one on, one after the other, whatever their replies. It gives the least line of one whose reply
-/// was not the one due, if there is one.
-pub fn serve_all(
+// Does the accesses from this one on, and tells the least of the lines that were wrong.
+fn run(
     values: &mut Values,
-    groups: &Groups,
+    groups: &mut Groups,
     accesses: &[Access],
     first: Option<usize>,
 ) -> Option<usize>
+    requires { AreTallied values.old.entries groups.old.entries }
     ensures { (last : Option ℕ) (ps : List PlacedAccess)
-        → Leads accesses.now (record { keys = keys values.old; groups = groups.now.keys }) first None last ps
+        → Leads accesses.now (known_by (keys values.old) (keys groups.old)) first None last ps
         → AreServed ps values.old.entries values.new.entries result }
 {
     let mut wrong = None;
@@ -185,4 +165,20 @@ pub fn serve_all(
         wrong = told;
     }
     wrong
+}
+
+/// Does the accesses from this one on, one after the other, whatever their replies. It gives the least line of one whose reply
+/// was not the one due, if there is one. A sum costs a look at it, and each change of a value a look for each dot of its key.
+pub fn serve_all(
+    values: &mut Values,
+    groups: &mut Groups,
+    accesses: &[Access],
+    first: Option<usize>,
+) -> Option<usize>
+    ensures { (last : Option ℕ) (ps : List PlacedAccess)
+        → Leads accesses.now (known_by (keys values.old) (keys groups.old)) first None last ps
+        → AreServed ps values.old.entries values.new.entries result }
+{
+    tally(groups, values);
+    run(values, groups, accesses, first)
 }

@@ -3,7 +3,7 @@ ghost use Rattle.std.specs.Prelude.{◌≡◌, ℕ, List, slice_get, Some, IfOk,
 ghost use Rattle.indexmap.specs.IndexMap.{keys};
 ghost use Rattle.report_tables.specs.Valued.{Extends, value_at};
 
-use indexmap::{IndexMap, IndexSet};
+use indexmap::IndexMap;
 use serial_spec::NoMemory;
 use std::alloc::AllocError;
 use txn_names::{Group, Key};
@@ -27,16 +27,20 @@ pub fn number_of(values: &mut Values, key: &Key) -> Result<usize, NoMemory>
     }
 }
 
-/// The groups in the order in which they are first named.
-pub type Groups = IndexSet<Group>;
+/// The groups in the order in which they are first named, each with its sum once keys have their values.
+pub type Groups = IndexMap<Group, i128>;
 
 /// The number of the group. The only error is that memory runs out.
 pub fn group_number(groups: &mut Groups, group: &Group) -> Result<usize, NoMemory>
-    ensures group { IfOk result (λ i. slice_get groups.new.keys i ≡ Some group.now) }
-    ensures grown { OnOk result (Extends groups.old.keys groups.new.keys) }
+    ensures group { IfOk result (λ i. slice_get (keys groups.new) i ≡ Some group.now) }
+    ensures grown { OnOk result (Extends (keys groups.old) (keys groups.new)) }
 {
-    match groups.insert_full(*group) {
-        Ok((number, _)) => Ok(number),
+    if let Some(number) = groups.get_index_of(group) {
+        return Ok(number);
+    }
+    let number = groups.len();
+    match groups.insert(*group, 0) {
+        Ok(_) => Ok(number),
         Err(_) => Err(AllocError),
     }
 }
