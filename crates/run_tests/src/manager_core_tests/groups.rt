@@ -33,7 +33,13 @@ fn a_sum_has_the_values_of_its_answer(rt: HostRuntime) {
         4 sum b g -> value 16
         10 commit b -> ok
     ";
-    play(&rt, rt.alloc(), "g.z=9 gx=5", script, "g.x=3 g.y=4 g.z=9 gx=5");
+    play(
+        &rt,
+        rt.alloc(),
+        "g.z=9 gx=5",
+        script,
+        "g.x=3 g.y=4 g.z=9 gx=5",
+    );
 }
 
 #[test]
