@@ -7,3 +7,4 @@ pub mod Places
 pub mod Summers
 pub mod Found
 pub mod Listed
+mod Bare

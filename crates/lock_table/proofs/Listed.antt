@@ -1,5 +1,5 @@
 -- Whoever keeps another from an access of a target is in a list of the target.
-use Rattle.std.proofs.Common.{◌≡◌, ◌<◌, ℕ, true, false, ◌&&◌, cond, inl, inr, List, [], ◌∷◌, length, take, refl, sym, ap, subst, ◌∙◌, true≢false, arith}
+use Rattle.std.proofs.Common.{◌≡◌, ◌<◌, ℕ, Bool, true, false, ◌&&◌, cond, inl, inr, List, [], ◌∷◌, length, take, refl, sym, ap, subst, ◌∙◌, true≢false, arith}
 use Rattle.std.proofs.lemmas.Bool.{and_from, cases_lt, false_from_ne_true, false≢true, ne_eqb}
 use Rattle.std.proofs.lemmas.List.{length-take-le, take_all}
 use Rattle.txn_names.specs.Groups.{IsGroupBefore, has}
@@ -81,6 +81,14 @@ module _ (l : Targeted) (k : List ℕ) (place : ℕ) (other : place ≡ 0 → �
   listed_at_group g there long =
       let front : g ≡ take place k = same_front g k there ∙ ap (λ n. take n k) long in
       subst (λ (w : List ℕ). one.has_place l.sums u g ≡ (has w k && one.has_place l.sums u w)) front (sym (ap (λ b. b && one.has_place l.sums u g) there)) ∙ sym further
+
+  -- where nobody has locked a group the list has nobody
+  pub listed_nowhere : l.sums ≡ one.nothing → false ≡ is_listed l (Key k) place u
+  listed_nowhere bare = sym (further ∙ ap (λ (sums : one.Table). has (take place k) k && one.has_place sums u (take place k)) bare ∙ and_false (has (take place k) k))
+    where
+      and_false : (b : Bool) → (b && false) ≡ false
+      and_false true = refl
+      and_false false = refl
 
   -- without one the list has nobody
   pub listed_at_none : ((g : List ℕ) → IsGroupBefore k place g → ⊥) → false ≡ is_listed l (Key k) place u

@@ -32,6 +32,9 @@ pub(crate) fn sums_let(sums: &Locks, tree: &Tree, txn: TxnNo, key: &Key) -> bool
 pub(crate) fn sum_blocks(sums: &Locks, tree: &Tree, holder: TxnNo, txn: TxnNo, key: &Key) -> bool
     ensures { IsTrue result ↔ BlocksBySum tree.now sums.now txn key.now holder }
 {
+    if sums.is_empty() {
+        return false;
+    }
     let len = key.as_bytes().len();
     for place in 1..len {
         if let Some(group) = key.group_before(place) {
@@ -58,6 +61,9 @@ pub(crate) fn add_summers(
         (IsJoined found.old.items (BlocksBySum tree.now sums.now txn key.now) found.new.items) }
     ensures succeeds { NoSumBlocks tree.now sums.now txn key.now → IsOk result }
 {
+    if sums.is_empty() {
+        return Ok(());
+    }
     let len = key.as_bytes().len();
     for place in 1..len {
         if let Some(group) = key.group_before(place) {

@@ -191,6 +191,9 @@ impl TargetLocks {
         if place == 0 {
             return self.keys.holders(key);
         }
+        if self.sums.is_empty() {
+            return &[];
+        }
         match key.group_before(place) {
             Some(group) => self.sums.holders(&group.as_key()),
             None => &[],

@@ -2,6 +2,7 @@ use Rattle.std.proofs.Common.{◌≡◌, ◌≤◌, [], false, length, IsOk, Lis
 use Rattle.serial_spec.specs.declared.operation.Kind.TheVariants.{Write}
 use Rattle.lock_table.specs.Blocking.{blockers_in, is_blocked_in}
 use Rattle.lock_table.specs.Targeted.{IsAmong, IsJoined}
+use Rattle.lock_table.proofs.Bare.{none_joined}
 use Rattle.lock_table.proofs.Blockers.{no_blockers}
 use Rattle.lock_table.proofs.Summers.{all_joined, none_more, one_more}
 use Rattle.lock_table.proofs.groups.add_summers.Goals as goal
@@ -46,3 +47,6 @@ pub returns-clause-ok : goal.returns-clause-ok
 returns-clause-ok c =
     let far : length c.args.key.now ≤ c.loop-place.place = search rules in
     all_joined c.args.tree.now c.args.sums.now c.args.txn c.args.key.now c.loop-place.place c.args.found.now.items c.loop-place.found.items c.loop-place.invariant.joined far
+
+pub returns-then-is_empty-clause-ok : goal.returns-then-is_empty-clause-ok
+returns-then-is_empty-clause-ok c = none_joined c.args.tree.now c.args.sums.now c.args.txn c.args.key.now (c.is_empty.ensures.0 c.if-is_empty.true) c.args.found.now.items

@@ -1,8 +1,13 @@
 use Rattle.std.proofs.Common.{◌≡◌, List, ℕ, None, Some, ap, sym, ◌∙◌}
 use Rattle.lock_table.specs.Locked as one
 use Rattle.lock_table.specs.Targeted.{Targeted}
-use Rattle.lock_table.proofs.Listed.{listed_at_group, listed_at_none}
+use Rattle.lock_table.proofs.Listed.{listed_at_group, listed_at_none, listed_nowhere}
 use Rattle.lock_table.proofs.targets.TargetLocks.key_list_at.Goals as goal
+
+pub returns-then-is_empty-clause-each : goal.returns-then-is_empty-clause-each
+returns-then-is_empty-clause-each c =
+    let l : Targeted = record { keys = c.self.inside.keys; sums = c.self.inside.sums; writers = c.self.inside.writers } in
+    rw (sym c.self.view_is) (λ u. listed_nowhere l c.args.key.now c.args.place c.if-place-eq0.false u (c.is_empty.ensures.0 c.if-is_empty.true))
 
 pub returns-in-Some-clause-each : goal.returns-in-Some-clause-each
 returns-in-Some-clause-each c =
