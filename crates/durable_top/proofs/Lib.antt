@@ -1,2 +1,4 @@
 pub mod Ordered
 pub mod Tables
+pub mod Greatest
+pub mod Numbering

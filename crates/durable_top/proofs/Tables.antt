@@ -43,7 +43,7 @@ row_within (r ∷ rs) (suc i) h e = row_within rs i (omega arith) e
 -- ---- one change after another
 
 -- the last change decides at its key
-last_change : (cs : List Change) (c : Change) (k : List ℕ) → change_at (cs ++ c ∷ []) k ≡ cond (label_eq c.key k) (Some c.value) (change_at cs k)
+pub last_change : (cs : List Change) (c : Change) (k : List ℕ) → change_at (cs ++ c ∷ []) k ≡ cond (label_eq c.key k) (Some c.value) (change_at cs k)
 last_change [] c k = refl
 last_change (d ∷ cs) c k =
     ap (λ x. or_else x (cond (label_eq d.key k) (Some d.value) None)) (last_change cs c k)

@@ -1,2 +1,5 @@
 pub mod Store
 pub mod Memory
+pub mod Numbered
+pub mod Numbers
+pub mod Joined

@@ -1,13 +1,14 @@
 //! A store in memory.
-ghost use Rattle.std.specs.Prelude.{◌≡◌, ◌≤◌, ◌↔◌, ℕ, if◌then◌else◌, IfOk, OnOk, OnErr, IfErr};
+ghost use Rattle.std.specs.Prelude.{◌≡◌, ◌≤◌, ◌↔◌, ℕ, if◌then◌else◌, IfOk};
 ghost use Rattle.serial_spec.specs.Changes.{AreRising, overlay};
 ghost use Rattle.serial_spec.specs.Rows.{IsRising, value_in};
 ghost use Rattle.durable_top.specs.Store.{plain};
+ghost use Rattle.durable_top.specs.Numbered.{entries_in, AreNumbered};
 ghost use Rattle.durable_top.specs.Memory.{fresh, planned, MemoryLoads, MemoryCommits};
 
-use crate::rows::{change, table_of};
+use crate::row_table::RowTable;
 use crate::store::{Row, StoreFault, TopStore};
-use serial_spec::{NoMemory, PlainTable};
+use serial_spec::NoMemory;
 use std::alloc::Global;
 use std::marker::Model;
 use txn_names::Change;
@@ -15,7 +16,7 @@ use txn_names::Change;
 /// A table in memory. It faults when memory runs out, and as it is planned (`refusing`, `failing`).
 #[derive(Drop)]
 pub struct MemStore {
-    table: PlainTable,
+    table: RowTable,
     faults: u64,
     refuses_in: u64,
     fails_in: u64,
@@ -27,18 +28,24 @@ impl Model for MemStore {
 
     ghost Value = { Memory };
 
-    ghost view = { λ s. record { rows = s.table.rows; faults = s.faults; refuses_in = s.refuses_in; fails_in = s.fails_in; has_failed = s.has_failed } };
+    ghost view = { λ s. record {
+      rows = s.table;
+      faults = s.faults;
+      refuses_in = s.refuses_in;
+      fails_in = s.fails_in;
+      has_failed = s.has_failed;
+    } };
 }
 
 impl MemStore {
-    /// A store of these rows, which stand in byte order of their keys, one for each. The only error is that
-    /// memory runs out.
+    /// A store of these rows, which stand in byte order of their keys, one for each, with numbers of at least 0.
+    /// The only error is that memory runs out.
     pub fn new(alloc: Global, rows: &[Row]) -> Result<MemStore, NoMemory>
-        requires { IsRising (plain rows.now) }
-        ensures { IfOk result (λ store. store ≡ fresh (plain rows.now) 0 0) }
+        requires rising { IsRising (plain rows.now) }
+        requires least { AreNumbered rows.now }
+        ensures { IfOk result (λ store. store ≡ fresh rows.now 0 0) }
     {
-        let table = table_of(alloc, rows)?;
-        table.has_rising_rows();
+        let table = RowTable::of_rows(alloc, rows)?;
         Ok(MemStore {
             table,
             faults: 0,
@@ -50,8 +57,9 @@ impl MemStore {
 
     /// A store as by `new` that answers Refused at one commit, the first being number 1, and changes nothing then.
     pub fn refusing(alloc: Global, rows: &[Row], commit: u64) -> Result<MemStore, NoMemory>
-        requires { IsRising (plain rows.now) }
-        ensures { IfOk result (λ store. store ≡ fresh (plain rows.now) commit 0) }
+        requires rising { IsRising (plain rows.now) }
+        requires least { AreNumbered rows.now }
+        ensures { IfOk result (λ store. store ≡ fresh rows.now commit 0) }
     {
         let mut store = MemStore::new(alloc, rows)?;
         store.refuses_in = commit;
@@ -61,8 +69,9 @@ impl MemStore {
     /// A store as by `new` whose device fails at one commit, the first being number 1. That commit changes
     /// nothing, and each call from then on answers Failed.
     pub fn failing(alloc: Global, rows: &[Row], commit: u64) -> Result<MemStore, NoMemory>
-        requires { IsRising (plain rows.now) }
-        ensures { IfOk result (λ store. store ≡ fresh (plain rows.now) 0 commit) }
+        requires rising { IsRising (plain rows.now) }
+        requires least { AreNumbered rows.now }
+        ensures { IfOk result (λ store. store ≡ fresh rows.now 0 commit) }
     {
         let mut store = MemStore::new(alloc, rows)?;
         store.fails_in = commit;
@@ -83,33 +92,10 @@ impl MemStore {
     }
 }
 
-fn rows_of(alloc: Global, table: &PlainTable) -> Result<Vec<Row>, NoMemory>
-    ensures rows { IfOk result (λ rows. plain rows.items ≡ table.now.rows) }
-    ensures rising { IsRising table.now.rows }
-{
-    let mut rows = Vec::new(alloc);
-    for place in 0..table.len() {
-        if let Some((key, value)) = table.at(place) {
-            rows.push(Row { key: *key, value })?;
-        }
-    }
-    Ok(rows)
-}
-
-// What the store answers where it makes the changes.
-fn made(table: &mut PlainTable, changes: &[Change]) -> Result<(), StoreFault>
-    ensures ok { OnOk result (value_in table.new.rows ≡ overlay changes.now (value_in table.old.rows)) }
-    ensures err { OnErr result (table.new.rows ≡ table.old.rows) }
-    ensures memory { IfErr result (λ fault. fault ≡ StoreFault.Memory) }
-{
-    match change(table, changes) {
-        Ok(()) => Ok(()),
-        Err(_) => Err(StoreFault::Memory),
-    }
-}
-
 impl TopStore for MemStore {
-    ghost table = { λ s. value_in s.rows };
+    ghost table = { λ s. value_in (plain s.rows) };
+
+    ghost numbered = { λ s. entries_in s.rows };
 
     ghost doubt = { λ _. 0 };
 
@@ -117,7 +103,9 @@ impl TopStore for MemStore {
 
     ghost faults = { λ s. s.faults };
 
-    ghost may_leave = { λ s left. left ≡ value_in s.rows };
+    ghost may_leave = { λ s left. left ≡ value_in (plain s.rows) };
+
+    ghost may_leave_numbered = { λ s left. left ≡ entries_in s.rows };
 
     ghost loads = { MemoryLoads };
 
@@ -127,7 +115,7 @@ impl TopStore for MemStore {
         if self.has_failed {
             return Err(StoreFault::Failed);
         }
-        match rows_of(alloc, &self.table) {
+        match self.table.rows(alloc) {
             Ok(rows) => Ok(rows),
             Err(_) => Err(StoreFault::Memory),
         }
@@ -140,7 +128,7 @@ impl TopStore for MemStore {
         self.refuses_in = self.refuses_in.saturating_sub(1);
         let answer = match planned {
             Some(fault) => Err(fault),
-            None => made(&mut self.table, changes),
+            None => self.table.commit(changes),
         };
         if answer.is_err() {
             self.faults = self.faults.saturating_add(1);

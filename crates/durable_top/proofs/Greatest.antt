@@ -1,0 +1,180 @@
+-- The greatest number of a table, and what changes make of it.
+use Rattle.std.proofs.Common.{zero, suc, is_some, ◌≡◌, inl, inr, ℕ, ◌+◌, ◌<◌, ℤ, pos, ◌≤ℤ◌, ◌<ℤ◌, Bool, true, false, cond, List, [], ◌∷◌, ◌++◌, length, take, map, get_or, Option, Some, None, IfSome, refl, sym, ap, subst, ◌∙◌, arith}
+use Rattle.std.proofs.lemmas.Int.{ints}
+use Rattle.std.proofs.lemmas.List.{take_more}
+use Rattle.std.proofs.lemmas.Option.{get_or_from_slice_get, slice_get_within}
+use Rattle.std.specs.Cmp.Lexicographic.{slice_cmp, nat_list_eq_equiv, texts_ties}
+use Rattle.std.specs.declared.cmp.Ordering.TheVariants.{Less}
+use Rattle.std.specs.List.{AllByRecursion, slice_get}
+use Rattle.std.specs.Option.{option_map}
+use Rattle.std.specs.Ordering.{nat_cmp, is_eq}
+use Rattle.txn_names.specs.Path.{label_eq}
+use Rattle.txn_names.proofs.Names.{label_eq_self}
+use Rattle.txn_names.specs.declared.change.Change.{Change}
+use Rattle.serial_spec.specs.Changes.{change_at, AreRising}
+use Rattle.serial_spec.specs.History.{or_else}
+use Rattle.serial_spec.specs.Rows.{Rows, value_in, IsRising}
+use Rattle.serial_spec.specs.Serial.{Map, put}
+use Rattle.durable_top.specs.Numbers.{Has, number_or, renumbered, IsTopIn, IsTopOf, HasValue}
+use Rattle.durable_top.proofs.Tables.{last_change}
+
+-- ---- lists
+
+pub all_has : {X : Type 0} (P : X → Type 0) (xs : List X) (x : X) → AllByRecursion P xs → Has xs x → P x
+all_has P [] x all h = absurd h
+all_has P (y ∷ xs) x all (inl same) = subst P (sym same) all.0
+all_has P (y ∷ xs) x all (inr later) = all_has P xs x all.1 later
+
+all_push : {X : Type 0} (P : X → Type 0) (xs : List X) (x : X) → AllByRecursion P xs → P x → AllByRecursion P (xs ++ x ∷ [])
+all_push P [] x all here = (here, tt)
+all_push P (y ∷ xs) x all here = (all.0, all_push P xs x all.1 here)
+
+all_weaker : {X : Type 0} (P Q : X → Type 0) (xs : List X) → ((x : X) → P x → Q x) → AllByRecursion P xs → AllByRecursion Q xs
+all_weaker P Q [] f all = tt
+all_weaker P Q (y ∷ xs) f all = (f y all.0, all_weaker P Q xs f all.1)
+
+has_left : {X : Type 0} (xs ys : List X) (x : X) → Has xs x → Has (xs ++ ys) x
+has_left [] ys x h = absurd h
+has_left (y ∷ xs) ys x (inl same) = inl same
+has_left (y ∷ xs) ys x (inr later) = inr (has_left xs ys x later)
+
+has_last : {X : Type 0} (xs : List X) (x : X) → Has (xs ++ x ∷ []) x
+has_last [] x = inl refl
+has_last (y ∷ xs) x = inr (has_last xs x)
+
+pub has_at : {X : Type 0} (xs : List X) (i : ℕ) (x : X) → i < length xs → x ≡ get_or xs i x → Has xs x
+has_at [] i x h e = absurd (omega (arith, h))
+has_at (y ∷ xs) zero x h e = inl e
+has_at (y ∷ xs) (suc i) x h e = inr (has_at xs i x (omega (arith, h)) e)
+
+pub has_mapped : {X Y : Type 0} (f : X → Y) (xs : List X) (x : X) → Has xs x → Has (map f xs) (f x)
+has_mapped f [] x h = absurd h
+has_mapped f (y ∷ xs) x (inl e) = inl (ap f e)
+has_mapped f (y ∷ xs) x (inr later) = inr (has_mapped f xs x later)
+
+-- ---- rows
+
+next_is : (rows : Rows) (i : ℕ) (r : List ℕ × ℤ) → slice_get rows i ≡ Some r → take (i + 1) rows ≡ take i rows ++ r ∷ []
+next_is rows i r at =
+    take_more rows i r (slice_get_within rows i r at) ∙ ap (λ x. take i rows ++ x ∷ []) (get_or_from_slice_get rows i r r at)
+
+-- one more row, below the greatest so far
+pub top_below : (rows : Rows) (i : ℕ) (k : List ℕ) (n top : ℤ) → slice_get rows i ≡ Some (k, n)
+    → IsTopOf (take i rows) top → n ≤ℤ top → IsTopOf (take (i + 1) rows) top
+top_below rows i k n top at h below = subst (λ rs. IsTopOf rs top) (sym (next_is rows i (k, n) at)) (record {
+  least = h.least;
+  bounds = all_push (λ r. r.1 ≤ℤ top) (take i rows) (k, n) h.bounds below;
+  met = elim h.met [ inl nil ↦ inl nil | inr it ↦ inr (it.0, has_left (take i rows) ((k, n) ∷ []) it.0 it.1, it.2) ];
+})
+
+-- and one above it
+pub top_above : (rows : Rows) (i : ℕ) (k : List ℕ) (n top : ℤ) → slice_get rows i ≡ Some (k, n)
+    → IsTopOf (take i rows) top → top ≤ℤ n → IsTopOf (take (i + 1) rows) n
+top_above rows i k n top at h above = subst (λ rs. IsTopOf rs n) (sym (next_is rows i (k, n) at)) (record {
+  least = let least = h.least in omega (arith, ints);
+  bounds = all_push (λ r. r.1 ≤ℤ n) (take i rows) (k, n)
+      (all_weaker (λ r. r.1 ≤ℤ top) (λ r. r.1 ≤ℤ n) (take i rows) (λ r low. omega (arith, ints)) h.bounds) (omega (arith, ints));
+  met = inr ((k, n), has_last (take i rows) (k, n), refl);
+})
+
+number_had : (rows : Rows) (k : List ℕ) (P : ℤ → Type 0) → ((r : List ℕ × ℤ) → Has rows r → P r.1) → IfSome (value_in rows k) P
+number_had [] k P each = tt
+number_had (x ∷ rows) k P each = go (number_had rows k P (λ r has. each r (inr has))) (label_eq x.0 k)
+  where
+    go : IfSome (value_in rows k) P → (b : Bool) → IfSome (cond b (Some x.1) (value_in rows k)) P
+    go more true = each x (inl refl)
+    go more false = more
+
+pub unequal : (a b : List ℕ) → slice_cmp nat_cmp a b ≡ Less → label_eq a b ≡ false
+unequal a b e = texts_ties a b ∙ ap is_eq e
+
+unequal_back : (a b : List ℕ) → slice_cmp nat_cmp a b ≡ Less → label_eq b a ≡ false
+unequal_back a b e = nat_list_eq_equiv.symm b a ∙ unequal a b e
+
+-- where keys rise, each row is found by its key
+row_found : (rows : Rows) (r : List ℕ × ℤ) → IsRising rows → Has rows r → value_in rows r.0 ≡ Some r.1
+row_found [] r rising has = absurd has
+row_found (x ∷ rows) r rising (inl e) =
+    subst (λ (q : List ℕ × ℤ). value_in (x ∷ rows) q.0 ≡ Some q.1) (sym e)
+    (ap (λ b. cond b (Some x.1) (value_in rows x.0)) (label_eq_self x.0))
+row_found (x ∷ rows) r rising (inr has) =
+    let less = all_has (λ q. slice_cmp nat_cmp x.0 q ≡ Less) (map (λ r. r.0) rows) r.0 rising.0 (has_mapped (λ (q : List ℕ × ℤ). q.0) rows r has) in
+    ap (λ b. cond b (Some x.1) (value_in rows r.0)) (unequal x.0 r.0 less) ∙ row_found rows r rising.1 has
+
+-- of rows whose numbers are not below 0
+pub top_by : (rows : Rows) (top : ℤ) → IsRising rows → ((k : List ℕ) → IfSome (value_in rows k) (λ n. pos 0 ≤ℤ n))
+    → IsTopOf rows top → IsTopIn (value_in rows) top
+top_by rows top rising least h = record {
+  least = h.least;
+  bounds = λ k. go (value_in rows k) (least k) (number_had rows k (λ n. n ≤ℤ top) (λ r has. all_has (λ x. x.1 ≤ℤ top) rows r h.bounds has));
+  met = elim h.met [ inl nil ↦ inl nil | inr it ↦ inr (it.0.0, row_found rows it.0 rising it.1 ∙ ap (λ n. Some n) it.2) ];
+}
+  where
+    go : (o : Option ℤ) → IfSome o (λ n. pos 0 ≤ℤ n) → IfSome o (λ n. n ≤ℤ top) → IfSome o (λ n. (pos 0 ≤ℤ n) × (n ≤ℤ top))
+    go None a b = tt
+    go (Some n) a b = (a, b)
+
+-- ---- changes
+
+pub renumbered_none : (n : ℤ) (m : Map) → renumbered n [] m ≡ m
+renumbered_none n m = λ i k. m k
+
+-- one more change is put into the numbers
+pub renumbered_more : (n : ℤ) (cs : List Change) (i : ℕ) (c : Change) (m : Map) → i < length cs → c ≡ get_or cs i c
+    → put (renumbered n (take i cs) m) c.key (option_map (λ _. n) c.value) ≡ renumbered n (take (i + 1) cs) m
+renumbered_more n cs i c m within at =
+    let each : (k : List ℕ) → put (renumbered n (take i cs) m) c.key (option_map (λ _. n) c.value) k ≡ renumbered n (take i cs ++ c ∷ []) m k = λ k.
+    go (label_eq c.key k) c.value (change_at (take i cs) k) (m k) ∙ ap (λ x. number_or n x (m k)) (sym (last_change (take i cs) c k)) in
+    let same : put (renumbered n (take i cs) m) c.key (option_map (λ _. n) c.value) ≡ renumbered n (take i cs ++ c ∷ []) m = λ j k. each k j in
+    same ∙ ap (λ ds. renumbered n ds m) (ap (λ d. take i cs ++ d ∷ []) at ∙ sym (take_more cs i c within))
+  where
+    go : (b : Bool) (v : Option ℤ) (x : Option (Option ℤ)) (w : Option ℤ) → cond b (option_map (λ _. n) v) (number_or n x w) ≡ number_or n (cond b (Some v) x) w
+    go true v x w = refl
+    go false v x w = refl
+
+none_above : (k : List ℕ) (cs : List Change) → AllByRecursion (λ q. slice_cmp nat_cmp k q ≡ Less) (map (λ c. c.key) cs) → change_at cs k ≡ None
+none_above k [] h = refl
+none_above k (c ∷ cs) h =
+    ap (λ x. or_else x (cond (label_eq c.key k) (Some c.value) None)) (none_above k cs h.1)
+    ∙ ap (λ b. cond b (Some c.value) None) (unequal_back k c.key h.0)
+
+-- where the changes rise, each decides at its key
+change_found : (cs : List Change) (c : Change) → AreRising cs → Has cs c → change_at cs c.key ≡ Some c.value
+change_found [] c rising has = absurd has
+change_found (d ∷ cs) c rising (inl e) = subst (λ (x : Change). change_at (d ∷ cs) x.key ≡ Some x.value) (sym e)
+    (ap (λ x. or_else x (cond (label_eq d.key d.key) (Some d.value) None)) (none_above d.key cs rising.0) ∙ ap (λ b. cond b (Some d.value) None) (label_eq_self d.key))
+change_found (d ∷ cs) c rising (inr has) =
+    ap (λ x. or_else x (cond (label_eq d.key c.key) (Some d.value) None)) (change_found cs c rising.1 has)
+
+pub value_there : (cs : List Change) (i : ℕ) (c : Change) → i < length cs → c ≡ get_or cs i c → is_some c.value ≡ true → HasValue cs
+value_there cs i c h e some = go c.value refl some
+  where
+    go : (o : Option ℤ) → c.value ≡ o → is_some o ≡ true → HasValue cs
+    go None is some = cc
+    go (Some v) is some = (c, v, has_at cs i c h e, is)
+
+-- where a value is given, the number is the greatest
+pub top_raised : (m new : Map) (cs : List Change) (top n : ℤ) → IsTopIn m top → top <ℤ n → AreRising cs → HasValue cs
+    → new ≡ renumbered n cs m → IsTopIn new n
+top_raised m new cs top n h above rising some is = subst (λ t. IsTopIn t n) (sym is) (record {
+  least = let least = h.least in omega (arith, ints);
+  bounds = λ k. go (change_at cs k) (m k) (h.bounds k);
+  met = inr (some.0.key, ap (λ x. number_or n x (m some.0.key)) (change_found cs some.0 rising some.2 ∙ ap (λ v. Some v) some.3));
+})
+  where
+    go : (x : Option (Option ℤ)) (e : Option ℤ) → IfSome e (λ q. (pos 0 ≤ℤ q) × (q ≤ℤ top)) → IfSome (number_or n x e) (λ q. (pos 0 ≤ℤ q) × (q ≤ℤ n))
+    go None None b = tt
+    go None (Some e) b = (b.0, let low = b.1 in omega (arith, ints))
+    go (Some None) e b = tt
+    go (Some (Some v)) e b = (let least = h.least in omega (arith, ints), omega (arith, ints))
+
+-- else each number is one of before
+pub none_below : (m new : Map) (cs : List Change) (top n : ℤ) → IsTopIn m top → top <ℤ n → new ≡ renumbered n cs m
+    → (k : List ℕ) → IfSome (new k) (λ q. pos 0 ≤ℤ q)
+none_below m new cs top n h above is = subst (λ (t : Map). (k : List ℕ) → IfSome (t k) (λ q. pos 0 ≤ℤ q)) (sym is) (λ k. go (change_at cs k) (m k) (h.bounds k))
+  where
+    go : (x : Option (Option ℤ)) (e : Option ℤ) → IfSome e (λ q. (pos 0 ≤ℤ q) × (q ≤ℤ top)) → IfSome (number_or n x e) (λ q. pos 0 ≤ℤ q)
+    go None None b = tt
+    go None (Some e) b = b.0
+    go (Some None) e b = tt
+    go (Some (Some v)) e b = let least = h.least in omega (arith, ints)

@@ -1,0 +1,181 @@
+//! The numbers of a table beside its values, and the greatest of them.
+ghost use Rattle.std.specs.Prelude.{◌≡◌, ◌≤◌, ◌<◌, ◌+◌, ◌≤ℤ◌, ◌<ℤ◌, ◌+ℤ◌, pos, [], ℤ, None, length, IfOk, IfSome, OnOk, OnErr, IsOk, IsTrue};
+ghost use Rattle.std.specs.Option.{option_map};
+ghost use Rattle.serial_spec.specs.Changes.{AreRising};
+ghost use Rattle.serial_spec.specs.Rows.{IsRising, value_in};
+ghost use Rattle.serial_spec.specs.Serial.{put};
+ghost use Rattle.durable_top.specs.Numbered.{AreNumbered, entries_in, last_number, numbers_of};
+ghost use Rattle.durable_top.specs.Numbers.{IsTopIn, IsTopOf, HasValue, numbers_in, renumbered};
+
+use crate::store::Row;
+use serial_spec::{NoMemory, PlainTable};
+use std::alloc::Global;
+use std::marker::Model;
+use txn_names::{Change, Key};
+
+/// What number each key has, and the greatest of them, 0 where there is none.
+#[derive(Drop)]
+pub struct NumberTable {
+    numbers: PlainTable,
+    top: i64,
+}
+
+impl Model for NumberTable {
+    ghost use Rattle.serial_spec.specs.Rows.{value_in};
+    ghost use Rattle.durable_top.specs.Numbers.{IsTopIn, Numbers};
+
+    ghost Value = { Numbers };
+
+    ghost view = { λ m. record { rows = m.numbers.rows; room = m.numbers.room; top = m.top } };
+
+    ghost invariant = { λ m. IsTopIn (value_in m.numbers.rows) m.top };
+}
+
+/// The number above this one, where an i64 holds it.
+pub fn next_number(top: i64) -> Option<i64>
+    ensures above { IfSome result (λ number. number ≡ top +ℤ pos 1) }
+    ensures fits { IfSome result (λ number. number ≤ℤ last_number) }
+    ensures none { result ≡ None → top ≡ last_number }
+{
+    top.checked_add(1)
+}
+
+// The greatest number of the table, 0 where there is none.
+fn top_in(numbers: &PlainTable) -> i64
+    ensures top { IsTopOf numbers.now.rows result }
+    ensures rising { IsRising numbers.now.rows }
+{
+    let mut top = 0;
+    for place in 0..numbers.len() {
+        if let Some((_, number)) = numbers.at(place) {
+            if number > top {
+                top = number;
+            }
+        }
+    }
+    top
+}
+
+// The numbers of these rows. Of several rows with one key the first counts.
+fn numbers_from(alloc: Global, rows: &[Row]) -> Result<PlainTable, NoMemory>
+    ensures { IfOk result (λ numbers. value_in numbers.rows ≡ value_in (numbers_in rows.now)) }
+{
+    let mut numbers = PlainTable::new(alloc);
+    let mut left = rows.len();
+    while left > 0 {
+        left -= 1;
+        let row = &rows[left];
+        numbers.put(&row.key, Some(row.commit))?;
+    }
+    Ok(numbers)
+}
+
+// Makes a change under the number, for which there is room.
+fn put_reserved(numbers: &mut PlainTable, number: i64, change: &Change)
+    requires { 0 < numbers.old.room }
+    ensures put { value_in numbers.new.rows
+        ≡ put (value_in numbers.old.rows) change.now.key (option_map (λ _. number) change.now.value) }
+    ensures room { numbers.old.room ≤ numbers.new.room + 1 }
+{
+    let renumbered = match change.value {
+        Some(_) => Some(number),
+        None => None,
+    };
+    numbers.put(&change.key, renumbered).unwrap();
+}
+
+// Makes the changes under the number, for which there is room.
+fn renumber(numbers: &mut PlainTable, number: i64, changes: &[Change])
+    requires { length changes.now ≤ numbers.old.room }
+    ensures { value_in numbers.new.rows ≡ renumbered number changes.now (value_in numbers.old.rows) }
+{
+    for change in changes {
+        put_reserved(numbers, number, change);
+    }
+}
+
+// Whether one of the changes gives a value.
+fn has_value(changes: &[Change]) -> bool
+    ensures { IsTrue result → HasValue changes.now }
+{
+    for change in changes {
+        if change.value.is_some() {
+            return true;
+        }
+    }
+    false
+}
+
+impl NumberTable {
+    /// No numbers. It takes no memory yet.
+    pub fn new(alloc: Global) -> NumberTable
+        ensures rows { result.rows ≡ [] }
+        ensures top { result.top ≡ pos 0 }
+    {
+        NumberTable {
+            numbers: PlainTable::new(alloc),
+            top: 0,
+        }
+    }
+
+    /// The numbers of these rows, which are at least 0. The only error is that memory runs out.
+    #[tactic(auto, using(crate::proofs::Numbering::top_of_rows))]
+    pub fn of_rows(alloc: Global, rows: &[Row]) -> Result<NumberTable, NoMemory>
+        requires { AreNumbered rows.now }
+        ensures { IfOk result (λ table. value_in table.rows ≡ numbers_of (entries_in rows.now)) }
+    {
+        let numbers = numbers_from(alloc, rows)?;
+        let top = top_in(&numbers);
+        Ok(NumberTable { numbers, top })
+    }
+
+    /// The key's number.
+    pub fn number(&self, key: &Key) -> Option<i64>
+        ensures { result ≡ value_in self.now.rows key.now }
+    {
+        self.numbers.get(key)
+    }
+
+    /// No number is below 0. The call does nothing: it tells the prover so.
+    pub fn has_none_below_0(&self)
+        ensures { IsTopIn (value_in self.now.rows) self.now.top }
+    {
+        let _ = &self.numbers;
+    }
+
+    /// The greatest number, 0 where there is none. It is kept, and nothing is looked through.
+    pub fn top(&self) -> i64
+        ensures is { result ≡ self.now.top }
+        ensures greatest { IsTopIn (value_in self.now.rows) result }
+    {
+        self.top
+    }
+
+    /// Makes room for more rows, and changes none. The only error is that memory runs out. Where there is room for
+    /// so many already, it succeeds.
+    pub fn reserve(&mut self, additional: usize) -> Result<(), NoMemory>
+        ensures rows { self.new.rows ≡ self.old.rows }
+        ensures top { self.new.top ≡ self.old.top }
+        ensures room { OnOk result (additional ≤ self.new.room) }
+        ensures succeeds { additional ≤ self.old.room → IsOk result }
+    {
+        self.numbers.reserve(additional)
+    }
+
+    /// Makes the changes under a number above the greatest, for which there is room: a key that is given a value has
+    /// this number, and one that is given none has no number. Where none of them gives a value it looks once through
+    /// all numbers for the greatest.
+    pub fn change(&mut self, number: i64, changes: &[Change])
+        requires room { length changes.now ≤ self.old.room }
+        requires above { self.old.top <ℤ number }
+        requires rising { AreRising changes.now }
+        ensures { value_in self.new.rows ≡ renumbered number changes.now (value_in self.old.rows) }
+    {
+        renumber(&mut self.numbers, number, changes);
+        self.top = if has_value(changes) {
+            number
+        } else {
+            top_in(&self.numbers)
+        };
+    }
+}
