@@ -1,11 +1,11 @@
 -- Numbered tables: their values, their numbers, and their rows.
-use Rattle.std.proofs.Common.{zero, suc, is_some, ◌≡◌, inl, inr, ℕ, ◌+◌, ◌<◌, ℤ, pos, ◌+ℤ◌, ◌≤ℤ◌, ◌<ℤ◌, Bool, true, false, cond, List, [], ◌∷◌, ◌++◌, length, take, drop, map, get_or, Option, Some, None, IfSome, refl, sym, ap, subst, ◌∙◌, arith}
+use Rattle.std.proofs.Common.{is_some, ◌≡◌, inl, inr, ℕ, ◌+◌, ◌<◌, ℤ, pos, ◌+ℤ◌, ◌≤ℤ◌, ◌<ℤ◌, Bool, true, false, cond, List, [], ◌∷◌, ◌++◌, length, take, drop, map, get_or, Option, Some, None, IfSome, refl, sym, ap, subst, ◌∙◌, arith}
 use Rattle.std.proofs.lemmas.Int.{ints}
 use Rattle.std.proofs.lemmas.List.{drop_more, take_more, map-append}
 use Rattle.std.proofs.lemmas.Option.{get_or_from_slice_get, slice_get_within}
 use Rattle.std.specs.Cmp.Lexicographic.{slice_cmp}
 use Rattle.std.specs.declared.cmp.Ordering.TheVariants.{Less}
-use Rattle.std.specs.List.{AllByRecursion, slice_get}
+use Rattle.std.specs.List.{slice_get}
 use Rattle.std.specs.Option.{option_map}
 use Rattle.std.specs.Ordering.{nat_cmp}
 use Rattle.txn_names.specs.Path.{label_eq}
@@ -17,7 +17,7 @@ use Rattle.serial_spec.specs.Serial.{Map, put}
 use Rattle.serial_spec.specs.Values.{value_or}
 use Rattle.durable_top.specs.declared.store.Row.{Row}
 use Rattle.durable_top.specs.Store.{plain}
-use Rattle.durable_top.specs.Numbered.{Numbered, values_of, numbers_of, under, entry_or, overlay_numbered, IsGreatest, Follows, Commits, IsFull, last_number, entries_in, AreNumbered}
+use Rattle.durable_top.specs.Numbered.{Numbered, values_of, numbers_of, entry_or, overlay_numbered, IsGreatest, Commits, IsFull, last_number, entries_in, AreNumbered}
 use Rattle.durable_top.specs.Numbers.{Has, number_or, renumbered, IsTopIn, IsTopOf, numbers_in}
 use Rattle.durable_top.specs.Joined.{joined, number_else_0, HaveSameKeys}
 use Rattle.durable_top.proofs.Greatest.{all_has, has_mapped, unequal, top_by}

@@ -56,14 +56,23 @@ fn rows_of(alloc: Global, values: &PlainTable, numbers: &NumberTable) -> Result<
     for place in 0..values.len() {
         if let Some((key, value)) = values.at(place) {
             let commit = number_of(numbers, key);
-            rows.push(Row { key: *key, value, commit })?;
+            rows.push(Row {
+                key: *key,
+                value,
+                commit,
+            })?;
         }
     }
     Ok(rows)
 }
 
 // Makes room for the changes, and then makes them under the number.
-fn change_both(values: &mut PlainTable, numbers: &mut NumberTable, number: i64, changes: &[Change]) -> Result<(), NoMemory>
+fn change_both(
+    values: &mut PlainTable,
+    numbers: &mut NumberTable,
+    number: i64,
+    changes: &[Change],
+) -> Result<(), NoMemory>
     requires above { numbers.old.top <ℤ number }
     requires rising { AreRising changes.now }
     ensures values { OnOk result (value_in values.new.rows ≡ overlay changes.now (value_in values.old.rows)) }
@@ -79,7 +88,12 @@ fn change_both(values: &mut PlainTable, numbers: &mut NumberTable, number: i64, 
 
 // Makes the changes under the number above the greatest.
 #[tactic(auto, using(crate::proofs::Numbering::above_top))]
-fn make(values: &mut PlainTable, numbers: &mut NumberTable, number: i64, changes: &[Change]) -> Result<(), StoreFault>
+fn make(
+    values: &mut PlainTable,
+    numbers: &mut NumberTable,
+    number: i64,
+    changes: &[Change],
+) -> Result<(), StoreFault>
     requires next { number ≡ numbers.old.top +ℤ pos 1 }
     requires fits { number ≤ℤ last_number }
     requires rising { AreRising changes.now }

@@ -14,4 +14,4 @@ returns-in-Ok-clause-ok c =
     let made = c.in-Ok.ensures.numbers in
     let is = simp to_z-of_z at made in
     commits_joined c.args.number _ c.args.changes.now c.args.values.now.rows c.change_both.new.values.rows (value_in c.args.numbers.now.rows) _
-        c.requires.same c.has_none_below_0.ensures c.requires.next c.requires.fits c.in-Ok.ensures.values is
+    c.requires.same c.has_none_below_0.ensures c.requires.next c.requires.fits c.in-Ok.ensures.values is

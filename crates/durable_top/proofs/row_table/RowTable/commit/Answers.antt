@@ -12,8 +12,8 @@ returns-in-Some-clause-full c = λ full.
     let next = c.in-Some.ensures.above in
     let above = simp to_z-of_z at next in
     absurd (not_full c.args.changes.now c.self.inside.values.rows (value_in c.self.inside.numbers.rows) c.in-Some.number c.top.result
-      c.self.invariant c.top.ensures.greatest above c.in-Some.ensures.fits
-      (subst (λ (rows : List Row). IsFull c.args.changes.now (entries_in rows)) (sym c.self.view_is) full))
+    c.self.invariant c.top.ensures.greatest above c.in-Some.ensures.fits
+    (subst (λ (rows : List Row). IsFull c.args.changes.now (entries_in rows)) (sym c.self.view_is) full))
 
 pub returns-in-None-clause-memory : goal.returns-in-None-clause-memory
 returns-in-None-clause-memory c = λ not.
@@ -21,5 +21,5 @@ returns-in-None-clause-memory c = λ not.
     let is = c.in-None.ensures.none in
     let last = simp to_z-of_z at is in
     absurd (not (subst (λ (rows : List Row). IsFull c.args.changes.now (entries_in rows)) c.self.view_is
-      (full_joined c.args.changes.now c.self.inside.values.rows (value_in c.self.inside.numbers.rows) c.top.result
-        c.self.invariant c.top.ensures.greatest (last refl) (search rules))))
+    (full_joined c.args.changes.now c.self.inside.values.rows (value_in c.self.inside.numbers.rows) c.top.result
+    c.self.invariant c.top.ensures.greatest (last refl) (search rules))))
