@@ -1,5 +1,5 @@
 -- Commits: what is handed to the store, the tables afterwards, and the store.
-use Rattle.std.proofs.Common.{◌≡◌, ℕ, zero, suc, nat_lt, ℤ, ◌+◌, ◌<◌, Bool, true, false, ◌&&◌, cond, List, [], ◌∷◌, length, Option, Some, None, refl, sym, ap, ◌∙◌, arith}
+use Rattle.std.proofs.Common.{◌≡◌, ℕ, zero, suc, nat_lt, ℤ, ◌+◌, ◌<◌, Bool, true, false, ◌&&◌, cond, List, [], ◌∷◌, length, Option, Some, None, refl, sym, ap, subst, ◌∙◌, arith}
 use Rattle.std.proofs.lemmas.Bool.{false≢true, lt-ltb}
 use Rattle.std.proofs.lemmas.List.Sums.{sum_by-cons}
 use Rattle.txn_names.proofs.Names.{label_eq_self}
@@ -34,7 +34,10 @@ use Rattle.serial_spec.specs.Legal.{AreAllowed}
 use Rattle.txn_history.proofs.Causes.{neither, not_when}
 use Rattle.txn_history.proofs.Theorems.{changes_made, writes_somewhere}
 use Rattle.durable_top.specs.declared.store.TopStore.{Ghosts}
-use Rattle.durable_top.specs.Store.{counted}
+use Rattle.manager_core.specs.declared.manager.AtOpening.{AtOpening}
+use Rattle.durable_top.specs.Numbered.{entries_in, values_of}
+use Rattle.durable_top.specs.Store.{counted, plain}
+use Rattle.durable_top.proofs.Numbering.{values_in_rows}
 use Rattle.manager_core.specs.State.{entry}
 use Rattle.manager_core.specs.Lines.{IsFree}
 use Rattle.manager_core.specs.Kept.{AreWaitsOf, IsKept, IsTreeOf}
@@ -43,6 +46,7 @@ use Rattle.manager_core.specs.Sound.{is_store_refusal, IsBacked, IsTrusted}
 use Rattle.manager_core.specs.Asked.{IsLater, Takes, Refuses}
 use Rattle.manager_core.proofs.Answers.{active_at_commit, allowed_next, commit_allowed}
 use Rattle.manager_core.proofs.Facts.{backed_next}
+use Rattle.manager_core.proofs.StoredNumbers.{not_top, numbered_commit}
 use Rattle.manager_core.proofs.Kept.{backed_over, beside_same}
 use Rattle.manager_core.proofs.Lasting.{none_waiting, unless_free, wait_committed, wait_lasts}
 use Rattle.manager_core.proofs.WaitTables.{waits_stay}
@@ -180,22 +184,30 @@ trusted_before g before after later trusted = record {
 }
 
 -- the store that took the changes has the changed table
-pub backed_taken : {S : Type 0} (g : Ghosts S) (h : History) (old new : Rows) (opened : ℕ) (before after : S) (by : By) (t : Name) (changes : List Change)
+pub backed_taken : {S : Type 0} (g : Ghosts S) (rows : Rows) (h : History) (old new : Rows) (opened : AtOpening) (before after : S) (by : By) (t : Name) (changes : List Change)
+    → length t ≡ 1 → rows ≡ plain opened.given.items → IsChanges (value_in rows) h t changes
     → IsBacked g h old opened before → Takes g before after changes → IsLater g before after → value_in new ≡ overlay changes (value_in old)
     → IsBacked g (entry by (Commit t) (Done Ok) ∷ h) new opened after
-backed_taken g h old new opened before after by t changes backed takes later overlays = record {
+backed_taken g rows h old new opened before after by t changes top given are backed takes later overlays = record {
   same = λ n. takes.table n ∙ ap (overlay changes) (backed.same (trusted_before g before after later n)) ∙ sym overlays;
+  numbered = λ n.
+      numbered_commit (entries_in opened.given.items) h by t changes (g.numbered before) (g.numbered after) top due (takes.numbered n)
+      (backed.numbered (trusted_before g before after later n));
   refusals =
       takes.faults ∙ backed.refusals
-      ∙ ap (λ n. counted (opened + n)) (sym (rw (sum_by-cons (λ (e : Entry). cond (is_store_refusal e.answer) 1 0) (entry by (Commit t) (Done Ok)) h) (omega arith)));
+      ∙ ap (λ n. counted (opened.faults + n)) (sym (rw (sum_by-cons (λ (e : Entry). cond (is_store_refusal e.answer) 1 0) (entry by (Commit t) (Done Ok)) h) (omega arith)));
 }
+  where
+    due : IsChanges (values_of (entries_in opened.given.items)) h t changes
+    due = subst (λ (m : Map). IsChanges m h t changes) (ap value_in given ∙ sym (values_in_rows opened.given.items)) are
 
 -- and one that refused has the old one, with a fault more
-pub backed_refused : {S : Type 0} (g : Ghosts S) (h : History) (table : Rows) (opened : ℕ) (before after : S) (by : By) (t : Name)
+pub backed_refused : {S : Type 0} (g : Ghosts S) (h : History) (table : Rows) (opened : AtOpening) (before after : S) (by : By) (t : Name)
     → IsBacked g h table opened before → Refuses g before after → IsLater g before after
     → IsBacked g (entry by (Commit t) (Refused Store) ∷ h) table opened after
 backed_refused g h table opened before after by t backed refuses later = record {
   same = λ n. refuses.table n ∙ backed.same (trusted_before g before after later n);
+  numbered = λ n. (g.numbered before, backed.numbered (trusted_before g before after later n), refuses.numbered n);
   refusals =
       refuses.faults ∙ ap (λ n. counted (n + 1)) backed.refusals
       ∙ rw (sum_by-cons (λ (e : Entry). cond (is_store_refusal e.answer) 1 0) (entry by (Commit t) (Refused Store)) h) (omega arith);
@@ -203,7 +215,7 @@ backed_refused g h table opened before after by t backed refuses later = record 
 
 -- ---- what the type keeps afterwards
 
-module _ {S : Type 0} (g : Ghosts S) (rows : Rows) (h : History) (old new : Tabled) (opened : ℕ) (before : S) (kept : IsKept g rows h old opened before)
+module _ {S : Type 0} (g : Ghosts S) (rows : Rows) (h : History) (old new : Tabled) (opened : AtOpening) (before : S) (kept : IsKept g rows h old opened before)
     (by : By) (t : Name) (free : IsFree h by (Commit t)) (none : None ≡ cause_at_commit h by t) where
   done_next : AreAllowed rows (entry by (Commit t) (Done Ok) ∷ h)
   done_next = allowed_next rows h by (Commit t) (Done Ok) kept.allowed free.line (commit_allowed rows h by t None none)
@@ -221,11 +233,12 @@ module _ {S : Type 0} (g : Ghosts S) (rows : Rows) (h : History) (old new : Tabl
       → CommitsIn old new t child above → IsKept g rows (entry by (Commit t) (Done Ok) ∷ h) new opened before
   kept_child child above below number above_is of commits =
       let same = goes_below old new t child above of below commits in record {
+        given = kept.given;
         rising = kept.rising;
         allowed = done_next;
         are = tables_committed rows (entry by (Commit t) (Done Ok)) h done_next old new kept.are (waits_committed child above commits) t child above refl number above_is commits
             (λ k. ap (λ (rs : Rows). value_in rs k) same ∙ kept.are.current k ∙ sym (stored_below rows h by t below done_next k));
-        backed = backed_over g same (backed_next g h (rows_in old) opened before by (Commit t) (Done Ok) kept.backed refl);
+        backed = backed_over g same (backed_next g h (rows_in old) opened before by (Commit t) (Done Ok) kept.backed (not_top t below) refl);
       }
 
   -- a top-level one's that the store took
@@ -234,11 +247,12 @@ module _ {S : Type 0} (g : Ghosts S) (rows : Rows) (h : History) (old new : Tabl
       → Takes g before after changes → IsLater g before after → IsKept g rows (entry by (Commit t) (Done Ok) ∷ h) new opened after
   kept_top child after changes top number rootless commits are overlays takes later =
       let was : value_in (rows_in old) ≡ stored (value_in rows) h = λ i k. kept.are.current k i in record {
+        given = kept.given;
         rising = kept.rising;
         allowed = done_next;
         are = tables_committed rows (entry by (Commit t) (Done Ok)) h done_next old new kept.are (waits_committed child None commits) t child None refl number (root_is_nobody old.tree t top rootless) commits
             (λ k. ap (λ (m : Map). m k) overlays ∙ ap (λ (m : Map). overlay changes m k) was ∙ stored_top rows h by t changes top done_next are k);
-        backed = backed_taken g h (rows_in old) (rows_in new) opened before after by t changes kept.backed takes later overlays;
+        backed = backed_taken g rows h (rows_in old) (rows_in new) opened before after by t changes top kept.given are kept.backed takes later overlays;
       }
 
   -- and one that the store refused, with the tables as they were
@@ -246,6 +260,7 @@ module _ {S : Type 0} (g : Ghosts S) (rows : Rows) (h : History) (old new : Tabl
       → Refuses g before after → IsLater g before after → IsKept g rows (entry by (Commit t) (Refused Store) ∷ h) old opened after
   kept_unstored after changes top are some refuses later =
       let allowed = allowed_next rows h by (Commit t) (Refused Store) kept.allowed free.line (commit_allowed rows h by t None none, asked (value_in rows) h t changes top are some) in record {
+        given = kept.given;
         rising = kept.rising;
         allowed = allowed;
         are = tables_nothing rows (entry by (Commit t) (Refused Store)) h allowed old old kept.are

@@ -1,17 +1,21 @@
 -- What callers are told of the manager, from what its type keeps.
-use Rattle.std.proofs.Common.{◌≡◌, ℕ, ◌∷◌, false, cond, zero-add, sym, ap, subst, ◌∙◌}
+use Rattle.std.proofs.Common.{◌≡◌, ◌∷◌, false, cond, zero-add, sym, ap, subst, ◌∙◌}
 use Rattle.std.proofs.lemmas.List.Sums.{sum_by-cons}
 use Rattle.serial_spec.specs.declared.entry.By.{By}
 use Rattle.serial_spec.specs.declared.event.Event.{Event}
 use Rattle.serial_spec.specs.declared.entry.Answer.{Answer}
 use Rattle.serial_spec.specs.declared.entry.Entry.{Entry}
 use Rattle.serial_spec.specs.Rows.{Rows, value_in}
-use Rattle.serial_spec.specs.History.{History}
+use Rattle.serial_spec.specs.History.{History, effect_of}
 use Rattle.txn_history.proofs.Theorems.{table_correctness}
 use Rattle.txn_history.proofs.Theorems as theorems
 use Rattle.durable_top.specs.declared.store.TopStore.{Ghosts}
+use Rattle.manager_core.specs.declared.manager.AtOpening.{AtOpening}
 use Rattle.manager_core.specs.State.{State, entry}
 use Rattle.manager_core.specs.Kept.{IsSettled}
+use Rattle.manager_core.specs.StoredNumbers.{commits_top}
+use Rattle.durable_top.specs.Numbered.{entries_in}
+use Rattle.manager_core.proofs.StoredNumbers.{numbered_next}
 use Rattle.manager_core.specs.Tables.{Tabled, rows_in}
 use Rattle.manager_core.specs.Sound.{is_store_refusal, IsBacked, IsSound}
 
@@ -29,10 +33,11 @@ sound g m tables settled table =
       backed = subst (λ (rs : Rows). IsBacked g m.history rs m.opened m.store) (sym table) kept.backed;
     }
 
--- an entry that is no refusal of the store
-pub backed_next : {S : Type 0} (g : Ghosts S) (h : History) (table : Rows) (opened : ℕ) (store : S) (by : By) (event : Event) (answer : Answer)
-    → IsBacked g h table opened store → is_store_refusal answer ≡ false → IsBacked g (entry by event answer ∷ h) table opened store
-backed_next g h table opened store by event answer backed other = record {
+-- an entry that commits no top-level transaction and is no refusal of the store
+pub backed_next : {S : Type 0} (g : Ghosts S) (h : History) (table : Rows) (opened : AtOpening) (store : S) (by : By) (event : Event) (answer : Answer)
+    → IsBacked g h table opened store → commits_top (effect_of event answer) ≡ false → is_store_refusal answer ≡ false → IsBacked g (entry by event answer ∷ h) table opened store
+backed_next g h table opened store by event answer backed below other = record {
   same = backed.same;
+  numbered = λ trusted. numbered_next (entries_in opened.given.items) (entry by event answer) h (g.numbered store) below (backed.numbered trusted);
   refusals = rw (sum_by-cons (λ (e : Entry). cond (is_store_refusal e.answer) 1 0) (entry by event answer) h, other) (rw zero-add backed.refusals);
 }

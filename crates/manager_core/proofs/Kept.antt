@@ -1,5 +1,5 @@
 -- How each call keeps what the manager's type says.
-use Rattle.std.proofs.Common.{◌≡◌, ℕ, ◌<◌, true, false, ◌∷◌, Option, Some, None, length, refl, sym, ap, subst, ◌∙◌}
+use Rattle.std.proofs.Common.{◌≡◌, ◌<◌, true, false, ◌∷◌, Option, Some, None, length, refl, sym, ap, subst, ◌∙◌}
 use Rattle.txn_tree.specs.Causes as tree
 use Rattle.orphans.specs.Marked.{Marked}
 use Rattle.inherit.specs.LocksAndVersions.{LocksAndVersions, left_of, modes_of, rows_of}
@@ -19,12 +19,14 @@ use Rattle.serial_spec.specs.Rows.{Rows}
 use Rattle.serial_spec.specs.Legal.{AreAllowed}
 use Rattle.serial_spec.specs.Allowed.{Allowed, cause_at_begin, cause_at_end}
 use Rattle.durable_top.specs.declared.store.TopStore.{Ghosts}
+use Rattle.manager_core.specs.declared.manager.AtOpening.{AtOpening}
 use Rattle.manager_core.specs.declared.outcome.Outcome.{Outcome}
 use Rattle.manager_core.specs.declared.outcome.Outcome.TheVariants.{Done, Waits, Refused}
 use Rattle.manager_core.specs.Outcomes.{answer_of, outcome_of}
 use Rattle.manager_core.specs.State.{entry}
 use Rattle.manager_core.specs.Lines.{IsFree, IsLine, IsWaitOf}
 use Rattle.manager_core.specs.Sound.{IsBacked, is_store_refusal}
+use Rattle.manager_core.specs.StoredNumbers.{commits_top}
 use Rattle.manager_core.specs.Kept.{AreTablesOf, AreWaitsOf, IsKept}
 use Rattle.manager_core.specs.Tables.{Tabled, BeginsIn, AbortsIn, ComesTo, HasOtherRoom, IsBeside, MadeUnless, ReachesIn, SetsWait, WaitsFrom, WaitsUntil, rows_in, wait_at}
 use Rattle.manager_core.proofs.Events.{done_at, own_wait, refused_at, stuck_at, waits_at}
@@ -36,7 +38,7 @@ use Rattle.manager_core.proofs.WaitTables.{waits_begun, waits_dropped, waits_set
 use Rattle.manager_core.proofs.Tabled.{tables_roomy, tables_nothing, tables_begun, tables_accessed, tables_aborted}
 
 -- over the same table the store has it as before
-pub backed_over : {S : Type 0} (g : Ghosts S) {h : History} {old new : Rows} {opened : ℕ} {store : S} → new ≡ old → IsBacked g h old opened store → IsBacked g h new opened store
+pub backed_over : {S : Type 0} (g : Ghosts S) {h : History} {old new : Rows} {opened : AtOpening} {store : S} → new ≡ old → IsBacked g h old opened store → IsBacked g h new opened store
 backed_over g {h} {opened = opened} {store = store} same backed = subst (λ (v : Rows). IsBacked g h v opened store) (sym same) backed
 
 -- where the parts beside the waits are the same
@@ -58,24 +60,26 @@ beside_but : (old new : Tabled) → new ≡ record old { waits = new.waits } →
 beside_but old new same = beside_parts old new (ap (λ (v : Tabled). v.tree) same) (ap (λ (v : Tabled). v.marks) same) (ap (λ (v : Tabled). v.estate) same)
 
 -- with other room
-pub kept_roomy : {S : Type 0} (g : Ghosts S) (rows : Rows) (h : History) (old new : Tabled) (opened : ℕ) (store : S)
+pub kept_roomy : {S : Type 0} (g : Ghosts S) (rows : Rows) (h : History) (old new : Tabled) (opened : AtOpening) (store : S)
     → IsKept g rows h old opened store → HasOtherRoom old new → IsKept g rows h new opened store
 kept_roomy g rows h old new opened store kept same = record {
+  given = kept.given;
   rising = kept.rising;
   allowed = kept.allowed;
   are = tables_roomy rows h old new kept.are same;
   backed = backed_over g same.estate.rows kept.backed;
 }
 
-module _ {S : Type 0} (g : Ghosts S) (rows : Rows) (h : History) (old new : Tabled) (opened : ℕ) (store : S) (kept : IsKept g rows h old opened store) (by : By) where
+module _ {S : Type 0} (g : Ghosts S) (rows : Rows) (h : History) (old new : Tabled) (opened : AtOpening) (store : S) (kept : IsKept g rows h old opened store) (by : By) where
   -- tables that have the entry, over the same table
   kept_over : (event : Event) (a : Answer) → AreAllowed rows (entry by event a ∷ h) → AreTablesOf rows (entry by event a ∷ h) new → rows_in new ≡ rows_in old
-      → is_store_refusal a ≡ false → IsKept g rows (entry by event a ∷ h) new opened store
-  kept_over event a allowed are same other = record {
+      → commits_top (effect_of event a) ≡ false → is_store_refusal a ≡ false → IsKept g rows (entry by event a ∷ h) new opened store
+  kept_over event a allowed are same below other = record {
+    given = kept.given;
     rising = kept.rising;
     allowed = allowed;
     are = are;
-    backed = backed_over g same (backed_next g h (rows_in old) opened store by event a kept.backed other);
+    backed = backed_over g same (backed_next g h (rows_in old) opened store by event a kept.backed below other);
   }
 
   -- an entry without an effect, which may begin or end a wait
@@ -83,7 +87,7 @@ module _ {S : Type 0} (g : Ghosts S) (rows : Rows) (h : History) (old new : Tabl
       → AreWaitsOf (entry by event a ∷ h) new.tree new.waits → IsKept g rows (entry by event a ∷ h) new opened store
   kept_beside event a line due does other same waiting =
       let allowed = allowed_next rows h by event a kept.allowed line due in
-      kept_over event a allowed (tables_nothing rows (entry by event a) h allowed old new kept.are waiting does same) same.estate.rows other
+      kept_over event a allowed (tables_nothing rows (entry by event a) h allowed old new kept.are waiting does same) same.estate.rows (ap commits_top does) other
 
   -- a begin, by why it is refused
   pub begin_cause : (t : Name) (o : Option Refusal) → o ≡ tree.cause_at_begin old.tree t → o ≡ cause_at_begin h t
@@ -99,7 +103,7 @@ module _ {S : Type 0} (g : Ghosts S) (rows : Rows) (h : History) (old new : Tabl
       → IsKept g rows (entry by (event_of t asked) (answer_of outcome) ∷ h) new opened store
   kept_access t asked (Done r) line due comes has waiting =
       let allowed = allowed_next rows h by (event_of t asked) (IsDone r) kept.allowed line due in
-      kept_over (event_of t asked) (IsDone r) allowed (tables_accessed rows (entry by (event_of t asked) (IsDone r)) h allowed old new kept.are waiting t asked r (done_at t asked r) has) has.rows refl
+      kept_over (event_of t asked) (IsDone r) allowed (tables_accessed rows (entry by (event_of t asked) (IsDone r)) h allowed old new kept.are waiting t asked r (done_at t asked r) has) has.rows (ap commits_top (done_at t asked r)) refl
   kept_access t asked Waits line due comes same waiting = kept_beside (event_of t asked) IsWaits line due (waits_at t asked) refl same waiting
   kept_access t asked (Refused r) line due comes same waiting = kept_beside (event_of t asked) (Refuses r) line due (refused_at t asked r) (access_other rows h by t asked r comes) same waiting
 
@@ -121,7 +125,7 @@ module _ {S : Type 0} (g : Ghosts S) (rows : Rows) (h : History) (old new : Tabl
       let allowed = allowed_next rows h by (Begin t) (IsDone Ok) kept.allowed free.line (begin_allowed rows h by t None (begin_cause t None e)) in
       let waiting = waits_begun h (x ∷ h) old new kept.are.waiting t begins (not_begun rows x h allowed t refl)
       (wait_begun rows x h allowed (Begins t) refl refl (unless_free h by (Begin t) free) t refl) in
-      kept_over (Begin t) (IsDone Ok) allowed (tables_begun rows x h allowed old new kept.are waiting t refl begins) (ap (λ (a : LocksAndVersions). rows_of a) begins.estate) refl
+      kept_over (Begin t) (IsDone Ok) allowed (tables_begun rows x h allowed old new kept.are waiting t refl begins) (ap (λ (a : LocksAndVersions). rows_of a) begins.estate) refl refl
   kept_begin t (Some r) free e same =
       let cause = begin_cause t (Some r) e in
       kept_same (Begin t) (Refuses r) free (begin_allowed rows h by t (Some r) cause) refl refl (begin_other h t (Some r) cause) same
@@ -132,7 +136,7 @@ module _ {S : Type 0} (g : Ghosts S) (rows : Rows) (h : History) (old new : Tabl
       let x : Entry = entry by (Abort t) (IsDone Ok) in
       let allowed = allowed_next rows h by (Abort t) (IsDone Ok) kept.allowed free.line (abort_allowed rows h by t None (abort_cause t None some e)) in
       let waiting = waits_dropped h (x ∷ h) old new kept.are.waiting t aborts (wait_aborted rows x h allowed (Aborts t) refl refl (unless_free h by (Abort t) free) t refl) in
-      kept_over (Abort t) (IsDone Ok) allowed (tables_aborted rows x h allowed old new kept.are waiting t refl aborts) aborts.rows refl
+      kept_over (Abort t) (IsDone Ok) allowed (tables_aborted rows x h allowed old new kept.are waiting t refl aborts) aborts.rows refl refl
   kept_abort t (Some r) free some e same =
       let cause = abort_cause t (Some r) some e in
       kept_same (Abort t) (Refuses r) free (abort_allowed rows h by t (Some r) cause) refl refl (abort_other h t (Some r) cause) same

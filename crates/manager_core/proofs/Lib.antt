@@ -12,6 +12,7 @@ pub mod Tabled
 -- An entry more
 pub mod Answers
 pub mod Events
+pub mod StoredNumbers
 pub mod Facts
 pub mod Kept
 pub mod Commits

@@ -14,7 +14,9 @@ use Rattle.wait_cycles.specs.Waiting.{wait_in}
 use Rattle.txn_tree.specs.States.{names, status_in}
 use Rattle.durable_top.specs.declared.store.Row.{Row}
 use Rattle.durable_top.specs.Store.{plain}
+use Rattle.durable_top.specs.Numbered.{entries_in}
 use Rattle.durable_top.specs.declared.store.TopStore.{Ghosts}
+use Rattle.manager_core.specs.declared.manager.AtOpening.{AtOpening}
 use Rattle.manager_core.specs.Kept.{AreTablesOf, IsEstateOf, IsTreeOf, status_of, wait_of_any}
 use Rattle.manager_core.specs.Tables.{Tabled, rows_in, wait_for}
 use Rattle.manager_core.specs.Sound.{IsBacked}
@@ -55,10 +57,12 @@ tables_open rows tables e empty unmarked unlocked unleft unwaited = record {
 }
 
 -- the store that gave the rows has them
-pub backed_open : {S : Type 0} (g : Ghosts S) (rows table : Rows) (opened : ℕ) (store : S)
-    → value_in table ≡ value_in rows → (g.doubt store ≡ 0 → value_in rows ≡ g.table store) → opened ≡ g.faults store → opened < 2 ^ 64
+pub backed_open : {S : Type 0} (g : Ghosts S) (rows table : Rows) (opened : AtOpening) (store : S)
+    → value_in table ≡ value_in rows → (g.doubt store ≡ 0 → value_in rows ≡ g.table store) → (g.doubt store ≡ 0 → entries_in opened.given.items ≡ g.numbered store)
+    → opened.faults ≡ g.faults store → opened.faults < 2 ^ 64
     → IsBacked g [] table opened store
-backed_open g rows table opened store e stored count fits = record {
+backed_open g rows table opened store e stored numbered count fits = record {
   same = λ trusted. sym (e ∙ stored trusted.doubt);
+  numbered = λ trusted. sym (numbered trusted.doubt);
   refusals = omega (arith, count);
 }

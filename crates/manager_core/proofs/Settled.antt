@@ -1,5 +1,5 @@
 -- How each call keeps what the type says after each call: no cycle of waits stands.
-use Rattle.std.proofs.Common.{◌≡◌, ℕ, Bool, true, false, cond, [], ◌∷◌, Option, Some, None, is_some, refl, sym, subst, ◌∙◌}
+use Rattle.std.proofs.Common.{◌≡◌, Bool, true, false, cond, [], ◌∷◌, Option, Some, None, is_some, refl, sym, subst, ◌∙◌}
 use Rattle.std.proofs.lemmas.Bool.{false≢true}
 use Rattle.serial_spec.specs.declared.entry.Answer.TheVariants.{Stuck}
 use Rattle.serial_spec.specs.declared.entry.Refusal.{Refusal}
@@ -13,6 +13,7 @@ use Rattle.serial_spec.specs.Legal.{AreAllowed}
 use Rattle.txn_history.specs.Laws.{may_add_pair}
 use Rattle.txn_history.proofs.Theorems.{legal_next, lone_quiet, quiet_stays}
 use Rattle.durable_top.specs.declared.store.TopStore.{Ghosts}
+use Rattle.manager_core.specs.declared.manager.AtOpening.{AtOpening}
 use Rattle.manager_core.specs.Kept.{IsKept, IsSettled}
 use Rattle.manager_core.specs.Outcomes.{answer_of, outcome_of}
 use Rattle.manager_core.specs.Tables.{Tabled, HasOtherRoom, rows_in}
@@ -51,7 +52,7 @@ quiet_at_first = lone_quiet [] [] (λ u e. absurd (false≢true (sym (none_waits
 pub allowed_of : (rows rows2 : Rows) (h h2 : History) → AreAllowed rows h → rows2 ≡ rows → h2 ≡ h → AreAllowed rows2 h2
 allowed_of rows rows2 h h2 allowed same_rows same_history = subst (λ (r : Rows). AreAllowed r h2) (sym same_rows) (subst (AreAllowed rows) (sym same_history) allowed)
 
-module _ {S : Type 0} (g : Ghosts S) (rows : Rows) (h : History) (old : Tabled) (opened : ℕ) (store : S) (settled : IsSettled g rows h old opened store) where
+module _ {S : Type 0} (g : Ghosts S) (rows : Rows) (h : History) (old : Tabled) (opened : AtOpening) (store : S) (settled : IsSettled g rows h old opened store) where
   -- with other room
   pub settled_roomy : (new : Tabled) → HasOtherRoom old new → IsSettled g rows h new opened store
   settled_roomy new same = record {
@@ -74,6 +75,7 @@ module _ {S : Type 0} (g : Ghosts S) (rows : Rows) (h : History) (old : Tabled) 
       → IsSettled g rows h2 new opened store
   settled_broken e mid new h2 kept breaks same = record {
     kept = record {
+      given = kept.given;
       rising = kept.rising;
       allowed = allowed_after rows (e ∷ h) h2 breaks.victims breaks.after kept.allowed;
       are = breaks.are;

@@ -15,6 +15,7 @@ use Rattle.serial_spec.specs.Rows.{Rows, value_in}
 use Rattle.serial_spec.specs.Changes.{IsChanges, overlay}
 use Rattle.serial_spec.specs.Allowed.{cause_at_commit}
 use Rattle.durable_top.specs.declared.store.TopStore.{Ghosts}
+use Rattle.manager_core.specs.declared.manager.AtOpening.{AtOpening}
 use Rattle.manager_core.specs.declared.outcome.Outcome.TheVariants as made
 use Rattle.manager_core.specs.State.{entry}
 use Rattle.manager_core.specs.Lines.{IsFree}
@@ -35,7 +36,7 @@ first_false : (b : Bool) → b && true ≡ false → b ≡ false
 first_false true e = e
 first_false false e = refl
 
-module _ {S : Type 0} (g : Ghosts S) (rows : Rows) (h : History) (old mid : Tabled) (opened : ℕ) (before : S) (kept : IsKept g rows h old opened before)
+module _ {S : Type 0} (g : Ghosts S) (rows : Rows) (h : History) (old mid : Tabled) (opened : AtOpening) (before : S) (kept : IsKept g rows h old opened before)
     (same : HasOtherRoom old mid) (by : By) (t : Name) (free : IsFree h by (Commit t)) (none : None ≡ cause_at_commit h by t) (top : length t ≡ 1)
     (n : ℕ) (number : IsNumberOf old.tree t n) (rootless : IsRootless old.tree) (changes : List Change) (told : AreChangesOf mid.tree mid.estate n changes) where
   roomy : IsKept g rows h mid opened before

@@ -18,6 +18,7 @@ use Rattle.serial_spec.specs.Waits.{Quiet}
 use Rattle.txn_history.proofs.Theorems.{legal_allowed, legal_next, quiet_stays}
 use Rattle.txn_history.proofs.Begun.{any_begun}
 use Rattle.durable_top.specs.declared.store.TopStore.{Ghosts}
+use Rattle.manager_core.specs.declared.manager.AtOpening.{AtOpening}
 use Rattle.manager_core.specs.Sound.{IsBacked}
 use Rattle.manager_core.specs.Kept.{AreTablesOf, IsSettled, IsTreeOf}
 use Rattle.manager_core.specs.Tables.{Tabled, AbortsIn, is_live_top_in, rows_in}
@@ -247,17 +248,18 @@ all_closed rows old new before tables room i far end =
 
 -- ---- the manager
 
--- closing entries are no refusals of the store
-backed_by : {S : Type 0} (g : Ghosts S) (old : History) (table : Rows) (opened : ℕ) (store : S) (closed : List Name)
+-- closing entries commit nothing, and are no refusals of the store
+backed_by : {S : Type 0} (g : Ghosts S) (old : History) (table : Rows) (opened : AtOpening) (store : S) (closed : List Name)
     → IsBacked g old table opened store → IsBacked g (closings closed ++ old) table opened store
 backed_by g old table opened store [] backed = backed
-backed_by g old table opened store (t ∷ ts) backed = backed_next g _ table opened store _ _ _ (backed_by g old table opened store ts backed) refl
+backed_by g old table opened store (t ∷ ts) backed = backed_next g _ table opened store _ _ _ (backed_by g old table opened store ts backed) refl refl
 
 -- the close keeps what the type keeps
-pub settled_closed : {S : Type 0} (g : Ghosts S) (rows : Rows) (old new : History) (before after : Tabled) (opened : ℕ) (store : S)
+pub settled_closed : {S : Type 0} (g : Ghosts S) (rows : Rows) (old new : History) (before after : Tabled) (opened : AtOpening) (store : S)
     → IsSettled g rows old before opened store → Closes rows old new after → rows_in after ≡ rows_in before → IsSettled g rows new after opened store
 settled_closed g rows old new before after opened store settled closes same = record {
   kept = record {
+    given = settled.kept.given;
     rising = settled.kept.rising;
     allowed = legal_allowed rows new closes.legal;
     are = closes.are;

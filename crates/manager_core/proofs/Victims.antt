@@ -17,6 +17,7 @@ use Rattle.serial_spec.specs.Allowed.{cause_at_end, when}
 use Rattle.serial_spec.specs.Legal.{AreAllowed, Legal}
 use Rattle.serial_spec.specs.Interleaving.{AfterVictims, victim}
 use Rattle.durable_top.specs.declared.store.TopStore.{Ghosts}
+use Rattle.manager_core.specs.declared.manager.AtOpening.{AtOpening}
 use Rattle.manager_core.specs.Calls.{WaitsOrIsUndone}
 use Rattle.manager_core.specs.Kept.{AreTablesOf, IsTreeOf}
 use Rattle.manager_core.specs.Lines.{IsWaitOf}
@@ -181,12 +182,12 @@ pub quiet_after : (h h2 : History) (vs : List Name) → AfterVictims h vs h2 →
 quiet_after h h2 [] after = subst Quiet (sym after.1) after.0
 quiet_after h h2 (t ∷ ts) after = quiet_after (victim t ∷ h) h2 ts after.1
 
--- the store has refused nothing more
-pub backed_after : {S : Type 0} (g : Ghosts S) (h h2 : History) (vs : List Name) (table : Rows) (opened : ℕ) (store : S) → AfterVictims h vs h2
+-- the store was asked nothing more
+pub backed_after : {S : Type 0} (g : Ghosts S) (h h2 : History) (vs : List Name) (table : Rows) (opened : AtOpening) (store : S) → AfterVictims h vs h2
     → IsBacked g h table opened store → IsBacked g h2 table opened store
 backed_after g h h2 [] table opened store after backed = subst (λ (x : History). IsBacked g x table opened store) (sym after.1) backed
 backed_after g h h2 (t ∷ ts) table opened store after backed =
-    backed_after g (victim t ∷ h) h2 ts table opened store after.1 (backed_next g h table opened store _ _ _ backed refl)
+    backed_after g (victim t ∷ h) h2 ts table opened store after.1 (backed_next g h table opened store _ _ _ backed refl refl)
 
 -- entries that are allowed stay so
 pub allowed_after : (rows : Rows) (h h2 : History) (vs : List Name) → AfterVictims h vs h2 → AreAllowed rows h → AreAllowed rows h2

@@ -19,6 +19,8 @@ use Rattle.wait_cycles.specs.Waiting.{Waiting, wait_of as kept_wait}
 use Rattle.serial_spec.specs.Rows.{Rows, value_in, IsRising}
 use Rattle.serial_spec.specs.Legal.{AreAllowed, Legal}
 use Rattle.durable_top.specs.declared.store.TopStore.{Ghosts}
+use Rattle.durable_top.specs.Store.{plain}
+use Rattle.manager_core.specs.declared.manager.AtOpening.{AtOpening}
 use Rattle.manager_core.specs.Tables.{Tabled, rows_in, wait_for}
 use Rattle.manager_core.specs.Sound.{IsBacked}
 
@@ -73,14 +75,16 @@ pub record AreTablesOf (rows : Rows) (h : History) (tables : Tabled) : Type 0 wh
   pub current : (k : List ℕ) → value_in (rows_in tables) k ≡ stored (value_in rows) h k
 
 -- after each entry, whether or not it made a cycle of waits
-pub record IsKept {S : Type 0} (g : Ghosts S) (rows : Rows) (h : History) (tables : Tabled) (opened : ℕ) (store : S) : Type 0 where
+pub record IsKept {S : Type 0} (g : Ghosts S) (rows : Rows) (h : History) (tables : Tabled) (opened : AtOpening) (store : S) : Type 0 where
+  -- the opening rows are those that the store gave
+  pub given : rows ≡ plain opened.given.items
   pub rising : IsRising rows
   pub allowed : AreAllowed rows h
   pub are : AreTablesOf rows h tables
   pub backed : IsBacked g h (rows_in tables) opened store
 
 -- and after each call
-pub record IsSettled {S : Type 0} (g : Ghosts S) (rows : Rows) (h : History) (tables : Tabled) (opened : ℕ) (store : S) : Type 0 where
+pub record IsSettled {S : Type 0} (g : Ghosts S) (rows : Rows) (h : History) (tables : Tabled) (opened : AtOpening) (store : S) : Type 0 where
   pub kept : IsKept g rows h tables opened store
   pub legal : Legal rows h
   pub quiet : Quiet h

@@ -9,6 +9,7 @@ use Rattle.durable_top.specs.declared.store.TopStore.{Ghosts}
 use Rattle.manager_core.specs.declared.outcome.OpenFault.{OpenFault}
 use Rattle.manager_core.specs.declared.outcome.OpenFault.TheVariants.{NoMemory, Store, TooManyRows}
 use Rattle.durable_top.specs.Store.{TellsFailure, plain}
+use Rattle.durable_top.specs.Numbered.{entries_in}
 use Rattle.manager_core.specs.State.{State}
 use Rattle.manager_core.specs.Asked.{IsLater}
 
@@ -19,15 +20,15 @@ most_rows = MOST_ROWS
 pub record IsOpened {S : Type 0} (g : Ghosts S) (store : S) (m : State S) : Type 0 where
   pub history : m.history ≡ []
   -- it was asked once, and the rows are what it answered
-  pub given : List Row
-  pub loaded : g.loads store m.store (Ok given)
-  pub are : m.rows ≡ plain given
+  pub loaded : g.loads store m.store (Ok m.opened.given.items)
+  pub are : m.rows ≡ plain m.opened.given.items
   -- the rows are those of the store, in byte order
   pub rows : g.doubt m.store ≡ 0 → value_in m.rows ≡ g.table store
+  pub numbered : g.doubt m.store ≡ 0 → entries_in m.opened.given.items ≡ g.numbered store
   pub rising : IsRising m.rows
   pub few : length m.rows ≤ most_rows
   pub table : value_in m.table ≡ value_in m.rows
-  pub faults : m.opened ≡ g.faults store
+  pub faults : m.opened.faults ≡ g.faults store
   pub later : IsLater g store m.store
   pub unfailed : g.failures m.store ≡ 0
 

@@ -10,7 +10,10 @@ use Rattle.serial_spec.specs.Legal.{Legal}
 use Rattle.serial_spec.specs.Waits.{Quiet}
 use Rattle.durable_top.specs.declared.store.TopStore.{Ghosts}
 use Rattle.durable_top.specs.Store.{counted}
+use Rattle.durable_top.specs.Numbered.{entries_in}
+use Rattle.manager_core.specs.declared.manager.AtOpening.{AtOpening}
 use Rattle.manager_core.specs.State.{State}
+use Rattle.manager_core.specs.StoredNumbers.{IsNumberedAfter}
 
 -- what is read is what was written, and the device has not failed
 pub record IsTrusted {S : Type 0} (g : Ghosts S) (store : S) : Type 0 where
@@ -25,11 +28,13 @@ is_store_refusal a = false
 abbrev pub store_refusals : History → ℕ
 store_refusals h = count_by (λ e. is_store_refusal e.answer) h
 
-pub record IsBacked {S : Type 0} (g : Ghosts S) (h : History) (table : Rows) (opened : ℕ) (store : S) : Type 0 where
+pub record IsBacked {S : Type 0} (g : Ghosts S) (h : History) (table : Rows) (opened : AtOpening) (store : S) : Type 0 where
   -- the store has the table until its device fails
   pub same : IsTrusted g store → g.table store ≡ value_in table
+  -- and it has the numbers that the history gives from the opening rows on
+  pub numbered : IsTrusted g store → IsNumberedAfter (entries_in opened.given.items) h (g.numbered store)
   -- its faults since the opening are the entries that say that it refused
-  pub refusals : g.faults store ≡ counted (opened + store_refusals h)
+  pub refusals : g.faults store ≡ counted (opened.faults + store_refusals h)
 
 pub record IsSound {S : Type 0} (g : Ghosts S) (m : State S) : Type 0 where
   -- the opening rows stand in byte order

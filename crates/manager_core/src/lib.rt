@@ -11,6 +11,7 @@ mod changes;
 mod closing;
 mod committing;
 mod deciding;
+pub mod laws;
 mod log;
 mod manager;
 mod outcome;

@@ -1,4 +1,4 @@
-//! The history over the opening rows as they were loaded.
+//! The history over the opening rows.
 ghost use Rattle.std.specs.Prelude.{◌≡◌, ◌+◌, ◌<◌, ◌≤◌, ◌↔◌, [], ◌∷◌, length, reverse, OnOk, IfOk, IsTrue};
 ghost use Rattle.std.specs.List.{list_any};
 ghost use Rattle.txn_names.specs.Path.{label_eq};
@@ -7,10 +7,8 @@ ghost use Rattle.serial_spec.specs.Allowed.{known};
 ghost use Rattle.txn_history.specs.Lines.{IsLineFree, OnlyWaits};
 ghost use Rattle.manager_core.specs.State.{entry};
 ghost use Rattle.manager_core.specs.Outcomes.{answer_of};
-ghost use Rattle.durable_top.specs.Store.{plain};
 
 use crate::outcome::Outcome;
-use durable_top::Row;
 use serial_spec::{Answer, By, Entry, Event, NoMemory, PlainTable};
 use std::alloc::Global;
 use std::marker::Model;
@@ -20,38 +18,25 @@ use txn_names::Key;
 /// The entries over the opening rows.
 #[derive(Drop)]
 pub(crate) struct Log {
-    rows: Vec<Row>,
     history: History,
 }
 
 impl Model for Log {
-    ghost use Rattle.std.specs.Prelude.{◌≡◌};
-    ghost use Rattle.durable_top.specs.Store.{plain};
     ghost use Rattle.txn_history.specs.Recorded.{Recorded};
 
     ghost Value = { Recorded };
 
     ghost view = { λ l. l.history };
-
-    ghost invariant = { λ l. plain l.rows.items ≡ l.history.rows };
 }
 
 impl Log {
-    /// No entries, over these rows, which are also given as a table.
-    pub(crate) fn new(alloc: Global, rows: Vec<Row>, table: &PlainTable) -> Result<Log, NoMemory>
-        requires { plain rows.items ≡ table.now.rows }
-        ensures rows { IfOk result (λ log. log.rows ≡ plain rows.items) }
+    /// No entries, over these rows.
+    pub(crate) fn new(alloc: Global, table: &PlainTable) -> Result<Log, NoMemory>
+        ensures rows { IfOk result (λ log. log.rows ≡ table.now.rows) }
         ensures entries { IfOk result (λ log. log.entries ≡ []) }
     {
         let history = History::new(alloc, table)?;
-        Ok(Log { rows, history })
-    }
-
-    /// The opening rows.
-    pub(crate) fn rows(&self) -> &[Row]
-        ensures { plain result.now ≡ self.now.rows }
-    {
-        self.rows.as_slice()
+        Ok(Log { history })
     }
 
     /// The entries, the oldest first.
@@ -61,13 +46,11 @@ impl Log {
         self.history.entries()
     }
 
-    /// The opening rows, and the entries, the oldest first.
-    pub(crate) fn into_parts(self) -> (Vec<Row>, Vec<Entry>)
-        ensures rows { plain result.0.items ≡ self.rows }
-        ensures entries { reverse result.1.items ≡ self.entries }
+    /// The entries, the oldest first.
+    pub(crate) fn into_entries(self) -> Vec<Entry>
+        ensures { reverse result.items ≡ self.entries }
     {
-        let Log { rows, history } = self;
-        (rows, history.into_entries())
+        self.history.into_entries()
     }
 
     /// Makes room for more entries.

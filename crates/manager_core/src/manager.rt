@@ -5,6 +5,7 @@ ghost use Rattle.serial_spec.specs.declared.entry.Answer.TheVariants.{Refused, S
 ghost use Rattle.serial_spec.specs.Allowed.{Allowed, cause_at_commit};
 ghost use Rattle.serial_spec.specs.Rows.{IsRising, value_in};
 ghost use Rattle.serial_spec.specs.Waits.{is_waits, wait_of};
+ghost use Rattle.durable_top.specs.Numbered.{entries_in};
 ghost use Rattle.durable_top.specs.Store.{plain};
 ghost use Rattle.manager_core.specs.Lines.{IsFree, IsWaitOf, waits_no_more, accessor};
 ghost use Rattle.manager_core.specs.Outcomes.{answer_of};
@@ -24,6 +25,15 @@ use std::alloc::Global;
 use std::marker::Model;
 use txn_names::Name;
 
+/// What the opening gave.
+#[derive(Drop)]
+pub(crate) struct AtOpening {
+    /// The rows of the store, in byte order.
+    pub given: Vec<Row>,
+    /// How many faults the store had counted.
+    pub faults: u64,
+}
+
 /// Runs nested transactions over a store, by locks that are inherited (Moss 1981). Each call that takes a line
 /// asks that the line is free for its event (`free` tells), and adds one entry to the history. After want of
 /// memory the manager and its store are as before.
@@ -33,8 +43,7 @@ pub struct Manager<S: TopStore> {
     tables: Tables,
     breaker: Breaker,
     store: S,
-    // How many faults the store had counted when it was opened.
-    opened: u64,
+    opened: AtOpening,
 }
 
 impl<S: TopStore> Model for Manager<S> {
@@ -97,24 +106,29 @@ impl<S: TopStore> Manager<S> {
     fn over(alloc: Global, store: S, rows: Vec<Row>) -> Result<Manager<S>, NoMemory>
         requires rising { IsRising (plain rows.items) }
         requires rows { S.doubt store ≡ 0 → value_in (plain rows.items) ≡ S.table store }
+        requires numbers { S.doubt store ≡ 0 → entries_in rows.items ≡ S.numbered store }
         ensures history { IfOk result (λ m. m.history ≡ []) }
         ensures rows { IfOk result (λ m. m.rows ≡ plain rows.items) }
         ensures table { IfOk result (λ m. value_in m.table ≡ value_in (plain rows.items)) }
-        ensures opened { IfOk result (λ m. m.opened ≡ S.faults store) }
+        ensures given { IfOk result (λ m. m.opened.given ≡ rows) }
+        ensures faults { IfOk result (λ m. m.opened.faults ≡ S.faults store) }
         ensures store { IfOk result (λ m. m.store ≡ store) }
         ensures sound { IfOk result (λ m. IsSound S.TopStore m) }
     {
         let table = table_of(alloc, &rows)?;
         // So they are these.
         table.has_rising_rows();
-        let log = Log::new(alloc, rows, &table)?;
-        let opened = store.faults();
+        let log = Log::new(alloc, &table)?;
+        let faults = store.faults();
         Ok(Manager {
             log,
             tables: Tables::new(alloc, table),
             breaker: Breaker::new(alloc),
             store,
-            opened,
+            opened: AtOpening {
+                given: rows,
+                faults,
+            },
         })
     }
 
@@ -288,14 +302,16 @@ impl<S: TopStore> Manager<S> {
 
     /// The opening rows, in byte order.
     pub fn opening(&self) -> &[Row]
-        ensures { plain result.now ≡ self.now.rows }
+        ensures rows { plain result.now ≡ self.now.rows }
+        ensures given { result.now ≡ self.now.opened.given.items }
     {
-        self.log.rows()
+        self.opened.given.as_slice()
     }
 
     /// All that the manager had.
     pub fn into_parts(self) -> Parts<S>
         ensures opening { plain result.opening.items ≡ self.rows }
+        ensures given { result.opening ≡ self.opened.given }
         ensures history { reverse result.history.items ≡ self.history }
         ensures table { result.table.rows ≡ self.table }
         ensures store { result.store ≡ self.store }
@@ -304,11 +320,12 @@ impl<S: TopStore> Manager<S> {
             log,
             tables,
             store,
+            opened,
             ..
         } = self;
-        let (opening, history) = log.into_parts();
+        let history = log.into_entries();
         Parts {
-            opening,
+            opening: opened.given,
             history,
             table: tables.into_base(),
             store,

@@ -5,10 +5,10 @@ use Rattle.manager_core.proofs.manager.Manager.open.Goals as goal
 pub returns-in-Ok-over-clause-ok : goal.returns-in-Ok-over-clause-ok
 returns-in-Ok-over-clause-ok g c = record {
   history = search rules;
-  given = c.in-Ok.rows.items;
   loaded = search rules;
   are = search rules;
   rows = search rules;
+  numbered = search rules;
   rising = search rules;
   few = omega (arith, ap length c.in-Ok-over.ensures.rows, as_many c.in-Ok.rows.items, c.len.ensures, c.if-len-gt-MOST_ROWS.false);
   table = search rules;
