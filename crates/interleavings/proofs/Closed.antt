@@ -9,9 +9,12 @@ use Rattle.serial_spec.specs.Follows.{Steps, Rounds, AfterClose}
 use Rattle.txn_history.specs.Turns.{IsUnderWay}
 use Rattle.txn_history.proofs.Following.{close_finishes}
 use Rattle.durable_top.specs.declared.store.TopStore.{Ghosts}
+use Rattle.durable_top.specs.Numbered.{Numbered, entries_in}
 use Rattle.durable_top.specs.Store.{counted}
+use Rattle.manager_core.specs.declared.manager.AtOpening.{AtOpening}
 use Rattle.manager_core.specs.State.{State}
-use Rattle.manager_core.specs.Opening.{most_rows}
+use Rattle.manager_core.specs.Opening.{most_rows, IsOpened}
+use Rattle.manager_core.specs.StoredNumbers.{IsNumberedAfter}
 use Rattle.manager_core.specs.Sound.{IsSound, store_refusals}
 use Rattle.manager_core.specs.Closing.{closings}
 use Rattle.manager_core.specs.Calls.{Closed}
@@ -37,6 +40,9 @@ module _ {S : Type 0} (g : Ghosts S) (old : Turning S) (numbers : List ℕ) (new
     (closed : Closed old.core new) (sound : IsSound g new) where
   rows : new.rows ≡ old.core.rows
   rows = ap (λ (m : State S). m.rows) closed.added
+
+  opened : new.opened ≡ old.core.opened
+  opened = ap (λ (m : State S). m.opened) closed.added
 
   history : new.history ≡ closings closed.names ++ old.core.history
   history = ap (λ (m : State S). m.history) closed.added
@@ -73,10 +79,17 @@ module _ {S : Type 0} (g : Ghosts S) (old : Turning S) (numbers : List ℕ) (new
         (subst (λ h. Trail g old.core.rows old.core.history old.core.store h old.core.store) (sym history)
         (trail_closings g old.core.rows closed.names old.core.history old.core.store));
     stored = sound.backed.same;
-    refusals = subst (λ n. g.faults new.store ≡ counted (n + store_refusals new.history)) (ap (λ (m : State S). m.opened) closed.added) sound.backed.refusals;
+    numbered = λ trusted. subst (λ (o : AtOpening). IsNumberedAfter (entries_in o.given.items) new.history (g.numbered new.store)) opened (sound.backed.numbered trusted);
+    refusals = subst (λ (o : AtOpening). g.faults new.store ≡ counted (o.faults + store_refusals new.history)) opened sound.backed.refusals;
   }
 
 module _ {S : Type 0} (g : Ghosts S) where
+  -- the rows of an opening have the numbers that the store had
+  pub numbered_from : (store : S) (first : State S) (opened : AtOpening) (h : History) (left : Numbered) → IsOpened g store first → opened ≡ first.opened
+      → g.doubt first.store ≡ 0 → IsNumberedAfter (entries_in opened.given.items) h left → IsNumberedAfter (g.numbered store) h left
+  numbered_from store first opened h left is same none after =
+      subst (λ (m : Numbered). IsNumberedAfter m h left) (ap (λ (o : AtOpening). entries_in o.given.items) same ∙ is.numbered none) after
+
   -- ---- a run
 
   pub runs_whole : {T E : Type 0} (schedule : List ℕ) (first mid last : Turning S) (r : Result T E) → RunsList g schedule first mid → OnOk r (RunsAll g mid last)
@@ -89,7 +102,7 @@ module _ {S : Type 0} (g : Ghosts S) where
       → Trail g first.core.rows first.core.history first.core.store h left → WasAsked g store first.core.rows h left
   from_start ss store first h left start trail = record {
     first = first.core.store;
-    given = start.opened.given;
+    given = first.core.opened.given.items;
     loaded = start.opened.loaded;
     are = start.opened.are;
     trail = subst (λ h0. Trail g first.core.rows h0 first.core.store h left) start.opened.history trail;
@@ -127,7 +140,8 @@ module _ {S : Type 0} (g : Ghosts S) where
     interleaving = subst (λ x. IsInterleaving r.opening x r.history) same_sessions closed.interleaving;
     finished = subst (λ x. IsFinished x r.history) same_sessions closed.finished;
     stored = closed.stored;
-    refusals = closed.refusals ∙ ap (λ n. counted (n + store_refusals r.history)) (all.goes.on.opened ∙ list.goes.on.opened ∙ start.opened.faults);
+    numbered = λ trusted. numbered_from store first.core last.core.opened r.history (g.numbered left) start.opened same_opening (undoubted trusted.doubt) (closed.numbered trusted);
+    refusals = closed.refusals ∙ ap (λ n. counted (n + store_refusals r.history)) (ap (λ (o : AtOpening). o.faults) same_opening ∙ start.opened.faults);
   }
     where
       mid : Turning S
@@ -150,6 +164,9 @@ module _ {S : Type 0} (g : Ghosts S) where
 
       same_sessions : last.sessions ≡ ss
       same_sessions = all.goes.sessions ∙ sessions_mid
+
+      same_opening : last.core.opened ≡ first.core.opened
+      same_opening = all.goes.on.opened ∙ list.goes.on.opened
 
       undoubted : g.doubt left ≡ 0 → g.doubt first.core.store ≡ 0
       undoubted none =
@@ -175,11 +192,19 @@ module _ {S : Type 0} (g : Ghosts S) where
     table = last.core.table;
     stored = subst (λ x. (k : List ℕ) → value_in last.core.table k ≡ stored (value_in x) last.core.history k) off.goes.on.rows off.stands.sound.stored;
     has = off.stands.sound.backed.same;
-    refusals = off.stands.sound.backed.refusals ∙ ap (λ n. counted (n + store_refusals last.core.history)) (off.goes.on.opened ∙ start.opened.faults);
+    numbered = λ trusted.
+        numbered_from store first.core last.core.opened last.core.history (g.numbered last.core.store) start.opened off.goes.on.opened (undoubted trusted.doubt)
+        (off.stands.sound.backed.numbered trusted);
+    refusals =
+        off.stands.sound.backed.refusals
+        ∙ ap (λ n. counted (n + store_refusals last.core.history)) (ap (λ (o : AtOpening). o.faults) off.goes.on.opened ∙ start.opened.faults);
   }
     where
       last : Turning S
       last = off.last
+
+      undoubted : g.doubt last.core.store ≡ 0 → g.doubt first.core.store ≡ 0
+      undoubted none = omega (arith, off.goes.on.later.doubt, none)
 
   pub run_off : {T : Type 0} (ss : List Session) (schedule : List ℕ) (store : S) (first : Turning S) (r : Result T RunFault) → AllThere (length ss) schedule → IsStart g ss store first
       → IfErr r (λ fault. fault ≡ NoMemory) → OnErr r (BreaksOff g first) → IfErr r (HasRunCause g ss schedule store)

@@ -9,10 +9,10 @@ use Rattle.manager_core.proofs.Opening.{as_many}
 pub given_few : {S : Type 0} (g : Ghosts S) (store : S) (m : State S) → IsOpened g store m → HasGivenFew g store
 given_few g store m opened = record {
   left = m.store;
-  rows = opened.given;
+  rows = m.opened.given.items;
   loaded = opened.loaded;
   later = opened.later;
   are = λ none. sym (ap value_in opened.are) ∙ opened.rows none;
   rising = subst IsRising opened.are opened.rising;
-  few = omega (arith, opened.few, ap length opened.are, as_many opened.given);
+  few = omega (arith, opened.few, ap length opened.are, as_many m.opened.given.items);
 }

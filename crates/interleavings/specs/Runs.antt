@@ -10,6 +10,7 @@ use Rattle.durable_top.specs.declared.store.TopStore.{Ghosts}
 use Rattle.durable_top.specs.Store.{counted, plain}
 use Rattle.manager_core.specs.Sound.{IsTrusted, store_refusals}
 use Rattle.manager_core.specs.Opening.{HasCause, most_rows}
+use Rattle.manager_core.specs.StoredNumbers.{IsNumberedAfter}
 use Rattle.txn_history.specs.Turns.{IsUnderWay}
 use Rattle.interleavings.specs.Trails.{Trail}
 use Rattle.interleavings.specs.Told.{Told}
@@ -60,6 +61,8 @@ pub record IsRun {S : Type 0} (g : Ghosts S) (ss : List Session) (schedule : Lis
   pub finished : IsFinished ss r.history
   -- the store has the final table until its device fails, and counted the commits that it refused
   pub stored : IsTrusted g left → g.table left ≡ value_in r.table
+  -- with the numbers that the history gives, from those that the store had
+  pub numbered : IsTrusted g left → IsNumberedAfter (g.numbered store) r.history (g.numbered left)
   pub refusals : g.faults left ≡ counted (g.faults store + store_refusals r.history)
 
 -- The run was broken off behind a legal history of these sessions, as far as their lines were attempted, over rows that the store
@@ -74,6 +77,7 @@ pub record IsBrokenOff {S : Type 0} (g : Ghosts S) (ss : List Session) (store : 
   pub table : Rows
   pub stored : (k : List ℕ) → value_in table k ≡ stored (value_in opening) history k
   pub has : IsTrusted g left → g.table left ≡ value_in table
+  pub numbered : IsTrusted g left → IsNumberedAfter (g.numbered store) history (g.numbered left)
   pub refusals : g.faults left ≡ counted (g.faults store + store_refusals history)
 
 -- Why a run gave no report. A schedule that names no session is told before anything else can fail, and memory runs out only

@@ -8,10 +8,12 @@ use Rattle.serial_spec.specs.Interleaving.{Session, answered, next_event, next_l
 use Rattle.serial_spec.specs.Follows.{stuck, NoneGivesUp, AfterClose}
 use Rattle.txn_history.specs.Turns.{IsUnderWay}
 use Rattle.durable_top.specs.declared.store.TopStore.{Ghosts}
+use Rattle.durable_top.specs.Numbered.{entries_in}
 use Rattle.durable_top.specs.Store.{counted}
 use Rattle.manager_core.specs.State.{State}
 use Rattle.manager_core.specs.Sound.{IsTrusted, store_refusals}
 use Rattle.manager_core.specs.Opening.{most_rows, IsOpened}
+use Rattle.manager_core.specs.StoredNumbers.{IsNumberedAfter}
 use Rattle.interleavings.specs.declared.turns.Turn.{Turn}
 use Rattle.interleavings.specs.declared.turns.Turn.TheVariants.{Answered, Parked, OutOfTurn}
 use Rattle.interleavings.specs.Trails.{Trail}
@@ -99,4 +101,6 @@ pub record IsClosed {S : Type 0} (g : Ghosts S) (old : Turning S) (r : Told) (le
   pub trail : Trail g old.core.rows old.core.history old.core.store r.history left
   -- the store has the final table until its device fails, and counted the commits that it refused
   pub stored : IsTrusted g left → g.table left ≡ value_in r.table
-  pub refusals : g.faults left ≡ counted (old.core.opened + store_refusals r.history)
+  -- with the numbers that the history gives
+  pub numbered : IsTrusted g left → IsNumberedAfter (entries_in old.core.opened.given.items) r.history (g.numbered left)
+  pub refusals : g.faults left ≡ counted (old.core.opened.faults + store_refusals r.history)
