@@ -9,4 +9,4 @@ pub record IsBook {S : Type 0} (t : Turning S) (ss : List Session) (counted : �
   pub way : IsUnderWay t.core.rows t.sessions t.core.history
   -- the sessions and the store's count of faults that it was opened with
   pub sessions : t.sessions ≡ ss
-  pub faults : t.core.opened ≡ counted
+  pub faults : t.core.opened.faults ≡ counted

@@ -131,7 +131,7 @@ impl<'a, S: TopStore> Book<'a, S> {
 
     /// Whether it was opened with these sessions and a store that had counted so many faults.
     pub fn is_of(&self, sessions: &Sessions, faults: u64) -> bool
-        ensures { IsTrue result ↔ (self.now.sessions ≡ sessions.now) × (self.now.core.opened ≡ faults) }
+        ensures { IsTrue result ↔ (self.now.sessions ≡ sessions.now) × (self.now.core.opened.faults ≡ faults) }
     {
         self.faults == faults && same_sessions(self.sessions, sessions)
     }
