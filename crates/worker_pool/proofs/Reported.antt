@@ -5,11 +5,12 @@ use Rattle.serial_spec.specs.Rows.{value_in}
 use Rattle.serial_spec.specs.Interleaving.{Session, IsInterleaving, IsFinished}
 use Rattle.durable_top.specs.declared.store.TopStore.{Ghosts}
 use Rattle.durable_top.specs.Store.{counted}
+use Rattle.manager_core.specs.declared.manager.AtOpening.{AtOpening}
 use Rattle.manager_core.specs.Sound.{store_refusals}
 use Rattle.interleavings.specs.Told.{Told}
 use Rattle.interleavings.specs.Turning.{Turning, IsClosed, IsStart}
 use Rattle.interleavings.specs.Scheduled.{BreaksOff, Goes, Stands}
-use Rattle.interleavings.proofs.Closed.{broken_off, was_asked}
+use Rattle.interleavings.proofs.Closed.{broken_off, numbered_from, was_asked}
 use Rattle.interleavings.proofs.Opened.{given_few}
 use Rattle.manager_core.specs.declared.outcome.OpenFault.{OpenFault}
 use Rattle.worker_pool.specs.declared.serving.ServeFault.{ServeFault}
@@ -49,7 +50,9 @@ module _ {S : Type 0} (g : Ghosts S) where
     interleaving = subst (λ x. IsInterleaving r.opening x r.history) sessions closed.interleaving;
     finished = subst (λ x. IsFinished x r.history) sessions closed.finished;
     stored = closed.stored;
-    refusals = closed.refusals ∙ ap (λ n. counted (n + store_refusals r.history)) (goes.on.opened ∙ start.opened.faults);
+    numbered = λ trusted.
+        numbered_from g store first.core last.core.opened r.history (g.numbered left) start.opened goes.on.opened (undoubted trusted.doubt) (closed.numbered trusted);
+    refusals = closed.refusals ∙ ap (λ n. counted (n + store_refusals r.history)) (ap (λ (o : AtOpening). o.faults) goes.on.opened ∙ start.opened.faults);
   }
     where
       last : Turning S

@@ -6,6 +6,7 @@ use Rattle.durable_top.specs.declared.store.TopStore.{Ghosts}
 use Rattle.durable_top.specs.Store.{counted}
 use Rattle.manager_core.specs.Sound.{IsTrusted, store_refusals}
 use Rattle.manager_core.specs.Opening.{HasCause, HasGivenFew}
+use Rattle.manager_core.specs.StoredNumbers.{IsNumberedAfter}
 use Rattle.interleavings.specs.Told.{Told}
 use Rattle.interleavings.specs.Turning.{Turning, IsClosed}
 use Rattle.interleavings.specs.Scheduled.{Goes}
@@ -25,6 +26,8 @@ pub record IsServed {S : Type 0} (g : Ghosts S) (ss : List Session) (store : S) 
   pub finished : IsFinished ss r.history
   -- the store has the final table until its device fails, and counted the commits that it refused
   pub stored : IsTrusted g left → g.table left ≡ value_in r.table
+  -- with the numbers that the history gives, from those that the store had
+  pub numbered : IsTrusted g left → IsNumberedAfter (g.numbered store) r.history (g.numbered left)
   pub refusals : g.faults left ≡ counted (g.faults store + store_refusals r.history)
 
 -- these sessions went on to their close
