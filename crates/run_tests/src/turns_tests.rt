@@ -21,7 +21,12 @@ const TRIES: [(u32, Turn); 4] = [
 
 fn one_row(rt: &impl Abort, alloc: Global) -> MemStore {
     let key = Key::parse(b"x").expect(rt, "key");
-    MemStore::new(alloc, &[Row { key, value: 1 }]).expect(rt, "memory")
+    let row = Row {
+        key,
+        value: 1,
+        commit: 0,
+    };
+    MemStore::new(alloc, &[row]).expect(rt, "memory")
 }
 
 fn report_alone(run: (Report, MemStore)) -> Report {

@@ -8,7 +8,7 @@ ghost use Rattle.serial_spec.specs.History.{event_of};
 ghost use Rattle.manager_core.specs.Calls.{WaitsOrIsUndone};
 ghost use Rattle.manager_core.specs.Lines.{IsFree};
 
-use durable_top::{MemStore, Row, TopStore, are_rising};
+use durable_top::{MemStore, Row, TopStore, are_numbered, are_rising};
 use manager_core::{Manager, OpenFault, Outcome, Parts};
 use serial_spec::{
     Answer, Asked, By, Entry, Event, NoMemory, Op, PlainTable, Refusal, Reply, When,
@@ -136,6 +136,7 @@ fn row(rt: &impl Abort, text: &str) -> Row {
     Row {
         key: key(rt, what),
         value: number(rt, value),
+        commit: 0,
     }
 }
 
@@ -153,6 +154,15 @@ fn has_rows(table: &PlainTable, rows: &[Row]) -> bool {
         && rows
             .iter()
             .all(|row| table.get(&row.key) == Some(row.value))
+}
+
+// Whether they are the same rows, whatever their numbers.
+fn are_same(left: &[Row], right: &[Row]) -> bool {
+    left.len() == right.len()
+        && left
+            .iter()
+            .zip(right)
+            .all(|(row, other)| row.key == other.key && row.value == other.value)
 }
 
 fn name_of(event: &Event) -> &Name {
@@ -184,7 +194,7 @@ fn look<S: TopStore>(watched: &Watched<S>) -> u64 {
     let Watched { manager, due, .. } = watched;
     let mut seen = DefaultHasher::new();
     for row in manager.opening() {
-        (row.key, row.value).hash(&mut seen);
+        (row.key, row.value, row.commit).hash(&mut seen);
     }
     for place in 0..manager.table().len() {
         manager.table().at(place).hash(&mut seen);
@@ -204,6 +214,7 @@ fn is_as_before<S: TopStore>(watched: &Watched<S>, before: u64) -> bool {
 
 pub fn store_of(rt: &impl Abort, alloc: Global, rows: &[Row]) -> MemStore {
     assert!(rt; are_rising(rows));
+    assert!(rt; are_numbered(rows));
     match MemStore::new(alloc, rows) {
         Ok(store) => store,
         Err(_) => MemStore::new(alloc, rows).expect(rt, "memory"),
@@ -526,7 +537,8 @@ fn check_parts<S: TopStore>(
         .filter(|entry| entry.answer == NOT_STORED)
         .count();
     assert!(rt; parts.store.faults() == faults as u64);
-    assert!(rt; load(rt, alloc, &mut parts.store).as_slice() == rows);
+    let loaded = load(rt, alloc, &mut parts.store);
+    assert!(rt; are_same(loaded.as_slice(), rows));
 }
 
 // Takes the manager apart.

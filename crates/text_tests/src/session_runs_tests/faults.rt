@@ -2,7 +2,7 @@
 ghost use Rattle.std.specs.Prelude.{ℕ, None, if◌then◌else◌};
 
 use crate::session_runs_tests::{Told, empty, replayed};
-use durable_top::{MemStore, Row, StoreFault, TopStore, are_rising};
+use durable_top::{MemStore, Row, StoreFault, TopStore, are_numbered, are_rising};
 use session_runs::{Fault, Way, report_over, tell};
 use session_text::LineKind;
 use std::alloc::Global;
@@ -135,6 +135,8 @@ struct Unready {
 impl TopStore for Unready {
     ghost table = { λ _ k. None };
 
+    ghost numbered = { λ _ k. None };
+
     ghost doubt = { λ _. 1 };
 
     ghost failures = { λ s. if s.failed then 1 else 0 };
@@ -142,6 +144,8 @@ impl TopStore for Unready {
     ghost faults = { λ s. s.faults };
 
     ghost may_leave = { λ _ _. Unit {0} };
+
+    ghost may_leave_numbered = { λ _ _. Unit {0} };
 
     ghost loads = { λ _ _ _. Unit {0} };
 
@@ -194,6 +198,15 @@ fn stores_without_their_rows(rt: HostRuntime) {
 
 const LETTERS: [u8; 16] = *b"abcdefghijklmnop";
 
+// The row with the value 1.
+fn one(key: Key) -> Row {
+    Row {
+        key,
+        value: 1,
+        commit: 0,
+    }
+}
+
 /// As many rows as a manager takes.
 pub fn most_rows(rt: &impl Abort, alloc: Global) -> Vec<Row> {
     let mut rows = Vec::new(alloc);
@@ -201,7 +214,7 @@ pub fn most_rows(rt: &impl Abort, alloc: Global) -> Vec<Row> {
         for b in LETTERS {
             for c in LETTERS {
                 let key = Key::parse(&[a, b, c]).expect(rt, "key");
-                rows.push(Row { key, value: 1 }).expect(rt, "memory");
+                rows.push(one(key)).expect(rt, "memory");
             }
         }
     }
@@ -210,6 +223,7 @@ pub fn most_rows(rt: &impl Abort, alloc: Global) -> Vec<Row> {
 
 fn replayed_over(rt: &impl Abort, alloc: Global, rows: &[Row]) -> Told {
     assert!(rt; are_rising(rows));
+    assert!(rt; are_numbered(rows));
     let store = MemStore::new(alloc, rows).expect(rt, "memory");
     replayed(alloc, b"", store)
 }
@@ -221,6 +235,7 @@ fn served_over<R: Abort + Threads + Wait + Clock + Sync>(
     rows: &[Row],
 ) -> Told {
     assert!(rt; are_rising(rows));
+    assert!(rt; are_numbered(rows));
     let store = MemStore::new(alloc, rows).expect(rt, "memory");
     let mut out = Vec::new(alloc);
     let mut err = Vec::new(alloc);
@@ -236,7 +251,7 @@ fn stores_of_most_rows_and_one_more(rt: HostRuntime) {
     assert!(rt; replayed_over(&rt, rt.alloc(), rows.as_slice()).status == 0);
     assert!(rt; served_over(&rt, rt.alloc(), rows.as_slice()).status == 0);
     let key = Key::parse(b"q").expect(&rt, "key");
-    rows.push(Row { key, value: 1 }).expect(&rt, "memory");
+    rows.push(one(key)).expect(&rt, "memory");
     let told = replayed_over(&rt, rt.alloc(), rows.as_slice());
     assert!(rt; told.is_fault("tx: too many rows\n"));
     let told = served_over(&rt, rt.alloc(), rows.as_slice());

@@ -3,7 +3,7 @@
 use crate::session_runs_tests::faults::most_rows;
 use crate::session_runs_tests::sessions::{is_judged, is_printed, text_of};
 use crate::session_runs_tests::{Told, replayed, runs};
-use durable_top::{MemStore, Row, are_rising};
+use durable_top::{MemStore, Row, are_numbered, are_rising};
 use std::alloc::Global;
 use std::process::Abort;
 use txn_names::Key;
@@ -187,7 +187,11 @@ fn row_of(line: &str) -> Option<Row> {
     let (key, value) = line.split_once('=')?;
     let key = Key::parse(key.as_bytes()).ok()?;
     let value = value.parse().ok()?;
-    Some(Row { key, value })
+    Some(Row {
+        key,
+        value,
+        commit: 0,
+    })
 }
 
 // A store of the rows that the report opens with.
@@ -201,6 +205,7 @@ fn store_of(rt: &impl Abort, alloc: Global, report: &str) -> MemStore {
         }
     }
     assert!(rt; are_rising(rows.as_slice()));
+    assert!(rt; are_numbered(rows.as_slice()));
     MemStore::new(alloc, rows.as_slice()).expect(rt, "memory")
 }
 
@@ -255,6 +260,7 @@ table
 fn told_over_most_rows(rt: &impl Abort, alloc: Global) -> Told {
     let rows = most_rows(rt, alloc);
     assert!(rt; are_rising(rows.as_slice()));
+    assert!(rt; are_numbered(rows.as_slice()));
     let store = MemStore::new(alloc, rows.as_slice()).expect(rt, "memory");
     replayed(alloc, WHERE_ALL_ARE_KNOWN, store)
 }

@@ -224,7 +224,12 @@ pub fn text_of(rt: &impl Abort, alloc: Global, report: &str) -> String {
 fn store_of(rt: &impl Abort, alloc: Global, report: &str) -> MemStore {
     if report.starts_with("open\nx=9\n") {
         let key = Key::parse(b"x").expect(rt, "key");
-        MemStore::new(alloc, &[Row { key, value: 9 }]).expect(rt, "memory")
+        let row = Row {
+            key,
+            value: 9,
+            commit: 0,
+        };
+        MemStore::new(alloc, &[row]).expect(rt, "memory")
     } else {
         empty(rt, alloc)
     }

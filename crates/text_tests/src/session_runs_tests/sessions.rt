@@ -353,8 +353,12 @@ fn reports_by_a_schedule(rt: HostRuntime) {
 
 fn greatest(rt: &impl Abort, alloc: Global) -> MemStore {
     let key = Key::parse(b"x").expect(rt, "key");
-    let value = i64::MAX;
-    MemStore::new(alloc, &[Row { key, value }]).expect(rt, "memory")
+    let row = Row {
+        key,
+        value: i64::MAX,
+        commit: 0,
+    };
+    MemStore::new(alloc, &[row]).expect(rt, "memory")
 }
 
 fn refusing(rt: &impl Abort, alloc: Global) -> MemStore {

@@ -55,7 +55,7 @@ fn opened<D: Disk + Drop>(alloc: Global, files: Files<D>) -> Option<SqlStore<Fil
         return None;
     }
     let connection = Connection::open_files(alloc, files, options()).ok()?;
-    SqlStore::adopt(connection).ok()
+    SqlStore::adopt(alloc, connection).ok()
 }
 
 // The text's report over the store, and the store.

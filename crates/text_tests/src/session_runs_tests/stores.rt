@@ -95,6 +95,8 @@ struct Refusing {
 impl TopStore for Refusing {
     ghost table = { λ _ k. None };
 
+    ghost numbered = { λ _ k. None };
+
     ghost doubt = { λ _. 1 };
 
     ghost failures = { λ _. 0 };
@@ -102,6 +104,8 @@ impl TopStore for Refusing {
     ghost faults = { λ s. s.faults };
 
     ghost may_leave = { λ _ _. Unit {0} };
+
+    ghost may_leave_numbered = { λ _ _. Unit {0} };
 
     ghost loads = { λ _ _ _. Unit {0} };
 
@@ -159,7 +163,12 @@ fn databases_with_rows(rt: HostRuntime) {
 #[test]
 fn rows_are_judged(rt: HostRuntime) {
     let key = Key::parse(b"x").expect(&rt, "key");
-    let store = MemStore::new(rt.alloc(), &[Row { key, value: 1 }]).expect(&rt, "memory");
+    let row = Row {
+        key,
+        value: 1,
+        commit: 0,
+    };
+    let store = MemStore::new(rt.alloc(), &[row]).expect(&rt, "memory");
     let text = text_of(&rt, rt.alloc(), REMOVED_AGAIN);
     assert!(rt; is_judged(&rt, rt.alloc(), &text, None, store));
 }
