@@ -13,7 +13,7 @@ use Rattle.sqlite.specs.Order.{Row}
 use Rattle.sqlite.specs.Clock as clock
 use Rattle.sqlite.specs.Listing.{understood, reads_listing, if_select, is_select, listing_schema}
 use Rattle.sqlite.specs.State.{State, Shown, ShowsRows, IsUnchanged}
-use Rattle.sql_store.specs.Load.{load_text, ids_text}
+use Rattle.sql_store.specs.Load.{load_text, old_text, ids_text, old_ids_text}
 
 abbrev IsBare : Result Compiled CompileError → Type 0
 IsBare (Ok c) = c.returning ≡ None
@@ -27,6 +27,14 @@ IsMute (Err e) = ⊥
 pub load_mute : IsMute (first load_text)
 unfolding first returning everything
 load_mute schema base = refl
+
+pub old_mute : IsMute (first old_text)
+unfolding first returning everything
+old_mute schema base = refl
+
+pub old_ids_mute : IsMute (first old_ids_text)
+unfolding first returning everything
+old_ids_mute schema base = refl
 
 pub ids_mute : IsMute (first ids_text)
 unfolding first returning everything

@@ -1,5 +1,5 @@
 -- An error that stands for a failure of the device has one as its cause.
-use Rattle.std.proofs.Common.{◌≡◌, inl, inr, ℕ, Bool, false, List, [], Option, Some, None, Err, sym, subst}
+use Rattle.std.proofs.Common.{◌≡◌, ◌⊎◌, inl, inr, ℕ, Bool, false, List, [], Option, Some, None, Err, sym, subst, ◌∙◌, ◌+◌, ◌≤◌, true, true≢false, arith}
 use Rattle.std.proofs.lemmas.Bool.{cases_Bool}
 use Rattle.sqlite_value.specs.Order.{Row}
 use Rattle.sqlite_trees.specs.Tree.{Trees}
@@ -10,12 +10,13 @@ use Rattle.sqlite_schema.specs.declared.command.Returning.{Returning}
 use Rattle.sqlite_resolve.specs.declared.compiled.Compiled.{Compiled}
 use Rattle.sqlite.specs.declared.error.Error.{Error}
 use Rattle.sqlite.specs.declared.error.Error.TheVariants.{ExecuteReturnedResults}
-use Rattle.sqlite.specs.State.{State, Survives, Fails, HasCause, store_error, IsMisplaced, IsNoStatement, IsNotRun, RunsCommand, RunsAlone, ExecutesIn, Executes, ExecutesInside, FailsToShow, FailsToQuery, text_of, mode_of, shows_rows}
+use Rattle.sqlite.specs.State.{State, HasCleanDisk, Survives, Fails, HasCause, store_error, IsMisplaced, IsNoStatement, IsNotRun, RunsCommand, RunsAlone, ExecutesIn, Executes, ExecutesInside, FailsToShow, FailsToQuery, IsTooLate, text_of, mode_of, shows_rows}
 use Rattle.sqlite.specs.Store.{Ghosts}
 use Rattle.sqlite.specs.Held.{Held, state}
 use Rattle.sql_store.proofs.Texts.{probe_text, Fits, probe_fits}
-use Rattle.durable_top.specs.declared.store.StoreFault.TheVariants.{Refused}
-use Rattle.sql_store.specs.Faults.{fault_of, IsCaused, Lasts, HasFailed}
+use Rattle.durable_top.specs.declared.store.StoreFault.TheVariants.{Refused, Failed}
+use Rattle.durable_top.specs.declared.store.StoreFault.{StoreFault}
+use Rattle.sql_store.specs.Faults.{fault_of, IsDown, IsCaused, IsMeant, Lasts, HasFailed}
 use Rattle.sql_store.proofs.Calm.{IsCalm, apart, calm_as, does_calm, read_calm}
 
 calm_caused : (old new : State) (e : Error) → IsCalm e → IsCaused old new e
@@ -76,8 +77,30 @@ unfolding FailsToQuery
 query_caused sql params old new e (inl h) = not_run_caused old new sql params e h
 query_caused sql params old new e (inr h) = show_caused old new sql h.0 _ e h.0.returning h.2
 
+pub query_caused_inside : (sql : List ℕ) (params : Row) (old new : State) (e : Error) → FailsToQuery sql params old new e ⊎ IsTooLate sql params old new e → IsCaused old new e
+query_caused_inside sql params old new e (inl h) = query_caused sql params old new e h
+query_caused_inside sql params old new e (inr h) = calm_caused old new e (calm_as _ e h.4 apart)
+
 pub lasts_by : (old new : State) (P : Trees → Type 0) → Survives old new P → Lasts old new
 lasts_by old new P s = record { counts = s.counts; closes = s.closes }
+
+-- ---- what is down later
+
+-- a failure behind a call is one of both
+pub down_later : (a b c : State) (P Q : Trees → Type 0) → Survives a b P → HasCleanDisk b → Survives b c Q → IsDown b c → IsDown a c
+down_later a b c P Q first clean second (inl shut) = elim (cases_Bool a.is_open) [
+  | inl open_then ↦ elim (first.closes clean open_then) [
+    | inl still ↦ absurd (true≢false (sym still ∙ shut))
+    | inr more ↦ inr (omega (arith, more, second.counts))
+  ]
+  | inr closed ↦ inl closed
+]
+down_later a b c P Q first clean second (inr more) = inr (omega (arith, more, first.counts))
+
+-- and so is one before
+pub down_before : (a b c : State) (Q : Trees → Type 0) → Survives b c Q → IsDown a b → IsDown a c
+down_before a b c Q second (inl shut) = inl shut
+down_before a b c Q second (inr more) = inr (omega (arith, more, second.counts))
 
 -- ---- the probe, and what is told by it
 
@@ -103,6 +126,13 @@ probe_unrefused old new e (inl h) refused = absurd (always_fits old e h.0)
 probe_unrefused old new e (inr h) refused = unrefused old new e h refused
 
 module _ {S : Type 0} (g : Ghosts S) where
+  -- what is told once more was asked
+  pub failed_later : (a b c : Held S) (P Q : Trees → Type 0) (fault : StoreFault) → Survives (state g a) (state g b) P → HasCleanDisk (state g b) → Survives (state g b) (state g c) Q → IsMeant (state g a) (state g b) fault
+      → (fault ≡ Failed) ⊎ HasFailed g b c → HasFailed g a c
+  failed_later a b c P Q fault first clean second meant (inl failed) = inl (down_before (state g a) (state g b) (state g c) Q second (meant failed))
+  failed_later a b c P Q fault first clean second meant (inr (inl down)) = inl (down_later (state g a) (state g b) (state g c) P Q first clean second down)
+  failed_later a b c P Q fault first clean second meant (inr (inr lacks)) = inr lacks
+
   fails_for : (old new : Held S) (e : Error) → Fails (state g old) (state g new) ⊥ e → HasFailed g old new
   fails_for old new e (cause.OutOfMemory, same, why, back, tells) = inr (old, subst (Fails (state g old) (state g new) ⊥) same (cause.OutOfMemory, same, why, back, tells))
   fails_for old new e (cause.Io, same, why, back, tells) = inl (inr why)

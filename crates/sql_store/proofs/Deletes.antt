@@ -1,5 +1,5 @@
 -- What a delete by key leaves.
-use Rattle.std.proofs.Common.{◌≡◌, ◌&&◌, if◌then◌else◌, ℕ, Bool, true, false, cond, List, [], ◌∷◌, ◌++◌, map, flat_map, None, Some, Ok, sym, ap, subst, ◌∙◌, refl, is_eq}
+use Rattle.std.proofs.Common.{◌≡◌, ◌&&◌, if◌then◌else◌, ℕ, Bool, true, false, cond, List, [], ◌∷◌, ◌++◌, map, flat_map, None, Some, Ok, sym, ap, subst, ◌∙◌, refl, is_eq, arith}
 use Rattle.std.specs.List.Sorted.{IsPermutation}
 use Rattle.std.proofs.lemmas.List.Sorted.{IsPermutation-map}
 use Rattle.std.specs.List.{list_all}
@@ -25,13 +25,13 @@ use Rattle.sqlite_sql.specs.declared.ops.BinaryOp.TheVariants.{Compare}
 use Rattle.sqlite_sql.specs.declared.ops.CompareOp.TheVariants.{Eq}
 use Rattle.sqlite_value.specs.Order.{value_cmp}
 use Rattle.sqlite_rules.specs.Calls.{ids_of}
-use Rattle.serial_spec.specs.Serial.{put}
-use Rattle.sql_store.specs.Results.{results, results_schema}
+use Rattle.sql_store.specs.Laid.{put}
+use Rattle.sql_store.specs.Results.{old_results, results, both_schema}
 use Rattle.sql_store.specs.Table.{is_key, map_of, table_of, AreApart, IsReady, Makes}
-use Rattle.sql_store.proofs.Texts.{delete_text, delete_is, delete_plain, delete_query}
+use Rattle.sql_store.proofs.Texts.{delete_text, delete_is, delete_plain, delete_query, empty_text, empty_is, empty_plain, empty_query}
 use Rattle.sql_store.proofs.Creates.{went, same_value}
 use Rattle.sql_store.proofs.Steps.{kept_by}
-use Rattle.sql_store.proofs.Tables.{key_test, rows_with, rows_without, shown_ids, removed, apart_kept, map_removed}
+use Rattle.sql_store.proofs.Tables.{key_test, rows_with, rows_without, shown_ids, removed, all_removed, apart_kept, map_removed}
 
 pub told : (b : Bool) → is_true (from_truth (Some b)) ≡ b
 told true = refl
@@ -59,36 +59,38 @@ shows k (r ∷ rows) = go (shows k rows) (is_true (binary (Compare Eq Binary) (c
     go more false e = rw (← e, more)
 
 pub record Deletes (key : List ℕ) (old new : Database) : Type 0 where
-  pub rows : AreApart (old.trees 0) → new.trees 0 ≡ rows_without key (old.trees 0)
-  pub schema : new.schema ≡ results_schema
+  pub others : new.trees 0 ≡ old.trees 0
+  pub rows : AreApart (old.trees 2) → new.trees 2 ≡ rows_without key (old.trees 2)
+  pub schema : new.schema ≡ both_schema
 
-pub deletes : (old new : State) (key : List ℕ) (count : ℕ) → old.now.schema ≡ results_schema → Executes delete_text (Text key ∷ []) old new (Ok count) → Deletes key old.now new.now
+pub deletes : (old new : State) (key : List ℕ) (count : ℕ) → old.now.schema ≡ both_schema → Executes delete_text (Text key ∷ []) old new (Ok count) → Deletes key old.now new.now
 deletes old new key count has h =
     let params : Row = Text key ∷ [] in
     let db : Trees = old.now.trees in
-    let command = Delete 0 (record { lets = []; body = delete_query }) in
-    let w = runs_as delete_text params old new results_schema has command delete_is delete_plain count h in
-    let text = statement_of delete_text (understood results_schema delete_text) in
+    let command = Delete 1 (record { lets = []; body = delete_query }) in
+    let w = runs_as delete_text params old new both_schema has command delete_is delete_plain count h in
+    let text = statement_of delete_text (understood both_schema delete_text) in
     let done = went (subst (λ s. Does old.step_limit (mode_of old) params (record old.now { schema = s }) text None command (Ok (w.tally, new.now))) has w.changed) in
     let queried = went done.1 in
     let wrote = went queried.2 in
     let now = ap (λ (p : Tally × Database). p.1) (same_value (went (went done.2).2).2) in
     let trees : done.0.trees ≡ wrote.0 = ap (λ (it : Written). it.trees) (same_value wrote.2) in
-    let step = one_step results_schema _ db wrote.0 (edit_of db results (ids_of queried.0) Given 0 []) refl wrote.1 in
+    let step = one_step both_schema _ db wrote.0 (edit_of db results (ids_of queried.0) Given 0 []) refl wrote.1 in
     let a : IsAnswer delete_query (overlay db []) params queried.0 = queried.1.answer Null in
-    let kept : map (λ (o : Output). o.1) a.kept ≡ shown_ids (rows_with key (db 0)) =
-    ap (map (λ (o : Output). o.1)) (a.distinct ∙ ap (map (output delete_query)) a.grouped) ∙ shows key (db 0) in
-    let same : IsPermutation (shown_ids (rows_with key (db 0))) queried.0 =
+    let kept : map (λ (o : Output). o.1) a.kept ≡ shown_ids (rows_with key (db 2)) =
+    ap (map (λ (o : Output). o.1)) (a.distinct ∙ ap (map (output delete_query)) a.grouped) ∙ shows key (db 2) in
+    let same : IsPermutation (shown_ids (rows_with key (db 2))) queried.0 =
     subst (λ rows. IsPermutation rows queried.0) kept (subst (IsPermutation (map (λ (o : Output). o.1) a.kept)) (sym a.shown) (IsPermutation-map (λ (o : Output). o.1) a.kept a.ordered a.same)) in
     record {
-      rows = λ apart. ap (λ (d : Database). d.trees 0) now ∙ ap (λ (t : Trees). t 0) trees ∙ step.rows ∙ removed key (db 0) queried.0 apart same;
+      others = ap (λ (d : Database). d.trees 0) now ∙ ap (λ (t : Trees). t 0) trees ∙ step.tables.0 (λ e. absurd (omega (arith, e)));
+      rows = λ apart. ap (λ (d : Database). d.trees 2) now ∙ ap (λ (t : Trees). t 2) trees ∙ step.rows ∙ removed key (db 2) queried.0 apart same;
       schema = ap (λ (d : Database). d.schema) now;
     }
 
 pub deleted : (old new : Database) (key : List ℕ) → IsReady old → Deletes key old new → IsReady new × (table_of new ≡ put (table_of old) key None)
 deleted old new key ready it =
     let rows = it.rows ready.apart in
-    (record { schema = it.schema; apart = subst AreApart (sym rows) (apart_kept _ (old.trees 0) ready.apart) }, ap map_of rows ∙ map_removed key (old.trees 0))
+    (record { schema = it.schema; apart = subst AreApart (sym rows) (apart_kept _ (old.trees 2) ready.apart) }, ap map_of rows ∙ map_removed key (old.trees 2))
 
 pub removes : (old new : State) (key : List ℕ) (count : ℕ) → ExecutesInside 0 delete_text (Text key ∷ []) old new (Ok count) → Makes key None old new
 removes old new key count h = record {
@@ -97,4 +99,39 @@ removes old new key count h = record {
   kept = kept_by delete_text (Text key ∷ []) old new (Ok count) h;
   ready = λ ready. (deleted old.now new.now key ready (deletes old new key count ready.schema h.0)).0;
   table = λ ready. (deleted old.now new.now key ready (deletes old new key count ready.schema h.0)).1;
+  others = λ ready. (deletes old new key count ready.schema h.0).others;
 }
+
+-- ---- all rows of the old table go
+
+shows_all : (rows : List Row) → map (λ (o : Output). o.1) (map (output empty_query) (flat_map (λ r. ([] ∷ r ∷ []) ∷ []) rows)) ≡ shown_ids rows
+shows_all [] = refl
+shows_all (r ∷ rows) = ap (λ rs. (column r 0 ∷ []) ∷ rs) (shows_all rows)
+
+pub record Empties (old new : Database) : Type 0 where
+  pub others : new.trees 2 ≡ old.trees 2
+  pub rows : AreApart (old.trees 0) → new.trees 0 ≡ []
+  pub schema : new.schema ≡ both_schema
+
+pub empties : (old new : State) (count : ℕ) → old.now.schema ≡ both_schema → Executes empty_text [] old new (Ok count) → Empties old.now new.now
+empties old new count has h =
+    let db : Trees = old.now.trees in
+    let command = Delete 0 (record { lets = []; body = empty_query }) in
+    let w = runs_as empty_text [] old new both_schema has command empty_is empty_plain count h in
+    let text = statement_of empty_text (understood both_schema empty_text) in
+    let done = went (subst (λ s. Does old.step_limit (mode_of old) [] (record old.now { schema = s }) text None command (Ok (w.tally, new.now))) has w.changed) in
+    let queried = went done.1 in
+    let wrote = went queried.2 in
+    let now = ap (λ (p : Tally × Database). p.1) (same_value (went (went done.2).2).2) in
+    let trees : done.0.trees ≡ wrote.0 = ap (λ (it : Written). it.trees) (same_value wrote.2) in
+    let step = one_step both_schema _ db wrote.0 (edit_of db old_results (ids_of queried.0) Given 0 []) refl wrote.1 in
+    let a : IsAnswer empty_query (overlay db []) [] queried.0 = queried.1.answer Null in
+    let kept : map (λ (o : Output). o.1) a.kept ≡ shown_ids (db 0) =
+    ap (map (λ (o : Output). o.1)) (a.distinct ∙ ap (map (output empty_query)) a.grouped) ∙ shows_all (db 0) in
+    let same : IsPermutation (shown_ids (db 0)) queried.0 =
+    subst (λ rows. IsPermutation rows queried.0) kept (subst (IsPermutation (map (λ (o : Output). o.1) a.kept)) (sym a.shown) (IsPermutation-map (λ (o : Output). o.1) a.kept a.ordered a.same)) in
+    record {
+      others = ap (λ (d : Database). d.trees 2) now ∙ ap (λ (t : Trees). t 2) trees ∙ step.tables.1.0 (λ e. absurd (omega (arith, e)));
+      rows = λ apart. ap (λ (d : Database). d.trees 0) now ∙ ap (λ (t : Trees). t 0) trees ∙ step.rows ∙ all_removed (db 0) queried.0 apart same;
+      schema = ap (λ (d : Database). d.schema) now;
+    }

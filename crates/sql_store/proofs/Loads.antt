@@ -1,5 +1,6 @@
 -- What the query answers, and what it leaves.
-use Rattle.std.proofs.Common.{◌≡◌, ℕ, List, [], ◌∷◌, codes, Option, Some, None, inl, inr, sym, ap, subst, ◌∙◌}
+use Rattle.std.proofs.Common.{◌⊎◌, cond, ◌≡◌, ℕ, List, [], ◌∷◌, codes, Option, Some, None, inl, inr, true≢false, sym, ap, subst, ◌∙◌}
+use Rattle.std.specs.Prelude.{IsTrue}
 use Rattle.sqlite.specs.Order.{Row}
 use Rattle.sqlite.specs.declared.types.Value.TheVariants.{Null}
 use Rattle.sqlite.specs.declared.error.Error.{Error}
@@ -7,25 +8,31 @@ use Rattle.sqlite.specs.Command.TheVariants.{Select}
 use Rattle.sqlite.specs.Query.{IsAnswer}
 use Rattle.sqlite.specs.Program.{overlay}
 use Rattle.sqlite.specs.Tree.{Trees}
-use Rattle.sqlite.specs.State.{State, Shown, ShowsRows, IsUnchanged, KeepsCommit, IsNotRun, FailsToQuery, FailsToShow, Fails, Survives, CommitsShowing, HasCleanDisk}
+use Rattle.sqlite.specs.State.{State, Shown, ShowsRows, IsUnchanged, KeepsCommit, IsNotRun, FailsToQuery, FailsToShow, Fails, IsTooLate, Survives, CommitsShowing, HasCleanDisk}
 use Rattle.sqlite.specs.Effect.{Database}
 use Rattle.sql_store.specs.Table.{IsKnown}
 use Rattle.sqlite.specs.Clock.{timed}
 use Rattle.sqlite.specs.Listing.{understood}
 use Rattle.sqlite.proofs.Callers.{IsPlain, reads_as, never_commits}
 use Rattle.sqlite.proofs.StateLemmas.{survives_weaker}
-use Rattle.sql_store.specs.Results.{results_schema}
-use Rattle.sql_store.specs.Load.{load_text, load_query, ids_text, ids_query}
-use Rattle.sql_store.proofs.Texts.{load_is, load_plain, ids_is, ids_plain}
+use Rattle.sql_store.specs.Results.{both_schema}
+use Rattle.sql_store.specs.Load.{load_text, load_query, old_text, old_query, ids_text, ids_query, old_ids_text, old_ids_query}
+use Rattle.sql_store.proofs.Texts.{load_is, load_plain, old_is, old_plain, ids_is, ids_plain, old_ids_is, old_ids_plain}
 
-pub loads : (old new : State) (rows : List Row) → old.now.schema ≡ results_schema → Shown load_text [] old new rows → IsAnswer load_query (overlay old.now.trees []) [] rows
-loads old new rows has h = (reads_as load_text [] old new results_schema has (Select (record { lets = []; body = load_query }) (codes "k" ∷ codes "v" ∷ [])) load_is load_plain.0 load_plain.1 rows h).answer Null
+pub loads : (old new : State) (rows : List Row) → old.now.schema ≡ both_schema → Shown load_text [] old new rows → IsAnswer load_query (overlay old.now.trees []) [] rows
+loads old new rows has h = (reads_as load_text [] old new both_schema has (Select (record { lets = []; body = load_query }) (codes "k" ∷ codes "v" ∷ codes "n" ∷ [])) load_is load_plain.0 load_plain.1 rows h).answer Null
 
-pub shows_ids : (old new : State) (rows : List Row) → old.now.schema ≡ results_schema → Shown ids_text [] old new rows → IsAnswer ids_query (overlay old.now.trees []) [] rows
-shows_ids old new rows has h = (reads_as ids_text [] old new results_schema has (Select (record { lets = []; body = ids_query }) (codes "rowid" ∷ [])) ids_is ids_plain.0 ids_plain.1 rows h).answer Null
+pub loads_old : (old new : State) (rows : List Row) → old.now.schema ≡ both_schema → Shown old_text [] old new rows → IsAnswer old_query (overlay old.now.trees []) [] rows
+loads_old old new rows has h = (reads_as old_text [] old new both_schema has (Select (record { lets = []; body = old_query }) (codes "k" ∷ codes "v" ∷ [])) old_is old_plain.0 old_plain.1 rows h).answer Null
+
+pub shows_ids : (old new : State) (rows : List Row) → old.now.schema ≡ both_schema → Shown ids_text [] old new rows → IsAnswer ids_query (overlay old.now.trees []) [] rows
+shows_ids old new rows has h = (reads_as ids_text [] old new both_schema has (Select (record { lets = []; body = ids_query }) (codes "rowid" ∷ [])) ids_is ids_plain.0 ids_plain.1 rows h).answer Null
+
+pub shows_old_ids : (old new : State) (rows : List Row) → old.now.schema ≡ both_schema → Shown old_ids_text [] old new rows → IsAnswer old_ids_query (overlay old.now.trees []) [] rows
+shows_old_ids old new rows has h = (reads_as old_ids_text [] old new both_schema has (Select (record { lets = []; body = old_ids_query }) (codes "rowid" ∷ [])) old_ids_is old_ids_plain.0 old_ids_plain.1 rows h).answer Null
 
 -- a query without RETURNING changes nothing
-only_shows : (text : List ℕ) → IsPlain (understood results_schema text) → (old new : State) (rows : List Row) → old.now.schema ≡ results_schema → Shown text [] old new rows → IsUnchanged old new
+only_shows : (text : List ℕ) → IsPlain (understood both_schema text) → (old new : State) (rows : List Row) → old.now.schema ≡ both_schema → Shown text [] old new rows → IsUnchanged old new
 unfolding Shown
 only_shows text plain old new rows has h =
     let known = sym h.1.is ∙ ap (λ s. understood s text) has in
@@ -33,10 +40,16 @@ only_shows text plain old new rows has h =
     let it = subst (ShowsRows old new text h.0 (timed [] h.0.formats h.1.now) rows) bare.0 h.2 in
     it.3
 
-pub stays : (old new : State) (rows : List Row) → old.now.schema ≡ results_schema → Shown load_text [] old new rows → IsUnchanged old new
+pub stays : (old new : State) (rows : List Row) → old.now.schema ≡ both_schema → Shown load_text [] old new rows → IsUnchanged old new
 stays = only_shows load_text load_plain.0
 
-pub ids_stay : (old new : State) (rows : List Row) → old.now.schema ≡ results_schema → Shown ids_text [] old new rows → IsUnchanged old new
+pub old_stays : (old new : State) (rows : List Row) → old.now.schema ≡ both_schema → Shown old_text [] old new rows → IsUnchanged old new
+old_stays = only_shows old_text old_plain.0
+
+pub old_ids_stay : (old new : State) (rows : List Row) → old.now.schema ≡ both_schema → Shown old_ids_text [] old new rows → IsUnchanged old new
+old_ids_stay = only_shows old_ids_text old_ids_plain.0
+
+pub ids_stay : (old new : State) (rows : List Row) → old.now.schema ≡ both_schema → Shown ids_text [] old new rows → IsUnchanged old new
 ids_stay = only_shows ids_text ids_plain.0
 
 pub same_commit : (old new : State) → IsUnchanged old new → KeepsCommit old new
@@ -60,12 +73,12 @@ query_keeps old new sql params e (inr (c, it, h)) = go c.returning h
     go (Some what) (inl f) = same_commit old new f.1
     go (Some what) (inr f) = fails_keep old new _ e f
 
-pub reads_only : (old new : State) → old.now.schema ≡ results_schema → Survives old new (CommitsShowing load_text [] old) → Survives old new (λ _. ⊥)
+pub reads_only : (old new : State) → old.now.schema ≡ both_schema → Survives old new (CommitsShowing load_text [] old) → Survives old new (λ _. ⊥)
 reads_only old new has h = survives_weaker old new (CommitsShowing load_text [] old) (λ _. ⊥) (λ _ db shows. never_commits load_text [] old db (subst (λ s. IsPlain (understood s load_text)) (sym has) load_plain.0) shows) h
 
 -- ---- after a probe that went well
 
-pub still_known : (a b : State) → IsKnown a → IsUnchanged a b → b.now.schema ≡ results_schema
+pub still_known : (a b : State) → IsKnown a → IsUnchanged a b → b.now.schema ≡ both_schema
 still_known a b known same = ap (λ (d : Database). d.schema) same.0.now_is ∙ known same.0.was_open
 
 pub still_answers : (a b : State) (rows : List Row) → IsUnchanged a b → IsAnswer load_query (overlay b.now.trees []) [] rows → IsAnswer load_query (overlay a.now.trees []) [] rows
@@ -73,3 +86,27 @@ still_answers a b rows same h = subst (λ (d : Database). IsAnswer load_query (o
 
 pub left_before : (a b : State) → HasCleanDisk b → Survives a b (λ _. ⊥) → (db : Trees) → b.may_leave db → a.may_leave db
 left_before a b clean h db may = elim (h.crash clean db may) [ inl was ↦ was | inr none ↦ absurd none ]
+
+-- ---- a query inside a transaction
+
+-- whatever a query's text is, it commits nothing there and the transaction goes on
+pub shown_inside : (old new : State) (sql : List ℕ) (params rows : List _) → Shown sql params old new rows → IsTrue old.in_transaction → KeepsCommit old new × IsTrue new.in_transaction × IsTrue old.is_open
+unfolding Shown
+shown_inside old new sql params rows (c, it, h) inside = go c.returning h
+  where
+    go : (o : Option _) → ShowsRows old new sql c (timed params c.formats it.now) rows o → KeepsCommit old new × IsTrue new.in_transaction × IsTrue old.is_open
+    go None f = (same_commit old new f.3, f.3.0.mode ∙ inside, f.3.0.was_open)
+    go (Some what) (count, w, is) = (
+      record { was_open = λ _. w.shown.was_open; committed = λ _. w.shown.committed_is ∙ ap (λ b. cond b old.committed new.now) inside },
+      w.shown.mode ∙ inside,
+      w.shown.was_open,
+    )
+
+pub query_keeps_inside : (old new : State) (sql : List ℕ) (params : Row) (e : Error) → FailsToQuery sql params old new e ⊎ IsTooLate sql params old new e → KeepsCommit old new
+query_keeps_inside old new sql params e (inl h) = query_keeps old new sql params e h
+query_keeps_inside old new sql params e (inr h) = same_commit old new h.5
+
+-- where a transaction is under way a query is not too late
+pub not_late : (old new : State) (sql : List ℕ) (params : Row) (e : Error) → IsTrue old.in_transaction → FailsToQuery sql params old new e ⊎ IsTooLate sql params old new e → FailsToQuery sql params old new e
+not_late old new sql params e inside (inl h) = h
+not_late old new sql params e inside (inr h) = absurd (true≢false (sym inside ∙ h.3))

@@ -6,9 +6,6 @@ use Rattle.sqlite.specs.Order.{Row}
 use Rattle.sqlite.specs.Clock.{timed}
 use Rattle.sqlite.specs.declared.error.Error.{Error}
 use Rattle.sqlite.specs.State.{State, Fails, IsUnchanged, IsRolledBack, IsNotRun, FailsToQuery, FailsToShow, RunsCommand, ExecutesIn, Executes, shows_rows}
-use Rattle.sqlite.specs.Store.{Ghosts}
-use Rattle.sqlite.specs.Held.{Held, state}
-use Rattle.sql_store.specs.Asked.{MadeAtMost}
 use Rattle.sql_store.specs.Kept.{IsSettled, Spares}
 
 pub spares_all : (a : State) → Spares a a
@@ -66,7 +63,3 @@ spares_then a b c p q = record {
 
 pub settled_then : (a b : State) → IsSettled a → Spares a b → IsSettled b
 settled_then a b settled s = (s.mode ∙ settled.0, λ h. s.now_is h ∙ settled.1 (s.was_open h) ∙ sym (s.committed_is h))
-
-pub at_most_then : {S : Type 0} (g : Ghosts S) (a b c : Held S) → MadeAtMost g a b → Spares (state g b) (state g c) → MadeAtMost g a c
-at_most_then g a b c (inl p) q = inl (spares_then (state g a) (state g b) (state g c) p q)
-at_most_then g a b c (inr (made, created, p)) q = inr (made, created, spares_then (state g made) (state g b) (state g c) p q)

@@ -1,12 +1,15 @@
 -- One statement in a transaction, and several.
-use Rattle.std.proofs.Common.{◌≡◌, ap, ℕ, List, Ok, Err, Result, OnOk, OnErr, IfOk, IfErr, IsErrOf, inl, inr}
+use Rattle.std.proofs.Common.{◌≡◌, ap, ℕ, List, Ok, Err, Result, OnOk, OnErr, IfOk, IfErr, IsErrOf, inl, inr, refl, ◌∙◌, arith}
+use Rattle.sqlite.proofs.StateLemmas.{survives_then}
 use Rattle.std.specs.Global.{Vec}
 use Rattle.sqlite.specs.Order.{Row as Values}
-use Rattle.sqlite.specs.declared.error.Error.{Error}
 use Rattle.durable_top.specs.declared.store.Row.{Row}
 use Rattle.durable_top.specs.declared.store.StoreFault.{StoreFault}
 use Rattle.durable_top.specs.Store.{told}
-use Rattle.sqlite.specs.State.{State, ExecutesInside, KeepsCommit}
+use Rattle.sqlite.specs.declared.error.Error.{Error}
+use Rattle.std.specs.Prelude.{IsTrue}
+use Rattle.sqlite.specs.State.{State, HasCleanDisk, Survives, ExecutesInside, KeepsCommit}
+use Rattle.sql_store.specs.Inside.{Steps, GoesOn}
 
 -- what holds anyway holds at an error
 pub on_err : {T E Q : Type 0} (r : Result T E) → Q → OnErr r Q
@@ -30,6 +33,49 @@ on_ok_then (Err e) f h = tt
 pub if_ok_both : {T E : Type 0} (r : Result T E) (P Q R : T → Type 0) → IfOk r P → IfOk r Q → ((x : T) → P x → Q x → R x) → IfOk r R
 if_ok_both (Ok x) P Q R p q f = f x p q
 if_ok_both (Err e) P Q R p q f = tt
+
+-- ---- several steps inside a transaction
+
+-- what holds of each value that is answered holds where one is answered
+pub goes_on : {T E : Type 0} (r : Result T E) (old new : State) → (HasCleanDisk new → IsTrue old.in_transaction → IfOk r (λ _. IsTrue new.in_transaction × IsTrue old.is_open)) → OnOk r (GoesOn old new)
+goes_on (Ok x) old new f = f
+goes_on (Err e) old new f = tt
+
+pub steps_by : (sql : List ℕ) (params : Values) (old new : State) (r : Result ℕ Error) → (HasCleanDisk new → IsTrue old.in_transaction → ExecutesInside 0 sql params old new r) → Survives old new (λ _. ⊥) → Steps old new
+steps_by sql params old new r ran survives = record { kept = λ clean inside. kept_by sql params old new r (ran clean inside); survives = survives }
+
+pub on_by : (sql : List ℕ) (params : Values) (old new : State) (count : ℕ) → (HasCleanDisk new → IsTrue old.in_transaction → ExecutesInside 0 sql params old new (Ok count)) → GoesOn old new
+on_by sql params old new count ran clean inside = ((ran clean inside).1.mode, (ran clean inside).1.was_open)
+
+survives_same : (a : State) → Survives a a (λ _. ⊥)
+survives_same a = record { clean = omega arith; shield = λ h. h; counts = omega arith; limit = refl; closes = λ clean was. inl was; crash = λ clean db may. inl may }
+
+pub steps_none : (a : State) → Steps a a
+steps_none a = record { kept = λ clean inside. record { was_open = λ h. h; committed = λ h. refl }; survives = survives_same a }
+
+pub steps_then : (a b c : State) → Steps a b → (HasCleanDisk b → IsTrue a.in_transaction → IsTrue b.in_transaction) → Steps b c → Steps a c
+steps_then a b c p on q = record {
+  kept = λ clean inside.
+      let was : HasCleanDisk b = omega (arith, q.survives.clean, clean) in
+      let first = p.kept was inside in
+      let second = q.kept clean (on was inside) in
+      record { was_open = λ h. first.was_open (second.was_open h); committed = λ h. second.committed h ∙ first.committed (second.was_open h) };
+  survives = survives_then a b c _ _ (λ _. ⊥) (λ _ db none. none) (λ _ db none. none) p.survives q.survives;
+}
+
+pub clean_before : (b c : State) → Survives b c (λ _. ⊥) → HasCleanDisk c → HasCleanDisk b
+clean_before b c s clean = omega (arith, s.clean, clean)
+
+pub steps_from : (a b : State) → (HasCleanDisk b → IsTrue a.in_transaction → KeepsCommit a b) → Survives a b (λ _. ⊥) → Steps a b
+steps_from a b kept survives = record { kept = kept; survives = survives }
+
+pub ok_from : {T E Q : Type 0} (r : Result T E) (P : T → Type 0) → ((x : T) → P x → Q) → IfOk r P → OnOk r Q
+ok_from (Ok x) P f h = f x h
+ok_from (Err e) P f h = tt
+
+pub on_ok_both : {T E P Q R : Type 0} (r : Result T E) → (P → Q → R) → OnOk r P → OnOk r Q → OnOk r R
+on_ok_both (Ok x) f h k = f h k
+on_ok_both (Err e) f h k = tt
 
 -- what holds of the rows holds of the answer that is told
 pub told_if : (r : Result (Vec Row) StoreFault) (P : List Row → Type 0) → IfOk r (λ rows. P rows.items) → IfOk (told r) P

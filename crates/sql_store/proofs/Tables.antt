@@ -21,8 +21,8 @@ use Rattle.sqlite_rules.proofs.ListLemmas.{all_has, all_from, some_has, some_fro
 use Rattle.sqlite_rules.proofs.TableLemmas.{put_has}
 use Rattle.txn_names.specs.Path.{label_eq}
 use Rattle.txn_names.proofs.Names.{same_label}
-use Rattle.serial_spec.specs.Serial.{put}
-use Rattle.sql_store.specs.Table.{is_key, int_in, id_of, map_of, AreApart}
+use Rattle.sql_store.specs.Laid.{put}
+use Rattle.sql_store.specs.Table.{is_key, entry_of, id_of, map_of, AreApart}
 
 -- ---- keys and rowids
 
@@ -151,24 +151,24 @@ apart_kept p (r ∷ rows) h = go (apart_kept p rows h.2) (p r)
     go more true = (h.0, all_from (λ q. id_of q ≢ id_of r) (filter p rows) (λ q has. all_has (λ q. id_of q ≢ id_of r) rows q h.1 (has_filtered p rows q has).0), more)
     go more false = more
 
-past : (b c : Bool) (v x y : Option ℤ) → (b ≡ false → c ≡ false) → cond b v y ≡ cond b v (cond c x y)
+past : {X : Type 0} (b c : Bool) (v x y : Option X) → (b ≡ false → c ≡ false) → cond b v y ≡ cond b v (cond c x y)
 past true c v x y f = refl
 past false c v x y f = ap (λ d. cond d x y) (sym (f refl))
 
-swap : (b c : Bool) (v x y : Option ℤ) → (b ≡ true → c ≡ false) → cond c x (cond b v y) ≡ cond b v (cond c x y)
+swap : {X : Type 0} (b c : Bool) (v x y : Option X) → (b ≡ true → c ≡ false) → cond c x (cond b v y) ≡ cond b v (cond c x y)
 swap true c v x y f = ap (λ d. cond d x v) (f refl)
 swap false c v x y f = refl
 
-nothing : (b : Bool) → ◌≡◌ {A = Option ℤ} None (cond b None None)
+nothing : {X : Type 0} (b : Bool) → ◌≡◌ {A = Option X} None (cond b None None)
 nothing true = refl
 nothing false = refl
 
 map_without : (k : List ℕ) (rows : List Row) (q : List ℕ) → map_of (rows_without k rows) q ≡ put (map_of rows) k None q
 map_without k [] q = nothing (label_eq k q)
 map_without k (r ∷ rows) q = elim (cases_Bool (is_key k (column r 1))) [
-  | inl e ↦ rw e (map_without k rows q ∙ past (label_eq k q) (is_key q (column r 1)) None (int_in (column r 2)) (map_of rows q) (other_key k q (column r 1) e))
-  | inr e ↦ rw e (ap (cond (is_key q (column r 1)) (int_in (column r 2))) (map_without k rows q)
-      ∙ swap (label_eq k q) (is_key q (column r 1)) None (int_in (column r 2)) (map_of rows q) (no_key k q (column r 1) e))
+  | inl e ↦ rw e (map_without k rows q ∙ past (label_eq k q) (is_key q (column r 1)) None (entry_of r) (map_of rows q) (other_key k q (column r 1) e))
+  | inr e ↦ rw e (ap (cond (is_key q (column r 1)) (entry_of r)) (map_without k rows q)
+      ∙ swap (label_eq k q) (is_key q (column r 1)) None (entry_of r) (map_of rows q) (no_key k q (column r 1) e))
 ]
 
 pub map_removed : (k : List ℕ) (rows : List Row) → map_of (rows_without k rows) ≡ put (map_of rows) k None
@@ -176,24 +176,25 @@ map_removed k rows = λ i q. map_without k rows q i
 
 -- ---- a row is put in
 
-module _ (k : List ℕ) (v : ℤ) (new : Row) (key : column new 1 ≡ Text k) (value : column new 2 ≡ Int v) where
-  map_front : (rows : List Row) (q : List ℕ) → map_of (new ∷ rows) q ≡ put (map_of rows) k (Some v) q
-  map_front rows q = rw (key, value)
+module _ (k : List ℕ) (v n : ℤ) (new : Row) (key : column new 1 ≡ Text k) (value : column new 2 ≡ Int v) (number : column new 3 ≡ Int n) where
+  map_front : (rows : List Row) (q : List ℕ) → map_of (new ∷ rows) q ≡ put (map_of rows) k (Some (v, n)) q
+  map_front rows q = rw (key, value, number)
 
   map_put : (rows : List Row) → ((r : Row) → Has rows r → is_key k (column r 1) ≡ false) → ((r : Row) → Has rows r → is_eq (value_cmp (rowid r) (rowid new)) ≡ false)
-      → (q : List ℕ) → map_of (put_row new rows) q ≡ put (map_of rows) k (Some v) q
+      → (q : List ℕ) → map_of (put_row new rows) q ≡ put (map_of rows) k (Some (v, n)) q
   map_put [] none fresh q = map_front [] q
   map_put (r ∷ rows) none fresh q = go (map_put rows (λ x has. none x (inr has)) (λ x has. fresh x (inr has)) q) (value_cmp (rowid r) (rowid new)) refl
     where
-      go : map_of (put_row new rows) q ≡ put (map_of rows) k (Some v) q → (o : Ordering) → value_cmp (rowid r) (rowid new) ≡ o → map_of (match_ordering o (r ∷ put_row new rows) (new ∷ rows) (new ∷ r ∷ rows)) q ≡ put (map_of (r ∷ rows)) k (Some v) q
+      go : map_of (put_row new rows) q ≡ put (map_of rows) k (Some (v, n)) q → (o : Ordering) → value_cmp (rowid r) (rowid new) ≡ o
+          → map_of (match_ordering o (r ∷ put_row new rows) (new ∷ rows) (new ∷ r ∷ rows)) q ≡ put (map_of (r ∷ rows)) k (Some (v, n)) q
       go more Less e =
-          ap (cond (is_key q (column r 1)) (int_in (column r 2))) more
-          ∙ swap (label_eq k q) (is_key q (column r 1)) (Some v) (int_in (column r 2)) (map_of rows q) (no_key k q (column r 1) (none r (inl refl)))
+          ap (cond (is_key q (column r 1)) (entry_of r)) more
+          ∙ swap (label_eq k q) (is_key q (column r 1)) (Some (v, n)) (entry_of r) (map_of rows q) (no_key k q (column r 1) (none r (inl refl)))
       go more Equal e = absurd (true≢false (sym (ap is_eq e) ∙ fresh r (inl refl)))
       go more Greater e = map_front (r ∷ rows) q
 
   pub map_added : (rows : List Row) → ((r : Row) → Has rows r → is_key k (column r 1) ≡ false) → ((r : Row) → Has rows r → is_eq (value_cmp (rowid r) (rowid new)) ≡ false)
-      → map_of (put_row new rows) ≡ put (map_of rows) k (Some v)
+      → map_of (put_row new rows) ≡ put (map_of rows) k (Some (v, n))
   map_added rows none fresh = λ i q. map_put rows none fresh q i
 
 pub apart_put : (new : Row) (rows : List Row) → column new 0 ≡ Int (id_of new) → ((r : Row) → Has rows r → id_of r ≢ id_of new) → AreApart rows → AreApart (put_row new rows)
@@ -211,3 +212,15 @@ apart_put new (r ∷ rows) own other h = go (apart_put new rows own (λ q has. o
     )
     go more Equal = (own, all_from (λ q. id_of q ≢ id_of new) rows (λ q has. other q (inr has)), h.2)
     go more Greater = (own, all_from (λ q. id_of q ≢ id_of new) (r ∷ rows) other, h)
+
+-- ---- all rows go
+
+without_none : (rows : List Row) (found : List Row) → ((r : Row) → Has rows r → list_any (λ id. has_rowid id r) (ids_of found) ≡ true) → filter (λ r. not (list_any (λ id. has_rowid id r) (ids_of found))) rows ≡ []
+without_none [] found each = refl
+without_none (r ∷ rows) found each = rw (each r (inl refl)) (without_none rows found (λ q has. each q (inr has)))
+
+pub all_removed : (rows found : List Row) → AreApart rows → IsPermutation (shown_ids rows) found → without_all rows (ids_of found) ≡ []
+all_removed rows found apart same =
+    without_is (ids_of found) rows ∙ without_none rows found (λ r has.
+    let row = has_permuted _ found _ same (mapped_has (λ (x : Row). column x 0 ∷ []) rows r has) in
+    some_from (λ id. has_rowid id r) (ids_of found) (id_of r) (mapped_has (λ (x : Row). id_of x) found _ row) (has_own r (own_id rows r apart has)))

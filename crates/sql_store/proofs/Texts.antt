@@ -21,9 +21,9 @@ use Rattle.sqlite.specs.Compile.{table_defined_by}
 use Rattle.sqlite_tied.specs.Compute.{everything}
 use Rattle.sqlite.specs.Listing.{understood, reads_listing}
 use Rattle.sqlite.proofs.Callers.{IsPlain, command_of, statement_of}
-use Rattle.sql_store.specs.Results.{results, results_schema, listed_schema, key_index, no_schema}
-pub use Rattle.sql_store.specs.Asked.{create_text, upsert_text, delete_text}
-use Rattle.sql_store.specs.Load.{load_text, load_query, ids_text, ids_query}
+use Rattle.sql_store.specs.Results.{old_results, results, defined_results, old_schema, both_schema, listed_old, listed_both, key_index, no_schema}
+pub use Rattle.sql_store.specs.Asked.{create_old_text, create_text, upsert_text, delete_text, empty_text}
+use Rattle.sql_store.specs.Load.{load_text, load_query, old_text, old_query, ids_text, ids_query, old_ids_text, old_ids_query}
 
 abbrev pub probe_text : List ℕ
 probe_text = codes "SELECT 1"
@@ -37,21 +37,37 @@ pub probe_fits : (schema : Schema) → Fits (understood schema probe_text)
 unfolding understood everything
 probe_fits schema = (lit≤ tt, refl, refl)
 
-pub create_table : table_defined_by create_text ≡ Ok results
+pub create_old_table : table_defined_by create_old_text ≡ Ok old_results
+unfolding understood everything
+create_old_table = refl
+
+pub create_table : table_defined_by create_text ≡ Ok defined_results
 unfolding understood everything
 create_table = refl
 
-pub create_is : command_of (understood no_schema create_text) ≡ CreateTable
+pub create_old_is : command_of (understood no_schema create_old_text) ≡ CreateTable
+unfolding understood everything
+create_old_is = refl
+
+pub create_is : command_of (understood old_schema create_text) ≡ CreateTable
 unfolding understood everything
 create_is = refl
 
-pub create_again : command_of (understood results_schema create_text) ≡ Nothing
+pub create_old_again : command_of (understood old_schema create_old_text) ≡ Nothing
 unfolding understood everything
-create_again = refl
+create_old_again = refl
 
-abbrev plain_query : List Term → List Term → Query
-plain_query filter project = record {
-  from = inner 0 end;
+pub both_old_again : command_of (understood both_schema create_old_text) ≡ Nothing
+unfolding understood everything
+both_old_again = refl
+
+pub both_again : command_of (understood both_schema create_text) ≡ Nothing
+unfolding understood everything
+both_again = refl
+
+abbrev plain_query : ℕ → List Term → List Term → Query
+plain_query tree filter project = record {
+  from = inner tree end;
   filter = filter;
   group = None;
   project = project;
@@ -64,61 +80,110 @@ plain_query filter project = record {
 
 -- the rowids of the rows with the key
 abbrev pub delete_query : Query
-delete_query = plain_query (op2 (Compare Eq Binary) (col 1 1) (col 0 0) ∷ []) (col 1 0 ∷ [])
+delete_query = plain_query 2 (op2 (Compare Eq Binary) (col 1 1) (col 0 0) ∷ []) (col 1 0 ∷ [])
+
+-- the rowids of all rows of the old table
+abbrev pub empty_query : Query
+empty_query = plain_query 0 [] (col 1 0 ∷ [])
 
 -- a row of the parameters, whose rowid is chosen
 abbrev pub insert_terms : List Term
-insert_terms = lit Null ∷ col 0 0 ∷ col 0 1 ∷ []
+insert_terms = lit Null ∷ col 0 0 ∷ col 0 1 ∷ col 0 2 ∷ []
 
--- The row that has the rowid of the one that was met, with the new value. The parameters are followed by that rowid
--- and by the rowid, the key and the value of the row that was to go in.
+-- The row that has the rowid of the one that was met, with the new value and number. The three parameters are followed
+-- by that rowid and by the rowid, the key, the value and the number of the row that was to go in.
 abbrev pub upsert_query : Query
-upsert_query = plain_query (op2 (Compare Eq Binary) (col 1 0) (col 0 2) ∷ []) (col 1 0 ∷ col 1 0 ∷ col 1 1 ∷ col 0 5 ∷ [])
+upsert_query = plain_query 2 (op2 (Compare Eq Binary) (col 1 0) (col 0 3) ∷ []) (col 1 0 ∷ col 1 0 ∷ col 1 1 ∷ col 0 6 ∷ col 0 7 ∷ [])
 
 abbrev pub upsert_clause : Upsert
 upsert_clause = record { target = Some (1 ∷ []); update = Some (record { lets = []; body = upsert_query }) }
 
-pub delete_is : command_of (understood results_schema delete_text) ≡ Delete 0 (record { lets = []; body = delete_query })
+pub delete_is : command_of (understood both_schema delete_text) ≡ Delete 1 (record { lets = []; body = delete_query })
 unfolding understood everything
 delete_is = refl
 
-pub upsert_is : command_of (understood results_schema upsert_text) ≡ InsertOr 0 Abort (Values insert_terms 3) (upsert_clause ∷ [])
+pub empty_is : command_of (understood both_schema empty_text) ≡ Delete 0 (record { lets = []; body = empty_query })
+unfolding understood everything
+empty_is = refl
+
+pub upsert_is : command_of (understood both_schema upsert_text) ≡ InsertOr 1 Abort (Values insert_terms 4) (upsert_clause ∷ [])
 unfolding understood everything
 upsert_is = refl
 
-pub load_is : command_of (understood results_schema load_text) ≡ Select (record { lets = []; body = load_query }) (codes "k" ∷ codes "v" ∷ [])
+pub load_is : command_of (understood both_schema load_text) ≡ Select (record { lets = []; body = load_query }) (codes "k" ∷ codes "v" ∷ codes "n" ∷ [])
 unfolding understood everything
 load_is = refl
 
-pub ids_is : command_of (understood results_schema ids_text) ≡ Select (record { lets = []; body = ids_query }) (codes "rowid" ∷ [])
+pub old_is : command_of (understood both_schema old_text) ≡ Select (record { lets = []; body = old_query }) (codes "k" ∷ codes "v" ∷ [])
+unfolding understood everything
+old_is = refl
+
+pub ids_is : command_of (understood both_schema ids_text) ≡ Select (record { lets = []; body = ids_query }) (codes "rowid" ∷ [])
 unfolding understood everything
 ids_is = refl
 
-pub create_plain : IsPlain (understood no_schema create_text) × (statement_of create_text (understood no_schema create_text) ≡ create_text)
+pub old_ids_is : command_of (understood both_schema old_ids_text) ≡ Select (record { lets = []; body = old_ids_query }) (codes "rowid" ∷ [])
+unfolding understood everything
+old_ids_is = refl
+
+pub create_old_plain : IsPlain (understood no_schema create_old_text) × (statement_of create_old_text (understood no_schema create_old_text) ≡ create_old_text)
+unfolding understood everything
+create_old_plain = ((refl, refl), refl)
+
+pub create_plain : IsPlain (understood old_schema create_text) × (statement_of create_text (understood old_schema create_text) ≡ create_text)
 unfolding understood everything
 create_plain = ((refl, refl), refl)
 
-pub create_again_plain : IsPlain (understood results_schema create_text)
+pub create_old_again_plain : IsPlain (understood old_schema create_old_text)
 unfolding understood everything
-create_again_plain = (refl, refl)
+create_old_again_plain = (refl, refl)
 
-pub delete_plain : IsPlain (understood results_schema delete_text)
+pub both_old_again_plain : IsPlain (understood both_schema create_old_text)
+unfolding understood everything
+both_old_again_plain = (refl, refl)
+
+pub both_again_plain : IsPlain (understood both_schema create_text)
+unfolding understood everything
+both_again_plain = (refl, refl)
+
+pub delete_plain : IsPlain (understood both_schema delete_text)
 unfolding understood everything
 delete_plain = (refl, refl)
 
-pub upsert_plain : IsPlain (understood results_schema upsert_text)
+pub empty_plain : IsPlain (understood both_schema empty_text)
+unfolding understood everything
+empty_plain = (refl, refl)
+
+pub upsert_plain : IsPlain (understood both_schema upsert_text)
 unfolding understood everything
 upsert_plain = (refl, refl)
 
-pub load_plain : IsPlain (understood results_schema load_text) × (reads_listing results_schema load_text ≡ false)
+pub load_plain : IsPlain (understood both_schema load_text) × (reads_listing both_schema load_text ≡ false)
 unfolding understood everything
 load_plain = ((refl, refl), refl)
 
-pub ids_plain : IsPlain (understood results_schema ids_text) × (reads_listing results_schema ids_text ≡ false)
+pub old_plain : IsPlain (understood both_schema old_text) × (reads_listing both_schema old_text ≡ false)
+unfolding understood everything
+old_plain = ((refl, refl), refl)
+
+pub ids_plain : IsPlain (understood both_schema ids_text) × (reads_listing both_schema ids_text ≡ false)
 unfolding understood everything
 ids_plain = ((refl, refl), refl)
 
-pub schema_listed : results_schema ≡ listed_schema
-schema_listed =
-    ap (λ (digits : List ℕ). record { tables = results ∷ []; indexes = record key_index { name = codes "sqlite_autoindex_" ++ (codes "results" ++ (codes "_" ++ digits)) } ∷ []; views = [] })
+pub old_ids_plain : IsPlain (understood both_schema old_ids_text) × (reads_listing both_schema old_ids_text ≡ false)
+unfolding understood everything
+old_ids_plain = ((refl, refl), refl)
+
+pub old_listed : old_schema ≡ listed_old
+old_listed =
+    ap (λ (digits : List ℕ). record { tables = old_results ∷ []; indexes = key_index (codes "sqlite_autoindex_" ++ (codes "results" ++ (codes "_" ++ digits))) 1 0 ∷ []; views = [] })
+    (decimal_digit 1 (omega arith))
+
+pub both_listed : both_schema ≡ listed_both
+both_listed =
+    ap (λ (digits : List ℕ). record {
+      tables = old_results ∷ results ∷ [];
+      indexes = key_index (codes "sqlite_autoindex_" ++ (codes "results" ++ (codes "_" ++ digits))) 1 0 ∷ key_index (codes "sqlite_autoindex_" ++ (codes "results2" ++ (codes "_" ++ digits))) 3 2 ∷ [];
+      views = [];
+    })
     (decimal_digit 1 (omega arith))

@@ -1,5 +1,5 @@
 -- What an upsert leaves.
-use Rattle.std.proofs.Common.{◌≡◌, ◌≢◌, ◌&&◌, ◌||◌, ◌++◌, ℕ, ℤ, Bool, true, false, not, cond, List, [], ◌∷◌, map, filter, flat_map, Option, None, Some, Ok, Ordering, Less, Equal, Greater, if◌then◌else◌, inl, inr, sym, ap, subst, ◌∙◌, refl, is_eq, true≢false}
+use Rattle.std.proofs.Common.{◌≡◌, ◌≢◌, ◌&&◌, ◌||◌, ◌++◌, ℕ, ℤ, Bool, true, false, not, cond, List, [], ◌∷◌, map, filter, flat_map, Option, None, Some, Ok, Ordering, Less, Equal, Greater, if◌then◌else◌, inl, inr, sym, ap, subst, ◌∙◌, refl, is_eq, true≢false, arith}
 use Rattle.std.specs.Ordering.{is_ne}
 use Rattle.std.proofs.lemmas.Bool.{cases_Bool, false≢true}
 use Rattle.std.proofs.lemmas.Cmp.{tied_itself}
@@ -44,13 +44,13 @@ use Rattle.sqlite_rules.specs.Calls.{ids_of}
 use Rattle.sqlite_rules.specs.Lists.{Has}
 use Rattle.sqlite_rules.proofs.ListLemmas.{all_has, some_from, has_filtered, has_kept}
 use Rattle.sqlite_rules.proofs.TableLemmas.{has_put, put_all_keeps}
-use Rattle.serial_spec.specs.Serial.{put}
+use Rattle.sql_store.specs.Laid.{put}
 use Rattle.txn_names.proofs.Names.{same_label}
-use Rattle.sql_store.specs.Results.{results, results_schema}
+use Rattle.sql_store.specs.Results.{results, both_schema}
 use Rattle.sql_store.specs.Table.{is_key, id_of, map_of, table_of, AreApart, IsReady, Makes}
 use Rattle.sql_store.proofs.Texts.{upsert_text, upsert_is, upsert_plain, upsert_query, upsert_clause, insert_terms}
 use Rattle.sql_store.proofs.Creates.{went, same_value}
-use Rattle.sql_store.proofs.Composed.{put_again}
+use Rattle.sql_store.proofs.Again.{put_again}
 use Rattle.sql_store.proofs.Deletes.{told, equal_key}
 use Rattle.sql_store.proofs.Steps.{kept_by}
 use Rattle.sql_store.proofs.Tables.{own_id, same_row, has_own, id_found, ids_tied, filter_same, rows_without, map_removed, map_added, apart_kept, apart_put}
@@ -67,8 +67,8 @@ cast_int : (v : ℤ) → cast Integer (Int v) ≡ Int v
 unfolding unary
 cast_int v = either _ (Int v)
 
-abbrev row_of : ℤ → List ℕ → ℤ → Row
-row_of id key value = Int id ∷ Text key ∷ Int value ∷ []
+abbrev row_of : ℤ → List ℕ → ℤ → ℤ → Row
+row_of id key value number = Int id ∷ Text key ∷ Int value ∷ Int number ∷ []
 
 -- ---- what a row meets
 
@@ -77,13 +77,13 @@ alone true = refl
 alone false = refl
 
 -- it meets the rows of its key
-meets : (id : ℤ) (key : List ℕ) (value : ℤ) (r : Row) → conflicts (Some (1 ∷ [])) results_schema.indexes results (row_of id key value) r ≡ is_key key (column r 1)
+meets : (id : ℤ) (key : List ℕ) (value number : ℤ) (r : Row) → conflicts (Some (1 ∷ [])) both_schema.indexes results (row_of id key value number) r ≡ is_key key (column r 1)
 unfolding first_key
-meets id key value r = alone (equal Binary (column r 1) (Text key)) ∙ equal_key key (column r 1)
+meets id key value number r = alone (equal Binary (column r 1) (Text key)) ∙ equal_key key (column r 1)
 
-none_met : (id : ℤ) (key : List ℕ) (value : ℤ) (rows : List Row) → AreConflicts (Some (1 ∷ [])) results_schema.indexes results rows (row_of id key value) [] → (r : Row) → Has rows r → is_key key (column r 1) ≡ false
-none_met id key value rows a r has = elim (cases_Bool (is_key key (column r 1))) [
-  | inl e ↦ absurd (a.complete r has (meets id key value r ∙ e))
+none_met : (id : ℤ) (key : List ℕ) (value number : ℤ) (rows : List Row) → AreConflicts (Some (1 ∷ [])) both_schema.indexes results rows (row_of id key value number) [] → (r : Row) → Has rows r → is_key key (column r 1) ≡ false
+none_met id key value number rows a r has = elim (cases_Bool (is_key key (column r 1))) [
+  | inl e ↦ absurd (a.complete r has (meets id key value number r ∙ e))
   | inr e ↦ e
 ]
 
@@ -113,12 +113,12 @@ unless : (b : Bool) → not b && true ≡ true → b ≡ false
 unless true e = absurd (false≢true e)
 unless false e = refl
 
-same_key : (key : List ℕ) (db : Trees) (a b : Row) → Fits results_schema db → Has (db 0) a → Has (db 0) b → column a 1 ≡ Text key → column b 1 ≡ Text key
+same_key : (key : List ℕ) (db : Trees) (a b : Row) → Fits both_schema db → Has (db 2) a → Has (db 2) b → column a 1 ≡ Text key → column b 1 ≡ Text key
     → column a 0 ≡ Int (id_of a) → column b 0 ≡ Int (id_of b) → id_of b ≡ id_of a
 unfolding first_key
 same_key key db a b fits has_a has_b key_a key_b own_a own_b = elim (cases_Bool (differ (column b 0) (column a 0))) [
-  | inl e ↦ absurd (true≢false (sym (some_from (λ other. (equal Binary (column other 1) (column a 1) && true) && differ (column other 0) (column a 0)) (db 0) b has_b (rw (key_a, key_b, own_text key) e))
-      ∙ unless _ (all_has (λ r. passes Unique results_schema db results r ≡ true) (db 0) a (fits.rules Unique (λ e. absurd cc)).0 has_a)))
+  | inl e ↦ absurd (true≢false (sym (some_from (λ other. (equal Binary (column other 1) (column a 1) && true) && differ (column other 0) (column a 0)) (db 2) b has_b (rw (key_a, key_b, own_text key) e))
+      ∙ unless _ (all_has (λ r. passes Unique both_schema db results r ≡ true) (db 2) a (fits.rules Unique (λ e. absurd cc)).1.0 has_a)))
   | inr e ↦ same_id (id_of b) (id_of a) (rw (own_a, own_b) at e)
 ]
 
@@ -134,10 +134,10 @@ equal_id (Blob b) id = told (is_eq (value_cmp (Blob b) (Int id)))
 
 -- what the update is given
 abbrev given : ℤ → Row → Row
-given id new = column new 1 ∷ column new 2 ∷ Int id ∷ new
+given id new = column new 1 ∷ column new 2 ∷ column new 3 ∷ Int id ∷ new
 
 abbrev shown_as : Row → Row → Row
-shown_as new r = column r 0 ∷ column r 0 ∷ column r 1 ∷ column new 2 ∷ []
+shown_as new r = column r 0 ∷ column r 0 ∷ column r 1 ∷ column new 2 ∷ column new 3 ∷ []
 
 shows : (id : ℤ) (new : Row) (rows : List Row)
     → map (λ (o : Output). o.1) (map (output upsert_query) (flat_map (λ r. if list_all (holds (given id new ∷ r ∷ [])) upsert_query.filter then (given id new ∷ r ∷ []) ∷ [] else []) rows)) ≡ map (shown_as new) (filter (has_rowid id) rows)
@@ -179,128 +179,133 @@ untaken rows new free r has = elim (cases_Bool (is_eq (value_cmp (rowid r) (rowi
 
 -- ---- the statement
 
-pub record PutsIn (key : List ℕ) (value : ℤ) (old new : Trees) : Type 0 where
-  pub apart : AreApart (new 0)
-  pub table : map_of (new 0) ≡ put (map_of (old 0)) key (Some value)
+pub record PutsIn (key : List ℕ) (value number : ℤ) (old new : Trees) : Type 0 where
+  pub others : new 0 ≡ old 0
+  pub apart : AreApart (new 2)
+  pub table : map_of (new 2) ≡ put (map_of (old 2)) key (Some (value, number))
 
-module _ (limit : Option ℕ) (key : List ℕ) (value : ℤ) (db : Trees) (apart : AreApart (db 0)) where
+module _ (limit : Option ℕ) (key : List ℕ) (value number : ℤ) (db : Trees) (apart : AreApart (db 2)) where
   abbrev task : Task
-  task = record { limit = limit; keys = Enforced; schema = results_schema; table = results; params = Text key ∷ Int value ∷ [] }
+  task = record { limit = limit; keys = Enforced; schema = both_schema; table = results; params = Text key ∷ Int value ∷ Int number ∷ [] }
 
   abbrev new : Row
-  new = row_of (next_rowid (db 0)) key value
+  new = row_of (next_rowid (db 2)) key value number
 
-  abbrev numbered : Value → Value → Row
-  numbered id v = with_rowid Chosen (db 0) (id ∷ Text key ∷ v ∷ [])
+  abbrev numbered : Value → Value → Value → Row
+  numbered id v n = with_rowid Chosen (db 2) (id ∷ Text key ∷ v ∷ n ∷ [])
 
-  cast_new : (id : ℤ) → cast_row results (row_of id key value) ≡ row_of id key value
-  cast_new id = rw (cast_int id, cast_int value)
+  cast_new : (id : ℤ) → cast_row results (row_of id key value number) ≡ row_of id key value number
+  cast_new id = rw (cast_int id, cast_int value, cast_int number)
 
   -- no row is met
-  added : (one : Written) → ((r : Row) → Has (db 0) r → is_key key (column r 1) ≡ false) → Puts task new db (Ok one) → PutsIn key value db one.trees
+  added : (one : Written) → ((r : Row) → Has (db 2) r → is_key key (column r 1) ≡ false) → Puts task new db (Ok one) → PutsIn key value number db one.trees
   added one none h =
       let put_it = went h in
       let edit = edit_of db results [] Given 0 (new ∷ []) in
-      let step = one_step results_schema Enforced db put_it.0 edit refl put_it.1 in
-      let news : edit.news ≡ new ∷ [] = ap (λ (r : Row). r ∷ []) (cast_new (next_rowid (db 0))) in
+      let step = one_step both_schema Enforced db put_it.0 edit refl put_it.1 in
+      let news : edit.news ≡ new ∷ [] = ap (λ (r : Row). r ∷ []) (cast_new (next_rowid (db 2))) in
       let trees : one.trees ≡ put_it.0 = ap (λ (w : Written). w.trees) (same_value put_it.2) in
-      let rows : one.trees 0 ≡ put_row new (db 0) = ap (λ (t : Trees). t 0) trees ∙ step.rows ∙ ap (put_all (db 0)) news in
-      let fresh : is_taken (db 0) new ≡ false = unless _ (subst (λ all. are_fresh (db 0) all ≡ true) news step.fresh) in
-      let other = untaken (db 0) new fresh in
+      let rows : one.trees 2 ≡ put_row new (db 2) = ap (λ (t : Trees). t 2) trees ∙ step.rows ∙ ap (put_all (db 2)) news in
+      let fresh : is_taken (db 2) new ≡ false = unless _ (subst (λ all. are_fresh (db 2) all ≡ true) news step.fresh) in
+      let other = untaken (db 2) new fresh in
       record {
-        apart = subst AreApart (sym rows) (apart_put new (db 0) refl (λ r has e. true≢false (sym (has_own r (own_id (db 0) r apart has)) ∙ subst (λ id. has_rowid id r ≡ false) (sym e) (other r has))) apart);
-        table = ap map_of rows ∙ map_added key value new refl refl (db 0) none other;
+        others = ap (λ (t : Trees). t 0) trees ∙ step.tables.0 (λ e. absurd (omega (arith, e)));
+        apart = subst AreApart (sym rows) (apart_put new (db 2) refl (λ r has e. true≢false (sym (has_own r (own_id (db 2) r apart has)) ∙ subst (λ id. has_rowid id r ≡ false) (sym e) (other r has))) apart);
+        table = ap map_of rows ∙ map_added key value number new refl refl refl (db 2) none other;
       }
 
   -- a row is met
-  updated : (r : Row) (one : Written) → Has (db 0) r → is_key key (column r 1) ≡ true → Resolves task new db (column r 0 ∷ []) upsert_clause.update (Ok one) → PutsIn key value db one.trees
+  updated : (r : Row) (one : Written) → Has (db 2) r → is_key key (column r 1) ≡ true → Resolves task new db (column r 0 ∷ []) upsert_clause.update (Ok one) → PutsIn key value number db one.trees
   updated r one has is h =
-      let own = own_id (db 0) r apart has in
+      let own = own_id (db 2) r apart has in
       let key_r = key_is key (column r 1) is in
       let id : ℤ = id_of r in
       let queried = went (rw own at h) in
       let wrote = went queried.2 in
       let a : IsAnswer upsert_query (overlay db []) (given id new) queried.0 = queried.1.answer Null in
       let kept : map (λ (o : Output). o.1) a.kept ≡ shown_as new r ∷ [] =
-      ap (map (λ (o : Output). o.1)) (a.distinct ∙ ap (map (output upsert_query)) a.grouped) ∙ shows id new (db 0) ∙ ap (map (shown_as new)) (one_row (db 0) r apart has) in
+      ap (map (λ (o : Output). o.1)) (a.distinct ∙ ap (map (output upsert_query)) a.grouped) ∙ shows id new (db 2) ∙ ap (map (shown_as new)) (one_row (db 2) r apart has) in
       let same : IsPermutation (shown_as new r ∷ []) queried.0 =
       subst (λ rows. IsPermutation rows queried.0) kept (subst (IsPermutation (map (λ (o : Output). o.1) a.kept)) (sym a.shown) (IsPermutation-map (λ (o : Output). o.1) a.kept a.ordered a.same)) in
-      let rows : queried.0 ≡ (Int id ∷ row_of id key value) ∷ [] = one_permutation _ queried.0 same ∙ rw (own, key_r) in
+      let rows : queried.0 ≡ (Int id ∷ row_of id key value number) ∷ [] = one_permutation _ queried.0 same ∙ rw (own, key_r) in
       let edit = edit_of db results (ids_of queried.0) Given 1 queried.0 in
-      let step = one_step results_schema Enforced db wrote.0 edit refl wrote.1 in
-      let made : edit ≡ record { table = results; gone = id ∷ []; news = row_of id key value ∷ [] } = ap (λ all. edit_of db results (ids_of all) Given 1 all) rows ∙ rw (cast_new id) in
+      let step = one_step both_schema Enforced db wrote.0 edit refl wrote.1 in
+      let made : edit ≡ record { table = results; gone = id ∷ []; news = row_of id key value number ∷ [] } = ap (λ all. edit_of db results (ids_of all) Given 1 all) rows ∙ rw (cast_new id) in
       let trees : one.trees ≡ wrote.0 = ap (λ (w : Written). w.trees) (same_value wrote.2) in
-      changed r one.trees has is (ap (λ (t : Trees). t 0) trees ∙ step.rows ∙ ap (edited db) made) (subst (Fits results_schema) (sym trees) step.fits) (ap (λ e. are_fresh (left_by db e) e.news) (sym made) ∙ step.fresh)
+      changed r one.trees has is (ap (λ (t : Trees). t 0) trees ∙ step.tables.0 (λ e. absurd (omega (arith, e)))) (ap (λ (t : Trees). t 2) trees ∙ step.rows ∙ ap (edited db) made) (subst (Fits both_schema) (sym trees) step.fits) (ap (λ e. are_fresh (left_by db e) e.news) (sym made) ∙ step.fresh)
     where
-      changed : (r : Row) (next : Trees) → Has (db 0) r → is_key key (column r 1) ≡ true → next 0 ≡ put_row (row_of (id_of r) key value) (without_rowid (id_of r) (db 0)) → Fits results_schema next
-          → are_fresh (without_rowid (id_of r) (db 0)) (row_of (id_of r) key value ∷ []) ≡ true → PutsIn key value db next
-      changed r next has is rows fits fresh =
-          let row = row_of (id_of r) key value in
-          let left = without_rowid (id_of r) (db 0) in
+      changed : (r : Row) (next : Trees) → Has (db 2) r → is_key key (column r 1) ≡ true → next 0 ≡ db 0 → next 2 ≡ put_row (row_of (id_of r) key value number) (without_rowid (id_of r) (db 2)) → Fits both_schema next
+          → are_fresh (without_rowid (id_of r) (db 2)) (row_of (id_of r) key value number ∷ []) ≡ true → PutsIn key value number db next
+      changed r next has is others rows fits fresh =
+          let row = row_of (id_of r) key value number in
+          let left = without_rowid (id_of r) (db 2) in
           let there = subst (λ all. Has all row) (sym rows) (has_put row left) in
-          let was = λ (q : Row) (in_left : Has left q). has_filtered (λ x. not (has_rowid (id_of r) x)) (db 0) q in_left in
-          let apart_id = λ (q : Row) (in_left : Has left q) (e : id_of q ≡ id_of r). true≢false (sym (has_own q (own_id (db 0) q apart (was q in_left).0)) ∙ subst (λ i. has_rowid i q ≡ false) (sym e) (denied _ (was q in_left).1)) in
+          let was = λ (q : Row) (in_left : Has left q). has_filtered (λ x. not (has_rowid (id_of r) x)) (db 2) q in_left in
+          let apart_id = λ (q : Row) (in_left : Has left q) (e : id_of q ≡ id_of r). true≢false (sym (has_own q (own_id (db 2) q apart (was q in_left).0)) ∙ subst (λ i. has_rowid i q ≡ false) (sym e) (denied _ (was q in_left).1)) in
           let free : (q : Row) → Has left q → is_key key (column q 1) ≡ false = λ q in_left. elim (cases_Bool (is_key key (column q 1))) [
-            | inl e ↦ absurd (apart_id q in_left (same_key key next row q fits there (subst (λ all. Has all q) (sym rows) (put_all_keeps (row ∷ []) left q fresh in_left)) refl (key_is key (column q 1) e) refl (own_id (db 0) q apart (was q in_left).0)))
+            | inl e ↦ absurd (apart_id q in_left (same_key key next row q fits there (subst (λ all. Has all q) (sym rows) (put_all_keeps (row ∷ []) left q fresh in_left)) refl (key_is key (column q 1) e) refl (own_id (db 2) q apart (was q in_left).0)))
             | inr e ↦ e
           ] in
-          let gone : (q : Row) → Has (db 0) q → has_rowid (id_of r) q ≡ true → is_key key (column q 1) ≡ true = λ q in_db e.
-          subst (λ (x : Row). is_key key (column x 1) ≡ true) (sym (same_row (db 0) q r apart in_db has (id_found q (id_of r) (own_id (db 0) q apart in_db) e))) is in
-          let goes : (q : Row) → Has (db 0) q → has_rowid (id_of r) q ≡ is_key key (column q 1) = λ q in_db. elim (cases_Bool (has_rowid (id_of r) q)) [
+          let gone : (q : Row) → Has (db 2) q → has_rowid (id_of r) q ≡ true → is_key key (column q 1) ≡ true = λ q in_db e.
+          subst (λ (x : Row). is_key key (column x 1) ≡ true) (sym (same_row (db 2) q r apart in_db has (id_found q (id_of r) (own_id (db 2) q apart in_db) e))) is in
+          let goes : (q : Row) → Has (db 2) q → has_rowid (id_of r) q ≡ is_key key (column q 1) = λ q in_db. elim (cases_Bool (has_rowid (id_of r) q)) [
             | inl e ↦ e ∙ sym (gone q in_db e)
-            | inr e ↦ e ∙ sym (free q (has_kept (λ x. not (has_rowid (id_of r) x)) (db 0) q in_db (rw e)))
+            | inr e ↦ e ∙ sym (free q (has_kept (λ x. not (has_rowid (id_of r) x)) (db 2) q in_db (rw e)))
           ] in
-          let without : left ≡ rows_without key (db 0) = filter_same _ _ (db 0) (λ q in_db. ap not (goes q in_db)) in
+          let without : left ≡ rows_without key (db 2) = filter_same _ _ (db 2) (λ q in_db. ap not (goes q in_db)) in
           record {
-            apart = subst AreApart (sym rows) (apart_put row left refl apart_id (apart_kept _ (db 0) apart));
-            table = ap map_of rows ∙ map_added key value row refl refl left free (untaken left row (unless _ fresh)) ∙ ap (λ m. put m key (Some value)) (ap map_of without ∙ map_removed key (db 0)) ∙ put_again (map_of (db 0)) key None (Some value);
+            others = others;
+            apart = subst AreApart (sym rows) (apart_put row left refl apart_id (apart_kept _ (db 2) apart));
+            table = ap map_of rows ∙ map_added key value number row refl refl refl left free (untaken left row (unless _ fresh)) ∙ ap (λ m. put m key (Some (value, number))) (ap map_of without ∙ map_removed key (db 2)) ∙ put_again (map_of (db 2)) key None (Some (value, number));
           }
 
-  tried : (rows : List Row) (top : ℤ) (out : Written × ℤ) → rows ≡ (Null ∷ Text key ∷ Int value ∷ []) ∷ [] → TriesEach task Abort (upsert_clause ∷ []) rows top (nothing db) (Ok out)
-      → PutsIn key value db out.0.trees
+  tried : (rows : List Row) (top : ℤ) (out : Written × ℤ) → rows ≡ (Null ∷ Text key ∷ Int value ∷ Int number ∷ []) ∷ [] → TriesEach task Abort (upsert_clause ∷ []) rows top (nothing db) (Ok out)
+      → PutsIn key value number db out.0.trees
   tried rows top out is h =
       let one = went (subst (λ all. TriesEach task Abort (upsert_clause ∷ []) all top (nothing db) (Ok out)) is h) in
-      subst (PutsIn key value db) (sym (ap (λ (p : Written × ℤ). p.0.trees) (same_value one.2))) (judged one.0 (subst (λ (r : Row). Tries task Abort (upsert_clause ∷ []) r db (Ok one.0)) new_is one.1))
+      subst (PutsIn key value number db) (sym (ap (λ (p : Written × ℤ). p.0.trees) (same_value one.2))) (judged one.0 (subst (λ (r : Row). Tries task Abort (upsert_clause ∷ []) r db (Ok one.0)) new_is one.1))
     where
-      new_is : numbered (cast Integer Null) (cast Integer (Int value)) ≡ new
-      new_is = ap (λ id. numbered id (cast Integer (Int value))) cast_null ∙ ap (numbered Null) (cast_int value)
+      new_is : numbered (cast Integer Null) (cast Integer (Int value)) (cast Integer (Int number)) ≡ new
+      new_is = ap (λ id. numbered id (cast Integer (Int value)) (cast Integer (Int number))) cast_null ∙ ap (λ v. numbered Null v (cast Integer (Int number))) (cast_int value) ∙ ap (numbered Null (Int value)) (cast_int number)
 
       put_there : (one : Written) (found : List Row) → Clears task Abort new db found (Ok one) → Puts task new db (Ok one)
       put_there one [] h = h
       put_there one (x ∷ more) h = h
 
-      met : (one : Written) (found : List Row) → AreConflicts (Some (1 ∷ [])) results_schema.indexes results (db 0) new found → Meets task (Ups task Abort new db []) new db upsert_clause found (Ok one) → PutsIn key value db one.trees
-      met one [] a h = added one (none_met (next_rowid (db 0)) key value (db 0) a) (put_there one h.0 h.2)
+      met : (one : Written) (found : List Row) → AreConflicts (Some (1 ∷ [])) both_schema.indexes results (db 2) new found → Meets task (Ups task Abort new db []) new db upsert_clause found (Ok one) → PutsIn key value number db one.trees
+      met one [] a h = added one (none_met (next_rowid (db 2)) key value number (db 2) a) (put_there one h.0 h.2)
       met one (there ∷ more) a h =
           let it = a.sound there (inl refl) in
-          updated it.0 one it.1 (sym (meets (next_rowid (db 0)) key value it.0) ∙ it.2) (subst (λ x. Resolves task new db x upsert_clause.update (Ok one)) it.3 h)
+          updated it.0 one it.1 (sym (meets (next_rowid (db 2)) key value number it.0) ∙ it.2) (subst (λ x. Resolves task new db x upsert_clause.update (Ok one)) it.3 h)
 
-      judged : (one : Written) → Tries task Abort (upsert_clause ∷ []) new db (Ok one) → PutsIn key value db one.trees
+      judged : (one : Written) → Tries task Abort (upsert_clause ∷ []) new db (Ok one) → PutsIn key value number db one.trees
       judged one (inl out) = absurd (let e = out.1 in cc)
       judged one (inr (None, fits, h)) = met one h.0 h.1 h.2
       judged one (inr (Some why, fits, h)) = absurd (let e = h in cc)
 
-pub puts_in : (old new : State) (key : List ℕ) (value : ℤ) (count : ℕ) → IsReady old.now → Executes upsert_text (Text key ∷ Int value ∷ []) old new (Ok count) → IsReady new.now × (table_of new.now ≡ put (table_of old.now) key (Some value))
-puts_in old new key value count ready h =
-    let params : Row = Text key ∷ Int value ∷ [] in
+pub puts_in : (old new : State) (key : List ℕ) (value number : ℤ) (count : ℕ) → IsReady old.now → Executes upsert_text (Text key ∷ Int value ∷ Int number ∷ []) old new (Ok count)
+    → IsReady new.now × (table_of new.now ≡ put (table_of old.now) key (Some (value, number))) × (new.now.trees 0 ≡ old.now.trees 0)
+puts_in old new key value number count ready h =
+    let params : Row = Text key ∷ Int value ∷ Int number ∷ [] in
     let db : Trees = old.now.trees in
-    let command = InsertOr 0 Abort (Values insert_terms 3) (upsert_clause ∷ []) in
-    let w = runs_as upsert_text params old new results_schema ready.schema command upsert_is upsert_plain count h in
-    let text = statement_of upsert_text (understood results_schema upsert_text) in
+    let command = InsertOr 1 Abort (Values insert_terms 4) (upsert_clause ∷ []) in
+    let w = runs_as upsert_text params old new both_schema ready.schema command upsert_is upsert_plain count h in
+    let text = statement_of upsert_text (understood both_schema upsert_text) in
     let done = went (subst (λ s. Does old.step_limit (mode_of old) params (record old.now { schema = s }) text None command (Ok (w.tally, new.now))) ready.schema w.changed) in
     let now = ap (λ (p : Tally × Database). p.1) (same_value (went (went done.2).2).2) in
     let given = went done.1 in
     let each = went (went given.2).2 in
     let counted = went each.2 in
     let trees : done.0.trees ≡ each.0.0.trees = ap (λ (it : Written). it.trees) (same_value counted.2) ∙ same_value counted.1 in
-    let it : PutsIn key value db new.now.trees = subst (PutsIn key value db) (sym (ap (λ (d : Database). d.trees) now ∙ trees)) (tried old.step_limit key value db ready.apart given.0 _ each.0 given.1.1 each.1) in
-    (record { schema = ap (λ (d : Database). d.schema) now; apart = it.apart }, it.table)
+    let it : PutsIn key value number db new.now.trees = subst (PutsIn key value number db) (sym (ap (λ (d : Database). d.trees) now ∙ trees)) (tried old.step_limit key value number db ready.apart given.0 _ each.0 given.1.1 each.1) in
+    (record { schema = ap (λ (d : Database). d.schema) now; apart = it.apart }, it.table, it.others)
 
-pub enters : (old new : State) (key : List ℕ) (value : ℤ) (count : ℕ) → ExecutesInside 0 upsert_text (Text key ∷ Int value ∷ []) old new (Ok count) → Makes key (Some value) old new
-enters old new key value count h = record {
+pub enters : (old new : State) (key : List ℕ) (value number : ℤ) (count : ℕ) → ExecutesInside 0 upsert_text (Text key ∷ Int value ∷ Int number ∷ []) old new (Ok count) → Makes key (Some (value, number)) old new
+enters old new key value number count h = record {
   was_open = h.1.was_open;
   inside = h.1.mode;
-  kept = kept_by upsert_text (Text key ∷ Int value ∷ []) old new (Ok count) h;
-  ready = λ ready. (puts_in old new key value count ready h.0).0;
-  table = λ ready. (puts_in old new key value count ready h.0).1;
+  kept = kept_by upsert_text (Text key ∷ Int value ∷ Int number ∷ []) old new (Ok count) h;
+  ready = λ ready. (puts_in old new key value number count ready h.0).0;
+  table = λ ready. (puts_in old new key value number count ready h.0).1;
+  others = λ ready. (puts_in old new key value number count ready h.0).2;
 }

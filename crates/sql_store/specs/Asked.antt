@@ -5,80 +5,127 @@ use Rattle.sqlite.specs.declared.error.Error.{Error}
 use Rattle.sqlite.specs.Order.{Row as Values}
 use Rattle.sqlite.specs.Store.{Ghosts}
 use Rattle.sqlite.specs.Held.{Held, state}
-use Rattle.sqlite.specs.State.{Shown, Shows, IsUnchanged, Executes, ExecutesInside}
+use Rattle.sqlite.specs.State.{Shown, Shows, IsUnchanged, ExecutesInside}
 use Rattle.txn_names.specs.declared.change.Change.{Change}
 use Rattle.durable_top.specs.declared.store.Row.{Row}
-use Rattle.sql_store.specs.Kept.{Spares}
-use Rattle.sql_store.specs.Load.{load_text}
-use Rattle.sql_store.specs.Reading.{told, seen}
+use Rattle.sql_store.specs.Load.{load_text, old_text}
+use Rattle.sql_store.specs.Reading.{told, seen, seen_old}
+
+abbrev pub create_old_text : List ℕ
+create_old_text = codes "CREATE TABLE IF NOT EXISTS results (k TEXT NOT NULL PRIMARY KEY, v INTEGER NOT NULL) STRICT"
 
 abbrev pub create_text : List ℕ
-create_text = codes "CREATE TABLE IF NOT EXISTS results (k TEXT NOT NULL PRIMARY KEY, v INTEGER NOT NULL) STRICT"
+create_text = codes "CREATE TABLE IF NOT EXISTS results2 (k TEXT NOT NULL PRIMARY KEY, v INTEGER NOT NULL, n INTEGER NOT NULL) STRICT"
 
 abbrev pub upsert_text : List ℕ
-upsert_text = codes "INSERT INTO results (k, v) VALUES (?1, ?2) ON CONFLICT (k) DO UPDATE SET v = excluded.v"
+upsert_text = codes "INSERT INTO results2 (k, v, n) VALUES (?1, ?2, ?3) ON CONFLICT (k) DO UPDATE SET v = excluded.v, n = excluded.n"
 
 abbrev pub delete_text : List ℕ
-delete_text = codes "DELETE FROM results WHERE k = ?1"
+delete_text = codes "DELETE FROM results2 WHERE k = ?1"
 
--- the statement that gives a key this value or takes its row away, and its parameters
+abbrev pub empty_text : List ℕ
+empty_text = codes "DELETE FROM results"
+
+-- the statement that gives a key this value under a number, or takes its row away, and its parameters
 abbrev pub text_for : Option ℤ → List ℕ
 text_for None = delete_text
 text_for (Some value) = upsert_text
 
-abbrev pub params_for : List ℕ → Option ℤ → Values
-params_for key None = Text key ∷ []
-params_for key (Some value) = Text key ∷ Int value ∷ []
+abbrev pub params_for : ℤ → List ℕ → Option ℤ → Values
+params_for number key None = Text key ∷ []
+params_for number key (Some value) = Text key ∷ Int value ∷ Int number ∷ []
+
+abbrev pub params_of : Row → Values
+params_of r = params_for r.commit r.key (Some r.value)
 
 module _ {S : Type 0} (g : Ghosts S) where
-  -- the statement that makes the table where there is none was executed
-  abbrev pub Created : Held S → Held S → Type 0
-  Created old new = (count : ℕ) × Executes create_text [] (state g old) (state g new) (Ok count)
-
-  -- the same, and no other statement wrote anything
-  abbrev pub Made : Held S → Held S → Type 0
-  Made old new = (made : Held S) × Created old made × IsUnchanged (state g made) (state g new)
-
-  -- the same at most
-  abbrev pub MadeAtMost : Held S → Held S → Type 0
-  MadeAtMost old new = Spares (state g old) (state g new) ⊎ ((made : Held S) × Created old made × Spares (state g made) (state g new))
-
   -- the statement was executed in a transaction
   abbrev pub Executed : List ℕ → Values → Held S → Held S → Type 0
   Executed text params old new = (count : ℕ) × ExecutesInside 0 text params (state g old) (state g new) (Ok count)
 
   -- the statement of each change was executed, in turn
-  abbrev pub ExecutedEach : List Change → Held S → Held S → Type 0
-  ExecutedEach [] old new = new ≡ old
-  ExecutedEach (c ∷ more) old new = (next : Held S) × Executed (text_for c.value) (params_for c.key c.value) old next × ExecutedEach more next new
+  abbrev pub ExecutedEach : ℤ → List Change → Held S → Held S → Type 0
+  ExecutedEach number [] old new = new ≡ old
+  ExecutedEach number (c ∷ more) old new =
+      (next : Held S) × Executed (text_for c.value) (params_for number c.key c.value) old next × ExecutedEach number more next new
 
   -- the statements of the changes before one of them were executed in a transaction that was begun, and its statement gave the error
-  pub record ChangeGives (changes : List Change) (old : Held S) (e : Error) : Type 0 where
+  pub record ChangeGives (number : ℤ) (changes : List Change) (old : Held S) (e : Error) : Type 0 where
     pub before : List Change
     pub change : Change
     pub after : List Change
     pub are : changes ≡ before ++ change ∷ after
     pub last : Held S
     pub left : Held S
-    pub executed : ExecutedEach before old last
-    pub gives : ExecutesInside 0 (text_for change.value) (params_for change.key change.value) (state g last) (state g left) (Err e)
+    pub executed : ExecutedEach number before old last
+    pub gives : ExecutesInside 0 (text_for change.value) (params_for number change.key change.value) (state g last) (state g left) (Err e)
 
   -- a transaction was begun, the statement of each change was executed in it, and it was committed
-  pub record Transacted (changes : List Change) (old new : Held S) : Type 0 where
+  pub record Transacted (number : ℤ) (changes : List Change) (old new : Held S) : Type 0 where
     pub outside : old.in_transaction ≡ false
     pub last : Held S
-    pub executed : ExecutedEach changes (record old { in_transaction = true }) last
+    pub executed : ExecutedEach number changes (record old { in_transaction = true }) last
     pub committed : Shows (state g last) (state g new) (state g last).now (state g last).now false
 
   -- of no change nothing is made
-  abbrev pub Committed : List Change → Held S → Held S → Type 0
-  Committed [] old new = IsUnchanged (state g old) (state g new)
-  Committed (c ∷ more) old new = Transacted (c ∷ more) old new
+  abbrev pub Committed : ℤ → List Change → Held S → Held S → Type 0
+  Committed number [] old new = IsUnchanged (state g old) (state g new)
+  Committed number (c ∷ more) old new = Transacted number (c ∷ more) old new
 
   -- these are the rows that the query was answered
   abbrev pub Fetched : Held S → Held S → List Values → Type 0
   Fetched old new rows = (asked : Held S) × IsUnchanged (state g old) (state g asked) × Shown load_text [] (state g asked) (state g new) rows
 
-  -- these are the rows that the query was answered, read as keys and values
+  -- these are the rows that the query was answered, read as keys, values and numbers
   abbrev pub Loaded : Held S → Held S → List Row → Type 0
   Loaded old new rows = (answer : List Values) × Fetched old new answer × (map told rows ≡ map seen answer)
+
+  -- ---- the opening, inside its transaction
+
+  -- the statements that make the tables where they are missing were executed
+  abbrev pub MakesTables : Held S → Held S → Type 0
+  MakesTables old new = (first : Held S) × Executed create_old_text [] old first × Executed create_text [] first new
+
+  -- these are the rows that the queries for each table were answered, read as rows; those of the old table get the number 0
+  abbrev pub ReadsOld : Held S → Held S → List Row → Type 0
+  ReadsOld old new rows = (answer : List Values) × Shown old_text [] (state g old) (state g new) answer × (map told rows ≡ map seen_old answer)
+
+  abbrev pub ReadsNew : Held S → Held S → List Row → Type 0
+  ReadsNew old new rows = (answer : List Values) × Shown load_text [] (state g old) (state g new) answer × (map told rows ≡ map seen answer)
+
+  abbrev pub ReadsBoth : Held S → Held S → List Row → List Row → Type 0
+  ReadsBoth old new old_rows new_rows = (next : Held S) × ReadsOld old next old_rows × ReadsNew next new new_rows
+
+  -- each row was put into the new table, the last of them first
+  abbrev pub PutsEach : List Row → Held S → Held S → Type 0
+  PutsEach [] old new = new ≡ old
+  PutsEach (r ∷ rows) old new = (next : Held S) × PutsEach rows old next × Executed upsert_text (params_of r) next new
+
+  -- where the old table has rows the new one has none, and they were put into it and deleted
+  abbrev pub MovesRows : List Row → List Row → Held S → Held S → Type 0
+  MovesRows [] new_rows old new = new ≡ old
+  MovesRows (r ∷ rows) new_rows old new =
+      (new_rows ≡ []) × (put : Held S) × PutsEach (r ∷ rows) old put × Executed empty_text [] put new
+
+  -- the tables were read, and their rowids were asked for
+  abbrev pub Finds : Held S → Held S → List Row → List Row → Type 0
+  Finds old new old_rows new_rows = (read : Held S) × ReadsBoth old read old_rows new_rows × IsUnchanged (state g read) (state g new)
+
+  -- the same, and the rows of the old one were moved
+  pub record SettlesInside (old new : Held S) : Type 0 where
+    pub found : Held S
+    pub old_rows : List Row
+    pub new_rows : List Row
+    pub finds : Finds old found old_rows new_rows
+    pub moves : MovesRows old_rows new_rows found new
+
+  -- the tables were made before
+  abbrev pub OpensInside : Held S → Held S → Type 0
+  OpensInside old new = (made : Held S) × MakesTables old made × SettlesInside made new
+
+  -- that was done in one transaction, which was committed
+  pub record Made (old new : Held S) : Type 0 where
+    pub outside : old.in_transaction ≡ false
+    pub last : Held S
+    pub inside : OpensInside (record old { in_transaction = true }) last
+    pub committed : Shows (state g last) (state g new) (state g last).now (state g last).now false

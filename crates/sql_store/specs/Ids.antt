@@ -1,4 +1,9 @@
 -- Rowids as a query shows them, one in a row.
+use Rattle.std.specs.Prelude.{◌≡◌}
+use Rattle.sqlite.specs.Effect.{Database}
+use Rattle.sqlite.specs.Query.{IsAnswer}
+use Rattle.sqlite.specs.Program.{overlay}
+use Rattle.sql_store.specs.Load.{ids_query, old_ids_query}
 use Rattle.std.specs.Prelude.{ℤ, Bool, true, ◌&&◌, if◌then◌else◌, List, [], ◌∷◌, Option, Some, None, is_some}
 use Rattle.std.specs.Ordering.{is_lt, int_cmp}
 use Rattle.sqlite.specs.Order.{Row, column}
@@ -17,3 +22,8 @@ next_id low (Some id) = if is_past low id then Some id else None
 abbrev pub rises : Option ℤ → List Row → Bool
 rises low [] = true
 rises low (r ∷ rows) = is_some (next_id low (int_in (column r 0))) && rises (next_id low (int_in (column r 0))) rows
+
+-- whether the rowids rise that queries show of both tables
+abbrev pub IsDecided : Database → Bool → Type 0
+IsDecided db apart =
+    (old_ids : List Row) × (ids : List Row) × IsAnswer old_ids_query (overlay db.trees []) [] old_ids × IsAnswer ids_query (overlay db.trees []) [] ids × (apart ≡ (rises None old_ids && rises None ids))

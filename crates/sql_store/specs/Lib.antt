@@ -1,11 +1,14 @@
 pub mod Results
 pub mod Load
+pub mod Laid
 pub mod Table
 pub mod Ids
-pub mod Writes
-pub mod Faults
 pub mod Reading
+pub mod Faults
 pub mod Kept
 pub mod Asked
 pub mod Refusals
+pub mod Inside
+pub mod Writes
+pub mod Opening
 pub mod Stored

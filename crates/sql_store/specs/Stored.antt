@@ -1,13 +1,9 @@
 -- A store over a connection, as contracts see it.
-use Rattle.std.specs.Prelude.{◌≡◌, ℕ, ◌+◌, Bool, true, false, if◌then◌else◌, List, [], None, Result, Err, IsTrue, IsErrOf, IfOk, OnOk, OnErr, is_err, refl}
-use Rattle.std.specs.Coded.{Coded, code_by, coded×, coded_ℕ, coded_bool}
+use Rattle.std.specs.Prelude.{◌≡◌, ℕ, ℤ, pos, ◌+◌, ◌+ℤ◌, Bool, true, false, if◌then◌else◌, List, Result, Err, IsTrue, IsErrOf, IfOk, OnOk, OnErr, is_err, refl}
+use Rattle.std.specs.Coded.{Coded, code_by, coded×, coded_ℕ, coded_ℤ, coded_bool}
 use Rattle.sqlite.specs.Store.{Ghosts}
 use Rattle.sqlite.specs.Tree.{Trees}
 use Rattle.sqlite.specs.Held.{Held, held_code, state}
-use Rattle.sqlite.specs.Order.{Row as Shown}
-use Rattle.sqlite.specs.Query.{IsAnswer}
-use Rattle.sqlite.specs.Program.{overlay}
-use Rattle.sqlite.specs.Effect.{Database}
 use Rattle.sqlite.specs.State.{HasCleanDisk, KeepsCommit}
 use Rattle.sqlite_trees.specs.View.{doubt}
 use Rattle.txn_names.specs.declared.change.Change.{Change}
@@ -15,49 +11,51 @@ use Rattle.serial_spec.specs.Serial.{Map}
 use Rattle.durable_top.specs.declared.store.Row.{Row}
 use Rattle.durable_top.specs.declared.store.StoreFault.{StoreFault}
 use Rattle.durable_top.specs.declared.store.StoreFault.TheVariants.{Failed, Refused}
+use Rattle.durable_top.specs.Numbered.{Numbered, values_of, numbers_of}
 use Rattle.durable_top.specs.Store.{faults_after}
 use Rattle.sql_store.specs.Kept.{Spares}
 use Rattle.sql_store.specs.Asked.{Loaded, Committed}
 use Rattle.sql_store.specs.Faults.{HasFailed}
-use Rattle.sql_store.specs.Ids.{rises}
-use Rattle.sql_store.specs.Load.{ids_query}
 use Rattle.sql_store.specs.Refusals.{CannotLoad, CannotCommit}
-use Rattle.sql_store.specs.Results.{results_schema}
-use Rattle.sql_store.specs.Table.{map_of, table_of, IsReady}
+use Rattle.sql_store.specs.Table.{map_of, table_of, IsMoved}
 
 pub record Stored (S : Type 0) : Type 0 where
   pub connection : Held S
+  -- the greatest number of the table, 0 where there is none
+  pub top : ℤ
   pub faults : ℕ
   pub has_failed : Bool
-  -- the table of results stands alone in the database
+  -- the tables of results stand alone in the database
   pub is_known : Bool
 
 abbrev pub stored_code : {S : Type 0} → Coded S → Coded (Stored S)
 stored_code {S} store =
-    code_by (Held S × (ℕ × (Bool × Bool))) (coded× (held_code store) (coded× coded_ℕ (coded× coded_bool coded_bool)))
-    (λ s. (s.connection, (s.faults, (s.has_failed, s.is_known))))
-    (λ p. record { connection = p.0; faults = p.1.0; has_failed = p.1.1.0; is_known = p.1.1.1 })
+    code_by (Held S × (ℤ × (ℕ × (Bool × Bool)))) (coded× (held_code store) (coded× coded_ℤ (coded× coded_ℕ (coded× coded_bool coded_bool))))
+    (λ s. (s.connection, (s.top, (s.faults, (s.has_failed, s.is_known)))))
+    (λ p. record { connection = p.0; top = p.1.0; faults = p.1.1.0; has_failed = p.1.1.1.0; is_known = p.1.1.1.1 })
     (λ _. refl)
 
--- whether a table of results is known: the rowids that a query shows of it rise
-abbrev pub IsDecided : Database → Bool → Type 0
-IsDecided db known = (rows : List Shown) × IsAnswer ids_query (overlay db.trees []) [] rows × (known ≡ rises None rows)
-
--- where there is the table of results alone, it is unknown only if the rowids that a query shows of it do not rise
-abbrev pub IsDoubted : Database → Bool → Type 0
-IsDoubted db known = db.schema ≡ results_schema → known ≡ false → IsDecided db false
-
 module _ {S : Type 0} (g : Ghosts S) where
-  -- what the last commit left
+  -- what the last commit left: what each key has, and its value alone
+  abbrev pub numbered : Held S → Numbered
+  numbered h = table_of (state g h).committed
+
   abbrev pub table : Held S → Map
-  table h = table_of (state g h).committed
+  table h = values_of (numbered h)
+
+  abbrev pub may_leave_numbered : Held S → Numbered → Type 0
+  may_leave_numbered h left = (trees : Trees) × (state g h).may_leave trees × (left ≡ map_of (trees 2))
 
   abbrev pub may_leave : Held S → Map → Type 0
-  may_leave h left = (trees : Trees) × (state g h).may_leave trees × (left ≡ map_of (trees 0))
+  may_leave h left = (trees : Trees) × (state g h).may_leave trees × (left ≡ values_of (map_of (trees 2)))
 
-  -- while it is open, a known database has the table
+  -- while it is open, a known database has the tables, and the old one has no rows
   abbrev pub IsKept : Bool → Held S → Type 0
-  IsKept known h = IsTrue known → HasCleanDisk (state g h) → IsTrue (state g h).is_open → IsReady (state g h).committed
+  IsKept known h = IsTrue known → HasCleanDisk (state g h) → IsTrue (state g h).is_open → IsMoved (state g h).committed
+
+  -- and these are its numbers
+  abbrev pub IsCounted : Bool → Map → Held S → Type 0
+  IsCounted known numbers h = IsTrue known → HasCleanDisk (state g h) → IsTrue (state g h).is_open → numbers ≡ numbers_of (numbered h)
 
   -- 0 while the database is known and the disk has returned what was written
   abbrev pub doubt_of : Stored S → ℕ
@@ -68,6 +66,7 @@ module _ {S : Type 0} (g : Ghosts S) where
     pub failed : old.has_failed ≡ true → (result ≡ Err Failed) × (new ≡ old)
     pub faults : new.faults ≡ old.faults
     pub known : new.is_known ≡ old.is_known
+    pub top : new.top ≡ old.top
     pub cause : HasCleanDisk (state g new.connection) → old.has_failed ≡ false → IsErrOf result Failed → HasFailed g old.connection new.connection
     -- what was read, of a database that is not known too
     pub asked : HasCleanDisk (state g new.connection) → IfOk result (Loaded g old.connection new.connection)
@@ -81,7 +80,7 @@ module _ {S : Type 0} (g : Ghosts S) where
     pub known : new.is_known ≡ old.is_known
     pub cause : HasCleanDisk (state g new.connection) → old.has_failed ≡ false → IsErrOf result Failed → HasFailed g old.connection new.connection
     -- what was committed, to a database that is not known too
-    pub asked : HasCleanDisk (state g new.connection) → OnOk result (Committed g changes old.connection new.connection)
-    pub refused : HasCleanDisk (state g new.connection) → IsErrOf result Refused → CannotCommit g changes old.connection new.connection
+    pub asked : HasCleanDisk (state g new.connection) → OnOk result (Committed g (old.top +ℤ pos 1) changes old.connection new.connection)
+    pub refused : HasCleanDisk (state g new.connection) → IsErrOf result Refused → CannotCommit g old.top changes old.connection new.connection
     -- whichever the fault is, nothing was committed
     pub kept : HasCleanDisk (state g new.connection) → OnErr result (KeepsCommit (state g old.connection) (state g new.connection))

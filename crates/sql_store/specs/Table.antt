@@ -1,5 +1,5 @@
--- The rows of the table of results as a map from keys to values, and what a statement makes of them.
-use Rattle.std.specs.Prelude.{◌≡◌, ◌≢◌, ℕ, ℤ, Bool, false, if◌then◌else◌, List, [], ◌∷◌, Option, Some, None, IsTrue, ⊤}
+-- The rows of the tables as maps from keys to values and numbers, and what a statement makes of them.
+use Rattle.std.specs.Prelude.{◌≡◌, ◌≢◌, ℕ, ℤ, pos, Bool, false, if◌then◌else◌, List, [], ◌∷◌, Option, Some, None, IsTrue, ⊤}
 use Rattle.std.specs.List.{AllByRecursion}
 use Rattle.sqlite.specs.declared.types.Value.{Value}
 use Rattle.sqlite.specs.declared.types.Value.TheVariants.{Null, Int, Real, Text, Blob}
@@ -8,8 +8,9 @@ use Rattle.sqlite_rules.specs.Edit.{id_in}
 use Rattle.sqlite.specs.Effect.{Database}
 use Rattle.sqlite.specs.State.{State, KeepsCommit}
 use Rattle.txn_names.specs.Path.{label_eq}
-use Rattle.serial_spec.specs.Serial.{Map, put}
-use Rattle.sql_store.specs.Results.{results_schema}
+use Rattle.durable_top.specs.Numbered.{Numbered, under}
+use Rattle.sql_store.specs.Laid.{put}
+use Rattle.sql_store.specs.Results.{both_schema}
 
 -- whether a value of SQL is the text of this key
 abbrev pub is_key : List ℕ → Value → Bool
@@ -26,10 +27,29 @@ int_in (Real x) = None
 int_in (Text t) = None
 int_in (Blob b) = None
 
--- what each key has in rows of a rowid, a key and a value
-abbrev pub map_of : List Row → Map
-map_of [] k = None
-map_of (r ∷ rows) k = if is_key k (column r 1) then int_in (column r 2) else map_of rows k
+abbrev pub both : Option ℤ → Option ℤ → Option (ℤ × ℤ)
+both None n = None
+both (Some v) None = None
+both (Some v) (Some n) = Some (v, n)
+
+-- what a row of the new table gives its key, and one of the old table
+abbrev pub entry_of : Row → Option (ℤ × ℤ)
+entry_of r = both (int_in (column r 2)) (int_in (column r 3))
+
+abbrev pub old_entry : Row → Option (ℤ × ℤ)
+old_entry r = under (pos 0) (int_in (column r 2))
+
+-- what each key has in rows whose second column is the key
+abbrev pub map_by : (Row → Option (ℤ × ℤ)) → List Row → Numbered
+map_by entry [] k = None
+map_by entry (r ∷ rows) k = if is_key k (column r 1) then entry r else map_by entry rows k
+
+abbrev pub map_of : List Row → Numbered
+map_of = map_by entry_of
+
+-- the old table as a new one, where each number is 0
+abbrev pub moved : List Row → Numbered
+moved = map_by old_entry
 
 abbrev pub id_of : Row → ℤ
 id_of r = id_in (column r 0)
@@ -39,22 +59,28 @@ abbrev pub AreApart : List Row → Type 0
 AreApart [] = ⊤
 AreApart (r ∷ rows) = (column r 0 ≡ Int (id_of r)) × AllByRecursion (λ q. id_of q ≢ id_of r) rows × AreApart rows
 
--- a database of the table of results alone
+-- a database of the two tables alone
 pub record IsReady (db : Database) : Type 0 where
-  pub schema : db.schema ≡ results_schema
-  pub apart : AreApart (db.trees 0)
+  pub schema : db.schema ≡ both_schema
+  pub apart : AreApart (db.trees 2)
 
-abbrev pub table_of : Database → Map
-table_of db = map_of (db.trees 0)
+-- whose old table has no row
+pub record IsMoved (db : Database) : Type 0 where
+  pub ready : IsReady db
+  pub empty : db.trees 0 ≡ []
 
--- a statement in a transaction gives the key this value, or takes it away
-pub record Makes (key : List ℕ) (value : Option ℤ) (old new : State) : Type 0 where
+abbrev pub table_of : Database → Numbered
+table_of db = map_of (db.trees 2)
+
+-- a statement in a transaction gives the key this value and number, or takes it away, and leaves the old table
+pub record Makes (key : List ℕ) (entry : Option (ℤ × ℤ)) (old new : State) : Type 0 where
   pub was_open : IsTrue old.is_open
   pub inside : IsTrue new.in_transaction
   pub kept : KeepsCommit old new
   pub ready : IsReady old.now → IsReady new.now
-  pub table : IsReady old.now → table_of new.now ≡ put (table_of old.now) key value
+  pub table : IsReady old.now → table_of new.now ≡ put (table_of old.now) key entry
+  pub others : IsReady old.now → new.now.trees 0 ≡ old.now.trees 0
 
--- while it is open, it has the table of results alone
+-- while it is open, it has the two tables alone
 abbrev pub IsKnown : State → Type 0
-IsKnown s = IsTrue s.is_open → s.now.schema ≡ results_schema
+IsKnown s = IsTrue s.is_open → s.now.schema ≡ both_schema

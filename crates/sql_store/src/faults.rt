@@ -25,18 +25,18 @@ pub(crate) fn fault_of(error: Error) -> StoreFault
     }
 }
 
-/// The fault that an error stands for. It is Failed, too, where no statement can be run any more: a failure of
-/// the disk shuts the connection, even in a call that was answered another error.
-pub(crate) fn settle<S: Alter>(conn: &mut Connection<S>, error: Error) -> StoreFault
+/// The fault, and Failed where no statement can be run any more: a failure of the disk shuts the connection, even in a
+/// call that was answered another error.
+pub(crate) fn settle<S: Alter>(conn: &mut Connection<S>, fault: StoreFault) -> StoreFault
     ensures open { HasCleanDisk (state S.Store conn.new) → (result ≡ StoreFault.Failed → ⊥) → IsUnchanged (state S.Store conn.old) (state S.Store conn.new) }
     ensures kept { HasCleanDisk (state S.Store conn.new) → KeepsCommit (state S.Store conn.old) (state S.Store conn.new) }
     ensures survives { Survives (state S.Store conn.old) (state S.Store conn.new) (λ _. ⊥) }
-    ensures cause { HasCleanDisk (state S.Store conn.new) → result ≡ StoreFault.Failed → (fault_of error ≡ StoreFault.Failed) ⊎ HasFailed S.Store conn.old conn.new }
-    ensures refused { HasCleanDisk (state S.Store conn.new) → result ≡ StoreFault.Refused → (fault_of error ≡ StoreFault.Refused) × IsUnchanged (state S.Store conn.old) (state S.Store conn.new) }
+    ensures cause { HasCleanDisk (state S.Store conn.new) → result ≡ StoreFault.Failed → (fault ≡ StoreFault.Failed) ⊎ HasFailed S.Store conn.old conn.new }
+    ensures refused { HasCleanDisk (state S.Store conn.new) → result ≡ StoreFault.Refused → (fault ≡ StoreFault.Refused) × IsUnchanged (state S.Store conn.old) (state S.Store conn.new) }
     ensures spared { HasCleanDisk (state S.Store conn.new) → IsSettled (state S.Store conn.old) → Spares (state S.Store conn.old) (state S.Store conn.new) }
 {
     match probe(conn) {
-        Ok(()) => fault_of(error),
+        Ok(()) => fault,
         Err(_) => StoreFault::Failed,
     }
 }

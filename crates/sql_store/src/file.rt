@@ -1,8 +1,9 @@
 //! A store of results over a database file of the machine.
 ghost use Rattle.std.specs.Prelude.{◌≡◌, false, IfOk, codes, Err};
-ghost use Rattle.sqlite.specs.Files.{file_state};
+ghost use Rattle.sqlite.specs.Files.{file_state, over_files};
 ghost use Rattle.sqlite.specs.State.{HasCleanDisk};
-ghost use Rattle.sql_store.specs.Stored.{IsDoubted};
+ghost use Rattle.sql_store.specs.Asked.{Made};
+ghost use Rattle.sql_store.specs.Opening.{IsDoubted};
 
 use crate::store::SqlStore;
 use durable_top::{Row, StoreFault, TopStore};
@@ -11,7 +12,7 @@ use std::alloc::Global;
 use std::rt::HostRuntime;
 use txn_names::Change;
 
-/// The table `results` of a database file. It is a store over that file and nothing more: a type without parameters, so that
+/// The table of a database file. It is a store over that file and nothing more: a type without parameters, so that
 /// whoever is generic over stores can name it.
 #[derive(Drop)]
 pub struct DatabaseStore {
@@ -24,7 +25,7 @@ impl DatabaseStore {
         ensures memory { path.now ≡ codes ":memory:" → result ≡ Err StoreFault.Refused }
         ensures faults { IfOk result (λ opened. opened.store.faults ≡ 0) }
         ensures sound { IfOk result (λ opened. opened.store.has_failed ≡ false) }
-        ensures doubted { IfOk result (λ opened. HasCleanDisk (file_state opened.store.connection) → IsDoubted (file_state opened.store.connection).now opened.store.is_known) }
+        ensures doubted { IfOk result (λ opened. HasCleanDisk (file_state opened.store.connection) → (found : _) × Made over_files found opened.store.connection × IsDoubted (file_state found).now opened.store.is_known) }
     {
         match SqlStore::open(rt, path) {
             Ok(store) => Ok(DatabaseStore { store }),
@@ -44,6 +45,8 @@ impl DatabaseStore {
 impl TopStore for DatabaseStore {
     ghost table = { λ s. ⟦<SqlStore<FileStore<File>> as TopStore>⟧.table s.store };
 
+    ghost numbered = { λ s. ⟦<SqlStore<FileStore<File>> as TopStore>⟧.numbered s.store };
+
     ghost doubt = { λ s. ⟦<SqlStore<FileStore<File>> as TopStore>⟧.doubt s.store };
 
     ghost failures = { λ s. ⟦<SqlStore<FileStore<File>> as TopStore>⟧.failures s.store };
@@ -51,6 +54,8 @@ impl TopStore for DatabaseStore {
     ghost faults = { λ s. ⟦<SqlStore<FileStore<File>> as TopStore>⟧.faults s.store };
 
     ghost may_leave = { λ s left. ⟦<SqlStore<FileStore<File>> as TopStore>⟧.may_leave s.store left };
+
+    ghost may_leave_numbered = { λ s left. ⟦<SqlStore<FileStore<File>> as TopStore>⟧.may_leave_numbered s.store left };
 
     ghost loads = { λ old new answer. ⟦<SqlStore<FileStore<File>> as TopStore>⟧.loads old.store new.store answer };
 

@@ -1,9 +1,12 @@
-//! The table of results in SQLite, as a store of top-level transactions.
+//! The tables of results in SQLite, as a store of top-level transactions: the old one, of keys and values, and the new one, in
+//! which each row has a number too.
 #![tactic(auto)]
 
 mod close;
+mod commit;
 mod faults;
 mod file;
+mod inside;
 mod load;
 mod memory;
 mod open;

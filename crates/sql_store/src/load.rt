@@ -6,7 +6,8 @@ ghost use Rattle.sqlite.specs.Held.{state};
 ghost use Rattle.sqlite.specs.State.{HasCleanDisk, Survives, KeepsCommit, IsUnchanged};
 ghost use Rattle.sqlite.specs.Query.{IsAnswer};
 ghost use Rattle.sqlite.specs.Program.{overlay};
-ghost use Rattle.serial_spec.specs.Rows.{IsRising, value_in};
+ghost use Rattle.serial_spec.specs.Rows.{IsRising};
+ghost use Rattle.durable_top.specs.Numbered.{AreNumbered, entries_in};
 ghost use Rattle.durable_top.specs.Store.{plain};
 ghost use Rattle.sql_store.specs.Load.{load_query, load_text};
 ghost use Rattle.sql_store.specs.Table.{IsKnown, table_of};
@@ -15,7 +16,7 @@ ghost use Rattle.sql_store.specs.Kept.{IsSettled, Spares};
 ghost use Rattle.sql_store.specs.Refusals.{QueryGives, CannotLoad};
 ghost use Rattle.sql_store.specs.Asked.{Fetched, Loaded};
 
-use crate::faults::settle;
+use crate::faults::{fault_of, settle};
 use crate::reading::sorted;
 use crate::statements::{probe, select};
 use durable_top::{Row, StoreFault};
@@ -44,8 +45,9 @@ pub(crate) fn load_rows<S: Alter>(
     conn: &mut Connection<S>,
     alloc: Global,
 ) -> Result<Vec<Row>, StoreFault>
-    ensures rows { HasCleanDisk (state S.Store conn.new) → IsKnown (state S.Store conn.old) → IfOk result (λ rows. value_in (plain rows.items) ≡ table_of (state S.Store conn.old).now) }
+    ensures rows { HasCleanDisk (state S.Store conn.new) → IsKnown (state S.Store conn.old) → IfOk result (λ rows. entries_in rows.items ≡ table_of (state S.Store conn.old).now) }
     ensures rising { IfOk result (λ rows. IsRising (plain rows.items)) }
+    ensures numbers { IfOk result (λ rows. AreNumbered rows.items) }
     ensures open { HasCleanDisk (state S.Store conn.new) → IsKnown (state S.Store conn.old) → (IsErrOf result StoreFault.Failed → ⊥) → IsTrue (state S.Store conn.new).is_open }
     ensures kept { HasCleanDisk (state S.Store conn.new) → IsKnown (state S.Store conn.old) → KeepsCommit (state S.Store conn.old) (state S.Store conn.new) }
     ensures clean { doubt (state S.Store conn.old).is_clean ≤ doubt (state S.Store conn.new).is_clean }
@@ -57,6 +59,6 @@ pub(crate) fn load_rows<S: Alter>(
 {
     match fetch(conn) {
         Ok(rows) => sorted(alloc, rows.as_slice()),
-        Err(error) => Err(settle(conn, error)),
+        Err(error) => Err(settle(conn, fault_of(error))),
     }
 }

@@ -1,7 +1,7 @@
 //! A store of results over a database in memory.
 ghost use Rattle.std.specs.Prelude.{◌≡◌, ℕ, List, None, false, IfOk, if◌then◌else◌};
 ghost use Rattle.sqlite.specs.Steps.{over_memory};
-ghost use Rattle.sql_store.specs.Stored.{table, may_leave, SqlLoads, SqlCommits};
+ghost use Rattle.sql_store.specs.Stored.{numbered, table, may_leave, may_leave_numbered, SqlLoads, SqlCommits};
 
 use crate::store::SqlStore;
 use durable_top::{Row, StoreFault, TopStore};
@@ -11,7 +11,7 @@ use std::alloc::{AllocError, Global};
 use std::marker::Model;
 use txn_names::Change;
 
-/// The table `results` of a database in memory. There is no device that could give back something else than was
+/// The table of a database in memory. There is no device that could give back something else than was
 /// written, so that what is said of the table always holds.
 #[derive(Drop)]
 pub struct MemoryStore {
@@ -37,7 +37,7 @@ impl MemoryStore {
     /// A store without rows. The only error is that memory runs out: what opens an empty database in memory asks
     /// for nothing else.
     pub fn new(alloc: Global) -> Result<MemoryStore, NoMemory>
-        ensures empty { IfOk result (λ store. (k : List ℕ) → table over_memory store.connection k ≡ None) }
+        ensures empty { IfOk result (λ store. (k : List ℕ) → numbered over_memory store.connection k ≡ None) }
         ensures faults { IfOk result (λ store. store.faults ≡ 0) }
         ensures sound { IfOk result (λ store. store.has_failed ≡ false) }
     {
@@ -51,6 +51,8 @@ impl MemoryStore {
 impl TopStore for MemoryStore {
     ghost table = { λ s. table over_memory s.connection };
 
+    ghost numbered = { λ s. numbered over_memory s.connection };
+
     ghost doubt = { λ _. 0 };
 
     ghost failures = { λ s. if s.has_failed then 1 else 0 };
@@ -58,6 +60,8 @@ impl TopStore for MemoryStore {
     ghost faults = { λ s. s.faults };
 
     ghost may_leave = { λ s left. may_leave over_memory s.connection left };
+
+    ghost may_leave_numbered = { λ s left. may_leave_numbered over_memory s.connection left };
 
     ghost loads = { SqlLoads over_memory };
 

@@ -1,129 +1,105 @@
 //! How a database is made ready.
-ghost use Rattle.std.specs.Prelude.{◌≡◌, ◌≤◌, IfOk, IfErr, IsTrue, OnOk, OnErr, [], List, None, false, IsErrOf};
+ghost use Rattle.std.specs.Prelude.{◌≡◌, ◌≤◌, ◌⊎◌, ◌||◌, ◌&&◌, IfOk, IfErr, IsTrue, IsErrOf, OnOk, OnErr, [], false, true, Err};
 ghost use Rattle.sqlite_trees.specs.View.{doubt};
 ghost use Rattle.sqlite.specs.Held.{state};
-ghost use Rattle.sqlite.specs.State.{HasCleanDisk, IsUnchanged, FailsToQuery};
-ghost use Rattle.sqlite.specs.Order.{Row};
-ghost use Rattle.sqlite.specs.Query.{IsAnswer};
-ghost use Rattle.sqlite.specs.Program.{overlay};
-ghost use Rattle.sql_store.specs.Ids.{rises};
-ghost use Rattle.sql_store.specs.Load.{ids_query, ids_text};
-ghost use Rattle.sql_store.specs.Asked.{Made, MadeAtMost};
-ghost use Rattle.sql_store.specs.Kept.{IsSettled, Spares};
-ghost use Rattle.sql_store.specs.Refusals.{MakingGives, CannotOpen};
-ghost use Rattle.sql_store.specs.Results.{no_schema, results_schema};
-ghost use Rattle.sql_store.specs.Stored.{IsKept, IsDecided, table, IsDoubted};
-ghost use Rattle.sql_store.specs.Table.{map_of, IsReady};
-ghost use Rattle.sql_store.specs.Faults.{IsCaused, Lasts, HasFailed};
+ghost use Rattle.sqlite.specs.State.{HasCleanDisk, Survives, KeepsCommit};
+ghost use Rattle.serial_spec.specs.Rows.{value_in};
+ghost use Rattle.sql_store.specs.Asked.{Made};
+ghost use Rattle.sql_store.specs.Faults.{HasFailed, IsMeant};
+ghost use Rattle.sql_store.specs.Ids.{IsDecided};
+ghost use Rattle.sql_store.specs.Inside.{FoundOut};
+ghost use Rattle.sql_store.specs.Kept.{Spares};
+ghost use Rattle.sql_store.specs.Opening.{Opens, MayOpen, IsDecidedFirst, IsDoubted};
+ghost use Rattle.sql_store.specs.Refusals.{CannotOpenInside, CannotOpen};
+ghost use Rattle.sql_store.specs.Results.{no_schema, old_schema, both_schema};
+ghost use Rattle.sql_store.specs.Table.{map_of};
+ghost use Rattle.sql_store.specs.Stored.{numbered, IsKept, IsCounted};
 
-use crate::faults::settle;
-use crate::reading::are_apart;
-use crate::schema::{is_empty, is_results};
-use crate::statements::{compile, create, select_ids};
-use durable_top::StoreFault;
-use sqlite::{Alter, Connection, Error, ErrorCode};
+use crate::faults::{fault_of, settle};
+use crate::inside::{Opened, open_inside};
+use crate::schema::{is_both, is_empty, is_old};
+use durable_top::{NumberTable, StoreFault};
+use sqlite::{Alter, Connection};
+use sqlite_schema::schema::Schema;
+use std::alloc::Global;
 
-// Whether no rowid comes twice in the table of results.
-fn has_apart<S: Alter>(conn: &mut Connection<S>) -> Result<bool, Error>
-    ensures decided { HasCleanDisk (state S.Store conn.new) → (state S.Store conn.old).now.schema ≡ results_schema → IfOk result (IsDecided (state S.Store conn.old).now) }
-    ensures ready { HasCleanDisk (state S.Store conn.new) → (state S.Store conn.old).now.schema ≡ results_schema → IfOk result (λ apart. IsTrue apart → IsReady (state S.Store conn.old).now) }
-    ensures open { HasCleanDisk (state S.Store conn.new) → OnOk result (IsUnchanged (state S.Store conn.old) (state S.Store conn.new)) }
-    ensures spared { HasCleanDisk (state S.Store conn.new) → IsSettled (state S.Store conn.old) → Spares (state S.Store conn.old) (state S.Store conn.new) }
-    ensures refused { HasCleanDisk (state S.Store conn.new) → IfErr result (FailsToQuery ids_text [] (state S.Store conn.old) (state S.Store conn.new)) }
-    ensures clean { doubt (state S.Store conn.old).is_clean ≤ doubt (state S.Store conn.new).is_clean }
-    ensures cause { HasCleanDisk (state S.Store conn.new) → IfErr result (IsCaused (state S.Store conn.old) (state S.Store conn.new)) }
-    ensures lasts { Lasts (state S.Store conn.old) (state S.Store conn.new) }
+// Makes the tables where they are missing and moves the rows of the old one, in one transaction.
+fn open_tables<S: Alter>(conn: &mut Connection<S>, alloc: Global) -> Result<Opened, StoreFault>
+    requires outside { (state S.Store conn.old).in_transaction ≡ false }
+    requires settled { IsTrue (state S.Store conn.old).is_open → (state S.Store conn.old).now ≡ (state S.Store conn.old).committed }
+    ensures opened { HasCleanDisk (state S.Store conn.new) → OnOk result (Opens (state S.Store conn.old) (state S.Store conn.new)) }
+    ensures found { HasCleanDisk (state S.Store conn.new) → IfOk result (λ opened. FoundOut opened.is_apart (value_in opened.numbers.rows) (state S.Store conn.old).committed (state S.Store conn.new).committed) }
+    ensures kept { HasCleanDisk (state S.Store conn.new) → OnErr result (KeepsCommit (state S.Store conn.old) (state S.Store conn.new)) }
+    ensures survives { Survives (state S.Store conn.old) (state S.Store conn.new) (MayOpen (state S.Store conn.old)) }
+    ensures spared { HasCleanDisk (state S.Store conn.new) → OnErr result (Spares (state S.Store conn.old) (state S.Store conn.new)) }
+    ensures cause { HasCleanDisk (state S.Store conn.new) → IfErr result (IsMeant (state S.Store conn.old) (state S.Store conn.new)) }
+    ensures refused { HasCleanDisk (state S.Store conn.new) → IsErrOf result StoreFault.Refused → CannotOpenInside S.Store (record conn.old { in_transaction = true }) }
+    ensures made { HasCleanDisk (state S.Store conn.new) → OnOk result (Made S.Store conn.old conn.new) }
 {
-    let ids = select_ids(conn)?;
-    Ok(are_apart(ids.as_slice()))
-}
-
-// Whether there is the table of results alone, and no rowid comes twice in it.
-fn is_known<S: Alter>(conn: &mut Connection<S>) -> Result<bool, Error>
-    ensures decided { HasCleanDisk (state S.Store conn.new) → (state S.Store conn.old).now.schema ≡ results_schema → IfOk result (IsDecided (state S.Store conn.old).now) }
-    ensures ready { HasCleanDisk (state S.Store conn.new) → IfOk result (λ known. IsTrue known → IsReady (state S.Store conn.old).now × IsUnchanged (state S.Store conn.old) (state S.Store conn.new)) }
-    ensures open { HasCleanDisk (state S.Store conn.new) → (state S.Store conn.old).now.schema ≡ results_schema → OnOk result (IsUnchanged (state S.Store conn.old) (state S.Store conn.new)) }
-    ensures same { HasCleanDisk (state S.Store conn.new) → IsTrue (state S.Store conn.old).is_open → OnOk result (IsUnchanged (state S.Store conn.old) (state S.Store conn.new)) }
-    ensures spared { HasCleanDisk (state S.Store conn.new) → IsSettled (state S.Store conn.old) → Spares (state S.Store conn.old) (state S.Store conn.new) }
-    ensures refused { HasCleanDisk (state S.Store conn.new) → IfErr result (FailsToQuery ids_text [] (state S.Store conn.old) (state S.Store conn.new)) }
-    ensures clean { doubt (state S.Store conn.old).is_clean ≤ doubt (state S.Store conn.new).is_clean }
-    ensures cause { HasCleanDisk (state S.Store conn.new) → IfErr result (IsCaused (state S.Store conn.old) (state S.Store conn.new)) }
-    ensures lasts { Lasts (state S.Store conn.old) (state S.Store conn.new) }
-    ensures doubted { HasCleanDisk (state S.Store conn.new) → IfOk result (IsDoubted (state S.Store conn.new).now) }
-{
-    if is_results(conn.schema()) {
-        has_apart(conn)
-    } else {
-        Ok(false)
+    let mut tx = conn.transaction();
+    let opened = open_inside(&mut tx, alloc)?;
+    match tx.commit() {
+        Ok(()) => Ok(opened),
+        Err(error) => Err(fault_of(error)),
     }
 }
 
-// A new table is known.
-fn is_known_unless<S: Alter>(is_new: bool, conn: &mut Connection<S>) -> Result<bool, Error>
-    ensures open { HasCleanDisk (state S.Store conn.new) → IsTrue (state S.Store conn.old).is_open → OnOk result (IsUnchanged (state S.Store conn.old) (state S.Store conn.new)) }
-    ensures spared { HasCleanDisk (state S.Store conn.new) → IsSettled (state S.Store conn.old) → Spares (state S.Store conn.old) (state S.Store conn.new) }
-    ensures refused { HasCleanDisk (state S.Store conn.new) → IfErr result (FailsToQuery ids_text [] (state S.Store conn.old) (state S.Store conn.new)) }
-    ensures fresh { IsTrue is_new → IfOk result (λ known. IsTrue known) × (conn.new ≡ conn.old) }
-    ensures decided { HasCleanDisk (state S.Store conn.new) → (is_new ≡ false) → (state S.Store conn.old).now.schema ≡ results_schema → IfOk result (IsDecided (state S.Store conn.old).now) × OnOk result (IsUnchanged (state S.Store conn.old) (state S.Store conn.new)) }
-    ensures ready { HasCleanDisk (state S.Store conn.new) → (is_new ≡ false) → IfOk result (λ known. IsTrue known → IsReady (state S.Store conn.old).now × IsUnchanged (state S.Store conn.old) (state S.Store conn.new)) }
-    ensures clean { doubt (state S.Store conn.old).is_clean ≤ doubt (state S.Store conn.new).is_clean }
-    ensures cause { HasCleanDisk (state S.Store conn.new) → IfErr result (IsCaused (state S.Store conn.old) (state S.Store conn.new)) }
-    ensures lasts { Lasts (state S.Store conn.old) (state S.Store conn.new) }
-    ensures doubted { HasCleanDisk (state S.Store conn.new) → IfOk result (IsDoubted (state S.Store conn.new).now) }
+// Whether these are the tables of results alone, the old one or both, or no tables at all.
+fn is_ours(schema: &Schema) -> bool
+    ensures none { IsTrue result → (schema.now ≡ no_schema) ⊎ ((schema.now ≡ old_schema) ⊎ (schema.now ≡ both_schema)) }
+    ensures all { (schema.now ≡ no_schema) ⊎ ((schema.now ≡ old_schema) ⊎ (schema.now ≡ both_schema)) → IsTrue result }
 {
-    if is_new { Ok(true) } else { is_known(conn) }
+    is_empty(schema) || is_old(schema) || is_both(schema)
 }
 
-// Makes the table where there is none, and answers whether it is known.
-fn make_table<S: Alter>(conn: &mut Connection<S>) -> Result<bool, Error>
-    ensures made { HasCleanDisk (state S.Store conn.new) → OnOk result (Made S.Store conn.old conn.new) }
-    ensures at_most { HasCleanDisk (state S.Store conn.new) → IsSettled (state S.Store conn.old) → OnErr result (MadeAtMost S.Store conn.old conn.new) }
-    ensures settled { HasCleanDisk (state S.Store conn.new) → IsSettled (state S.Store conn.old) → OnErr result (IsSettled (state S.Store conn.new)) }
-    ensures refused { HasCleanDisk (state S.Store conn.new) → IsSettled (state S.Store conn.old) → IfErr result (MakingGives S.Store conn.old conn.new) }
-    ensures kept { IfOk result (λ known. IsKept S.Store known conn.new) }
-    ensures fresh { (state S.Store conn.old).now.schema ≡ no_schema → IfOk result (λ known. IsTrue known) }
-    ensures empty { HasCleanDisk (state S.Store conn.new) → (state S.Store conn.old).now.schema ≡ no_schema → OnOk result (table S.Store conn.new ≡ map_of []) }
-    ensures decided { HasCleanDisk (state S.Store conn.new) → (state S.Store conn.old).now.schema ≡ results_schema → IfOk result (IsDecided (state S.Store conn.old).now) }
-    ensures same { HasCleanDisk (state S.Store conn.new) → (state S.Store conn.old).now.schema ≡ results_schema → OnOk result (table S.Store conn.new ≡ table S.Store conn.old) }
-    ensures clean { doubt (state S.Store conn.old).is_clean ≤ doubt (state S.Store conn.new).is_clean }
-    ensures cause { HasCleanDisk (state S.Store conn.new) → IfErr result (IsCaused (state S.Store conn.old) (state S.Store conn.new)) }
-    ensures lasts { Lasts (state S.Store conn.old) (state S.Store conn.new) }
-    ensures doubted { HasCleanDisk (state S.Store conn.new) → IfOk result (IsDoubted (state S.Store conn.new).now) }
+// A new database is known, and one of ours whose rowids are apart.
+fn knows(is_new: bool, is_ours: bool, is_apart: bool) -> bool
+    ensures { result ≡ (is_new || (is_ours && is_apart)) }
 {
-    let is_new = is_empty(conn.schema());
-    create(conn)?;
-    compile(conn)?;
-    let known = is_known_unless(is_new, conn)?;
-    if conn.is_autocommit() {
-        Ok(known)
-    } else {
-        Err(Error::SqliteFailure(ErrorCode::TransactionState))
-    }
+    is_new || (is_ours && is_apart)
 }
 
-/// Makes the table where there is none. A database in the middle of a transaction is refused, and so is a table
-/// of this name that has other columns. The answer is whether the table is known: it is alone in the database, and new,
-/// or as the store makes it with no rowid twice.
-pub(crate) fn prepare<S: Alter>(conn: &mut Connection<S>) -> Result<bool, StoreFault>
-    ensures made { HasCleanDisk (state S.Store conn.new) → OnOk result (Made S.Store conn.old conn.new) }
-    ensures at_most { HasCleanDisk (state S.Store conn.new) → OnErr result (MadeAtMost S.Store conn.old conn.new) }
-    ensures refused { HasCleanDisk (state S.Store conn.new) → IsErrOf result StoreFault.Refused → CannotOpen S.Store conn.old conn.new }
-    ensures kept { IfOk result (λ known. IsKept S.Store known conn.new) }
-    ensures fresh { (state S.Store conn.old).now.schema ≡ no_schema → IfOk result (λ known. IsTrue known) }
-    ensures empty { HasCleanDisk (state S.Store conn.new) → (state S.Store conn.old).now.schema ≡ no_schema → OnOk result (table S.Store conn.new ≡ map_of []) }
-    ensures decided { HasCleanDisk (state S.Store conn.new) → (state S.Store conn.old).now.schema ≡ results_schema → IfOk result (IsDecided (state S.Store conn.old).now) }
-    ensures same { HasCleanDisk (state S.Store conn.new) → (state S.Store conn.old).now.schema ≡ results_schema → OnOk result (table S.Store conn.new ≡ table S.Store conn.old) }
+/// What is known of a database that was made ready.
+#[derive(Drop)]
+pub(crate) struct Ready {
+    pub(crate) is_known: bool,
+    pub(crate) numbers: NumberTable,
+}
+
+/// Makes the tables where they are missing, and moves the rows of the old one into the empty new one, in one transaction.
+/// A database in the middle of a transaction is refused, and so are tables of these names that have other columns, rows
+/// that are none of a store, and rows in both. The answer is whether the database is known, and the numbers.
+pub(crate) fn prepare<S: Alter>(
+    conn: &mut Connection<S>,
+    alloc: Global,
+) -> Result<Ready, StoreFault>
+    ensures kept { IfOk result (λ ready. IsKept S.Store ready.is_known conn.new) }
+    ensures counted { IfOk result (λ ready. IsCounted S.Store ready.is_known (value_in ready.numbers.rows) conn.new) }
+    ensures known { (state S.Store conn.old).now.schema ≡ no_schema → IfOk result (λ ready. IsTrue ready.is_known) }
+    ensures decided { HasCleanDisk (state S.Store conn.new) → (state S.Store conn.old).now.schema ≡ both_schema → IfOk result (λ ready. IsDecided (state S.Store conn.old).now ready.is_known) }
+    ensures decided_first { HasCleanDisk (state S.Store conn.new) → (state S.Store conn.old).now.schema ≡ old_schema → IfOk result (λ ready. IsDecidedFirst (state S.Store conn.old).now ready.is_known) }
+    ensures opened { HasCleanDisk (state S.Store conn.new) → OnOk result (Opens (state S.Store conn.old) (state S.Store conn.new)) }
     ensures busy { IsTrue (state S.Store conn.old).in_transaction → (result ≡ Err StoreFault.Refused) × (conn.new ≡ conn.old) }
     ensures open { HasCleanDisk (state S.Store conn.new) → (state S.Store conn.old).in_transaction ≡ false → IfErr result (λ fault. (fault ≡ StoreFault.Failed → ⊥) → IsTrue (state S.Store conn.new).is_open) }
-    ensures clean { doubt (state S.Store conn.old).is_clean ≤ doubt (state S.Store conn.new).is_clean }
+    ensures same { HasCleanDisk (state S.Store conn.new) → OnErr result (KeepsCommit (state S.Store conn.old) (state S.Store conn.new)) }
+    ensures survives { Survives (state S.Store conn.old) (state S.Store conn.new) (MayOpen (state S.Store conn.old)) }
+    ensures spared { HasCleanDisk (state S.Store conn.new) → OnErr result (Spares (state S.Store conn.old) (state S.Store conn.new)) }
     ensures cause { HasCleanDisk (state S.Store conn.new) → IsErrOf result StoreFault.Failed → HasFailed S.Store conn.old conn.new }
-    ensures doubted { HasCleanDisk (state S.Store conn.new) → IfOk result (IsDoubted (state S.Store conn.new).now) }
+    ensures refused { HasCleanDisk (state S.Store conn.new) → IsErrOf result StoreFault.Refused → CannotOpen S.Store conn.old }
+    ensures made { HasCleanDisk (state S.Store conn.new) → OnOk result (Made S.Store conn.old conn.new) }
+    ensures empty { HasCleanDisk (state S.Store conn.new) → (state S.Store conn.old).now.schema ≡ no_schema → OnOk result (numbered S.Store conn.new ≡ map_of []) }
+    ensures doubted { HasCleanDisk (state S.Store conn.new) → IfOk result (λ ready. IsDoubted (state S.Store conn.old).now ready.is_known) }
 {
     if !conn.is_autocommit() {
         return Err(StoreFault::Refused);
     }
-    match make_table(conn) {
-        Ok(known) => Ok(known),
-        Err(error) => Err(settle(conn, error)),
+    let is_new = is_empty(conn.schema());
+    let is_ours = is_ours(conn.schema());
+    match open_tables(conn, alloc) {
+        Ok(opened) => Ok(Ready {
+            is_known: knows(is_new, is_ours, opened.is_apart),
+            numbers: opened.numbers,
+        }),
+        Err(fault) => Err(settle(conn, fault)),
     }
 }

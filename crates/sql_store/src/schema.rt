@@ -1,7 +1,7 @@
-//! Whether a database has the table of results, and nothing else.
+//! Whether a database has the tables of results, and nothing else.
 ghost use Rattle.std.specs.Prelude.{◌≡◌, ◌↔◌, ◌∷◌, [], None, IsTrue, codes, false};
 ghost use Rattle.sqlite.specs.Kind.TheVariants as kinds;
-ghost use Rattle.sql_store.specs.Results.{results, results_schema, listed_schema, key_index, column_of, no_schema, no_stamps, plain_order};
+ghost use Rattle.sql_store.specs.Results.{keyed, old_columns, new_columns, old_results, results, old_schema, both_schema, listed_old, listed_both, key_index, column_of, no_schema, no_stamps, plain_order};
 
 use sqlite_items::Items;
 use sqlite_schema::code::Terms;
@@ -79,19 +79,33 @@ fn is_key_column(column: &Column) -> bool
         && is_strict(column)
 }
 
-fn is_value_column(column: &Column) -> bool
-    ensures { IsTrue result ↔ (column.now ≡ column_of (codes "v") kinds.Integer) }
+// Whether it is a column of whole numbers that has this name.
+fn is_int_column(column: &Column, name: &[u8]) -> bool
+    ensures { IsTrue result ↔ (column.now ≡ column_of name.now kinds.Integer) }
 {
-    is_text(column.name.as_slice(), b"v".as_slice())
+    is_text(column.name.as_slice(), name)
         && matches!(column.kind, Kind::Integer)
         && is_strict(column)
 }
 
-fn are_columns(columns: &[Column]) -> bool
-    ensures { IsTrue result ↔ (columns.now ≡ results.columns) }
+fn are_old_columns(columns: &[Column]) -> bool
+    ensures { IsTrue result ↔ (columns.now ≡ old_columns) }
 {
     match columns {
-        [key, value] => is_key_column(key) && is_value_column(value),
+        [key, value] => is_key_column(key) && is_int_column(value, b"v".as_slice()),
+        _ => false,
+    }
+}
+
+fn are_new_columns(columns: &[Column]) -> bool
+    ensures { IsTrue result ↔ (columns.now ≡ new_columns) }
+{
+    match columns {
+        [key, value, number] => {
+            is_key_column(key)
+                && is_int_column(value, b"v".as_slice())
+                && is_int_column(number, b"n".as_slice())
+        }
         _ => false,
     }
 }
@@ -117,59 +131,112 @@ fn is_bare(table: &Table) -> bool
         && !table.is_counted
 }
 
-fn is_table(table: &Table) -> bool
-    ensures { IsTrue result ↔ (table.now ≡ results) }
+// Whether it has its first column as key and no other rule, at this place, under this name.
+fn is_keyed(table: &Table, name: &[u8], tree: u32) -> bool
+    ensures { IsTrue result ↔ (table.now ≡ keyed name.now tree table.now.columns) }
 {
-    is_text(table.name.as_slice(), b"results".as_slice())
-        && table.tree == 0
-        && are_columns(table.columns.as_slice())
-        && has_key(table)
-        && is_bare(table)
+    is_text(table.name.as_slice(), name) && table.tree == tree && has_key(table) && is_bare(table)
 }
 
-fn is_key_index(index: &Index) -> bool
-    ensures { IsTrue result ↔ (index.now ≡ key_index) }
+fn is_old_table(table: &Table) -> bool
+    ensures { IsTrue result ↔ (table.now ≡ old_results) }
 {
-    is_text(
-        index.name.as_slice(),
-        b"sqlite_autoindex_results_1".as_slice(),
-    ) && index.tree == 1
-        && index.table == 0
+    is_keyed(table, b"results".as_slice(), 0) && are_old_columns(table.columns.as_slice())
+}
+
+fn is_new_table(table: &Table) -> bool
+    ensures { IsTrue result ↔ (table.now ≡ results) }
+{
+    is_keyed(table, b"results2".as_slice(), 2) && are_new_columns(table.columns.as_slice())
+}
+
+fn is_key_index(index: &Index, name: &[u8], tree: u32, table: u32) -> bool
+    ensures { IsTrue result ↔ (index.now ≡ key_index name.now tree table) }
+{
+    is_text(index.name.as_slice(), name)
+        && index.tree == tree
+        && index.table == table
         && is_first(index.columns.as_slice())
         && index.order.digits == 0
         && index.is_unique
 }
 
-fn is_only_table(tables: &[Table]) -> bool
-    ensures { IsTrue result ↔ (tables.now ≡ results ∷ []) }
+fn is_old_index(index: &Index) -> bool
+    ensures { IsTrue result ↔ (index.now ≡ key_index (codes "sqlite_autoindex_results_1") 1 0) }
+{
+    is_key_index(index, b"sqlite_autoindex_results_1".as_slice(), 1, 0)
+}
+
+fn is_new_index(index: &Index) -> bool
+    ensures { IsTrue result ↔ (index.now ≡ key_index (codes "sqlite_autoindex_results2_1") 3 2) }
+{
+    is_key_index(index, b"sqlite_autoindex_results2_1".as_slice(), 3, 2)
+}
+
+fn are_old_tables(tables: &[Table]) -> bool
+    ensures { IsTrue result ↔ (tables.now ≡ old_results ∷ []) }
 {
     match tables {
-        [table] => is_table(table),
+        [table] => is_old_table(table),
         _ => false,
     }
 }
 
-fn is_only_index(indexes: &[Index]) -> bool
-    ensures { IsTrue result ↔ (indexes.now ≡ key_index ∷ []) }
+fn are_both_tables(tables: &[Table]) -> bool
+    ensures { IsTrue result ↔ (tables.now ≡ old_results ∷ results ∷ []) }
+{
+    match tables {
+        [old, new] => is_old_table(old) && is_new_table(new),
+        _ => false,
+    }
+}
+
+fn are_old_indexes(indexes: &[Index]) -> bool
+    ensures { IsTrue result ↔ (indexes.now ≡ listed_old.indexes) }
 {
     match indexes {
-        [index] => is_key_index(index),
+        [index] => is_old_index(index),
         _ => false,
     }
 }
 
-fn is_listed(schema: &Schema) -> bool
-    ensures { IsTrue result ↔ (schema.now ≡ listed_schema) }
+fn are_both_indexes(indexes: &[Index]) -> bool
+    ensures { IsTrue result ↔ (indexes.now ≡ listed_both.indexes) }
 {
-    is_only_table(schema.tables.as_slice())
-        && is_only_index(schema.indexes.as_slice())
+    match indexes {
+        [old, new] => is_old_index(old) && is_new_index(new),
+        _ => false,
+    }
+}
+
+fn is_listed_old(schema: &Schema) -> bool
+    ensures { IsTrue result ↔ (schema.now ≡ listed_old) }
+{
+    are_old_tables(schema.tables.as_slice())
+        && are_old_indexes(schema.indexes.as_slice())
         && schema.views.is_empty()
 }
 
-/// Whether there is the table of results, as the store makes it, and nothing else.
-pub(crate) fn is_results(schema: &Schema) -> bool
-    ensures none { IsTrue result → schema.now ≡ results_schema }
-    ensures all { schema.now ≡ results_schema → IsTrue result }
+fn is_listed_both(schema: &Schema) -> bool
+    ensures { IsTrue result ↔ (schema.now ≡ listed_both) }
 {
-    is_listed(schema)
+    are_both_tables(schema.tables.as_slice())
+        && are_both_indexes(schema.indexes.as_slice())
+        && schema.views.is_empty()
+}
+
+/// Whether there is the old table alone, as the store makes it.
+pub(crate) fn is_old(schema: &Schema) -> bool
+    ensures none { IsTrue result → schema.now ≡ old_schema }
+    ensures all { schema.now ≡ old_schema → IsTrue result }
+{
+    is_listed_old(schema)
+}
+
+/// Whether there are both tables alone, as the store makes them.
+pub(crate) fn is_both(schema: &Schema) -> bool
+    ensures none { IsTrue result → schema.now ≡ both_schema }
+    ensures all { schema.now ≡ both_schema → IsTrue result }
+{
+    is_listed_both(schema)
 }

@@ -1,18 +1,19 @@
 //! The statements, one a function.
-ghost use Rattle.std.specs.Prelude.{◌≡◌, ◌≤◌, [], ◌∷◌, Some, None, Err, OnOk, OnErr, IfOk, IfErr, IsTrue, IsErr};
+ghost use Rattle.std.specs.Prelude.{◌≡◌, ◌≤◌, [], ◌∷◌, Some, None, Err, OnOk, IfOk, IfErr, IsTrue, IsErr};
 ghost use Rattle.sqlite_trees.specs.View.{doubt};
 ghost use Rattle.sqlite.specs.Values.{bound};
 ghost use Rattle.sqlite.specs.declared.types.Value.TheVariants.{Text, Int};
 ghost use Rattle.sqlite.specs.Held.{state};
-ghost use Rattle.sqlite.specs.State.{HasCleanDisk, Survives, KeepsCommit, IsUnchanged, Shown, Executes, ExecutesInside, IsNotRun, FailsToQuery};
+ghost use Rattle.sqlite.specs.State.{HasCleanDisk, Survives, KeepsCommit, IsUnchanged, Shown, ExecutesInside, FailsToQuery};
 ghost use Rattle.sqlite.specs.Query.{IsAnswer};
 ghost use Rattle.sqlite.specs.Program.{overlay};
+ghost use Rattle.sql_store.specs.Results.{both_schema, old_schema, no_schema};
+ghost use Rattle.sql_store.specs.Load.{load_text, load_query, old_text, old_query, ids_text, ids_query, old_ids_text, old_ids_query};
+ghost use Rattle.sql_store.specs.Table.{Makes, AreApart};
+ghost use Rattle.sql_store.specs.Inside.{Steps, GoesOn};
 ghost use Rattle.sql_store.specs.Faults.{fault_of, IsCaused, Lasts, HasFailed};
-ghost use Rattle.sql_store.specs.Results.{results_schema, no_schema};
-ghost use Rattle.sql_store.specs.Load.{load_query, ids_query, load_text, ids_text};
-ghost use Rattle.sql_store.specs.Table.{Makes};
 ghost use Rattle.sql_store.specs.Kept.{IsSettled, Spares};
-ghost use Rattle.sql_store.specs.Asked.{create_text, upsert_text, delete_text, Created, Executed};
+ghost use Rattle.sql_store.specs.Asked.{create_old_text, create_text, upsert_text, delete_text, empty_text, params_of, Executed};
 
 use durable_top::{Row, StoreFault};
 use sqlite::types::ValueRef;
@@ -25,10 +26,14 @@ fn of_key(key: &Key) -> [ValueRef<'_>; 1]
     [ValueRef::Text(key.as_bytes())]
 }
 
-fn of_row(row: &Row) -> [ValueRef<'_>; 2]
-    ensures { bound result ≡ Text row.now.key ∷ Int row.now.value ∷ [] }
+fn of_row(row: &Row) -> [ValueRef<'_>; 3]
+    ensures { bound result ≡ Text row.now.key ∷ Int row.now.value ∷ Int row.now.commit ∷ [] }
 {
-    [ValueRef::Text(row.key.as_bytes()), ValueRef::Int(row.value)]
+    [
+        ValueRef::Text(row.key.as_bytes()),
+        ValueRef::Int(row.value),
+        ValueRef::Int(row.commit),
+    ]
 }
 
 /// Takes the row of the key away, if there is one.
@@ -41,74 +46,154 @@ pub(crate) fn remove<S: Alter>(tx: &mut Transaction<'_, S>, key: &Key) -> Result
     ensures refused { HasCleanDisk (state S.Store tx.new.conn.now) → IsTrue (state S.Store tx.old.conn.now).in_transaction → IfErr result (λ e. ExecutesInside 0 delete_text (Text key.now ∷ []) (state S.Store tx.old.conn.now) (state S.Store tx.new.conn.now) (Err e)) }
     ensures asked { HasCleanDisk (state S.Store tx.new.conn.now) → IsTrue (state S.Store tx.old.conn.now).in_transaction → OnOk result (Executed S.Store delete_text (Text key.now ∷ []) tx.old.conn.now tx.new.conn.now) }
 {
-    tx.execute("DELETE FROM results WHERE k = ?1", &of_key(key))?;
+    tx.execute("DELETE FROM results2 WHERE k = ?1", &of_key(key))?;
     Ok(())
 }
 
-/// Gives the key of the row its value, whether or not it has one.
+/// Gives the key of the row its value and its number, whether or not it has one.
 pub(crate) fn put<S: Alter>(tx: &mut Transaction<'_, S>, row: &Row) -> Result<(), Error>
     ensures same_reference { tx.new.conn.ghost_name ≡ tx.old.conn.ghost_name }
-    ensures made { HasCleanDisk (state S.Store tx.new.conn.now) → IsTrue (state S.Store tx.old.conn.now).in_transaction → OnOk result (Makes row.now.key (Some row.now.value) (state S.Store tx.old.conn.now) (state S.Store tx.new.conn.now)) }
+    ensures made { HasCleanDisk (state S.Store tx.new.conn.now) → IsTrue (state S.Store tx.old.conn.now).in_transaction → OnOk result (Makes row.now.key (Some (row.now.value, row.now.commit)) (state S.Store tx.old.conn.now) (state S.Store tx.new.conn.now)) }
     ensures kept { HasCleanDisk (state S.Store tx.new.conn.now) → IsTrue (state S.Store tx.old.conn.now).in_transaction → KeepsCommit (state S.Store tx.old.conn.now) (state S.Store tx.new.conn.now) }
     ensures survives { Survives (state S.Store tx.old.conn.now) (state S.Store tx.new.conn.now) (λ _. ⊥) }
     ensures cause { HasCleanDisk (state S.Store tx.new.conn.now) → IsTrue (state S.Store tx.old.conn.now).in_transaction → IfErr result (IsCaused (state S.Store tx.old.conn.now) (state S.Store tx.new.conn.now)) }
-    ensures refused { HasCleanDisk (state S.Store tx.new.conn.now) → IsTrue (state S.Store tx.old.conn.now).in_transaction → IfErr result (λ e. ExecutesInside 0 upsert_text (Text row.now.key ∷ Int row.now.value ∷ []) (state S.Store tx.old.conn.now) (state S.Store tx.new.conn.now) (Err e)) }
-    ensures asked { HasCleanDisk (state S.Store tx.new.conn.now) → IsTrue (state S.Store tx.old.conn.now).in_transaction → OnOk result (Executed S.Store upsert_text (Text row.now.key ∷ Int row.now.value ∷ []) tx.old.conn.now tx.new.conn.now) }
+    ensures refused { HasCleanDisk (state S.Store tx.new.conn.now) → IsTrue (state S.Store tx.old.conn.now).in_transaction → IfErr result (λ e. ExecutesInside 0 upsert_text (params_of row.now) (state S.Store tx.old.conn.now) (state S.Store tx.new.conn.now) (Err e)) }
+    ensures asked { HasCleanDisk (state S.Store tx.new.conn.now) → IsTrue (state S.Store tx.old.conn.now).in_transaction → OnOk result (Executed S.Store upsert_text (params_of row.now) tx.old.conn.now tx.new.conn.now) }
 {
     tx.execute(
-        "INSERT INTO results (k, v) VALUES (?1, ?2) ON CONFLICT (k) DO UPDATE SET v = excluded.v",
+        "INSERT INTO results2 (k, v, n) VALUES (?1, ?2, ?3) ON CONFLICT (k) DO UPDATE SET v = excluded.v, n = excluded.n",
         &of_row(row),
     )?;
     Ok(())
 }
 
-/// Makes the table where there is none.
-pub(crate) fn create<S: Alter>(conn: &mut Connection<S>) -> Result<(), Error>
-    ensures created { HasCleanDisk (state S.Store conn.new) → OnOk result (Created S.Store conn.old conn.new) }
-    ensures settled { HasCleanDisk (state S.Store conn.new) → IsSettled (state S.Store conn.old) → OnOk result (IsSettled (state S.Store conn.new)) }
-    ensures spared { HasCleanDisk (state S.Store conn.new) → IsSettled (state S.Store conn.old) → OnErr result (Spares (state S.Store conn.old) (state S.Store conn.new)) }
-    ensures refused { HasCleanDisk (state S.Store conn.new) → IfErr result (λ e. Executes create_text [] (state S.Store conn.old) (state S.Store conn.new) (Err e)) }
-    ensures schema { HasCleanDisk (state S.Store conn.new) → OnOk result ((state S.Store conn.old).now.schema ≡ no_schema → (state S.Store conn.new).now.schema ≡ results_schema) }
-    ensures empty { HasCleanDisk (state S.Store conn.new) → OnOk result ((state S.Store conn.old).now.schema ≡ no_schema → (state S.Store conn.new).now.trees 0 ≡ []) }
-    ensures same { HasCleanDisk (state S.Store conn.new) → OnOk result ((state S.Store conn.old).now.schema ≡ results_schema → IsUnchanged (state S.Store conn.old) (state S.Store conn.new)) }
-    ensures clean { doubt (state S.Store conn.old).is_clean ≤ doubt (state S.Store conn.new).is_clean }
-    ensures cause { HasCleanDisk (state S.Store conn.new) → IfErr result (IsCaused (state S.Store conn.old) (state S.Store conn.new)) }
-    ensures lasts { Lasts (state S.Store conn.old) (state S.Store conn.new) }
+/// Takes all rows of the old table away.
+pub(crate) fn empty<S: Alter>(tx: &mut Transaction<'_, S>) -> Result<(), Error>
+    ensures same_reference { tx.new.conn.ghost_name ≡ tx.old.conn.ghost_name }
+    ensures steps { Steps (state S.Store tx.old.conn.now) (state S.Store tx.new.conn.now) }
+    ensures on { OnOk result (GoesOn (state S.Store tx.old.conn.now) (state S.Store tx.new.conn.now)) }
+    ensures schema { HasCleanDisk (state S.Store tx.new.conn.now) → IsTrue (state S.Store tx.old.conn.now).in_transaction → OnOk result ((state S.Store tx.old.conn.now).now.schema ≡ both_schema → (state S.Store tx.new.conn.now).now.schema ≡ both_schema) }
+    ensures others { HasCleanDisk (state S.Store tx.new.conn.now) → IsTrue (state S.Store tx.old.conn.now).in_transaction → OnOk result ((state S.Store tx.old.conn.now).now.schema ≡ both_schema → (state S.Store tx.new.conn.now).now.trees 2 ≡ (state S.Store tx.old.conn.now).now.trees 2) }
+    ensures gone { HasCleanDisk (state S.Store tx.new.conn.now) → IsTrue (state S.Store tx.old.conn.now).in_transaction → OnOk result ((state S.Store tx.old.conn.now).now.schema ≡ both_schema → AreApart ((state S.Store tx.old.conn.now).now.trees 0) → (state S.Store tx.new.conn.now).now.trees 0 ≡ []) }
+    ensures cause { HasCleanDisk (state S.Store tx.new.conn.now) → IsTrue (state S.Store tx.old.conn.now).in_transaction → IfErr result (IsCaused (state S.Store tx.old.conn.now) (state S.Store tx.new.conn.now)) }
+    ensures refused { HasCleanDisk (state S.Store tx.new.conn.now) → IsTrue (state S.Store tx.old.conn.now).in_transaction → IfErr result (λ e. ExecutesInside 0 empty_text ([]) (state S.Store tx.old.conn.now) (state S.Store tx.new.conn.now) (Err e)) }
+    ensures asked { HasCleanDisk (state S.Store tx.new.conn.now) → IsTrue (state S.Store tx.old.conn.now).in_transaction → OnOk result (Executed S.Store empty_text ([]) tx.old.conn.now tx.new.conn.now) }
 {
-    conn.execute(
+    tx.execute("DELETE FROM results", &[])?;
+    Ok(())
+}
+
+/// Makes the old table where there is none.
+pub(crate) fn create_old<S: Alter>(tx: &mut Transaction<'_, S>) -> Result<(), Error>
+    ensures same_reference { tx.new.conn.ghost_name ≡ tx.old.conn.ghost_name }
+    ensures steps { Steps (state S.Store tx.old.conn.now) (state S.Store tx.new.conn.now) }
+    ensures on { OnOk result (GoesOn (state S.Store tx.old.conn.now) (state S.Store tx.new.conn.now)) }
+    ensures made { HasCleanDisk (state S.Store tx.new.conn.now) → IsTrue (state S.Store tx.old.conn.now).in_transaction → OnOk result ((state S.Store tx.old.conn.now).now.schema ≡ no_schema → ((state S.Store tx.new.conn.now).now.schema ≡ old_schema) × ((state S.Store tx.new.conn.now).now.trees 0 ≡ [])) }
+    ensures first { HasCleanDisk (state S.Store tx.new.conn.now) → IsTrue (state S.Store tx.old.conn.now).in_transaction → OnOk result ((state S.Store tx.old.conn.now).now.schema ≡ old_schema → (state S.Store tx.new.conn.now).now ≡ (state S.Store tx.old.conn.now).now) }
+    ensures both { HasCleanDisk (state S.Store tx.new.conn.now) → IsTrue (state S.Store tx.old.conn.now).in_transaction → OnOk result ((state S.Store tx.old.conn.now).now.schema ≡ both_schema → (state S.Store tx.new.conn.now).now ≡ (state S.Store tx.old.conn.now).now) }
+    ensures cause { HasCleanDisk (state S.Store tx.new.conn.now) → IsTrue (state S.Store tx.old.conn.now).in_transaction → IfErr result (IsCaused (state S.Store tx.old.conn.now) (state S.Store tx.new.conn.now)) }
+    ensures refused { HasCleanDisk (state S.Store tx.new.conn.now) → IsTrue (state S.Store tx.old.conn.now).in_transaction → IfErr result (λ e. ExecutesInside 0 create_old_text ([]) (state S.Store tx.old.conn.now) (state S.Store tx.new.conn.now) (Err e)) }
+    ensures asked { HasCleanDisk (state S.Store tx.new.conn.now) → IsTrue (state S.Store tx.old.conn.now).in_transaction → OnOk result (Executed S.Store create_old_text ([]) tx.old.conn.now tx.new.conn.now) }
+{
+    tx.execute(
         "CREATE TABLE IF NOT EXISTS results (k TEXT NOT NULL PRIMARY KEY, v INTEGER NOT NULL) STRICT",
         &[],
     )?;
     Ok(())
 }
 
+/// Makes the new table where there is none.
+pub(crate) fn create<S: Alter>(tx: &mut Transaction<'_, S>) -> Result<(), Error>
+    ensures same_reference { tx.new.conn.ghost_name ≡ tx.old.conn.ghost_name }
+    ensures steps { Steps (state S.Store tx.old.conn.now) (state S.Store tx.new.conn.now) }
+    ensures on { OnOk result (GoesOn (state S.Store tx.old.conn.now) (state S.Store tx.new.conn.now)) }
+    ensures made { HasCleanDisk (state S.Store tx.new.conn.now) → IsTrue (state S.Store tx.old.conn.now).in_transaction → OnOk result ((state S.Store tx.old.conn.now).now.schema ≡ old_schema → ((state S.Store tx.new.conn.now).now.schema ≡ both_schema) × ((state S.Store tx.new.conn.now).now.trees 2 ≡ []) × ((state S.Store tx.new.conn.now).now.trees 0 ≡ (state S.Store tx.old.conn.now).now.trees 0)) }
+    ensures both { HasCleanDisk (state S.Store tx.new.conn.now) → IsTrue (state S.Store tx.old.conn.now).in_transaction → OnOk result ((state S.Store tx.old.conn.now).now.schema ≡ both_schema → (state S.Store tx.new.conn.now).now ≡ (state S.Store tx.old.conn.now).now) }
+    ensures cause { HasCleanDisk (state S.Store tx.new.conn.now) → IsTrue (state S.Store tx.old.conn.now).in_transaction → IfErr result (IsCaused (state S.Store tx.old.conn.now) (state S.Store tx.new.conn.now)) }
+    ensures refused { HasCleanDisk (state S.Store tx.new.conn.now) → IsTrue (state S.Store tx.old.conn.now).in_transaction → IfErr result (λ e. ExecutesInside 0 create_text ([]) (state S.Store tx.old.conn.now) (state S.Store tx.new.conn.now) (Err e)) }
+    ensures asked { HasCleanDisk (state S.Store tx.new.conn.now) → IsTrue (state S.Store tx.old.conn.now).in_transaction → OnOk result (Executed S.Store create_text ([]) tx.old.conn.now tx.new.conn.now) }
+{
+    tx.execute(
+        "CREATE TABLE IF NOT EXISTS results2 (k TEXT NOT NULL PRIMARY KEY, v INTEGER NOT NULL, n INTEGER NOT NULL) STRICT",
+        &[],
+    )?;
+    Ok(())
+}
+
+/// All rows of the old table, by their keys.
+pub(crate) fn select_old<S: Alter>(tx: &mut Transaction<'_, S>) -> Result<Vec<sqlite::Row>, Error>
+    ensures same_reference { tx.new.conn.ghost_name ≡ tx.old.conn.ghost_name }
+    ensures steps { Steps (state S.Store tx.old.conn.now) (state S.Store tx.new.conn.now) }
+    ensures on { OnOk result (GoesOn (state S.Store tx.old.conn.now) (state S.Store tx.new.conn.now)) }
+    ensures rows { HasCleanDisk (state S.Store tx.new.conn.now) → (state S.Store tx.old.conn.now).now.schema ≡ both_schema → IfOk result (λ rows. IsAnswer old_query (overlay (state S.Store tx.old.conn.now).now.trees []) [] rows.items) }
+    ensures same { HasCleanDisk (state S.Store tx.new.conn.now) → OnOk result (IsUnchanged (state S.Store tx.old.conn.now) (state S.Store tx.new.conn.now)) }
+    ensures cause { HasCleanDisk (state S.Store tx.new.conn.now) → IfErr result (IsCaused (state S.Store tx.old.conn.now) (state S.Store tx.new.conn.now)) }
+    ensures refused { HasCleanDisk (state S.Store tx.new.conn.now) → IsTrue (state S.Store tx.old.conn.now).in_transaction → IfErr result (FailsToQuery old_text [] (state S.Store tx.old.conn.now) (state S.Store tx.new.conn.now)) }
+    ensures shown { HasCleanDisk (state S.Store tx.new.conn.now) → IfOk result (λ rows. Shown old_text [] (state S.Store tx.old.conn.now) (state S.Store tx.new.conn.now) rows.items) }
+{
+    tx.query_all("SELECT k, v FROM results ORDER BY k", &[])
+}
+
+/// All rows of the new table, by their keys.
+pub(crate) fn select_inside<S: Alter>(
+    tx: &mut Transaction<'_, S>,
+) -> Result<Vec<sqlite::Row>, Error>
+    ensures same_reference { tx.new.conn.ghost_name ≡ tx.old.conn.ghost_name }
+    ensures steps { Steps (state S.Store tx.old.conn.now) (state S.Store tx.new.conn.now) }
+    ensures on { OnOk result (GoesOn (state S.Store tx.old.conn.now) (state S.Store tx.new.conn.now)) }
+    ensures rows { HasCleanDisk (state S.Store tx.new.conn.now) → (state S.Store tx.old.conn.now).now.schema ≡ both_schema → IfOk result (λ rows. IsAnswer load_query (overlay (state S.Store tx.old.conn.now).now.trees []) [] rows.items) }
+    ensures same { HasCleanDisk (state S.Store tx.new.conn.now) → OnOk result (IsUnchanged (state S.Store tx.old.conn.now) (state S.Store tx.new.conn.now)) }
+    ensures cause { HasCleanDisk (state S.Store tx.new.conn.now) → IfErr result (IsCaused (state S.Store tx.old.conn.now) (state S.Store tx.new.conn.now)) }
+    ensures refused { HasCleanDisk (state S.Store tx.new.conn.now) → IsTrue (state S.Store tx.old.conn.now).in_transaction → IfErr result (FailsToQuery load_text [] (state S.Store tx.old.conn.now) (state S.Store tx.new.conn.now)) }
+    ensures shown { HasCleanDisk (state S.Store tx.new.conn.now) → IfOk result (λ rows. Shown load_text [] (state S.Store tx.old.conn.now) (state S.Store tx.new.conn.now) rows.items) }
+{
+    tx.query_all("SELECT k, v, n FROM results2 ORDER BY k", &[])
+}
+
+/// All rowids of the old table, in their order.
+pub(crate) fn select_old_ids<S: Alter>(
+    tx: &mut Transaction<'_, S>,
+) -> Result<Vec<sqlite::Row>, Error>
+    ensures same_reference { tx.new.conn.ghost_name ≡ tx.old.conn.ghost_name }
+    ensures steps { Steps (state S.Store tx.old.conn.now) (state S.Store tx.new.conn.now) }
+    ensures on { OnOk result (GoesOn (state S.Store tx.old.conn.now) (state S.Store tx.new.conn.now)) }
+    ensures rows { HasCleanDisk (state S.Store tx.new.conn.now) → (state S.Store tx.old.conn.now).now.schema ≡ both_schema → IfOk result (λ rows. IsAnswer old_ids_query (overlay (state S.Store tx.old.conn.now).now.trees []) [] rows.items) }
+    ensures same { HasCleanDisk (state S.Store tx.new.conn.now) → OnOk result (IsUnchanged (state S.Store tx.old.conn.now) (state S.Store tx.new.conn.now)) }
+    ensures cause { HasCleanDisk (state S.Store tx.new.conn.now) → IfErr result (IsCaused (state S.Store tx.old.conn.now) (state S.Store tx.new.conn.now)) }
+    ensures refused { HasCleanDisk (state S.Store tx.new.conn.now) → IsTrue (state S.Store tx.old.conn.now).in_transaction → IfErr result (FailsToQuery old_ids_text [] (state S.Store tx.old.conn.now) (state S.Store tx.new.conn.now)) }
+    ensures shown { HasCleanDisk (state S.Store tx.new.conn.now) → IfOk result (λ rows. Shown old_ids_text [] (state S.Store tx.old.conn.now) (state S.Store tx.new.conn.now) rows.items) }
+{
+    tx.query_all("SELECT rowid FROM results ORDER BY rowid", &[])
+}
+
+/// All rowids of the new table, in their order.
+pub(crate) fn select_ids<S: Alter>(tx: &mut Transaction<'_, S>) -> Result<Vec<sqlite::Row>, Error>
+    ensures same_reference { tx.new.conn.ghost_name ≡ tx.old.conn.ghost_name }
+    ensures steps { Steps (state S.Store tx.old.conn.now) (state S.Store tx.new.conn.now) }
+    ensures on { OnOk result (GoesOn (state S.Store tx.old.conn.now) (state S.Store tx.new.conn.now)) }
+    ensures rows { HasCleanDisk (state S.Store tx.new.conn.now) → (state S.Store tx.old.conn.now).now.schema ≡ both_schema → IfOk result (λ rows. IsAnswer ids_query (overlay (state S.Store tx.old.conn.now).now.trees []) [] rows.items) }
+    ensures same { HasCleanDisk (state S.Store tx.new.conn.now) → OnOk result (IsUnchanged (state S.Store tx.old.conn.now) (state S.Store tx.new.conn.now)) }
+    ensures cause { HasCleanDisk (state S.Store tx.new.conn.now) → IfErr result (IsCaused (state S.Store tx.old.conn.now) (state S.Store tx.new.conn.now)) }
+    ensures refused { HasCleanDisk (state S.Store tx.new.conn.now) → IsTrue (state S.Store tx.old.conn.now).in_transaction → IfErr result (FailsToQuery ids_text [] (state S.Store tx.old.conn.now) (state S.Store tx.new.conn.now)) }
+    ensures shown { HasCleanDisk (state S.Store tx.new.conn.now) → IfOk result (λ rows. Shown ids_text [] (state S.Store tx.old.conn.now) (state S.Store tx.new.conn.now) rows.items) }
+{
+    tx.query_all("SELECT rowid FROM results2 ORDER BY rowid", &[])
+}
+
 /// All rows, by their keys.
 pub(crate) fn select<S: Alter>(conn: &mut Connection<S>) -> Result<Vec<sqlite::Row>, Error>
-    ensures rows { HasCleanDisk (state S.Store conn.new) → (state S.Store conn.old).now.schema ≡ results_schema → IfOk result (λ rows. IsAnswer load_query (overlay (state S.Store conn.old).now.trees []) [] rows.items) }
-    ensures open { HasCleanDisk (state S.Store conn.new) → (state S.Store conn.old).now.schema ≡ results_schema → OnOk result (IsUnchanged (state S.Store conn.old) (state S.Store conn.new)) }
-    ensures kept { HasCleanDisk (state S.Store conn.new) → (state S.Store conn.old).now.schema ≡ results_schema → KeepsCommit (state S.Store conn.old) (state S.Store conn.new) }
+    ensures rows { HasCleanDisk (state S.Store conn.new) → (state S.Store conn.old).now.schema ≡ both_schema → IfOk result (λ rows. IsAnswer load_query (overlay (state S.Store conn.old).now.trees []) [] rows.items) }
+    ensures open { HasCleanDisk (state S.Store conn.new) → (state S.Store conn.old).now.schema ≡ both_schema → OnOk result (IsUnchanged (state S.Store conn.old) (state S.Store conn.new)) }
+    ensures kept { HasCleanDisk (state S.Store conn.new) → (state S.Store conn.old).now.schema ≡ both_schema → KeepsCommit (state S.Store conn.old) (state S.Store conn.new) }
     ensures clean { doubt (state S.Store conn.old).is_clean ≤ doubt (state S.Store conn.new).is_clean }
-    ensures survives { (state S.Store conn.old).now.schema ≡ results_schema → Survives (state S.Store conn.old) (state S.Store conn.new) (λ _. ⊥) }
+    ensures survives { (state S.Store conn.old).now.schema ≡ both_schema → Survives (state S.Store conn.old) (state S.Store conn.new) (λ _. ⊥) }
     ensures cause { HasCleanDisk (state S.Store conn.new) → IfErr result (IsCaused (state S.Store conn.old) (state S.Store conn.new)) }
     ensures lasts { Lasts (state S.Store conn.old) (state S.Store conn.new) }
     ensures asked { HasCleanDisk (state S.Store conn.new) → IfOk result (λ rows. Shown load_text [] (state S.Store conn.old) (state S.Store conn.new) rows.items) }
     ensures refused { HasCleanDisk (state S.Store conn.new) → IfErr result (FailsToQuery load_text [] (state S.Store conn.old) (state S.Store conn.new)) }
     ensures spared { HasCleanDisk (state S.Store conn.new) → IsSettled (state S.Store conn.old) → Spares (state S.Store conn.old) (state S.Store conn.new) }
 {
-    conn.query_all("SELECT k, v FROM results ORDER BY k", &[])
-}
-
-/// All rowids, in their order.
-pub(crate) fn select_ids<S: Alter>(conn: &mut Connection<S>) -> Result<Vec<sqlite::Row>, Error>
-    ensures rows { HasCleanDisk (state S.Store conn.new) → (state S.Store conn.old).now.schema ≡ results_schema → IfOk result (λ rows. IsAnswer ids_query (overlay (state S.Store conn.old).now.trees []) [] rows.items) }
-    ensures open { HasCleanDisk (state S.Store conn.new) → OnOk result (IsUnchanged (state S.Store conn.old) (state S.Store conn.new)) }
-    ensures spared { HasCleanDisk (state S.Store conn.new) → IsSettled (state S.Store conn.old) → Spares (state S.Store conn.old) (state S.Store conn.new) }
-    ensures refused { HasCleanDisk (state S.Store conn.new) → IfErr result (FailsToQuery ids_text [] (state S.Store conn.old) (state S.Store conn.new)) }
-    ensures clean { doubt (state S.Store conn.old).is_clean ≤ doubt (state S.Store conn.new).is_clean }
-    ensures cause { HasCleanDisk (state S.Store conn.new) → IfErr result (IsCaused (state S.Store conn.old) (state S.Store conn.new)) }
-    ensures lasts { Lasts (state S.Store conn.old) (state S.Store conn.new) }
-{
-    conn.query_all("SELECT rowid FROM results ORDER BY rowid", &[])
+    conn.query_all("SELECT k, v, n FROM results2 ORDER BY k", &[])
 }
 
 /// Whether statements can still be run. The answer says why not.
@@ -122,18 +207,5 @@ pub(crate) fn probe<S: Alter>(conn: &mut Connection<S>) -> Result<(), Error>
     ensures spared { HasCleanDisk (state S.Store conn.new) → IsSettled (state S.Store conn.old) → Spares (state S.Store conn.old) (state S.Store conn.new) }
 {
     let _select = conn.prepare("SELECT 1")?;
-    Ok(())
-}
-
-/// Whether the table has the columns that `select` reads. The answer says why not.
-pub(crate) fn compile<S: Alter>(conn: &mut Connection<S>) -> Result<(), Error>
-    ensures open { HasCleanDisk (state S.Store conn.new) → OnOk result (IsUnchanged (state S.Store conn.old) (state S.Store conn.new)) }
-    ensures kept { HasCleanDisk (state S.Store conn.new) → KeepsCommit (state S.Store conn.old) (state S.Store conn.new) }
-    ensures survives { Survives (state S.Store conn.old) (state S.Store conn.new) (λ _. ⊥) }
-    ensures cause { HasCleanDisk (state S.Store conn.new) → IfErr result (IsCaused (state S.Store conn.old) (state S.Store conn.new)) }
-    ensures spared { HasCleanDisk (state S.Store conn.new) → IsSettled (state S.Store conn.old) → Spares (state S.Store conn.old) (state S.Store conn.new) }
-    ensures refused { HasCleanDisk (state S.Store conn.new) → IfErr result (IsNotRun (state S.Store conn.old) (state S.Store conn.new) load_text []) }
-{
-    let _select = conn.prepare("SELECT k, v FROM results ORDER BY k")?;
     Ok(())
 }

@@ -2,29 +2,28 @@
 ghost use Rattle.std.specs.Prelude.{◌≡◌, ◌<◌, ◌⊎◌, length, false, true, Some, None, Err, OnOk, OnErr, IfErr, IsTrue, IsErrOf};
 ghost use Rattle.sqlite.specs.Held.{state};
 ghost use Rattle.sqlite.specs.State.{HasCleanDisk, Survives, KeepsCommit, ExecutesInside};
+ghost use Rattle.durable_top.specs.Numbered.{under};
 ghost use Rattle.sql_store.specs.Table.{Makes, IsReady};
 ghost use Rattle.sql_store.specs.Writes.{MakesAll, Stores, IsStored};
 ghost use Rattle.sql_store.specs.Faults.{fault_of, IsCaused, HasFailed};
 ghost use Rattle.sql_store.specs.Asked.{text_for, params_for, Executed, ExecutedEach, ChangeGives, Transacted, Committed};
-ghost use Rattle.sql_store.specs.Refusals.{CannotCommit};
+ghost use Rattle.sql_store.specs.Refusals.{CannotWrite};
 
-use crate::faults::settle;
-use crate::statements::{probe, put, remove};
+use crate::faults::{fault_of, settle};
+use crate::statements::{put, remove};
 use durable_top::{Row, StoreFault};
 use sqlite::{Alter, Connection, Error, ErrorCode, Transaction};
 use txn_names::Change;
 
-/// Gives the key the value of the change, or takes its row away.
-fn make<S: Alter>(tx: &mut Transaction<'_, S>, change: &Change) -> Result<(), Error>
+/// Gives the key the value of the change under this number, or takes its row away.
+fn make<S: Alter>(tx: &mut Transaction<'_, S>, number: i64, change: &Change) -> Result<(), Error>
     ensures same_reference { tx.new.conn.ghost_name ≡ tx.old.conn.ghost_name }
-    ensures made { HasCleanDisk (state S.Store tx.new.conn.now) → IsTrue (state S.Store tx.old.conn.now).in_transaction → IsReady (state S.Store tx.old.conn.now).now → OnOk result (Makes change.now.key change.now.value (state S.Store tx.old.conn.now) (state S.Store tx.new.conn.now)) }
-    ensures opened { HasCleanDisk (state S.Store tx.new.conn.now) → IsTrue (state S.Store tx.old.conn.now).in_transaction → OnOk result (IsTrue (state S.Store tx.old.conn.now).is_open) }
-    ensures inside { HasCleanDisk (state S.Store tx.new.conn.now) → IsTrue (state S.Store tx.old.conn.now).in_transaction → OnOk result (IsTrue (state S.Store tx.new.conn.now).in_transaction) }
+    ensures made { HasCleanDisk (state S.Store tx.new.conn.now) → IsTrue (state S.Store tx.old.conn.now).in_transaction → OnOk result (Makes change.now.key (under number change.now.value) (state S.Store tx.old.conn.now) (state S.Store tx.new.conn.now)) }
     ensures kept { HasCleanDisk (state S.Store tx.new.conn.now) → IsTrue (state S.Store tx.old.conn.now).in_transaction → KeepsCommit (state S.Store tx.old.conn.now) (state S.Store tx.new.conn.now) }
     ensures survives { Survives (state S.Store tx.old.conn.now) (state S.Store tx.new.conn.now) (λ _. ⊥) }
     ensures cause { HasCleanDisk (state S.Store tx.new.conn.now) → IsTrue (state S.Store tx.old.conn.now).in_transaction → IfErr result (IsCaused (state S.Store tx.old.conn.now) (state S.Store tx.new.conn.now)) }
-    ensures refused { HasCleanDisk (state S.Store tx.new.conn.now) → IsTrue (state S.Store tx.old.conn.now).in_transaction → IfErr result (λ e. ExecutesInside 0 (text_for change.now.value) (params_for change.now.key change.now.value) (state S.Store tx.old.conn.now) (state S.Store tx.new.conn.now) (Err e)) }
-    ensures asked { HasCleanDisk (state S.Store tx.new.conn.now) → IsTrue (state S.Store tx.old.conn.now).in_transaction → OnOk result (Executed S.Store (text_for change.now.value) (params_for change.now.key change.now.value) tx.old.conn.now tx.new.conn.now) }
+    ensures refused { HasCleanDisk (state S.Store tx.new.conn.now) → IsTrue (state S.Store tx.old.conn.now).in_transaction → IfErr result (λ e. ExecutesInside 0 (text_for change.now.value) (params_for number change.now.key change.now.value) (state S.Store tx.old.conn.now) (state S.Store tx.new.conn.now) (Err e)) }
+    ensures asked { HasCleanDisk (state S.Store tx.new.conn.now) → IsTrue (state S.Store tx.old.conn.now).in_transaction → OnOk result (Executed S.Store (text_for change.now.value) (params_for number change.now.key change.now.value) tx.old.conn.now tx.new.conn.now) }
 {
     match change.value {
         Some(value) => put(
@@ -32,6 +31,7 @@ fn make<S: Alter>(tx: &mut Transaction<'_, S>, change: &Change) -> Result<(), Er
             &Row {
                 key: change.key,
                 value,
+                commit: number,
             },
         ),
         None => remove(tx, &change.key),
@@ -39,56 +39,54 @@ fn make<S: Alter>(tx: &mut Transaction<'_, S>, change: &Change) -> Result<(), Er
 }
 
 /// Makes the changes one after another.
-fn make_all<S: Alter>(tx: &mut Transaction<'_, S>, changes: &[Change]) -> Result<(), Error>
+fn make_all<S: Alter>(tx: &mut Transaction<'_, S>, number: i64, changes: &[Change]) -> Result<(), Error>
     requires inside { IsTrue (state S.Store tx.old.conn.now).in_transaction }
     ensures same_reference { tx.new.conn.ghost_name ≡ tx.old.conn.ghost_name }
-    ensures made { HasCleanDisk (state S.Store tx.new.conn.now) → IsReady (state S.Store tx.old.conn.now).now → OnOk result (MakesAll changes.now (state S.Store tx.old.conn.now) (state S.Store tx.new.conn.now)) }
+    ensures made { HasCleanDisk (state S.Store tx.new.conn.now) → IsReady (state S.Store tx.old.conn.now).now → OnOk result (MakesAll number changes.now (state S.Store tx.old.conn.now) (state S.Store tx.new.conn.now)) }
     ensures opened { HasCleanDisk (state S.Store tx.new.conn.now) → OnOk result (0 < length changes.now → IsTrue (state S.Store tx.old.conn.now).is_open) }
     ensures kept { HasCleanDisk (state S.Store tx.new.conn.now) → KeepsCommit (state S.Store tx.old.conn.now) (state S.Store tx.new.conn.now) }
     ensures survives { Survives (state S.Store tx.old.conn.now) (state S.Store tx.new.conn.now) (λ _. ⊥) }
     ensures cause { HasCleanDisk (state S.Store tx.new.conn.now) → IfErr result (IsCaused (state S.Store tx.old.conn.now) (state S.Store tx.new.conn.now)) }
     ensures inside { HasCleanDisk (state S.Store tx.new.conn.now) → OnOk result (IsTrue (state S.Store tx.new.conn.now).in_transaction) }
-    ensures refused { HasCleanDisk (state S.Store tx.new.conn.now) → IfErr result (ChangeGives S.Store changes.now tx.old.conn.now) }
-    ensures asked { HasCleanDisk (state S.Store tx.new.conn.now) → OnOk result (ExecutedEach S.Store changes.now tx.old.conn.now tx.new.conn.now) }
+    ensures refused { HasCleanDisk (state S.Store tx.new.conn.now) → IfErr result (ChangeGives S.Store number changes.now tx.old.conn.now) }
+    ensures asked { HasCleanDisk (state S.Store tx.new.conn.now) → OnOk result (ExecutedEach S.Store number changes.now tx.old.conn.now tx.new.conn.now) }
 {
     for change in changes {
-        make(tx, change)?;
+        make(tx, number, change)?;
     }
     Ok(())
 }
 
 /// Commits the changes, of which there are some, in one transaction.
-fn commit_some<S: Alter>(conn: &mut Connection<S>, changes: &[Change]) -> Result<(), Error>
+fn commit_some<S: Alter>(conn: &mut Connection<S>, number: i64, changes: &[Change]) -> Result<(), Error>
     requires outside { (state S.Store conn.old).in_transaction ≡ false }
     requires settled { IsTrue (state S.Store conn.old).is_open → (state S.Store conn.old).now ≡ (state S.Store conn.old).committed }
     requires some { 0 < length changes.now }
-    ensures stored { HasCleanDisk (state S.Store conn.new) → OnOk result (Stores changes.now (state S.Store conn.old) (state S.Store conn.new)) }
+    ensures stored { HasCleanDisk (state S.Store conn.new) → OnOk result (Stores number changes.now (state S.Store conn.old) (state S.Store conn.new)) }
     ensures kept { HasCleanDisk (state S.Store conn.new) → OnErr result (KeepsCommit (state S.Store conn.old) (state S.Store conn.new)) }
-    ensures survives { Survives (state S.Store conn.old) (state S.Store conn.new) (IsStored changes.now (state S.Store conn.old)) }
+    ensures survives { Survives (state S.Store conn.old) (state S.Store conn.new) (IsStored number changes.now (state S.Store conn.old)) }
     ensures cause { HasCleanDisk (state S.Store conn.new) → IfErr result (IsCaused (state S.Store conn.old) (state S.Store conn.new)) }
-    ensures refused { HasCleanDisk (state S.Store conn.new) → IfErr result (λ e. fault_of e ≡ StoreFault.Refused → ChangeGives S.Store changes.now (record conn.old { in_transaction = true }) e) }
-    ensures asked { HasCleanDisk (state S.Store conn.new) → OnOk result (Transacted S.Store changes.now conn.old conn.new) }
+    ensures refused { HasCleanDisk (state S.Store conn.new) → IfErr result (λ e. fault_of e ≡ StoreFault.Refused → ChangeGives S.Store number changes.now (record conn.old { in_transaction = true }) e) }
+    ensures asked { HasCleanDisk (state S.Store conn.new) → OnOk result (Transacted S.Store number changes.now conn.old conn.new) }
 {
     let mut tx = conn.transaction();
-    make_all(&mut tx, changes)?;
+    make_all(&mut tx, number, changes)?;
     tx.commit()?;
     Ok(())
 }
 
-/// Commits the changes in one transaction.
-pub(crate) fn write_all<S: Alter>(conn: &mut Connection<S>, changes: &[Change]) -> Result<(), Error>
-    ensures stored { HasCleanDisk (state S.Store conn.new) → OnOk result (Stores changes.now (state S.Store conn.old) (state S.Store conn.new)) }
+/// Commits the changes, of which there are some, in one transaction, where none is open.
+pub(crate) fn write_all<S: Alter>(conn: &mut Connection<S>, number: i64, changes: &[Change]) -> Result<(), Error>
+    requires some { 0 < length changes.now }
+    ensures stored { HasCleanDisk (state S.Store conn.new) → OnOk result (Stores number changes.now (state S.Store conn.old) (state S.Store conn.new)) }
     ensures kept { HasCleanDisk (state S.Store conn.new) → OnErr result (KeepsCommit (state S.Store conn.old) (state S.Store conn.new)) }
-    ensures survives { Survives (state S.Store conn.old) (state S.Store conn.new) (IsStored changes.now (state S.Store conn.old)) }
+    ensures survives { Survives (state S.Store conn.old) (state S.Store conn.new) (IsStored number changes.now (state S.Store conn.old)) }
     ensures cause { HasCleanDisk (state S.Store conn.new) → IfErr result (IsCaused (state S.Store conn.old) (state S.Store conn.new)) }
-    ensures refused { HasCleanDisk (state S.Store conn.new) → IfErr result (λ e. fault_of e ≡ StoreFault.Refused → IsTrue conn.old.in_transaction ⊎ ChangeGives S.Store changes.now (record conn.old { in_transaction = true }) e) }
-    ensures asked { HasCleanDisk (state S.Store conn.new) → OnOk result (Committed S.Store changes.now conn.old conn.new) }
+    ensures refused { HasCleanDisk (state S.Store conn.new) → IfErr result (λ e. fault_of e ≡ StoreFault.Refused → IsTrue conn.old.in_transaction ⊎ ChangeGives S.Store number changes.now (record conn.old { in_transaction = true }) e) }
+    ensures asked { HasCleanDisk (state S.Store conn.new) → OnOk result (Committed S.Store number changes.now conn.old conn.new) }
 {
-    if changes.is_empty() {
-        return probe(conn);
-    }
     if conn.is_autocommit() {
-        commit_some(conn, changes)
+        commit_some(conn, number, changes)
     } else {
         Err(Error::SqliteFailure(ErrorCode::TransactionState))
     }
@@ -97,18 +95,20 @@ pub(crate) fn write_all<S: Alter>(conn: &mut Connection<S>, changes: &[Change]) 
 /// Commits the changes in one transaction, or tells why not.
 pub(crate) fn store_changes<S: Alter>(
     conn: &mut Connection<S>,
+    number: i64,
     changes: &[Change],
 ) -> Result<(), StoreFault>
-    ensures stored { HasCleanDisk (state S.Store conn.new) → OnOk result (Stores changes.now (state S.Store conn.old) (state S.Store conn.new)) }
+    requires some { 0 < length changes.now }
+    ensures stored { HasCleanDisk (state S.Store conn.new) → OnOk result (Stores number changes.now (state S.Store conn.old) (state S.Store conn.new)) }
     ensures kept { HasCleanDisk (state S.Store conn.new) → OnErr result (KeepsCommit (state S.Store conn.old) (state S.Store conn.new)) }
     ensures open { HasCleanDisk (state S.Store conn.new) → IfErr result (λ fault. (fault ≡ StoreFault.Failed → ⊥) → IsTrue (state S.Store conn.new).is_open) }
-    ensures survives { Survives (state S.Store conn.old) (state S.Store conn.new) (IsStored changes.now (state S.Store conn.old)) }
+    ensures survives { Survives (state S.Store conn.old) (state S.Store conn.new) (IsStored number changes.now (state S.Store conn.old)) }
     ensures cause { HasCleanDisk (state S.Store conn.new) → IsErrOf result StoreFault.Failed → HasFailed S.Store conn.old conn.new }
-    ensures refused { HasCleanDisk (state S.Store conn.new) → IsErrOf result StoreFault.Refused → CannotCommit S.Store changes.now conn.old conn.new }
-    ensures asked { HasCleanDisk (state S.Store conn.new) → OnOk result (Committed S.Store changes.now conn.old conn.new) }
+    ensures refused { HasCleanDisk (state S.Store conn.new) → IsErrOf result StoreFault.Refused → CannotWrite S.Store number changes.now conn.old conn.new }
+    ensures asked { HasCleanDisk (state S.Store conn.new) → OnOk result (Committed S.Store number changes.now conn.old conn.new) }
 {
-    match write_all(conn, changes) {
+    match write_all(conn, number, changes) {
         Ok(()) => Ok(()),
-        Err(error) => Err(settle(conn, error)),
+        Err(error) => Err(settle(conn, fault_of(error))),
     }
 }

@@ -40,16 +40,26 @@ fn commits<S: TopStore>(rt: &impl Abort, store: &mut S, script: &str) -> bool {
     true
 }
 
-// Whether the rows are these, as in `x=1 y=2`.
+// A row as in `x=1@2`, whose number is 2.
+fn row(rt: &impl Abort, text: &str) -> Option<Row> {
+    let (what, number) = text.split_once('@')?;
+    let Change { key, value } = change(rt, what);
+    Some(Row {
+        key,
+        value: value?,
+        commit: number.parse().expect(rt, text),
+    })
+}
+
+// Whether the rows are these, as in `x=1@1 y=2@2`.
 fn are(rt: &impl Abort, rows: &[Row], text: &str) -> bool {
     let mut words = text.split_whitespace();
-    for Row { key, value } in rows {
-        let due = words.next().map(|word| change(rt, word));
-        let given = Change {
-            key: *key,
-            value: Some(*value),
+    for given in rows {
+        let due = match words.next() {
+            Some(word) => row(rt, word),
+            None => None,
         };
-        if due != Some(given) {
+        if due != Some(*given) {
             return false;
         }
     }
@@ -75,8 +85,8 @@ fn serves<S: TopStore>(
     gives(rt, alloc, store, rows) && commits(rt, store, script)
 }
 
-fn adopted(connection: Connection<MemStore>) -> Option<SqlStore<MemStore>> {
-    match SqlStore::adopt(connection) {
+fn adopted(alloc: Global, connection: Connection<MemStore>) -> Option<SqlStore<MemStore>> {
+    match SqlStore::adopt(alloc, connection) {
         Ok(store) => Some(store),
         Err(_) => None,
     }
@@ -84,7 +94,7 @@ fn adopted(connection: Connection<MemStore>) -> Option<SqlStore<MemStore>> {
 
 // Whether a store that takes the connection over gives these rows.
 fn is_left(rt: &impl Abort, alloc: Global, connection: Connection<MemStore>, rows: &str) -> bool {
-    match adopted(connection) {
+    match adopted(alloc, connection) {
         Some(mut store) => {
             let is_given = gives(rt, alloc, &mut store, rows);
             drop(store);
@@ -120,7 +130,7 @@ fn alone(alloc: Global) -> Option<SqlStore<MemStore>> {
 // A store over a database that has another table too, and so is not known.
 fn beside(alloc: Global) -> Option<SqlStore<MemStore>> {
     match database(alloc, "CREATE TABLE other (a INTEGER) STRICT") {
-        Ok(connection) => adopted(connection),
+        Ok(connection) => adopted(alloc, connection),
         Err(_) => None,
     }
 }
@@ -129,7 +139,7 @@ fn beside(alloc: Global) -> Option<SqlStore<MemStore>> {
 #[test]
 fn rows_stay_for_the_next_store(rt: HostRuntime) {
     let script = "b=2 c=-9223372036854775808 a=9223372036854775807 b=3 c d e.f_g-0=0";
-    let rows = "a=9223372036854775807 b=3 e.f_g-0=0";
+    let rows = "a=9223372036854775807@3 b=3@4 e.f_g-0=0@5";
     let first = leaves(&rt, rt.alloc(), alone(rt.alloc()), script, rows);
     let second = leaves(&rt, rt.alloc(), alone(rt.alloc()), script, rows);
     assert!(rt; first || second);
@@ -142,14 +152,14 @@ fn rows_stay_beside_another_table(rt: HostRuntime) {
         rt.alloc(),
         beside(rt.alloc()),
         "b=2 a=1 c=3 b",
-        "a=1 c=3",
+        "a=1@2 c=3@3",
     );
     let second = leaves(
         &rt,
         rt.alloc(),
         beside(rt.alloc()),
         "b=2 a=1 c=3 b",
-        "a=1 c=3",
+        "a=1@2 c=3@3",
     );
     assert!(rt; first || second);
 }
@@ -166,8 +176,8 @@ fn keeps(rt: &impl Abort, alloc: Global, script: &str, rows: &str) -> bool {
 
 #[test]
 fn rows_stay_in_memory(rt: HostRuntime) {
-    let first = keeps(&rt, rt.alloc(), "b=2 a=1 c=3 b", "a=1 c=3");
-    let second = keeps(&rt, rt.alloc(), "b=2 a=1 c=3 b", "a=1 c=3");
+    let first = keeps(&rt, rt.alloc(), "b=2 a=1 c=3 b", "a=1@2 c=3@3");
+    let second = keeps(&rt, rt.alloc(), "b=2 a=1 c=3 b", "a=1@2 c=3@3");
     assert!(rt; first || second);
 }
 
@@ -179,13 +189,13 @@ fn gives_at_last<S: TopStore>(rt: &impl Abort, alloc: Global, store: &mut S, tex
 // A commit that finds no memory is a fault, and leaves what the store gives. Made again, it is made.
 fn commits_again<S: TopStore>(rt: &impl Abort, alloc: Global, store: &mut S) -> bool {
     let (before, faults) = match word(&store.commit(&[change(rt, "b=2")])) {
-        "ok" => ("b=2", 0),
+        "ok" => ("b=2@1", 0),
         "memory" => ("", 1),
         _ => return false,
     };
     gives_at_last(rt, alloc, store, before)
         && (faults == 0 || commits(rt, store, "b=2"))
-        && gives_at_last(rt, alloc, store, "b=2")
+        && gives_at_last(rt, alloc, store, "b=2@1")
         && store.faults() == faults
 }
 
@@ -210,7 +220,7 @@ fn database(alloc: Global, sql: &str) -> Result<Connection<MemStore>, Error> {
 
 // What a store over it answers: to its opening, or else to the first load.
 fn answer_of(connection: Connection<MemStore>, alloc: Global) -> (&'static str, &'static str) {
-    match SqlStore::adopt(connection) {
+    match SqlStore::adopt(alloc, connection) {
         Ok(mut store) => {
             let answer = word(&store.load(alloc));
             drop(store);
@@ -227,41 +237,75 @@ fn is_answered(alloc: Global, sql: &str, answer: (&str, &str)) -> bool {
     }
 }
 
+const OLD: &str =
+    "CREATE TABLE results (k TEXT NOT NULL PRIMARY KEY, v INTEGER NOT NULL) STRICT";
+
+const NEW: &str = "CREATE TABLE results2 (k TEXT NOT NULL PRIMARY KEY, v INTEGER NOT NULL, n INTEGER NOT NULL) STRICT";
+
+// Whether a database on which these statements were run, after the old table was made where it is asked for, is answered so.
+fn is_refused(alloc: Global, tables: &[&str], sql: &str) -> bool {
+    let Ok(mut connection) = Connection::open_in_memory(alloc) else {
+        return false;
+    };
+    for table in tables {
+        if connection.execute(table, &[]).is_err() {
+            return false;
+        }
+    }
+    if connection.execute(sql, &[]).is_err() {
+        return false;
+    }
+    answer_of(connection, alloc) == ("refused", "")
+}
+
 #[test]
 fn databases_and_rows_that_are_refused(rt: HostRuntime) {
     let alloc = rt.alloc();
-    let (fine, bad, rows) = (("ok", "ok"), ("refused", ""), ("ok", "refused"));
-    for (sql, answer) in [
-        (
-            "CREATE TABLE results (k TEXT NOT NULL PRIMARY KEY, v INTEGER NOT NULL) STRICT",
-            fine,
-        ),
-        ("CREATE TABLE other (a INTEGER) STRICT", fine),
-        (
-            "CREATE TABLE results (k TEXT NOT NULL PRIMARY KEY) STRICT",
-            bad,
-        ),
-        ("CREATE TABLE results (a INTEGER, b TEXT) STRICT", bad),
-        ("BEGIN", bad),
-        (
-            "CREATE TABLE results (k TEXT NOT NULL PRIMARY KEY, v INTEGER NOT NULL) STRICT;INSERT INTO results VALUES ('A', 1)",
-            rows,
-        ),
-        (
-            "CREATE TABLE results (k TEXT, v TEXT) STRICT;INSERT INTO results VALUES ('a', '1')",
-            rows,
-        ),
-        (
-            "CREATE TABLE results (k TEXT, v INTEGER) STRICT;INSERT INTO results VALUES ('a', 1);INSERT INTO results VALUES ('a', 1)",
-            rows,
-        ),
-        (
-            "CREATE TABLE results (k BLOB, v INTEGER) STRICT;INSERT INTO results VALUES (x'61', 1)",
-            rows,
-        ),
+    for (tables, sql) in [
+        ([].as_slice(), "BEGIN"),
+        (&[], "CREATE TABLE results (k TEXT NOT NULL PRIMARY KEY) STRICT"),
+        (&[], "CREATE TABLE results (a INTEGER, b TEXT) STRICT"),
+        (&[], "CREATE TABLE results2 (k TEXT NOT NULL PRIMARY KEY, v INTEGER NOT NULL) STRICT"),
+        (&[OLD], "INSERT INTO results VALUES ('A', 1)"),
+        (&["CREATE TABLE results (k TEXT, v TEXT) STRICT"], "INSERT INTO results VALUES ('a', '1')"),
+        (&["CREATE TABLE results (k BLOB, v INTEGER) STRICT"], "INSERT INTO results VALUES (x'61', 1)"),
+        (&[OLD, NEW], "INSERT INTO results2 VALUES ('a', 1, -1)"),
+        (&[OLD, NEW], "INSERT INTO results2 VALUES ('A', 1, 1)"),
+        (&[OLD, NEW, "INSERT INTO results2 VALUES ('a', 1, 1)"], "INSERT INTO results VALUES ('b', 1)"),
     ] {
-        let first = is_answered(alloc, sql, answer);
-        let second = is_answered(alloc, sql, answer);
+        let first = is_refused(alloc, tables, sql);
+        let second = is_refused(alloc, tables, sql);
         assert!(rt; first || second, "{sql}");
     }
+}
+
+#[test]
+fn databases_that_are_opened(rt: HostRuntime) {
+    let alloc = rt.alloc();
+    for sql in [OLD, NEW, "CREATE TABLE other (a INTEGER) STRICT"] {
+        let first = is_answered(alloc, sql, ("ok", "ok"));
+        let second = is_answered(alloc, sql, ("ok", "ok"));
+        assert!(rt; first || second, "{sql}");
+    }
+}
+
+// Rows of the old table come over under the number 0, and go on from there.
+fn comes_over(rt: &impl Abort, alloc: Global) -> bool {
+    let sql = "CREATE TABLE results (k TEXT NOT NULL PRIMARY KEY, v INTEGER NOT NULL) STRICT;INSERT INTO results VALUES ('x', 9)";
+    let Ok(connection) = database(alloc, sql) else {
+        return false;
+    };
+    let Some(mut store) = adopted(alloc, connection) else {
+        return false;
+    };
+    let is_moved = gives(rt, alloc, &mut store, "x=9@0");
+    let is_counted = commits(rt, &mut store, "y=1 x=2") && gives(rt, alloc, &mut store, "x=2@2 y=1@1");
+    is_moved && is_counted && is_left(rt, alloc, store.into_connection(), "x=2@2 y=1@1")
+}
+
+#[test]
+fn rows_of_the_old_table(rt: HostRuntime) {
+    let first = comes_over(&rt, rt.alloc());
+    let second = comes_over(&rt, rt.alloc());
+    assert!(rt; first || second);
 }

@@ -1,5 +1,6 @@
 //! A store over a database file and its log. Each of the two stops at some call and the machine with it: what is opened
-//! then holds the table before a commit or after it.
+//! then holds the table before a commit or after it. A file of the old table alone holds its rows under the number 0
+//! wherever its opening stopped.
 use super::{are, change};
 use durable_top::TopStore;
 use sql_store::SqlStore;
@@ -10,10 +11,29 @@ use std::cmp::Ordering;
 use std::process::Abort;
 use std::rt::HostRuntime;
 
-/// The commits of a run, each of one change or of two, and the tables after so many of them.
+/// The commits of a run, each of one change or of two.
 const COMMITS: [(&str, &str); 3] = [("x=1", ""), ("x=3", "y=1"), ("x", "")];
 
-const TABLES: [&str; 4] = ["", "x=1", "x=3 y=1", "y=1"];
+/// The statements that make a file of the old table alone.
+const OLD: [&str; 2] = [
+    "CREATE TABLE results (k TEXT NOT NULL PRIMARY KEY, v INTEGER NOT NULL) STRICT",
+    "INSERT INTO results VALUES ('w', 9)",
+];
+
+/// Over which files a run begins.
+#[derive(Clone, Copy, PartialEq, Eq)]
+enum Start {
+    Empty,
+    Old,
+}
+
+/// The tables after so many of the commits.
+fn tables(start: Start) -> [&'static str; 4] {
+    match start {
+        Start::Empty => ["", "x=1@1", "x=3@2 y=1@2", "y=1@2"],
+        Start::Old => ["w=9@0", "w=9@0 x=1@1", "w=9@0 x=3@2 y=1@2", "w=9@0 y=1@2"],
+    }
+}
 
 /// No run makes so many calls of one file.
 const MOST: u64 = 100;
@@ -24,7 +44,7 @@ enum Job {
     /// To make the commits, up to the first that is not made.
     Commit,
     /// To give the table after so many commits, or after one more.
-    Give(usize),
+    Give(Start, usize),
 }
 
 fn commits<S: TopStore>(rt: &impl Abort, store: &mut S, first: &str, second: &str) -> bool {
@@ -52,9 +72,16 @@ fn made<S: TopStore>(rt: &impl Abort, store: &mut S) -> usize {
 }
 
 // How many commits the table tells that the store gives: so many or one more. Any other table is none.
-fn given<S: TopStore>(rt: &impl Abort, alloc: Global, store: &mut S, made: usize) -> Option<usize> {
+fn given<S: TopStore>(
+    rt: &impl Abort,
+    alloc: Global,
+    store: &mut S,
+    start: Start,
+    made: usize,
+) -> Option<usize> {
     let rows = store.load(alloc).expect(rt, "rows");
-    for (commits, table) in TABLES.iter().enumerate().skip(made).take(2) {
+    let tables = tables(start);
+    for (commits, table) in tables.iter().enumerate().skip(made).take(2) {
         if are(rt, rows.as_slice(), table) {
             return Some(commits);
         }
@@ -65,7 +92,7 @@ fn given<S: TopStore>(rt: &impl Abort, alloc: Global, store: &mut S, made: usize
 fn done<S: TopStore>(rt: &impl Abort, alloc: Global, store: &mut S, job: &Job) -> Option<usize> {
     match job {
         Job::Commit => Some(made(rt, store)),
-        Job::Give(made) => given(rt, alloc, store, *made),
+        Job::Give(start, made) => given(rt, alloc, store, *start, *made),
     }
 }
 
@@ -96,9 +123,10 @@ fn asked<D: Disk + Drop>(
 }
 
 fn adopted<D: Disk + Drop>(
+    alloc: Global,
     connection: Connection<FileStore<D>>,
 ) -> Result<SqlStore<FileStore<D>>, Files<D>> {
-    match SqlStore::adopt(connection) {
+    match SqlStore::adopt(alloc, connection) {
         Ok(store) => Ok(store),
         Err((_, connection)) => Err(closed(connection)),
     }
@@ -113,7 +141,7 @@ fn opened<D: Disk + Drop>(
         return Err(files);
     }
     match Connection::open_files(alloc, files, options()) {
-        Ok(connection) => adopted(connection),
+        Ok(connection) => adopted(alloc, connection),
         Err((_, left)) => Err(left.into_files()),
     }
 }
@@ -137,30 +165,60 @@ fn crashed<D: Crash + Drop>(mut files: Files<D>) -> Files<D> {
     files
 }
 
+// The files that a run begins over.
+fn files(rt: &impl Abort, alloc: Global, start: Start) -> Files<Memory> {
+    let files = Files {
+        log: Memory::new(alloc),
+        db: Memory::new(alloc),
+    };
+    if start == Start::Empty {
+        return files;
+    }
+    match Connection::open_files(alloc, files, options()) {
+        Ok(mut connection) => {
+            for statement in OLD {
+                connection.execute(statement, &[]).expect(rt, statement);
+            }
+            closed(connection)
+        }
+        Err((_, left)) => left.into_files(),
+    }
+}
+
 // How many commits stand after a run whose log and database stop after so many calls, or none where they hold another
 // table than that before the stop or after it.
-fn stopped(rt: &impl Abort, alloc: Global, log: u64, db: u64) -> Option<usize> {
+fn stopped(rt: &impl Abort, alloc: Global, start: Start, log: u64, db: u64) -> Option<usize> {
+    let begun = files(rt, alloc, start);
     let files = Files {
-        log: Fuse::new(Memory::new(alloc), log),
-        db: Fuse::new(Memory::new(alloc), db),
+        log: Fuse::new(begun.log, log),
+        db: Fuse::new(begun.db, db),
     };
     let (made, left) = run(rt, alloc, files, &Job::Commit);
-    let (stand, _) = run(rt, alloc, crashed(left), &Job::Give(made.unwrap_or(0)));
+    let (stand, _) = run(rt, alloc, crashed(left), &Job::Give(start, made.unwrap_or(0)));
     stand
+}
+
+fn stops(rt: &impl Abort, alloc: Global, start: Start) {
+    for calls in 0..MOST {
+        assert!(rt;
+            stopped(rt, alloc, start, calls, u64::MAX).is_some(),
+            "log {calls}"
+        );
+        assert!(rt;
+            stopped(rt, alloc, start, u64::MAX, calls).is_some(),
+            "database {calls}"
+        );
+    }
+    assert!(rt; stopped(rt, alloc, start, 0, 0) == Some(0));
+    assert!(rt; stopped(rt, alloc, start, MOST, MOST) == Some(COMMITS.len()));
 }
 
 #[test]
 fn a_stop_at_each_call(rt: HostRuntime) {
-    for calls in 0..MOST {
-        assert!(rt;
-            stopped(&rt, rt.alloc(), calls, u64::MAX).is_some(),
-            "log {calls}"
-        );
-        assert!(rt;
-            stopped(&rt, rt.alloc(), u64::MAX, calls).is_some(),
-            "database {calls}"
-        );
-    }
-    assert!(rt; stopped(&rt, rt.alloc(), 0, 0) == Some(0));
-    assert!(rt; stopped(&rt, rt.alloc(), MOST, MOST) == Some(COMMITS.len()));
+    stops(&rt, rt.alloc(), Start::Empty);
+}
+
+#[test]
+fn a_stop_at_each_call_over_the_old_table(rt: HostRuntime) {
+    stops(&rt, rt.alloc(), Start::Old);
 }

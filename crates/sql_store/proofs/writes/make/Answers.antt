@@ -5,6 +5,7 @@ use Rattle.sql_store.proofs.writes.make.Goals as goal
 pub returns-in-Some-clause-asked : goal.returns-in-Some-clause-asked
 returns-in-Some-clause-asked g c clean inside =
     let fits : SFits w64 c.in-Some.value = search rules in
+    let counted : SFits w64 c.args.number = c.ranges.number in
     let asked = simp to_z-of_z at (c.put.ensures.asked clean inside) in
     rw c.in-Some.is asked
 
@@ -14,6 +15,7 @@ returns-in-None-clause-asked g c clean inside = rw c.in-None.is (c.remove.ensure
 pub returns-in-Some-clause-refused : goal.returns-in-Some-clause-refused
 returns-in-Some-clause-refused g c clean inside =
     let fits : SFits w64 c.in-Some.value = search rules in
+    let counted : SFits w64 c.args.number = c.ranges.number in
     let gave = simp to_z-of_z at (c.put.ensures.refused clean inside) in
     rw c.in-Some.is gave
 

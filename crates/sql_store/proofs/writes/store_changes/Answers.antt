@@ -1,4 +1,5 @@
-use Rattle.std.proofs.Common.{◌≡◌, inl, inr, arith}
+use Rattle.std.proofs.lemmas.Int.{to_z-of_z}
+use Rattle.std.proofs.Common.{SFits, w64, ◌≡◌, inl, inr, sym, ◌∙◌, arith}
 use Rattle.sqlite.specs.State.{HasCleanDisk}
 use Rattle.durable_top.specs.declared.store.StoreFault.TheVariants.{Refused}
 use Rattle.sqlite.specs.Held.{state}
@@ -8,12 +9,17 @@ use Rattle.sql_store.proofs.writes.store_changes.Goals as goal
 
 pub returns-in-Err-clause-survives : goal.returns-in-Err-clause-survives
 returns-in-Err-clause-survives g c =
-    survives_then (state g.S.Store c.args.conn.now) (state g.S.Store c.write_all.new.conn) (state g.S.Store c.settle.new.conn) _ _ (IsStored c.args.changes.now (state g.S.Store c.args.conn.now)) (λ _ db h. h) (λ _ db none. absurd none)
-    c.write_all.ensures.survives c.settle.ensures.survives
+    let fits : SFits w64 c.args.number = c.ranges.number in
+    let wrote = c.write_all.ensures.survives in
+    survives_then (state g.S.Store c.args.conn.now) (state g.S.Store c.write_all.new.conn) (state g.S.Store c.settle.new.conn) _ _ (IsStored c.args.number c.args.changes.now (state g.S.Store c.args.conn.now)) (λ _ db h. h) (λ _ db none. absurd none)
+    (simp to_z-of_z at wrote) c.settle.ensures.survives
 
 pub returns-in-Err-clause-refused : goal.returns-in-Err-clause-refused
 returns-in-Err-clause-refused g c clean is =
+    let fits : SFits w64 c.args.number = c.ranges.number in
     let was : HasCleanDisk (state g.S.Store c.write_all.new.conn) = omega (arith, c.settle.ensures.survives.clean, clean) in
     let refused : c.settle.result ≡ Refused = cc in
     let h = c.settle.ensures.refused clean refused in
-    elim (c.in-Err.ensures.refused was h.0) [ inl busy ↦ inl busy | inr gave ↦ inr (c.write_all.new.conn, c.in-Err.error, gave, h.0, h.1) ]
+    let why = c.in-Err.ensures.refused was (sym c.fault_of.ensures ∙ h.0) in
+    let gave = simp to_z-of_z at why in
+    elim gave [ inl busy ↦ inl busy | inr it ↦ inr (c.write_all.new.conn, c.in-Err.error, it, sym c.fault_of.ensures ∙ h.0, h.1) ]

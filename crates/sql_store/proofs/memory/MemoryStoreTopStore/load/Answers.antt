@@ -3,8 +3,9 @@ use Rattle.std.specs.Prelude.{IfOk}
 use Rattle.sqlite.specs.Steps.{over_memory}
 use Rattle.sqlite_trees.specs.declared.memory.MemStore.{MemStore}
 use Rattle.serial_spec.specs.Rows.{value_in}
+use Rattle.durable_top.specs.Numbered.{entries_in}
 use Rattle.durable_top.specs.Store.{plain}
-use Rattle.sql_store.specs.Stored.{Stored, table, may_leave}
+use Rattle.sql_store.specs.Stored.{Stored, numbered, table, may_leave, may_leave_numbered}
 use Rattle.sql_store.proofs.Doubts.{sure_in_memory}
 use Rattle.sql_store.proofs.memory.MemoryStoreTopStore.load.Goals as goal
 
@@ -13,12 +14,27 @@ returns-clause-rows c none =
     subst (λ (v : Stored MemStore). IfOk c.load.result (λ rows. value_in (plain rows.items) ≡ table over_memory v.connection)) c.self.view_is
     (c.load.ensures.rows (sure_in_memory c.load.new.self (c.load.ensures.asked.known ∙ c.self.invariant)))
 
+pub returns-clause-numbers : goal.returns-clause-numbers
+returns-clause-numbers c none =
+    subst (λ (v : Stored MemStore). IfOk c.load.result (λ rows. entries_in rows.items ≡ numbered over_memory v.connection)) c.self.view_is
+    (c.load.ensures.numbers (sure_in_memory c.load.new.self (c.load.ensures.asked.known ∙ c.self.invariant)))
+
 pub returns-clause-kept : goal.returns-clause-kept
 returns-clause-kept c none sound =
     subst (λ (v : Stored MemStore). table over_memory c.load.new.self.connection ≡ table over_memory v.connection) c.self.view_is
     (c.load.ensures.kept (sure_in_memory c.load.new.self (c.load.ensures.asked.known ∙ c.self.invariant)) sound)
 
+pub returns-clause-kept_numbers : goal.returns-clause-kept_numbers
+returns-clause-kept_numbers c none sound =
+    subst (λ (v : Stored MemStore). numbered over_memory c.load.new.self.connection ≡ numbered over_memory v.connection) c.self.view_is
+    (c.load.ensures.kept_numbers (sure_in_memory c.load.new.self (c.load.ensures.asked.known ∙ c.self.invariant)) sound)
+
 pub returns-clause-crash : goal.returns-clause-crash
 returns-clause-crash c none left may =
     subst (λ (v : Stored MemStore). may_leave over_memory v.connection left) c.self.view_is
     (c.load.ensures.crash (sure_in_memory c.load.new.self (c.load.ensures.asked.known ∙ c.self.invariant)) left may)
+
+pub returns-clause-crash_numbers : goal.returns-clause-crash_numbers
+returns-clause-crash_numbers c none left may =
+    subst (λ (v : Stored MemStore). may_leave_numbered over_memory v.connection left) c.self.view_is
+    (c.load.ensures.crash_numbers (sure_in_memory c.load.new.self (c.load.ensures.asked.known ∙ c.self.invariant)) left may)

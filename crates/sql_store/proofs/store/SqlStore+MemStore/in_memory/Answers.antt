@@ -9,4 +9,4 @@ returns-in-Ok-clause-empty c =
 pub returns-in-Ok-clause-refused : goal.returns-in-Ok-clause-refused
 returns-in-Ok-clause-refused c is =
     let h = c.adopted.ensures.refused is in
-    (c.in-Ok.connection, h.0, c.in-Ok.ensures.empty, h.1 (memory_is_clean h.0))
+    (c.in-Ok.connection, c.in-Ok.ensures.empty, h.1 (memory_is_clean h.0))

@@ -1,0 +1,84 @@
+-- What the opening's statements make inside its transaction.
+use Rattle.std.specs.Prelude.{◌≡◌, ◌⊎◌, ◌≤ℤ◌, ℤ, pos, Bool, List, [], IsTrue}
+use Rattle.sqlite.specs.Effect.{Database}
+use Rattle.sqlite.specs.State.{State, HasCleanDisk, Survives, KeepsCommit}
+use Rattle.durable_top.specs.declared.store.Row.{Row}
+use Rattle.serial_spec.specs.Rows.{IsRising}
+use Rattle.durable_top.specs.Store.{plain}
+use Rattle.durable_top.specs.Numbered.{numbers_of, entries_in, AreNumbered}
+use Rattle.serial_spec.specs.Serial.{Map}
+use Rattle.sql_store.specs.Laid.{laid}
+use Rattle.std.specs.List.{AllByRecursion}
+use Rattle.sql_store.specs.Ids.{IsDecided}
+use Rattle.sql_store.specs.Results.{no_schema, old_schema, both_schema}
+use Rattle.sql_store.specs.Table.{moved, map_of, table_of, AreApart, IsReady, IsMoved}
+
+-- nothing is committed, and a crash leaves what it could leave before
+pub record Steps (old new : State) : Type 0 where
+  pub kept : HasCleanDisk new → IsTrue old.in_transaction → KeepsCommit old new
+  pub survives : Survives old new (λ _. ⊥)
+
+-- the transaction goes on
+abbrev pub GoesOn : State → State → Type 0
+GoesOn old new = HasCleanDisk new → IsTrue old.in_transaction → IsTrue new.in_transaction × IsTrue old.is_open
+
+-- both tables are there, and what was there is as it was
+pub record AreMade (old new : Database) : Type 0 where
+  pub none : old.schema ≡ no_schema → (new.schema ≡ both_schema) × (new.trees 0 ≡ []) × (new.trees 2 ≡ [])
+  pub first : old.schema ≡ old_schema → (new.schema ≡ both_schema) × (new.trees 0 ≡ old.trees 0) × (new.trees 2 ≡ [])
+  pub both : old.schema ≡ both_schema → new ≡ old
+
+-- the rows of the old table have moved, or there were none
+pub record IsOpened (old new : Database) : Type 0 where
+  pub none : old.schema ≡ no_schema → IsMoved new × (table_of new ≡ map_of [])
+  pub first : old.schema ≡ old_schema → AreApart (old.trees 0) → IsMoved new × (table_of new ≡ moved (old.trees 0))
+  pub both : old.schema ≡ both_schema → AreApart (old.trees 0) → AreApart (old.trees 2)
+      → IsMoved new × (((old.trees 0 ≡ []) × (new ≡ old)) ⊎ ((old.trees 2 ≡ []) × (table_of new ≡ moved (old.trees 0))))
+
+-- the rows that were read of both tables
+pub record AreRead (old_rows new_rows : List Row) (db : Database) : Type 0 where
+  pub old_is : entries_in old_rows ≡ moved (db.trees 0)
+  pub old_none : old_rows ≡ [] → db.trees 0 ≡ []
+  pub new_is : entries_in new_rows ≡ map_of (db.trees 2)
+  pub new_none : new_rows ≡ [] → db.trees 2 ≡ []
+
+-- the rows of the old table have moved into the empty new one, or there are none
+abbrev pub Settles : List Row → List Row → Database → Database → Type 0
+Settles old_rows new_rows old new = ((old_rows ≡ []) × (new ≡ old)) ⊎ ((new_rows ≡ []) × IsMoved new × (table_of new ≡ laid old_rows (table_of old)))
+
+-- the tables of which it is asked are apart
+pub record KnowsApart (db : Database) : Type 0 where
+  pub first : db.schema ≡ old_schema → AreApart (db.trees 0)
+  pub both : db.schema ≡ both_schema → AreApart (db.trees 0) × AreApart (db.trees 2)
+
+-- one of the three schemas that a known database may have before it is opened
+abbrev pub IsOurs : Database → Type 0
+IsOurs db = (db.schema ≡ no_schema) ⊎ ((db.schema ≡ old_schema) ⊎ (db.schema ≡ both_schema))
+
+-- rows in order, whose numbers are not below 0
+pub record AreSorted (rows : List Row) : Type 0 where
+  pub rising : IsRising (plain rows)
+  pub least : AreNumbered rows
+
+-- the numbers of the table that is made of these rows
+pub record AreNumbersOf (old_rows new_rows : List Row) (numbers : Map) : Type 0 where
+  pub stays : old_rows ≡ [] → numbers ≡ numbers_of (entries_in new_rows)
+  pub moves : (old_rows ≡ [] → ⊥) → numbers ≡ numbers_of (entries_in old_rows)
+
+-- What the opening found out of a database: whether it is known, and then the numbers behind the opening.
+pub record FoundOut (is_apart : Bool) (numbers : Map) (old new : Database) : Type 0 where
+  pub apart : IsTrue is_apart → KnowsApart old
+  -- where there was the old table alone it was decided once the new one was made
+  pub first : old.schema ≡ old_schema → (mid : Database) × (mid.trees 0 ≡ old.trees 0) × (mid.trees 2 ≡ []) × IsDecided mid is_apart
+  pub both : old.schema ≡ both_schema → IsDecided old is_apart
+  pub numbered : IsOurs old → KnowsApart old → numbers ≡ numbers_of (table_of new)
+
+-- rows were read of both tables, and moved where the old one had some
+pub record AreSettled (is_apart : Bool) (numbers : Map) (mid new : Database) : Type 0 where
+  pub decided : mid.schema ≡ both_schema → IsDecided mid is_apart
+  pub old_rows : List Row
+  pub new_rows : List Row
+  pub read : mid.schema ≡ both_schema → AreRead old_rows new_rows mid
+  pub apart : mid.schema ≡ both_schema → IsTrue is_apart → AreApart (mid.trees 0) × AreApart (mid.trees 2)
+  pub settled : IsReady mid → AreApart (mid.trees 0) → Settles old_rows new_rows mid new
+  pub numbered : AreNumbersOf old_rows new_rows numbers

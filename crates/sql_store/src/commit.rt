@@ -1,0 +1,128 @@
+//! A commit under the number above the greatest.
+ghost use Rattle.std.specs.Prelude.{true, false, ◌≡◌, ◌≤◌, ◌<◌, ◌≤ℤ◌, ◌+ℤ◌, pos, length, ◌⊎◌, IfErr, OnOk, OnErr, IsTrue, IsErrOf};
+ghost use Rattle.sqlite_trees.specs.View.{doubt};
+ghost use Rattle.sqlite.specs.Held.{state};
+ghost use Rattle.sqlite.specs.State.{HasCleanDisk, KeepsCommit, IsUnchanged};
+ghost use Rattle.serial_spec.specs.Changes.{AreRising};
+ghost use Rattle.serial_spec.specs.Rows.{value_in};
+ghost use Rattle.durable_top.specs.Numbered.{Numbered, last_number, Follows, Commits};
+ghost use Rattle.sql_store.specs.Stored.{numbered, may_leave_numbered, IsKept, IsCounted};
+ghost use Rattle.sql_store.specs.Faults.{HasFailed};
+ghost use Rattle.sql_store.specs.Refusals.{CannotWrite, CannotCommit};
+ghost use Rattle.sql_store.specs.Asked.{Committed};
+
+use crate::faults::{fault_of, settle};
+use crate::statements::probe;
+use crate::writes::store_changes;
+use durable_top::{NumberTable, StoreFault, next_number};
+use sqlite::{Alter, Connection};
+use txn_names::Change;
+
+// Commits nothing.
+fn commit_none<S: Alter>(conn: &mut Connection<S>) -> Result<(), StoreFault>
+    ensures same { HasCleanDisk (state S.Store conn.new) → (IsErrOf result StoreFault.Failed → ⊥) → numbered S.Store conn.new ≡ numbered S.Store conn.old }
+    ensures still { IsKept S.Store true conn.old → IsKept S.Store true conn.new }
+    ensures clean { doubt (state S.Store conn.old).is_clean ≤ doubt (state S.Store conn.new).is_clean }
+    ensures crash { HasCleanDisk (state S.Store conn.new) → (left : Numbered) → may_leave_numbered S.Store conn.new left → may_leave_numbered S.Store conn.old left }
+    ensures settled { HasCleanDisk (state S.Store conn.new) → IsKept S.Store true conn.old → OnOk result ((left : Numbered) → may_leave_numbered S.Store conn.new left → left ≡ numbered S.Store conn.new) }
+    ensures held { HasCleanDisk (state S.Store conn.new) → KeepsCommit (state S.Store conn.old) (state S.Store conn.new) }
+    ensures cause { HasCleanDisk (state S.Store conn.new) → IsErrOf result StoreFault.Failed → HasFailed S.Store conn.old conn.new }
+    ensures unrefused { HasCleanDisk (state S.Store conn.new) → IsErrOf result StoreFault.Refused → ⊥ }
+    ensures asked { HasCleanDisk (state S.Store conn.new) → OnOk result (IsUnchanged (state S.Store conn.old) (state S.Store conn.new)) }
+{
+    match probe(conn) {
+        Ok(()) => Ok(()),
+        Err(error) => Err(settle(conn, fault_of(error))),
+    }
+}
+
+// Commits the changes, of which there are some, under the number above the greatest, and keeps their numbers.
+fn commit_under<S: Alter>(
+    conn: &mut Connection<S>,
+    numbers: &mut NumberTable,
+    number: i64,
+    changes: &[Change],
+) -> Result<(), StoreFault>
+    requires some { 0 < length changes.now }
+    requires rising { AreRising changes.now }
+    requires next { number ≡ numbers.old.top +ℤ pos 1 }
+    requires fits { number ≤ℤ last_number }
+    ensures ok { HasCleanDisk (state S.Store conn.new) → IsKept S.Store true conn.old → IsCounted S.Store true (value_in numbers.old.rows) conn.old → OnOk result (Follows changes.now (numbered S.Store conn.old) (numbered S.Store conn.new)) }
+    ensures counted { HasCleanDisk (state S.Store conn.new) → IsKept S.Store true conn.old → IsCounted S.Store true (value_in numbers.old.rows) conn.old → IsCounted S.Store true (value_in numbers.new.rows) conn.new }
+    ensures refused { HasCleanDisk (state S.Store conn.new) → IfErr result (λ fault. (fault ≡ StoreFault.Failed → ⊥) → numbered S.Store conn.new ≡ numbered S.Store conn.old) }
+    ensures still { IsKept S.Store true conn.old → IsKept S.Store true conn.new }
+    ensures clean { doubt (state S.Store conn.old).is_clean ≤ doubt (state S.Store conn.new).is_clean }
+    ensures crash { HasCleanDisk (state S.Store conn.new) → IsKept S.Store true conn.old → IsCounted S.Store true (value_in numbers.old.rows) conn.old → (left : Numbered) → may_leave_numbered S.Store conn.new left → may_leave_numbered S.Store conn.old left ⊎ Follows changes.now (numbered S.Store conn.old) left }
+    ensures settled { HasCleanDisk (state S.Store conn.new) → IsKept S.Store true conn.old → OnOk result ((left : Numbered) → may_leave_numbered S.Store conn.new left → left ≡ numbered S.Store conn.new) }
+    ensures kept { HasCleanDisk (state S.Store conn.new) → OnErr result (KeepsCommit (state S.Store conn.old) (state S.Store conn.new)) }
+    ensures cause { HasCleanDisk (state S.Store conn.new) → IsErrOf result StoreFault.Failed → HasFailed S.Store conn.old conn.new }
+    ensures reason { HasCleanDisk (state S.Store conn.new) → IsErrOf result StoreFault.Refused → CannotWrite S.Store number changes.now conn.old conn.new }
+    ensures asked { HasCleanDisk (state S.Store conn.new) → OnOk result (Committed S.Store (number) changes.now conn.old conn.new) }
+{
+    numbers.has_none_below_0();
+    if numbers.reserve(changes.len()).is_err() {
+        return Err(StoreFault::Memory);
+    }
+    match store_changes(conn, number, changes) {
+        Ok(()) => {
+            numbers.change(number, changes);
+            Ok(())
+        }
+        Err(fault) => Err(fault),
+    }
+}
+
+// Commits the changes under the number above the greatest. Where there is none they are refused.
+fn commit_counted<S: Alter>(
+    conn: &mut Connection<S>,
+    numbers: &mut NumberTable,
+    changes: &[Change],
+) -> Result<(), StoreFault>
+    requires rising { AreRising changes.now }
+    ensures ok { HasCleanDisk (state S.Store conn.new) → IsKept S.Store true conn.old → IsCounted S.Store true (value_in numbers.old.rows) conn.old → OnOk result (Commits changes.now (numbered S.Store conn.old) (numbered S.Store conn.new)) }
+    ensures counted { HasCleanDisk (state S.Store conn.new) → IsKept S.Store true conn.old → IsCounted S.Store true (value_in numbers.old.rows) conn.old → IsCounted S.Store true (value_in numbers.new.rows) conn.new }
+    ensures refused { HasCleanDisk (state S.Store conn.new) → IfErr result (λ fault. (fault ≡ StoreFault.Failed → ⊥) → numbered S.Store conn.new ≡ numbered S.Store conn.old) }
+    ensures still { IsKept S.Store true conn.old → IsKept S.Store true conn.new }
+    ensures clean { doubt (state S.Store conn.old).is_clean ≤ doubt (state S.Store conn.new).is_clean }
+    ensures crash { HasCleanDisk (state S.Store conn.new) → IsKept S.Store true conn.old → IsCounted S.Store true (value_in numbers.old.rows) conn.old → (left : Numbered) → may_leave_numbered S.Store conn.new left → may_leave_numbered S.Store conn.old left ⊎ Commits changes.now (numbered S.Store conn.old) left }
+    ensures settled { HasCleanDisk (state S.Store conn.new) → IsKept S.Store true conn.old → OnOk result ((left : Numbered) → may_leave_numbered S.Store conn.new left → left ≡ numbered S.Store conn.new) }
+    ensures kept { HasCleanDisk (state S.Store conn.new) → OnErr result (KeepsCommit (state S.Store conn.old) (state S.Store conn.new)) }
+    ensures cause { HasCleanDisk (state S.Store conn.new) → IsErrOf result StoreFault.Failed → HasFailed S.Store conn.old conn.new }
+    ensures reason { HasCleanDisk (state S.Store conn.new) → IsErrOf result StoreFault.Refused → CannotCommit S.Store numbers.old.top changes.now conn.old conn.new }
+    ensures asked { HasCleanDisk (state S.Store conn.new) → OnOk result (Committed S.Store (numbers.old.top +ℤ pos 1) changes.now conn.old conn.new) }
+{
+    if changes.is_empty() {
+        return commit_none(conn);
+    }
+    match next_number(numbers.top()) {
+        Some(number) => commit_under(conn, numbers, number, changes),
+        None => Err(StoreFault::Refused),
+    }
+}
+
+/// The same. A store that has failed is not asked.
+pub(crate) fn commit_unless<S: Alter>(
+    has_failed: bool,
+    conn: &mut Connection<S>,
+    numbers: &mut NumberTable,
+    changes: &[Change],
+) -> Result<(), StoreFault>
+    requires rising { AreRising changes.now }
+    ensures failed { IsTrue has_failed → IsErrOf result StoreFault.Failed × (conn.new ≡ conn.old) }
+    ensures ok { HasCleanDisk (state S.Store conn.new) → IsKept S.Store true conn.old → IsCounted S.Store true (value_in numbers.old.rows) conn.old → OnOk result (Commits changes.now (numbered S.Store conn.old) (numbered S.Store conn.new)) }
+    ensures counted { HasCleanDisk (state S.Store conn.new) → IsKept S.Store true conn.old → IsCounted S.Store true (value_in numbers.old.rows) conn.old → IsCounted S.Store true (value_in numbers.new.rows) conn.new }
+    ensures refused { HasCleanDisk (state S.Store conn.new) → IfErr result (λ fault. (fault ≡ StoreFault.Failed → ⊥) → numbered S.Store conn.new ≡ numbered S.Store conn.old) }
+    ensures still { IsKept S.Store true conn.old → IsKept S.Store true conn.new }
+    ensures clean { doubt (state S.Store conn.old).is_clean ≤ doubt (state S.Store conn.new).is_clean }
+    ensures crash { HasCleanDisk (state S.Store conn.new) → IsKept S.Store true conn.old → IsCounted S.Store true (value_in numbers.old.rows) conn.old → (left : Numbered) → may_leave_numbered S.Store conn.new left → may_leave_numbered S.Store conn.old left ⊎ Commits changes.now (numbered S.Store conn.old) left }
+    ensures settled { HasCleanDisk (state S.Store conn.new) → IsKept S.Store true conn.old → OnOk result ((left : Numbered) → may_leave_numbered S.Store conn.new left → left ≡ numbered S.Store conn.new) }
+    ensures kept { HasCleanDisk (state S.Store conn.new) → OnErr result (KeepsCommit (state S.Store conn.old) (state S.Store conn.new)) }
+    ensures cause { HasCleanDisk (state S.Store conn.new) → has_failed ≡ false → IsErrOf result StoreFault.Failed → HasFailed S.Store conn.old conn.new }
+    ensures reason { HasCleanDisk (state S.Store conn.new) → IsErrOf result StoreFault.Refused → CannotCommit S.Store numbers.old.top changes.now conn.old conn.new }
+    ensures asked { HasCleanDisk (state S.Store conn.new) → OnOk result (Committed S.Store (numbers.old.top +ℤ pos 1) changes.now conn.old conn.new) }
+{
+    if has_failed {
+        return Err(StoreFault::Failed);
+    }
+    commit_counted(conn, numbers, changes)
+}

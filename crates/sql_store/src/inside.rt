@@ -1,0 +1,331 @@
+//! What the opening does inside its transaction.
+ghost use Rattle.std.specs.Prelude.{◌≡◌, ◌⊎◌, [], List, None, Err, OnOk, IfOk, IfErr, IsTrue, IsErrOf};
+ghost use Rattle.sqlite.specs.Held.{Held, state};
+ghost use Rattle.sqlite.specs.State.{HasCleanDisk, IsUnchanged, FailsToQuery};
+ghost use Rattle.sqlite.specs.Order.{Row as Shown};
+ghost use Rattle.sqlite.specs.Query.{IsAnswer};
+ghost use Rattle.sqlite.specs.Program.{overlay};
+ghost use Rattle.serial_spec.specs.Rows.{IsRising, value_in};
+ghost use Rattle.durable_top.specs.Numbered.{AreNumbered, entries_in};
+ghost use Rattle.durable_top.specs.Store.{plain};
+ghost use Rattle.sql_store.specs.Asked.{empty_text, Executed, MakesTables, ReadsOld, ReadsNew, ReadsBoth, Finds, PutsEach, MovesRows, SettlesInside, OpensInside};
+ghost use Rattle.sql_store.specs.Faults.{fault_of, IsCaused, IsMeant};
+ghost use Rattle.sql_store.specs.Ids.{rises, IsDecided};
+ghost use Rattle.sql_store.specs.Inside.{Steps, GoesOn, AreMade, AreRead, IsOpened, Settles, AreSorted, AreNumbersOf, FoundOut, AreSettled};
+ghost use Rattle.sql_store.specs.Laid.{laid};
+ghost use Rattle.sql_store.specs.Load.{ids_text, ids_query, old_ids_text, old_ids_query};
+ghost use Rattle.sql_store.specs.Refusals.{CannotMake, CannotReadOld, CannotReadNew, CannotReadBoth, CannotAsk, CannotFind, PutRefused, CannotMoveOver, CannotMove, CannotSettle, CannotOpenInside};
+ghost use Rattle.sql_store.specs.Results.{both_schema};
+ghost use Rattle.sql_store.specs.Table.{map_of, moved, table_of, AreApart, IsReady, IsMoved};
+
+use crate::faults::fault_of;
+use crate::reading::{are_apart, sorted, sorted_old};
+use crate::statements::{
+    create, create_old, empty, put, select_ids, select_inside, select_old, select_old_ids,
+};
+use durable_top::{NumberTable, Row, StoreFault};
+use sqlite::{Alter, Error, Transaction};
+use std::alloc::Global;
+
+#[tactic(auto, using(crate::proofs::Steps::steps_then, crate::proofs::Steps::clean_before))]
+/// Makes the tables where they are missing.
+pub(crate) fn make_tables<S: Alter>(tx: &mut Transaction<'_, S>) -> Result<(), Error>
+    ensures same_reference { tx.new.conn.ghost_name ≡ tx.old.conn.ghost_name }
+    ensures steps { Steps (state S.Store tx.old.conn.now) (state S.Store tx.new.conn.now) }
+    ensures on { OnOk result (GoesOn (state S.Store tx.old.conn.now) (state S.Store tx.new.conn.now)) }
+    ensures made { HasCleanDisk (state S.Store tx.new.conn.now) → IsTrue (state S.Store tx.old.conn.now).in_transaction → OnOk result (AreMade (state S.Store tx.old.conn.now).now (state S.Store tx.new.conn.now).now) }
+    ensures cause { HasCleanDisk (state S.Store tx.new.conn.now) → IsTrue (state S.Store tx.old.conn.now).in_transaction → IfErr result (IsCaused (state S.Store tx.old.conn.now) (state S.Store tx.new.conn.now)) }
+    ensures refused { HasCleanDisk (state S.Store tx.new.conn.now) → IsTrue (state S.Store tx.old.conn.now).in_transaction → IfErr result (λ e. fault_of e ≡ StoreFault.Refused → CannotMake S.Store tx.old.conn.now) }
+    ensures asked { HasCleanDisk (state S.Store tx.new.conn.now) → IsTrue (state S.Store tx.old.conn.now).in_transaction → OnOk result (MakesTables S.Store tx.old.conn.now tx.new.conn.now) }
+{
+    create_old(tx)?;
+    create(tx)
+}
+
+// The rows of the old table, each under the number 0.
+fn read_old<S: Alter>(tx: &mut Transaction<'_, S>, alloc: Global) -> Result<Vec<Row>, StoreFault>
+    ensures same_reference { tx.new.conn.ghost_name ≡ tx.old.conn.ghost_name }
+    ensures steps { Steps (state S.Store tx.old.conn.now) (state S.Store tx.new.conn.now) }
+    ensures on { OnOk result (GoesOn (state S.Store tx.old.conn.now) (state S.Store tx.new.conn.now)) }
+    ensures rising { IfOk result (λ rows. IsRising (plain rows.items)) }
+    ensures numbers { IfOk result (λ rows. AreNumbered rows.items) }
+    ensures rows { HasCleanDisk (state S.Store tx.new.conn.now) → (state S.Store tx.old.conn.now).now.schema ≡ both_schema → IfOk result (λ rows. entries_in rows.items ≡ moved ((state S.Store tx.old.conn.now).now.trees 0)) }
+    ensures none { HasCleanDisk (state S.Store tx.new.conn.now) → (state S.Store tx.old.conn.now).now.schema ≡ both_schema → IfOk result (λ rows. rows.items ≡ [] → (state S.Store tx.old.conn.now).now.trees 0 ≡ []) }
+    ensures same { HasCleanDisk (state S.Store tx.new.conn.now) → OnOk result (IsUnchanged (state S.Store tx.old.conn.now) (state S.Store tx.new.conn.now)) }
+    ensures cause { HasCleanDisk (state S.Store tx.new.conn.now) → IsTrue (state S.Store tx.old.conn.now).in_transaction → IfErr result (IsMeant (state S.Store tx.old.conn.now) (state S.Store tx.new.conn.now)) }
+    ensures refused { HasCleanDisk (state S.Store tx.new.conn.now) → IsTrue (state S.Store tx.old.conn.now).in_transaction → IsErrOf result StoreFault.Refused → CannotReadOld S.Store tx.old.conn.now }
+    ensures asked { HasCleanDisk (state S.Store tx.new.conn.now) → IfOk result (λ rows. ReadsOld S.Store tx.old.conn.now tx.new.conn.now rows.items) }
+{
+    match select_old(tx) {
+        Ok(rows) => sorted_old(alloc, rows.as_slice()),
+        Err(error) => Err(fault_of(error)),
+    }
+}
+
+// The rows of the new table.
+fn read_new<S: Alter>(tx: &mut Transaction<'_, S>, alloc: Global) -> Result<Vec<Row>, StoreFault>
+    ensures same_reference { tx.new.conn.ghost_name ≡ tx.old.conn.ghost_name }
+    ensures steps { Steps (state S.Store tx.old.conn.now) (state S.Store tx.new.conn.now) }
+    ensures on { OnOk result (GoesOn (state S.Store tx.old.conn.now) (state S.Store tx.new.conn.now)) }
+    ensures rising { IfOk result (λ rows. IsRising (plain rows.items)) }
+    ensures numbers { IfOk result (λ rows. AreNumbered rows.items) }
+    ensures rows { HasCleanDisk (state S.Store tx.new.conn.now) → (state S.Store tx.old.conn.now).now.schema ≡ both_schema → IfOk result (λ rows. entries_in rows.items ≡ map_of ((state S.Store tx.old.conn.now).now.trees 2)) }
+    ensures none { HasCleanDisk (state S.Store tx.new.conn.now) → (state S.Store tx.old.conn.now).now.schema ≡ both_schema → IfOk result (λ rows. rows.items ≡ [] → (state S.Store tx.old.conn.now).now.trees 2 ≡ []) }
+    ensures same { HasCleanDisk (state S.Store tx.new.conn.now) → OnOk result (IsUnchanged (state S.Store tx.old.conn.now) (state S.Store tx.new.conn.now)) }
+    ensures cause { HasCleanDisk (state S.Store tx.new.conn.now) → IsTrue (state S.Store tx.old.conn.now).in_transaction → IfErr result (IsMeant (state S.Store tx.old.conn.now) (state S.Store tx.new.conn.now)) }
+    ensures refused { HasCleanDisk (state S.Store tx.new.conn.now) → IsTrue (state S.Store tx.old.conn.now).in_transaction → IsErrOf result StoreFault.Refused → CannotReadNew S.Store tx.old.conn.now }
+    ensures asked { HasCleanDisk (state S.Store tx.new.conn.now) → IfOk result (λ rows. ReadsNew S.Store tx.old.conn.now tx.new.conn.now rows.items) }
+{
+    match select_inside(tx) {
+        Ok(rows) => sorted(alloc, rows.as_slice()),
+        Err(error) => Err(fault_of(error)),
+    }
+}
+
+// Whether no rowid comes twice in the old table.
+fn is_old_apart<S: Alter>(tx: &mut Transaction<'_, S>) -> Result<bool, Error>
+    ensures same_reference { tx.new.conn.ghost_name ≡ tx.old.conn.ghost_name }
+    ensures steps { Steps (state S.Store tx.old.conn.now) (state S.Store tx.new.conn.now) }
+    ensures on { OnOk result (GoesOn (state S.Store tx.old.conn.now) (state S.Store tx.new.conn.now)) }
+    ensures apart { HasCleanDisk (state S.Store tx.new.conn.now) → (state S.Store tx.old.conn.now).now.schema ≡ both_schema → IfOk result (λ apart. IsTrue apart → AreApart ((state S.Store tx.old.conn.now).now.trees 0)) }
+    ensures decided { HasCleanDisk (state S.Store tx.new.conn.now) → (state S.Store tx.old.conn.now).now.schema ≡ both_schema → IfOk result (λ apart. (ids : List Shown) × IsAnswer old_ids_query (overlay (state S.Store tx.old.conn.now).now.trees []) [] ids × (apart ≡ rises None ids)) }
+    ensures same { HasCleanDisk (state S.Store tx.new.conn.now) → OnOk result (IsUnchanged (state S.Store tx.old.conn.now) (state S.Store tx.new.conn.now)) }
+    ensures cause { HasCleanDisk (state S.Store tx.new.conn.now) → IfErr result (IsCaused (state S.Store tx.old.conn.now) (state S.Store tx.new.conn.now)) }
+    ensures refused { HasCleanDisk (state S.Store tx.new.conn.now) → IsTrue (state S.Store tx.old.conn.now).in_transaction → IfErr result (FailsToQuery old_ids_text [] (state S.Store tx.old.conn.now) (state S.Store tx.new.conn.now)) }
+{
+    let ids = select_old_ids(tx)?;
+    Ok(are_apart(ids.as_slice()))
+}
+
+// Whether no rowid comes twice in the new table.
+fn is_new_apart<S: Alter>(tx: &mut Transaction<'_, S>) -> Result<bool, Error>
+    ensures same_reference { tx.new.conn.ghost_name ≡ tx.old.conn.ghost_name }
+    ensures steps { Steps (state S.Store tx.old.conn.now) (state S.Store tx.new.conn.now) }
+    ensures on { OnOk result (GoesOn (state S.Store tx.old.conn.now) (state S.Store tx.new.conn.now)) }
+    ensures apart { HasCleanDisk (state S.Store tx.new.conn.now) → (state S.Store tx.old.conn.now).now.schema ≡ both_schema → IfOk result (λ apart. IsTrue apart → AreApart ((state S.Store tx.old.conn.now).now.trees 2)) }
+    ensures decided { HasCleanDisk (state S.Store tx.new.conn.now) → (state S.Store tx.old.conn.now).now.schema ≡ both_schema → IfOk result (λ apart. (ids : List Shown) × IsAnswer ids_query (overlay (state S.Store tx.old.conn.now).now.trees []) [] ids × (apart ≡ rises None ids)) }
+    ensures same { HasCleanDisk (state S.Store tx.new.conn.now) → OnOk result (IsUnchanged (state S.Store tx.old.conn.now) (state S.Store tx.new.conn.now)) }
+    ensures cause { HasCleanDisk (state S.Store tx.new.conn.now) → IfErr result (IsCaused (state S.Store tx.old.conn.now) (state S.Store tx.new.conn.now)) }
+    ensures refused { HasCleanDisk (state S.Store tx.new.conn.now) → IsTrue (state S.Store tx.old.conn.now).in_transaction → IfErr result (FailsToQuery ids_text [] (state S.Store tx.old.conn.now) (state S.Store tx.new.conn.now)) }
+{
+    let ids = select_ids(tx)?;
+    Ok(are_apart(ids.as_slice()))
+}
+
+// Puts the rows into the new table, the last of them first.
+fn move_rows<S: Alter>(tx: &mut Transaction<'_, S>, rows: &[Row]) -> Result<(), Error>
+    ensures same_reference { tx.new.conn.ghost_name ≡ tx.old.conn.ghost_name }
+    ensures steps { Steps (state S.Store tx.old.conn.now) (state S.Store tx.new.conn.now) }
+    ensures on { HasCleanDisk (state S.Store tx.new.conn.now) → IsTrue (state S.Store tx.old.conn.now).in_transaction → OnOk result (IsTrue (state S.Store tx.new.conn.now).in_transaction) }
+    ensures ready { HasCleanDisk (state S.Store tx.new.conn.now) → IsTrue (state S.Store tx.old.conn.now).in_transaction → IsReady (state S.Store tx.old.conn.now).now → OnOk result (IsReady (state S.Store tx.new.conn.now).now) }
+    ensures table { HasCleanDisk (state S.Store tx.new.conn.now) → IsTrue (state S.Store tx.old.conn.now).in_transaction → IsReady (state S.Store tx.old.conn.now).now → OnOk result (table_of (state S.Store tx.new.conn.now).now ≡ laid rows.now (table_of (state S.Store tx.old.conn.now).now)) }
+    ensures others { HasCleanDisk (state S.Store tx.new.conn.now) → IsTrue (state S.Store tx.old.conn.now).in_transaction → IsReady (state S.Store tx.old.conn.now).now → OnOk result ((state S.Store tx.new.conn.now).now.trees 0 ≡ (state S.Store tx.old.conn.now).now.trees 0) }
+    ensures cause { HasCleanDisk (state S.Store tx.new.conn.now) → IsTrue (state S.Store tx.old.conn.now).in_transaction → IfErr result (IsCaused (state S.Store tx.old.conn.now) (state S.Store tx.new.conn.now)) }
+    ensures refused { HasCleanDisk (state S.Store tx.new.conn.now) → IsTrue (state S.Store tx.old.conn.now).in_transaction → IfErr result (λ e. fault_of e ≡ StoreFault.Refused → PutRefused S.Store rows.now tx.old.conn.now) }
+    ensures asked { HasCleanDisk (state S.Store tx.new.conn.now) → IsTrue (state S.Store tx.old.conn.now).in_transaction → OnOk result (PutsEach S.Store rows.now tx.old.conn.now tx.new.conn.now) }
+{
+    let mut left = rows.len();
+    while left > 0 {
+        left -= 1;
+        put(tx, &rows[left])?;
+    }
+    Ok(())
+}
+
+// Moves the rows of the old table into the new one.
+#[tactic(auto, using(crate::proofs::Steps::steps_then, crate::proofs::Steps::clean_before))]
+fn move_over<S: Alter>(tx: &mut Transaction<'_, S>, rows: &[Row]) -> Result<(), Error>
+    ensures same_reference { tx.new.conn.ghost_name ≡ tx.old.conn.ghost_name }
+    ensures steps { Steps (state S.Store tx.old.conn.now) (state S.Store tx.new.conn.now) }
+    ensures on { HasCleanDisk (state S.Store tx.new.conn.now) → IsTrue (state S.Store tx.old.conn.now).in_transaction → OnOk result (IsTrue (state S.Store tx.new.conn.now).in_transaction) }
+    ensures moved { HasCleanDisk (state S.Store tx.new.conn.now) → IsTrue (state S.Store tx.old.conn.now).in_transaction → IsReady (state S.Store tx.old.conn.now).now → AreApart ((state S.Store tx.old.conn.now).now.trees 0) → OnOk result (IsMoved (state S.Store tx.new.conn.now).now) }
+    ensures table { HasCleanDisk (state S.Store tx.new.conn.now) → IsTrue (state S.Store tx.old.conn.now).in_transaction → IsReady (state S.Store tx.old.conn.now).now → OnOk result (table_of (state S.Store tx.new.conn.now).now ≡ laid rows.now (table_of (state S.Store tx.old.conn.now).now)) }
+    ensures cause { HasCleanDisk (state S.Store tx.new.conn.now) → IsTrue (state S.Store tx.old.conn.now).in_transaction → IfErr result (IsCaused (state S.Store tx.old.conn.now) (state S.Store tx.new.conn.now)) }
+    ensures refused { HasCleanDisk (state S.Store tx.new.conn.now) → IsTrue (state S.Store tx.old.conn.now).in_transaction → IfErr result (λ e. fault_of e ≡ StoreFault.Refused → CannotMoveOver S.Store rows.now tx.old.conn.now) }
+    ensures asked { HasCleanDisk (state S.Store tx.new.conn.now) → IsTrue (state S.Store tx.old.conn.now).in_transaction → OnOk result ((put : Held S) × PutsEach S.Store rows.now tx.old.conn.now put × Executed S.Store empty_text [] put tx.new.conn.now) }
+{
+    move_rows(tx, rows)?;
+    empty(tx)
+}
+
+// Moves the rows of the old table, if there are some. Where both tables have rows it refuses.
+pub(crate) fn settle_rows<S: Alter>(
+    tx: &mut Transaction<'_, S>,
+    old: &[Row],
+    new: &[Row],
+) -> Result<(), StoreFault>
+    ensures same_reference { tx.new.conn.ghost_name ≡ tx.old.conn.ghost_name }
+    ensures steps { Steps (state S.Store tx.old.conn.now) (state S.Store tx.new.conn.now) }
+    ensures on { HasCleanDisk (state S.Store tx.new.conn.now) → IsTrue (state S.Store tx.old.conn.now).in_transaction → OnOk result (IsTrue (state S.Store tx.new.conn.now).in_transaction) }
+    ensures settled { HasCleanDisk (state S.Store tx.new.conn.now) → IsTrue (state S.Store tx.old.conn.now).in_transaction → IsReady (state S.Store tx.old.conn.now).now → AreApart ((state S.Store tx.old.conn.now).now.trees 0) → OnOk result (Settles old.now new.now (state S.Store tx.old.conn.now).now (state S.Store tx.new.conn.now).now) }
+    ensures cause { HasCleanDisk (state S.Store tx.new.conn.now) → IsTrue (state S.Store tx.old.conn.now).in_transaction → IfErr result (IsMeant (state S.Store tx.old.conn.now) (state S.Store tx.new.conn.now)) }
+    ensures refused { HasCleanDisk (state S.Store tx.new.conn.now) → IsTrue (state S.Store tx.old.conn.now).in_transaction → IsErrOf result StoreFault.Refused → CannotMove S.Store old.now new.now tx.old.conn.now }
+    ensures asked { HasCleanDisk (state S.Store tx.new.conn.now) → IsTrue (state S.Store tx.old.conn.now).in_transaction → OnOk result (MovesRows S.Store old.now new.now tx.old.conn.now tx.new.conn.now) }
+{
+    if old.is_empty() {
+        return Ok(());
+    }
+    if !new.is_empty() {
+        return Err(StoreFault::Refused);
+    }
+    match move_over(tx, old) {
+        Ok(()) => Ok(()),
+        Err(error) => Err(fault_of(error)),
+    }
+}
+
+// Whether no rowid comes twice in one of the tables.
+#[tactic(auto, using(crate::proofs::Steps::steps_then, crate::proofs::Steps::clean_before))]
+fn are_both_apart<S: Alter>(tx: &mut Transaction<'_, S>) -> Result<bool, Error>
+    ensures same_reference { tx.new.conn.ghost_name ≡ tx.old.conn.ghost_name }
+    ensures steps { Steps (state S.Store tx.old.conn.now) (state S.Store tx.new.conn.now) }
+    ensures on { OnOk result (GoesOn (state S.Store tx.old.conn.now) (state S.Store tx.new.conn.now)) }
+    ensures apart { HasCleanDisk (state S.Store tx.new.conn.now) → (state S.Store tx.old.conn.now).now.schema ≡ both_schema → IfOk result (λ apart. IsTrue apart → AreApart ((state S.Store tx.old.conn.now).now.trees 0) × AreApart ((state S.Store tx.old.conn.now).now.trees 2)) }
+    ensures decided { HasCleanDisk (state S.Store tx.new.conn.now) → (state S.Store tx.old.conn.now).now.schema ≡ both_schema → IfOk result (IsDecided (state S.Store tx.old.conn.now).now) }
+    ensures same { HasCleanDisk (state S.Store tx.new.conn.now) → OnOk result (IsUnchanged (state S.Store tx.old.conn.now) (state S.Store tx.new.conn.now)) }
+    ensures cause { HasCleanDisk (state S.Store tx.new.conn.now) → IsTrue (state S.Store tx.old.conn.now).in_transaction → IfErr result (IsCaused (state S.Store tx.old.conn.now) (state S.Store tx.new.conn.now)) }
+    ensures refused { HasCleanDisk (state S.Store tx.new.conn.now) → IsTrue (state S.Store tx.old.conn.now).in_transaction → IfErr result (λ e. fault_of e ≡ StoreFault.Refused → CannotAsk S.Store tx.old.conn.now) }
+{
+    let is_old_apart = is_old_apart(tx)?;
+    let is_new_apart = is_new_apart(tx)?;
+    Ok(is_old_apart && is_new_apart)
+}
+
+/// The rows of both tables, and whether no rowid comes twice in one of them.
+#[derive(Drop)]
+struct Found {
+    old: Vec<Row>,
+    new: Vec<Row>,
+    is_apart: bool,
+}
+
+/// What the opening found out: whether no rowid comes twice, and the numbers of the table.
+#[derive(Drop)]
+pub(crate) struct Opened {
+    pub(crate) is_apart: bool,
+    pub(crate) numbers: NumberTable,
+}
+
+// The rows of both tables.
+#[tactic(auto, using(crate::proofs::Steps::steps_then, crate::proofs::Steps::clean_before))]
+fn read_both<S: Alter>(
+    tx: &mut Transaction<'_, S>,
+    alloc: Global,
+) -> Result<(Vec<Row>, Vec<Row>), StoreFault>
+    ensures same_reference { tx.new.conn.ghost_name ≡ tx.old.conn.ghost_name }
+    ensures steps { Steps (state S.Store tx.old.conn.now) (state S.Store tx.new.conn.now) }
+    ensures on { OnOk result (GoesOn (state S.Store tx.old.conn.now) (state S.Store tx.new.conn.now)) }
+    ensures old { IfOk result (λ read. AreSorted read.0.items) }
+    ensures new { IfOk result (λ read. AreSorted read.1.items) }
+    ensures read { HasCleanDisk (state S.Store tx.new.conn.now) → (state S.Store tx.old.conn.now).now.schema ≡ both_schema → IfOk result (λ read. AreRead read.0.items read.1.items (state S.Store tx.old.conn.now).now) }
+    ensures same { HasCleanDisk (state S.Store tx.new.conn.now) → OnOk result (IsUnchanged (state S.Store tx.old.conn.now) (state S.Store tx.new.conn.now)) }
+    ensures cause { HasCleanDisk (state S.Store tx.new.conn.now) → IsTrue (state S.Store tx.old.conn.now).in_transaction → IfErr result (IsMeant (state S.Store tx.old.conn.now) (state S.Store tx.new.conn.now)) }
+    ensures refused { HasCleanDisk (state S.Store tx.new.conn.now) → IsTrue (state S.Store tx.old.conn.now).in_transaction → IsErrOf result StoreFault.Refused → CannotReadBoth S.Store tx.old.conn.now }
+    ensures asked { HasCleanDisk (state S.Store tx.new.conn.now) → IfOk result (λ read. ReadsBoth S.Store tx.old.conn.now tx.new.conn.now read.0.items read.1.items) }
+{
+    let old = read_old(tx, alloc)?;
+    let new = read_new(tx, alloc)?;
+    Ok((old, new))
+}
+
+// The rows of both tables, and whether their rowids are apart.
+#[tactic(auto, using(crate::proofs::Steps::steps_then, crate::proofs::Steps::clean_before))]
+fn find<S: Alter>(tx: &mut Transaction<'_, S>, alloc: Global) -> Result<Found, StoreFault>
+    ensures same_reference { tx.new.conn.ghost_name ≡ tx.old.conn.ghost_name }
+    ensures steps { Steps (state S.Store tx.old.conn.now) (state S.Store tx.new.conn.now) }
+    ensures on { OnOk result (GoesOn (state S.Store tx.old.conn.now) (state S.Store tx.new.conn.now)) }
+    ensures old { IfOk result (λ found. AreSorted found.old.items) }
+    ensures new { IfOk result (λ found. AreSorted found.new.items) }
+    ensures read { HasCleanDisk (state S.Store tx.new.conn.now) → (state S.Store tx.old.conn.now).now.schema ≡ both_schema → IfOk result (λ found. AreRead found.old.items found.new.items (state S.Store tx.old.conn.now).now) }
+    ensures apart { HasCleanDisk (state S.Store tx.new.conn.now) → (state S.Store tx.old.conn.now).now.schema ≡ both_schema → IfOk result (λ found. IsTrue found.is_apart → AreApart ((state S.Store tx.old.conn.now).now.trees 0) × AreApart ((state S.Store tx.old.conn.now).now.trees 2)) }
+    ensures decided { HasCleanDisk (state S.Store tx.new.conn.now) → (state S.Store tx.old.conn.now).now.schema ≡ both_schema → IfOk result (λ found. IsDecided (state S.Store tx.old.conn.now).now found.is_apart) }
+    ensures same { HasCleanDisk (state S.Store tx.new.conn.now) → OnOk result (IsUnchanged (state S.Store tx.old.conn.now) (state S.Store tx.new.conn.now)) }
+    ensures cause { HasCleanDisk (state S.Store tx.new.conn.now) → IsTrue (state S.Store tx.old.conn.now).in_transaction → IfErr result (IsMeant (state S.Store tx.old.conn.now) (state S.Store tx.new.conn.now)) }
+    ensures refused { HasCleanDisk (state S.Store tx.new.conn.now) → IsTrue (state S.Store tx.old.conn.now).in_transaction → IsErrOf result StoreFault.Refused → CannotFind S.Store tx.old.conn.now }
+    ensures asked { HasCleanDisk (state S.Store tx.new.conn.now) → IfOk result (λ found. Finds S.Store tx.old.conn.now tx.new.conn.now found.old.items found.new.items) }
+{
+    let (old, new) = read_both(tx, alloc)?;
+    match are_both_apart(tx) {
+        Ok(is_apart) => Ok(Found { old, new, is_apart }),
+        Err(error) => Err(fault_of(error)),
+    }
+}
+
+// The numbers of the table that is made of these rows.
+fn table_numbers(alloc: Global, old: &[Row], new: &[Row]) -> Result<NumberTable, StoreFault>
+    requires old { AreSorted old.now }
+    requires new { AreSorted new.now }
+    ensures numbered { IfOk result (λ numbers. AreNumbersOf old.now new.now (value_in numbers.rows)) }
+    ensures memory { IfErr result (λ fault. fault ≡ StoreFault.Memory) }
+{
+    match NumberTable::of_rows(alloc, if old.is_empty() { new } else { old }) {
+        Ok(numbers) => Ok(numbers),
+        Err(_) => Err(StoreFault::Memory),
+    }
+}
+
+// Moves the rows of the old table where there are some, and tells the numbers.
+#[tactic(auto, using(crate::proofs::Steps::steps_then, crate::proofs::Steps::clean_before))]
+fn settle_found<S: Alter>(
+    tx: &mut Transaction<'_, S>,
+    alloc: Global,
+    found: &Found,
+) -> Result<Opened, StoreFault>
+    requires old { AreSorted found.now.old.items }
+    requires new { AreSorted found.now.new.items }
+    ensures same_reference { tx.new.conn.ghost_name ≡ tx.old.conn.ghost_name }
+    ensures steps { Steps (state S.Store tx.old.conn.now) (state S.Store tx.new.conn.now) }
+    ensures on { HasCleanDisk (state S.Store tx.new.conn.now) → IsTrue (state S.Store tx.old.conn.now).in_transaction → OnOk result (IsTrue (state S.Store tx.new.conn.now).in_transaction) }
+    ensures settled { HasCleanDisk (state S.Store tx.new.conn.now) → IsTrue (state S.Store tx.old.conn.now).in_transaction → IsReady (state S.Store tx.old.conn.now).now → AreApart ((state S.Store tx.old.conn.now).now.trees 0) → OnOk result (Settles found.now.old.items found.now.new.items (state S.Store tx.old.conn.now).now (state S.Store tx.new.conn.now).now) }
+    ensures apart { IfOk result (λ opened. opened.is_apart ≡ found.now.is_apart) }
+    ensures numbered { IfOk result (λ opened. AreNumbersOf found.now.old.items found.now.new.items (value_in opened.numbers.rows)) }
+    ensures cause { HasCleanDisk (state S.Store tx.new.conn.now) → IsTrue (state S.Store tx.old.conn.now).in_transaction → IfErr result (IsMeant (state S.Store tx.old.conn.now) (state S.Store tx.new.conn.now)) }
+    ensures refused { HasCleanDisk (state S.Store tx.new.conn.now) → IsTrue (state S.Store tx.old.conn.now).in_transaction → IsErrOf result StoreFault.Refused → CannotMove S.Store found.now.old.items found.now.new.items tx.old.conn.now }
+    ensures asked { HasCleanDisk (state S.Store tx.new.conn.now) → IsTrue (state S.Store tx.old.conn.now).in_transaction → OnOk result (MovesRows S.Store found.now.old.items found.now.new.items tx.old.conn.now tx.new.conn.now) }
+{
+    let numbers = table_numbers(alloc, &found.old, &found.new)?;
+    settle_rows(tx, &found.old, &found.new)?;
+    Ok(Opened {
+        is_apart: found.is_apart,
+        numbers,
+    })
+}
+
+// Reads both tables, and moves the rows of the old one where there are some.
+#[tactic(auto, using(crate::proofs::Steps::steps_then, crate::proofs::Steps::clean_before))]
+fn find_and_settle<S: Alter>(
+    tx: &mut Transaction<'_, S>,
+    alloc: Global,
+) -> Result<Opened, StoreFault>
+    ensures same_reference { tx.new.conn.ghost_name ≡ tx.old.conn.ghost_name }
+    ensures steps { Steps (state S.Store tx.old.conn.now) (state S.Store tx.new.conn.now) }
+    ensures on { HasCleanDisk (state S.Store tx.new.conn.now) → IsTrue (state S.Store tx.old.conn.now).in_transaction → OnOk result (IsTrue (state S.Store tx.new.conn.now).in_transaction) }
+    ensures settled { HasCleanDisk (state S.Store tx.new.conn.now) → IsTrue (state S.Store tx.old.conn.now).in_transaction → IfOk result (λ opened. AreSettled opened.is_apart (value_in opened.numbers.rows) (state S.Store tx.old.conn.now).now (state S.Store tx.new.conn.now).now) }
+    ensures cause { HasCleanDisk (state S.Store tx.new.conn.now) → IsTrue (state S.Store tx.old.conn.now).in_transaction → IfErr result (IsMeant (state S.Store tx.old.conn.now) (state S.Store tx.new.conn.now)) }
+    ensures refused { HasCleanDisk (state S.Store tx.new.conn.now) → IsTrue (state S.Store tx.old.conn.now).in_transaction → IsErrOf result StoreFault.Refused → CannotSettle S.Store tx.old.conn.now }
+    ensures asked { HasCleanDisk (state S.Store tx.new.conn.now) → IsTrue (state S.Store tx.old.conn.now).in_transaction → OnOk result (SettlesInside S.Store tx.old.conn.now tx.new.conn.now) }
+{
+    let found = find(tx, alloc)?;
+    settle_found(tx, alloc, &found)
+}
+
+/// Makes the tables where they are missing, and moves the rows of the old one where there are some.
+#[tactic(auto, using(crate::proofs::Steps::steps_then, crate::proofs::Steps::clean_before))]
+pub(crate) fn open_inside<S: Alter>(
+    tx: &mut Transaction<'_, S>,
+    alloc: Global,
+) -> Result<Opened, StoreFault>
+    ensures same_reference { tx.new.conn.ghost_name ≡ tx.old.conn.ghost_name }
+    ensures steps { Steps (state S.Store tx.old.conn.now) (state S.Store tx.new.conn.now) }
+    ensures on { HasCleanDisk (state S.Store tx.new.conn.now) → IsTrue (state S.Store tx.old.conn.now).in_transaction → OnOk result (IsTrue (state S.Store tx.new.conn.now).in_transaction × IsTrue (state S.Store tx.old.conn.now).is_open) }
+    ensures opened { HasCleanDisk (state S.Store tx.new.conn.now) → IsTrue (state S.Store tx.old.conn.now).in_transaction → OnOk result (IsOpened (state S.Store tx.old.conn.now).now (state S.Store tx.new.conn.now).now) }
+    ensures found { HasCleanDisk (state S.Store tx.new.conn.now) → IsTrue (state S.Store tx.old.conn.now).in_transaction → IfOk result (λ opened. FoundOut opened.is_apart (value_in opened.numbers.rows) (state S.Store tx.old.conn.now).now (state S.Store tx.new.conn.now).now) }
+    ensures cause { HasCleanDisk (state S.Store tx.new.conn.now) → IsTrue (state S.Store tx.old.conn.now).in_transaction → IfErr result (IsMeant (state S.Store tx.old.conn.now) (state S.Store tx.new.conn.now)) }
+    ensures refused { HasCleanDisk (state S.Store tx.new.conn.now) → IsTrue (state S.Store tx.old.conn.now).in_transaction → IsErrOf result StoreFault.Refused → CannotOpenInside S.Store tx.old.conn.now }
+    ensures asked { HasCleanDisk (state S.Store tx.new.conn.now) → IsTrue (state S.Store tx.old.conn.now).in_transaction → OnOk result (OpensInside S.Store tx.old.conn.now tx.new.conn.now) }
+{
+    match make_tables(tx) {
+        Ok(()) => find_and_settle(tx, alloc),
+        Err(error) => Err(fault_of(error)),
+    }
+}
