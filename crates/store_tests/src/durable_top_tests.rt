@@ -1,7 +1,7 @@
 //! Stores in memory commit by commit: one without faults, one that refuses, and one that fails.
-use durable_top::{
-    MemStore, NumberTable, Row, StoreFault, TopStore, are_rising, next_number, table_of,
-};
+ghost use Rattle.std.specs.Prelude.{pos, ◌≤ℤ◌};
+
+use durable_top::{MemStore, Row, StoreFault, TopStore, are_rising, table_of};
 use serial_spec::PlainTable;
 use std::alloc::Global;
 use std::process::Abort;
@@ -25,17 +25,17 @@ fn change(rt: &impl Abort, text: &str) -> Change {
     }
 }
 
-// A row as in `x=1@2`, whose number is 2, or `x=1`, whose number is 0.
-fn row(rt: &impl Abort, text: &str) -> Row {
-    let (what, number) = match text.split_once('@') {
-        Some((what, number)) => (what, number),
-        None => (text, "0"),
-    };
+// A row as in `x=1:2`, of the value 1 and set by commit 2.
+fn row(rt: &impl Abort, text: &str) -> Row
+    ensures { pos 0 ≤ℤ result.commit }
+{
+    let (what, number) = text.split_once(':').expect(rt, text);
     let Change { key, value } = change(rt, what);
+    let number: u32 = number.parse().expect(rt, text);
     Row {
         key,
         value: value.expect(rt, text),
-        commit: number.parse().expect(rt, text),
+        commit: i64::from(number),
     }
 }
 
@@ -59,7 +59,7 @@ fn commits<S: TopStore>(rt: &impl Abort, store: &mut S, script: &str, counted: (
     (store.faults(), store.failures()) == counted
 }
 
-// Whether the store gives these rows, as in `x=1@1 y=2@3`.
+// Whether the store gives these rows, as in `x=1:2 y=2:2`.
 fn gives<S: TopStore>(rt: &impl Abort, alloc: Global, store: &mut S, text: &str) -> bool {
     let Ok(rows) = store.load(alloc) else {
         return false;
@@ -74,7 +74,7 @@ fn gives<S: TopStore>(rt: &impl Abort, alloc: Global, store: &mut S, text: &str)
 }
 
 fn serves(rt: &impl Abort, alloc: Global) -> bool {
-    let Ok(mut store) = MemStore::new(alloc, &[row(rt, "b=2")]) else {
+    let Ok(mut store) = MemStore::new(alloc, &[row(rt, "b=2:3")]) else {
         return false;
     };
     let script = "c=3 -> ok
@@ -82,7 +82,7 @@ fn serves(rt: &impl Abort, alloc: Global) -> bool {
         b -> ok
         b -> ok
         c=9 -> ok";
-    commits(rt, &mut store, script, (0, 0)) && gives(rt, alloc, &mut store, "a=-1@2 c=9@3")
+    commits(rt, &mut store, script, (0, 0)) && gives(rt, alloc, &mut store, "a=-1:5 c=9:6")
 }
 
 // A trial run refuses one growth, and so stands in the way of one of two stores.
@@ -93,68 +93,6 @@ fn a_store_without_faults(rt: HostRuntime) {
     assert!(rt; first || second);
 }
 
-// Numbers rise by commits with changes, and fall where the rows that carry the greatest go.
-fn counts(rt: &impl Abort, alloc: Global) -> bool {
-    let Ok(mut store) = MemStore::new(alloc, &[row(rt, "x=9")]) else {
-        return false;
-    };
-    commits(rt, &mut store, "y=1 -> ok\n x=2 -> ok", (0, 0))
-        && gives(rt, alloc, &mut store, "x=2@2 y=1@1")
-        && store.commit(&[change(rt, "x"), change(rt, "z=5")]).is_ok()
-        && gives(rt, alloc, &mut store, "y=1@1 z=5@3")
-        && store.commit(&[]).is_ok()
-        && commits(rt, &mut store, "z -> ok", (0, 0))
-        && gives(rt, alloc, &mut store, "y=1@1")
-        && commits(rt, &mut store, "y=7 -> ok", (0, 0))
-        && gives(rt, alloc, &mut store, "y=7@2")
-}
-
-#[test]
-fn numbers_of_commits(rt: HostRuntime) {
-    let first = counts(&rt, rt.alloc());
-    let second = counts(&rt, rt.alloc());
-    assert!(rt; first || second);
-}
-
-// Over the last number no commit is made, and one of removals is none the more.
-fn refuses_past_the_last(rt: &impl Abort, alloc: Global) -> bool {
-    let rows = [row(rt, "a=1@9223372036854775807")];
-    let Ok(mut store) = MemStore::new(alloc, &rows) else {
-        return false;
-    };
-    commits(rt, &mut store, "a -> refused\n b=1 -> refused", (2, 0))
-        && store.commit(&[]).is_ok()
-        && gives(rt, alloc, &mut store, "a=1@9223372036854775807")
-}
-
-#[test]
-fn no_number_is_left(rt: HostRuntime) {
-    let first = refuses_past_the_last(&rt, rt.alloc());
-    let second = refuses_past_the_last(&rt, rt.alloc());
-    assert!(rt; first || second);
-    assert!(rt; next_number(0) == Some(1) && next_number(i64::MAX).is_none());
-}
-
-fn keeps_numbers(rt: &impl Abort, alloc: Global) -> bool {
-    let Ok(mut numbers) = NumberTable::of_rows(alloc, &[row(rt, "a=1@4"), row(rt, "b=1@7")]) else {
-        return false;
-    };
-    let is_first = numbers.top() == 7 && numbers.number(&key(rt, "a")) == Some(4);
-    if numbers.reserve(1).is_err() {
-        return false;
-    }
-    numbers.change(8, &[change(rt, "b")]);
-    is_first && numbers.top() == 4 && numbers.number(&key(rt, "b")).is_none()
-}
-
-#[test]
-fn numbers_in_memory(rt: HostRuntime) {
-    let first = keeps_numbers(&rt, rt.alloc());
-    let second = keeps_numbers(&rt, rt.alloc());
-    assert!(rt; first || second);
-    assert!(rt; NumberTable::new(rt.alloc()).top() == 0);
-}
-
 fn refuses_the_second(rt: &impl Abort, alloc: Global) -> bool {
     let Ok(mut store) = MemStore::refusing(alloc, &[], 2) else {
         return false;
@@ -162,7 +100,7 @@ fn refuses_the_second(rt: &impl Abort, alloc: Global) -> bool {
     let script = "a=1 -> ok
         b=2 -> refused
         b=3 -> ok";
-    commits(rt, &mut store, script, (1, 0)) && gives(rt, alloc, &mut store, "a=1@1 b=3@2")
+    commits(rt, &mut store, script, (1, 0)) && gives(rt, alloc, &mut store, "a=1:1 b=3:2")
 }
 
 #[test]
@@ -193,11 +131,11 @@ fn a_store_that_fails_at_the_second(rt: HostRuntime) {
 fn commits_again(rt: &impl Abort, alloc: Global, store: &mut MemStore) -> bool {
     let wanting = word(&store.commit(&[change(rt, "b=2")])) == "memory";
     if !wanting {
-        return gives_at_last(rt, alloc, store, "a=1 b=2@1") && store.faults() == 0;
+        return gives_at_last(rt, alloc, store, "a=1:0 b=2:1") && store.faults() == 0;
     }
-    gives_at_last(rt, alloc, store, "a=1")
+    gives_at_last(rt, alloc, store, "a=1:0")
         && commits(rt, store, "b=2 -> ok", (1, 0))
-        && gives_at_last(rt, alloc, store, "a=1 b=2@1")
+        && gives_at_last(rt, alloc, store, "a=1:0 b=2:1")
 }
 
 // The same at the second asking, where the first found no memory.
@@ -207,7 +145,7 @@ fn gives_at_last(rt: &impl Abort, alloc: Global, store: &mut MemStore, text: &st
 
 #[test]
 fn a_commit_that_finds_no_memory(rt: HostRuntime) {
-    let rows = [row(&rt, "a=1")];
+    let rows = [row(&rt, "a=1:0")];
     let mut store = match MemStore::new(rt.alloc(), &rows) {
         Ok(store) => store,
         Err(_) => MemStore::new(rt.alloc(), &rows).expect(&rt, "memory"),
@@ -226,9 +164,9 @@ fn table(rt: &impl Abort, alloc: Global, rows: &[Row]) -> PlainTable {
 #[test]
 fn rows_make_a_table(rt: HostRuntime) {
     for (first, second, rising, len) in [
-        ("a=1", "b=2", true, 2),
-        ("b=2", "a=1", false, 2),
-        ("b=2", "b=3", false, 1),
+        ("a=1:0", "b=2:0", true, 2),
+        ("b=2:0", "a=1:0", false, 2),
+        ("b=2:0", "b=3:0", false, 1),
     ] {
         let rows = [row(&rt, first), row(&rt, second)];
         let table = table(&rt, rt.alloc(), &rows);

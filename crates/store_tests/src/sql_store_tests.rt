@@ -5,6 +5,7 @@ use durable_top::{Row, StoreFault, TopStore};
 use sql_store::{MemoryStore, SqlStore};
 use sqlite::{Connection, Error, MemStore};
 use std::alloc::Global;
+use std::cmp::Ordering;
 use std::process::Abort;
 use std::rt::HostRuntime;
 use txn_names::{Change, Key};
@@ -30,36 +31,45 @@ fn word<T>(answer: &Result<T, StoreFault>) -> &'static str {
     }
 }
 
-// Commits one change after another, up to the first that is not made: whether all were.
+// Commits the one change that a word has, as in `x=1`, or its two, as in `x,y=2`, which stand in byte order of their keys.
+fn commit<S: TopStore>(rt: &impl Abort, store: &mut S, word: &str) -> Result<(), StoreFault> {
+    let Some((first, second)) = word.split_once(',') else {
+        return store.commit(&[change(rt, word)]);
+    };
+    let first = change(rt, first);
+    let second = change(rt, second);
+    match first.key.cmp(&second.key) {
+        Ordering::Less => store.commit(&[first, second]),
+        _ => Err(StoreFault::Refused),
+    }
+}
+
+// Makes one commit after another, up to the first that is not made: whether all were.
 fn commits<S: TopStore>(rt: &impl Abort, store: &mut S, script: &str) -> bool {
     for word in script.split_whitespace() {
-        if store.commit(&[change(rt, word)]).is_err() {
+        if commit(rt, store, word).is_err() {
             return false;
         }
     }
     true
 }
 
-// A row as in `x=1@2`, whose number is 2.
-fn row(rt: &impl Abort, text: &str) -> Option<Row> {
-    let (what, number) = text.split_once('@')?;
+// A row as in `x=1:2`, of the value 1 and set by commit 2.
+fn row(rt: &impl Abort, text: &str) -> Row {
+    let (what, number) = text.split_once(':').expect(rt, text);
     let Change { key, value } = change(rt, what);
-    Some(Row {
+    Row {
         key,
-        value: value?,
+        value: value.expect(rt, text),
         commit: number.parse().expect(rt, text),
-    })
+    }
 }
 
-// Whether the rows are these, as in `x=1@1 y=2@2`.
+// Whether the rows are these, as in `x=1:2 y=2:2`.
 fn are(rt: &impl Abort, rows: &[Row], text: &str) -> bool {
     let mut words = text.split_whitespace();
     for given in rows {
-        let due = match words.next() {
-            Some(word) => row(rt, word),
-            None => None,
-        };
-        if due != Some(*given) {
+        if words.next().map(|word| row(rt, word)) != Some(*given) {
             return false;
         }
     }
@@ -139,7 +149,7 @@ fn beside(alloc: Global) -> Option<SqlStore<MemStore>> {
 #[test]
 fn rows_stay_for_the_next_store(rt: HostRuntime) {
     let script = "b=2 c=-9223372036854775808 a=9223372036854775807 b=3 c d e.f_g-0=0";
-    let rows = "a=9223372036854775807@3 b=3@4 e.f_g-0=0@5";
+    let rows = "a=9223372036854775807:3 b=3:4 e.f_g-0=0:5";
     let first = leaves(&rt, rt.alloc(), alone(rt.alloc()), script, rows);
     let second = leaves(&rt, rt.alloc(), alone(rt.alloc()), script, rows);
     assert!(rt; first || second);
@@ -152,14 +162,14 @@ fn rows_stay_beside_another_table(rt: HostRuntime) {
         rt.alloc(),
         beside(rt.alloc()),
         "b=2 a=1 c=3 b",
-        "a=1@2 c=3@3",
+        "a=1:2 c=3:3",
     );
     let second = leaves(
         &rt,
         rt.alloc(),
         beside(rt.alloc()),
         "b=2 a=1 c=3 b",
-        "a=1@2 c=3@3",
+        "a=1:2 c=3:3",
     );
     assert!(rt; first || second);
 }
@@ -176,8 +186,8 @@ fn keeps(rt: &impl Abort, alloc: Global, script: &str, rows: &str) -> bool {
 
 #[test]
 fn rows_stay_in_memory(rt: HostRuntime) {
-    let first = keeps(&rt, rt.alloc(), "b=2 a=1 c=3 b", "a=1@2 c=3@3");
-    let second = keeps(&rt, rt.alloc(), "b=2 a=1 c=3 b", "a=1@2 c=3@3");
+    let first = keeps(&rt, rt.alloc(), "b=2 a=1 c=3 b", "a=1:2 c=3:3");
+    let second = keeps(&rt, rt.alloc(), "b=2 a=1 c=3 b", "a=1:2 c=3:3");
     assert!(rt; first || second);
 }
 
@@ -189,13 +199,13 @@ fn gives_at_last<S: TopStore>(rt: &impl Abort, alloc: Global, store: &mut S, tex
 // A commit that finds no memory is a fault, and leaves what the store gives. Made again, it is made.
 fn commits_again<S: TopStore>(rt: &impl Abort, alloc: Global, store: &mut S) -> bool {
     let (before, faults) = match word(&store.commit(&[change(rt, "b=2")])) {
-        "ok" => ("b=2@1", 0),
+        "ok" => ("b=2:1", 0),
         "memory" => ("", 1),
         _ => return false,
     };
     gives_at_last(rt, alloc, store, before)
         && (faults == 0 || commits(rt, store, "b=2"))
-        && gives_at_last(rt, alloc, store, "b=2@1")
+        && gives_at_last(rt, alloc, store, "b=2:1")
         && store.faults() == faults
 }
 
@@ -237,75 +247,109 @@ fn is_answered(alloc: Global, sql: &str, answer: (&str, &str)) -> bool {
     }
 }
 
-const OLD: &str =
-    "CREATE TABLE results (k TEXT NOT NULL PRIMARY KEY, v INTEGER NOT NULL) STRICT";
-
-const NEW: &str = "CREATE TABLE results2 (k TEXT NOT NULL PRIMARY KEY, v INTEGER NOT NULL, n INTEGER NOT NULL) STRICT";
-
-// Whether a database on which these statements were run, after the old table was made where it is asked for, is answered so.
-fn is_refused(alloc: Global, tables: &[&str], sql: &str) -> bool {
-    let Ok(mut connection) = Connection::open_in_memory(alloc) else {
-        return false;
-    };
-    for table in tables {
-        if connection.execute(table, &[]).is_err() {
-            return false;
-        }
-    }
-    if connection.execute(sql, &[]).is_err() {
-        return false;
-    }
-    answer_of(connection, alloc) == ("refused", "")
-}
-
 #[test]
 fn databases_and_rows_that_are_refused(rt: HostRuntime) {
     let alloc = rt.alloc();
-    for (tables, sql) in [
-        ([].as_slice(), "BEGIN"),
-        (&[], "CREATE TABLE results (k TEXT NOT NULL PRIMARY KEY) STRICT"),
-        (&[], "CREATE TABLE results (a INTEGER, b TEXT) STRICT"),
-        (&[], "CREATE TABLE results2 (k TEXT NOT NULL PRIMARY KEY, v INTEGER NOT NULL) STRICT"),
-        (&[OLD], "INSERT INTO results VALUES ('A', 1)"),
-        (&["CREATE TABLE results (k TEXT, v TEXT) STRICT"], "INSERT INTO results VALUES ('a', '1')"),
-        (&["CREATE TABLE results (k BLOB, v INTEGER) STRICT"], "INSERT INTO results VALUES (x'61', 1)"),
-        (&[OLD, NEW], "INSERT INTO results2 VALUES ('a', 1, -1)"),
-        (&[OLD, NEW], "INSERT INTO results2 VALUES ('A', 1, 1)"),
-        (&[OLD, NEW, "INSERT INTO results2 VALUES ('a', 1, 1)"], "INSERT INTO results VALUES ('b', 1)"),
+    for sql in [
+        "BEGIN",
+        "CREATE TABLE results (k TEXT NOT NULL PRIMARY KEY) STRICT",
+        "CREATE TABLE results (a INTEGER, b TEXT) STRICT",
+        "CREATE TABLE results (k TEXT NOT NULL PRIMARY KEY, v INTEGER NOT NULL) STRICT;INSERT INTO results VALUES ('A', 1)",
+        "CREATE TABLE results (k TEXT, v TEXT) STRICT;INSERT INTO results VALUES ('a', '1')",
+        "CREATE TABLE results (k TEXT, v INTEGER) STRICT;INSERT INTO results VALUES ('a', 1);INSERT INTO results VALUES ('a', 1)",
+        "CREATE TABLE results (k BLOB, v INTEGER) STRICT;INSERT INTO results VALUES (x'61', 1)",
+        "CREATE TABLE results2 (k TEXT NOT NULL PRIMARY KEY, v INTEGER NOT NULL) STRICT",
+        "CREATE TABLE results2 (k TEXT, v INTEGER, n INTEGER) STRICT;INSERT INTO results2 VALUES ('A', 1, 1)",
+        "CREATE TABLE results2 (k TEXT, v TEXT, n INTEGER) STRICT;INSERT INTO results2 VALUES ('a', '1', 1)",
+        "CREATE TABLE results2 (k TEXT, v INTEGER, n INTEGER) STRICT;INSERT INTO results2 VALUES ('a', 1, -1)",
+        "CREATE TABLE results2 (k TEXT, v INTEGER, n TEXT) STRICT;INSERT INTO results2 VALUES ('a', 1, '1')",
+        "CREATE TABLE results (k TEXT, v INTEGER) STRICT;CREATE TABLE results2 (k TEXT, v INTEGER, n INTEGER) STRICT;INSERT INTO results VALUES ('a', 1);INSERT INTO results2 VALUES ('b', 1, 1)",
     ] {
-        let first = is_refused(alloc, tables, sql);
-        let second = is_refused(alloc, tables, sql);
+        let first = is_answered(alloc, sql, ("refused", ""));
+        let second = is_answered(alloc, sql, ("refused", ""));
         assert!(rt; first || second, "{sql}");
     }
 }
 
 #[test]
-fn databases_that_are_opened(rt: HostRuntime) {
+fn databases_that_are_served(rt: HostRuntime) {
     let alloc = rt.alloc();
-    for sql in [OLD, NEW, "CREATE TABLE other (a INTEGER) STRICT"] {
+    for sql in [
+        "CREATE TABLE other (a INTEGER) STRICT",
+        "CREATE TABLE results (k TEXT NOT NULL PRIMARY KEY, v INTEGER NOT NULL) STRICT",
+        "CREATE TABLE results2 (k TEXT, v INTEGER, n INTEGER) STRICT;INSERT INTO results2 VALUES ('a', 1, 0)",
+    ] {
         let first = is_answered(alloc, sql, ("ok", "ok"));
         let second = is_answered(alloc, sql, ("ok", "ok"));
         assert!(rt; first || second, "{sql}");
     }
 }
 
-// Rows of the old table come over under the number 0, and go on from there.
-fn comes_over(rt: &impl Abort, alloc: Global) -> bool {
-    let sql = "CREATE TABLE results (k TEXT NOT NULL PRIMARY KEY, v INTEGER NOT NULL) STRICT;INSERT INTO results VALUES ('x', 9)";
-    let Ok(connection) = database(alloc, sql) else {
+// The connection with what a store over it leaves, where the store takes these commits and then gives these rows.
+fn after(
+    rt: &impl Abort,
+    alloc: Global,
+    connection: Connection<MemStore>,
+    script: &str,
+    rows: &str,
+) -> Option<Connection<MemStore>> {
+    let mut store = adopted(alloc, connection)?;
+    let served = commits(rt, &mut store, script) && gives(rt, alloc, &mut store, rows);
+    let left = store.into_connection();
+    if served { Some(left) } else { None }
+}
+
+// A row of the first version is taken over with the number 0, and the commits of one store after another are counted on.
+fn counts_on(rt: &impl Abort, alloc: Global) -> bool {
+    let old =
+        "CREATE TABLE results (k TEXT NOT NULL PRIMARY KEY, v INTEGER NOT NULL) STRICT;INSERT INTO results VALUES ('x', 9)";
+    let Ok(mut connection) = database(alloc, old) else {
+        return false;
+    };
+    for (script, rows) in [
+        ("", "x=9:0"),
+        ("y=1 x=2", "x=2:2 y=1:1"),
+        ("x,z=5", "y=1:1 z=5:3"),
+        ("z", "y=1:1"),
+        ("y=7", "y=7:2"),
+        ("y=7", "y=7:3"),
+    ] {
+        connection = match after(rt, alloc, connection, script, rows) {
+            Some(left) => left,
+            None => return false,
+        };
+    }
+    drop(connection);
+    true
+}
+
+#[test]
+fn commits_are_counted_on_over_an_old_row(rt: HostRuntime) {
+    let first = counts_on(&rt, rt.alloc());
+    let second = counts_on(&rt, rt.alloc());
+    assert!(rt; first || second);
+}
+
+// A commit behind the last number is refused, whatever it changes, and the rows stay.
+fn ends_at_the_last_number(rt: &impl Abort, alloc: Global) -> bool {
+    let last =
+        "CREATE TABLE results2 (k TEXT NOT NULL PRIMARY KEY, v INTEGER NOT NULL, n INTEGER NOT NULL) STRICT;INSERT INTO results2 VALUES ('x', 1, 9223372036854775807)";
+    let Ok(connection) = database(alloc, last) else {
         return false;
     };
     let Some(mut store) = adopted(alloc, connection) else {
         return false;
     };
-    let is_moved = gives(rt, alloc, &mut store, "x=9@0");
-    let is_counted = commits(rt, &mut store, "y=1 x=2") && gives(rt, alloc, &mut store, "x=2@2 y=1@1");
-    is_moved && is_counted && is_left(rt, alloc, store.into_connection(), "x=2@2 y=1@1")
+    let refused = word(&commit(rt, &mut store, "x")) == "refused"
+        && word(&commit(rt, &mut store, "y=1")) == "refused";
+    let stays = gives_at_last(rt, alloc, &mut store, "x=1:9223372036854775807");
+    drop(store);
+    refused && stays
 }
 
 #[test]
-fn rows_of_the_old_table(rt: HostRuntime) {
-    let first = comes_over(&rt, rt.alloc());
-    let second = comes_over(&rt, rt.alloc());
+fn the_last_number_is_the_last(rt: HostRuntime) {
+    let first = ends_at_the_last_number(&rt, rt.alloc());
+    let second = ends_at_the_last_number(&rt, rt.alloc());
     assert!(rt; first || second);
 }

@@ -1,39 +1,22 @@
 //! A store over a database file and its log. Each of the two stops at some call and the machine with it: what is opened
-//! then holds the table before a commit or after it. A file of the old table alone holds its rows under the number 0
-//! wherever its opening stopped.
-use super::{are, change};
+//! then holds the table before a commit or after it. A stop while a row of the first version is taken over leaves that row.
+use super::{are, commit};
 use durable_top::TopStore;
 use sql_store::SqlStore;
 use sqlite::{Connection, FileStore, Files, Options};
 use sqlite_disk::{Crash, Disk, Fuse, Memory};
 use std::alloc::Global;
-use std::cmp::Ordering;
 use std::process::Abort;
 use std::rt::HostRuntime;
 
-/// The commits of a run, each of one change or of two.
-const COMMITS: [(&str, &str); 3] = [("x=1", ""), ("x=3", "y=1"), ("x", "")];
+/// The commits of a run.
+const COMMITS: [&str; 3] = ["x=1", "x=3,y=1", "x"];
 
-/// The statements that make a file of the old table alone.
-const OLD: [&str; 2] = [
-    "CREATE TABLE results (k TEXT NOT NULL PRIMARY KEY, v INTEGER NOT NULL) STRICT",
-    "INSERT INTO results VALUES ('w', 9)",
-];
+/// The tables after so many of them, over new files.
+const TABLES: [&str; 4] = ["", "x=1:1", "x=3:2 y=1:2", "y=1:2"];
 
-/// Over which files a run begins.
-#[derive(Clone, Copy, PartialEq, Eq)]
-enum Start {
-    Empty,
-    Old,
-}
-
-/// The tables after so many of the commits.
-fn tables(start: Start) -> [&'static str; 4] {
-    match start {
-        Start::Empty => ["", "x=1@1", "x=3@2 y=1@2", "y=1@2"],
-        Start::Old => ["w=9@0", "w=9@0 x=1@1", "w=9@0 x=3@2 y=1@2", "w=9@0 y=1@2"],
-    }
-}
+/// The same over files of the first version with one row.
+const TABLES_BESIDE: [&str; 4] = ["w=9:0", "w=9:0 x=1:1", "w=9:0 x=3:2 y=1:2", "w=9:0 y=1:2"];
 
 /// No run makes so many calls of one file.
 const MOST: u64 = 100;
@@ -43,27 +26,15 @@ const MOST: u64 = 100;
 enum Job {
     /// To make the commits, up to the first that is not made.
     Commit,
-    /// To give the table after so many commits, or after one more.
-    Give(Start, usize),
-}
-
-fn commits<S: TopStore>(rt: &impl Abort, store: &mut S, first: &str, second: &str) -> bool {
-    let first = change(rt, first);
-    if second.is_empty() {
-        return store.commit(&[first]).is_ok();
-    }
-    let second = change(rt, second);
-    match first.key.cmp(&second.key) {
-        Ordering::Less => store.commit(&[first, second]).is_ok(),
-        _ => false,
-    }
+    /// To give one of these tables, of which the first is that after so many commits.
+    Give(&'static [&'static str], usize),
 }
 
 // How many of the commits are made.
 fn made<S: TopStore>(rt: &impl Abort, store: &mut S) -> usize {
     let mut made: usize = 0;
-    for (first, second) in COMMITS {
-        if !commits(rt, store, first, second) {
+    for word in COMMITS {
+        if commit(rt, store, word).is_err() {
             return made;
         }
         made = made.saturating_add(1);
@@ -71,28 +42,25 @@ fn made<S: TopStore>(rt: &impl Abort, store: &mut S) -> usize {
     made
 }
 
-// How many commits the table tells that the store gives: so many or one more. Any other table is none.
+// How many commits the table tells that the store gives, which is one of these. Any other is none.
 fn given<S: TopStore>(
     rt: &impl Abort,
     alloc: Global,
     store: &mut S,
-    start: Start,
-    made: usize,
+    tables: &[&str],
+    first: usize,
 ) -> Option<usize> {
     let rows = store.load(alloc).expect(rt, "rows");
-    let tables = tables(start);
-    for (commits, table) in tables.iter().enumerate().skip(made).take(2) {
-        if are(rt, rows.as_slice(), table) {
-            return Some(commits);
-        }
-    }
-    None
+    let place = tables
+        .iter()
+        .position(|table| are(rt, rows.as_slice(), table))?;
+    Some(first.saturating_add(place))
 }
 
 fn done<S: TopStore>(rt: &impl Abort, alloc: Global, store: &mut S, job: &Job) -> Option<usize> {
     match job {
         Job::Commit => Some(made(rt, store)),
-        Job::Give(start, made) => given(rt, alloc, store, *start, *made),
+        Job::Give(tables, first) => given(rt, alloc, store, tables, *first),
     }
 }
 
@@ -165,60 +133,67 @@ fn crashed<D: Crash + Drop>(mut files: Files<D>) -> Files<D> {
     files
 }
 
-// The files that a run begins over.
-fn files(rt: &impl Abort, alloc: Global, start: Start) -> Files<Memory> {
+// New files, or files of the first version with one row.
+fn begun(rt: &impl Abort, alloc: Global, is_new: bool) -> Files<Memory> {
     let files = Files {
         log: Memory::new(alloc),
         db: Memory::new(alloc),
     };
-    if start == Start::Empty {
+    if is_new {
         return files;
     }
-    match Connection::open_files(alloc, files, options()) {
-        Ok(mut connection) => {
-            for statement in OLD {
-                connection.execute(statement, &[]).expect(rt, statement);
-            }
-            closed(connection)
+    let mut connection = match Connection::open_files(alloc, files, options()) {
+        Ok(connection) => connection,
+        Err((_, left)) => return left.into_files(),
+    };
+    for statement in [
+        "CREATE TABLE results (k TEXT NOT NULL PRIMARY KEY, v INTEGER NOT NULL) STRICT",
+        "INSERT INTO results VALUES ('w', 9)",
+    ] {
+        connection.execute(statement, &[]).expect(rt, statement);
+    }
+    closed(connection)
+}
+
+// The tables that may stand where so many commits were made, or where none was begun.
+fn due(tables: &'static [&'static str], made: Option<usize>) -> Job {
+    match made {
+        Some(made) => {
+            let most = tables.len().min(made.saturating_add(2));
+            Job::Give(&tables[made.min(most)..most], made)
         }
-        Err((_, left)) => left.into_files(),
+        None => Job::Give(&tables[..1], 0),
     }
 }
 
 // How many commits stand after a run whose log and database stop after so many calls, or none where they hold another
 // table than that before the stop or after it.
-fn stopped(rt: &impl Abort, alloc: Global, start: Start, log: u64, db: u64) -> Option<usize> {
-    let begun = files(rt, alloc, start);
+fn stopped(rt: &impl Abort, alloc: Global, is_new: bool, log: u64, db: u64) -> Option<usize> {
+    let begun = begun(rt, alloc, is_new);
     let files = Files {
         log: Fuse::new(begun.log, log),
         db: Fuse::new(begun.db, db),
     };
+    let tables: &'static [&'static str] = if is_new { &TABLES } else { &TABLES_BESIDE };
     let (made, left) = run(rt, alloc, files, &Job::Commit);
-    let (stand, _) = run(rt, alloc, crashed(left), &Job::Give(start, made.unwrap_or(0)));
+    let (stand, _) = run(rt, alloc, crashed(left), &due(tables, made));
     stand
-}
-
-fn stops(rt: &impl Abort, alloc: Global, start: Start) {
-    for calls in 0..MOST {
-        assert!(rt;
-            stopped(rt, alloc, start, calls, u64::MAX).is_some(),
-            "log {calls}"
-        );
-        assert!(rt;
-            stopped(rt, alloc, start, u64::MAX, calls).is_some(),
-            "database {calls}"
-        );
-    }
-    assert!(rt; stopped(rt, alloc, start, 0, 0) == Some(0));
-    assert!(rt; stopped(rt, alloc, start, MOST, MOST) == Some(COMMITS.len()));
 }
 
 #[test]
 fn a_stop_at_each_call(rt: HostRuntime) {
-    stops(&rt, rt.alloc(), Start::Empty);
-}
-
-#[test]
-fn a_stop_at_each_call_over_the_old_table(rt: HostRuntime) {
-    stops(&rt, rt.alloc(), Start::Old);
+    for is_new in [true, false] {
+        for calls in 0..MOST {
+            assert!(rt;
+                stopped(&rt, rt.alloc(), is_new, calls, u64::MAX).is_some(),
+                "log {calls}, new {is_new}"
+            );
+            assert!(rt;
+                stopped(&rt, rt.alloc(), is_new, u64::MAX, calls).is_some(),
+                "database {calls}, new {is_new}"
+            );
+        }
+        assert!(rt; stopped(&rt, rt.alloc(), is_new, 0, 0) == Some(0));
+        assert!(rt; stopped(&rt, rt.alloc(), is_new, MOST, MOST) == Some(COMMITS.len()));
+    }
 }
