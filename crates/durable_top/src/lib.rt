@@ -10,5 +10,5 @@ mod store;
 
 pub use memory::MemStore;
 pub use numbers::{NumberTable, next_number};
-pub use rows::{are_rising, table_of};
+pub use rows::{are_numbered, are_rising, table_of};
 pub use store::{Row, StoreFault, TopStore};

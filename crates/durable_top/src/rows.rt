@@ -3,6 +3,7 @@ ghost use Rattle.std.specs.Prelude.{◌≡◌, ◌<◌, ◌≤◌, ◌+◌, ◌�
 ghost use Rattle.serial_spec.specs.Changes.{overlay};
 ghost use Rattle.serial_spec.specs.Rows.{IsRising, value_in};
 ghost use Rattle.serial_spec.specs.Serial.{put};
+ghost use Rattle.durable_top.specs.Numbered.{AreNumbered};
 ghost use Rattle.durable_top.specs.Store.{plain};
 
 use crate::store::Row;
@@ -18,6 +19,21 @@ pub fn are_rising(rows: &[Row]) -> bool
     while left > 1 {
         left -= 1;
         if rows[left - 1].key >= rows[left].key {
+            return false;
+        }
+    }
+    true
+}
+
+/// Whether no row has a number below 0.
+pub fn are_numbered(rows: &[Row]) -> bool
+    ensures { IsTrue result ↔ AreNumbered rows.now }
+{
+    let mut left = rows.len();
+    while left > 0 {
+        left -= 1;
+        let row = &rows[left];
+        if row.commit < 0 {
             return false;
         }
     }
