@@ -13,3 +13,8 @@ pub moves_by : {S : Type 0} (g : Ghosts S) (old_rows new_rows : List Row) (old n
     → (put : Held S) × PutsEach g old_rows old put × Executed g empty_text [] put new → MovesRows g old_rows new_rows old new
 moves_by g [] new_rows old new some none moved = absurd (some refl)
 moves_by g (r ∷ rows) new_rows old new some none moved = (none, moved.0, moved.1, moved.2)
+
+-- where there are none all is as it was
+pub moves_none : {S : Type 0} (g : Ghosts S) (old_rows new_rows : List Row) (old new : Held S) → old_rows ≡ [] → MovesRows g old_rows new_rows old new → new ≡ old
+moves_none g [] new_rows old new none moves = moves
+moves_none g (r ∷ rows) new_rows old new none moves = absurd cc

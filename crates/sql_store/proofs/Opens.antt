@@ -8,6 +8,7 @@ use Rattle.std.proofs.lemmas.List.Sorted.{length_permutation}
 use Rattle.sqlite.specs.Effect.{Database}
 use Rattle.sqlite.specs.Order.{Row as Shown}
 use Rattle.txn_names.specs.Path.{label_eq}
+use Rattle.txn_names.proofs.Names.{label_eq_self}
 use Rattle.serial_spec.specs.Serial.{Map}
 use Rattle.durable_top.specs.declared.store.Row.{Row}
 use Rattle.durable_top.specs.Numbered.{Numbered, numbers_of, entries_in}
@@ -66,7 +67,7 @@ empty_maps : moved [] ≡ map_of []
 empty_maps = λ i k. None
 
 module _ (old mid new : Database) (old_rows new_rows : List Row) (made : AreMade old mid) (read : mid.schema ≡ both_schema → AreRead old_rows new_rows mid)
-    (settled : IsReady mid → AreApart (mid.trees 0) → Settles old_rows new_rows mid new) where
+    (settled : IsReady mid → AreApart (mid.trees 0) → Settles old_rows new_rows mid new) (kept : mid.schema ≡ both_schema → mid.trees 0 ≡ [] → new ≡ mid) where
   -- the new table was empty, so that the rows of the old one are the table
   alone : mid.schema ≡ both_schema → mid.trees 2 ≡ [] → table_of new ≡ laid old_rows (table_of mid) → table_of new ≡ moved (mid.trees 0)
   alone schema none is = is ∙ laid_alone old_rows (table_of mid) (λ k. ap (λ t. map_of t k) none) ∙ (read schema).old_is
@@ -105,7 +106,18 @@ module _ (old mid new : Database) (old_rows new_rows : List Row) (made : AreMade
               let none = (read schema).new_none it.0 in
               (it.1, inr (ap (λ (d : Database). d.trees 2) (sym same) ∙ none, alone schema none it.2 ∙ ap (λ (d : Database). moved (d.trees 0)) same))
         ];
+    stays = λ has none.
+        let same = made.both has in
+        kept (ap (λ (d : Database). d.schema) same ∙ has) (ap (λ (d : Database). d.trees 0) same ∙ none) ∙ same;
   }
+
+-- where the old table has no row none is read
+pub none_old : (rows : List Row) (tree : List Shown) → entries_in rows ≡ moved tree → tree ≡ [] → rows ≡ []
+none_old [] tree is none = refl
+none_old (r ∷ rows) tree is none =
+    let nothing : entries_in (r ∷ rows) r.key ≡ None = ap (λ (m : Numbered). m r.key) (is ∙ ap moved none) in
+    let something : entries_in (r ∷ rows) r.key ≡ Some (r.value, r.commit) = ap (λ b. cond b (Some (r.value, r.commit)) (entries_in rows r.key)) (label_eq_self r.key) in
+    absurd (let e = sym nothing ∙ something in cc)
 
 -- ---- the numbers
 

@@ -85,3 +85,7 @@ told_if (Err fault) P h = tt
 pub told_err : (r : Result (Vec Row) StoreFault) (fault : StoreFault) → IsErrOf (told r) fault → IsErrOf r fault
 told_err (Ok rows) fault h = absurd cc
 told_err (Err e) fault h = let same : e ≡ fault = cc in ap (λ x. Err x) same
+
+pub on_both : {T E Q R : Type 0} (r : Result T E) (P : T → Type 0) → ((x : T) → P x → Q → R) → IfOk r P → OnOk r Q → OnOk r R
+on_both (Ok x) P f h q = f x h q
+on_both (Err e) P f h q = tt

@@ -34,6 +34,8 @@ pub record IsOpened (old new : Database) : Type 0 where
   pub first : old.schema ≡ old_schema → AreApart (old.trees 0) → IsMoved new × (table_of new ≡ moved (old.trees 0))
   pub both : old.schema ≡ both_schema → AreApart (old.trees 0) → AreApart (old.trees 2)
       → IsMoved new × (((old.trees 0 ≡ []) × (new ≡ old)) ⊎ ((old.trees 2 ≡ []) × (table_of new ≡ moved (old.trees 0))))
+  -- known or not, both tables stay as they are where the old one has no rows
+  pub stays : old.schema ≡ both_schema → old.trees 0 ≡ [] → new ≡ old
 
 -- the rows that were read of both tables
 pub record AreRead (old_rows new_rows : List Row) (db : Database) : Type 0 where

@@ -301,6 +301,7 @@ fn find_and_settle<S: Alter>(
     ensures steps { Steps (state S.Store tx.old.conn.now) (state S.Store tx.new.conn.now) }
     ensures on { HasCleanDisk (state S.Store tx.new.conn.now) → IsTrue (state S.Store tx.old.conn.now).in_transaction → OnOk result (IsTrue (state S.Store tx.new.conn.now).in_transaction) }
     ensures settled { HasCleanDisk (state S.Store tx.new.conn.now) → IsTrue (state S.Store tx.old.conn.now).in_transaction → IfOk result (λ opened. AreSettled opened.is_apart (value_in opened.numbers.rows) (state S.Store tx.old.conn.now).now (state S.Store tx.new.conn.now).now) }
+    ensures stays { HasCleanDisk (state S.Store tx.new.conn.now) → IsTrue (state S.Store tx.old.conn.now).in_transaction → OnOk result ((state S.Store tx.old.conn.now).now.schema ≡ both_schema → (state S.Store tx.old.conn.now).now.trees 0 ≡ [] → (state S.Store tx.new.conn.now).now ≡ (state S.Store tx.old.conn.now).now) }
     ensures cause { HasCleanDisk (state S.Store tx.new.conn.now) → IsTrue (state S.Store tx.old.conn.now).in_transaction → IfErr result (IsMeant (state S.Store tx.old.conn.now) (state S.Store tx.new.conn.now)) }
     ensures refused { HasCleanDisk (state S.Store tx.new.conn.now) → IsTrue (state S.Store tx.old.conn.now).in_transaction → IsErrOf result StoreFault.Refused → CannotSettle S.Store tx.old.conn.now }
     ensures asked { HasCleanDisk (state S.Store tx.new.conn.now) → IsTrue (state S.Store tx.old.conn.now).in_transaction → OnOk result (SettlesInside S.Store tx.old.conn.now tx.new.conn.now) }

@@ -3,6 +3,8 @@ use Rattle.sqlite.specs.Held.{state}
 use Rattle.sqlite.specs.State.{HasCleanDisk}
 use Rattle.durable_top.specs.declared.store.StoreFault.TheVariants.{Refused}
 use Rattle.sql_store.proofs.Steps.{clean_before, on_ok_then}
+use Rattle.sql_store.proofs.Moving.{moves_none}
+use Rattle.sql_store.proofs.Opens.{none_old}
 use Rattle.sql_store.proofs.inside.find_and_settle.Goals as goal
 
 pub returns-in_err-found-clause-refused : goal.returns-in_err-found-clause-refused
@@ -31,3 +33,13 @@ returns-clause-asked g c clean inside =
       finds = c.in_ok-found.ensures.asked was;
       moves = moves;
     }) (c.settle_found.ensures.asked clean (c.in_ok-found.ensures.on was inside).0)
+
+pub returns-clause-stays : goal.returns-clause-stays
+returns-clause-stays g c clean inside =
+    let was : HasCleanDisk (state g.S.Store c.find.new.tx.conn.now) = clean_before (state g.S.Store c.find.new.tx.conn.now) (state g.S.Store c.settle_found.new.tx.conn.now) c.settle_found.ensures.steps.survives clean in
+    let found = c.in_ok-found.found in
+    on_ok_then c.settle_found.result (λ moves has none.
+      let no_rows = none_old found.old.items _ (c.in_ok-found.ensures.read was has).old_is none in
+      let same = moves_none g.S.Store found.old.items found.new.items c.find.new.tx.conn.now c.settle_found.new.tx.conn.now no_rows moves in
+      ap (λ h. (state g.S.Store h).now) same ∙ (c.in_ok-found.ensures.same was).0.now_is)
+    (c.settle_found.ensures.asked clean (c.in_ok-found.ensures.on was inside).0)

@@ -4,7 +4,7 @@ use Rattle.sqlite.specs.Held.{state}
 use Rattle.serial_spec.specs.Rows.{value_in}
 use Rattle.sqlite.specs.State.{HasCleanDisk}
 use Rattle.sql_store.specs.Inside.{AreMade}
-use Rattle.sql_store.proofs.Steps.{ok_from, on_ok_then, clean_before}
+use Rattle.sql_store.proofs.Steps.{on_both, on_ok_then, clean_before}
 use Rattle.sql_store.proofs.Opens.{opened_by, found_out}
 use Rattle.sql_store.proofs.inside.open_inside.Goals as goal
 
@@ -15,7 +15,8 @@ returns-in-Ok-clause-opened g c clean inside =
     let z = state g.S.Store c.find_and_settle.new.tx.conn.now in
     let was : HasCleanDisk y = clean_before y z c.find_and_settle.ensures.steps.survives clean in
     let made : AreMade x.now y.now = c.in-Ok.ensures.made was inside in
-    ok_from c.find_and_settle.result _ (λ it h. opened_by x.now y.now z.now h.old_rows h.new_rows made h.read h.settled) (c.find_and_settle.ensures.settled clean (c.in-Ok.ensures.on was inside).0)
+    on_both c.find_and_settle.result _ (λ it h kept. opened_by x.now y.now z.now h.old_rows h.new_rows made h.read h.settled kept)
+    (c.find_and_settle.ensures.settled clean (c.in-Ok.ensures.on was inside).0) (c.find_and_settle.ensures.stays clean (c.in-Ok.ensures.on was inside).0)
 
 pub returns-in-Ok-clause-found : goal.returns-in-Ok-clause-found
 returns-in-Ok-clause-found g c clean inside =
