@@ -1,16 +1,14 @@
 -- A commit under the number above the greatest, and the numbers that are kept in memory.
 use Rattle.std.proofs.Common.{◌≡◌, ◌⊎◌, inl, inr, ℤ, pos, ◌+ℤ◌, ◌≤ℤ◌, true, List, refl, sym, ap, subst, ◌∙◌}
-use Rattle.std.specs.Prelude.{IsTrue}
 use Rattle.sqlite.specs.Store.{Ghosts}
-use Rattle.sqlite.specs.Tree.{Trees}
 use Rattle.sqlite.specs.Held.{Held, state}
 use Rattle.sqlite.specs.State.{HasCleanDisk, Survives, KeepsCommit}
 use Rattle.txn_names.specs.declared.change.Change.{Change}
 use Rattle.serial_spec.specs.Serial.{Map}
-use Rattle.durable_top.specs.Numbered.{Numbered, numbers_of, overlay_numbered, last_number, IsGreatest, Follows}
+use Rattle.durable_top.specs.Numbered.{Numbered, numbers_of, overlay_numbered, last_number, Follows}
 use Rattle.durable_top.specs.Numbers.{renumbered, IsTopIn}
 use Rattle.durable_top.proofs.Numbering.{greatest_from, numbers_after}
-use Rattle.sql_store.specs.Table.{map_of, table_of}
+use Rattle.sql_store.specs.Table.{table_of}
 use Rattle.sql_store.specs.Stored.{numbered, may_leave_numbered, IsKept, IsCounted}
 use Rattle.sql_store.specs.Writes.{Stores, IsStored}
 

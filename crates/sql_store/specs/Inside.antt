@@ -1,5 +1,5 @@
 -- What the opening's statements make inside its transaction.
-use Rattle.std.specs.Prelude.{◌≡◌, ◌⊎◌, ◌≤ℤ◌, ℤ, pos, Bool, List, [], IsTrue}
+use Rattle.std.specs.Prelude.{◌≡◌, ◌⊎◌, Bool, List, [], IsTrue}
 use Rattle.sqlite.specs.Effect.{Database}
 use Rattle.sqlite.specs.State.{State, HasCleanDisk, Survives, KeepsCommit}
 use Rattle.durable_top.specs.declared.store.Row.{Row}
@@ -8,7 +8,6 @@ use Rattle.durable_top.specs.Store.{plain}
 use Rattle.durable_top.specs.Numbered.{numbers_of, entries_in, AreNumbered}
 use Rattle.serial_spec.specs.Serial.{Map}
 use Rattle.sql_store.specs.Laid.{laid}
-use Rattle.std.specs.List.{AllByRecursion}
 use Rattle.sql_store.specs.Ids.{IsDecided}
 use Rattle.sql_store.specs.Results.{no_schema, old_schema, both_schema}
 use Rattle.sql_store.specs.Table.{moved, map_of, table_of, AreApart, IsReady, IsMoved}

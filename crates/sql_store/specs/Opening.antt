@@ -1,5 +1,5 @@
 -- What the opening commits, and how a database comes to be known.
-use Rattle.std.specs.Prelude.{◌≡◌, Bool, false, List, [], IsTrue}
+use Rattle.std.specs.Prelude.{◌≡◌, Bool, [], IsTrue}
 use Rattle.sqlite.specs.Effect.{Database}
 use Rattle.sqlite.specs.State.{State}
 use Rattle.sqlite.specs.Tree.{Trees}

@@ -39,7 +39,11 @@ fn make<S: Alter>(tx: &mut Transaction<'_, S>, number: i64, change: &Change) -> 
 }
 
 /// Makes the changes one after another.
-fn make_all<S: Alter>(tx: &mut Transaction<'_, S>, number: i64, changes: &[Change]) -> Result<(), Error>
+fn make_all<S: Alter>(
+    tx: &mut Transaction<'_, S>,
+    number: i64,
+    changes: &[Change],
+) -> Result<(), Error>
     requires inside { IsTrue (state S.Store tx.old.conn.now).in_transaction }
     ensures same_reference { tx.new.conn.ghost_name ≡ tx.old.conn.ghost_name }
     ensures made { HasCleanDisk (state S.Store tx.new.conn.now) → IsReady (state S.Store tx.old.conn.now).now → OnOk result (MakesAll number changes.now (state S.Store tx.old.conn.now) (state S.Store tx.new.conn.now)) }
@@ -58,7 +62,11 @@ fn make_all<S: Alter>(tx: &mut Transaction<'_, S>, number: i64, changes: &[Chang
 }
 
 /// Commits the changes, of which there are some, in one transaction.
-fn commit_some<S: Alter>(conn: &mut Connection<S>, number: i64, changes: &[Change]) -> Result<(), Error>
+fn commit_some<S: Alter>(
+    conn: &mut Connection<S>,
+    number: i64,
+    changes: &[Change],
+) -> Result<(), Error>
     requires outside { (state S.Store conn.old).in_transaction ≡ false }
     requires settled { IsTrue (state S.Store conn.old).is_open → (state S.Store conn.old).now ≡ (state S.Store conn.old).committed }
     requires some { 0 < length changes.now }
@@ -76,7 +84,11 @@ fn commit_some<S: Alter>(conn: &mut Connection<S>, number: i64, changes: &[Chang
 }
 
 /// Commits the changes, of which there are some, in one transaction, where none is open.
-pub(crate) fn write_all<S: Alter>(conn: &mut Connection<S>, number: i64, changes: &[Change]) -> Result<(), Error>
+pub(crate) fn write_all<S: Alter>(
+    conn: &mut Connection<S>,
+    number: i64,
+    changes: &[Change],
+) -> Result<(), Error>
     requires some { 0 < length changes.now }
     ensures stored { HasCleanDisk (state S.Store conn.new) → OnOk result (Stores number changes.now (state S.Store conn.old) (state S.Store conn.new)) }
     ensures kept { HasCleanDisk (state S.Store conn.new) → OnErr result (KeepsCommit (state S.Store conn.old) (state S.Store conn.new)) }

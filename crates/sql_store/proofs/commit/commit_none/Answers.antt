@@ -10,4 +10,4 @@ returns-in-Err-clause-cause g c clean is =
     let was : HasCleanDisk (state g.S.Store c.probe.new.conn) = omega (arith, c.settle.ensures.survives.clean, clean) in
     let failed : c.settle.result ≡ Failed = cc in
     failed_later g.S.Store c.args.conn.now c.probe.new.conn c.settle.new.conn _ _ c.fault_of.result c.probe.ensures.survives was c.settle.ensures.survives
-        (λ told. c.in-Err.ensures.cause was (sym c.fault_of.ensures ∙ told)) (c.settle.ensures.cause clean failed)
+    (λ told. c.in-Err.ensures.cause was (sym c.fault_of.ensures ∙ told)) (c.settle.ensures.cause clean failed)

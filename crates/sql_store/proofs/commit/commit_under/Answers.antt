@@ -14,7 +14,7 @@ returns-in-Ok-clause-ok g c clean kept counted =
     let stored = simp to_z-of_z at it in
     let was : HasCleanDisk (state g.S.Store c.args.conn.now) = omega (arith, c.store_changes.ensures.survives.clean, clean) in
     follows_stored g.S.Store c.args.number c.args.changes.now (value_in numbers.rows) c.args.conn.now c.store_changes.new.conn was kept counted
-        numbers.top c.has_none_below_0.ensures c.requires.next c.requires.fits stored
+    numbers.top c.has_none_below_0.ensures c.requires.next c.requires.fits stored
 
 pub returns-in-Ok-clause-counted : goal.returns-in-Ok-clause-counted
 returns-in-Ok-clause-counted g c clean kept counted known sound open_now =
@@ -26,7 +26,7 @@ returns-in-Ok-clause-counted g c clean kept counted known sound open_now =
     let is = simp to_z-of_z at made in
     let was : HasCleanDisk (state g.S.Store c.args.conn.now) = omega (arith, c.store_changes.ensures.survives.clean, clean) in
     counted_stored g.S.Store c.args.number c.args.changes.now (value_in numbers.rows) c.args.conn.now c.store_changes.new.conn was kept counted
-        (value_in c.change.new.self.rows) stored is known sound open_now
+    (value_in c.change.new.self.rows) stored is known sound open_now
 
 pub returns-in-Ok-clause-crash : goal.returns-in-Ok-clause-crash
 returns-in-Ok-clause-crash g c clean kept counted left may =
@@ -36,7 +36,7 @@ returns-in-Ok-clause-crash g c clean kept counted left may =
     let survives = simp to_z-of_z at wrote in
     let was : HasCleanDisk (state g.S.Store c.args.conn.now) = omega (arith, c.store_changes.ensures.survives.clean, clean) in
     follows_left g.S.Store c.args.number c.args.changes.now (value_in numbers.rows) c.args.conn.now c.store_changes.new.conn was kept counted
-        numbers.top c.has_none_below_0.ensures c.requires.next c.requires.fits clean survives left may
+    numbers.top c.has_none_below_0.ensures c.requires.next c.requires.fits clean survives left may
 
 pub returns-in-Err-clause-crash : goal.returns-in-Err-clause-crash
 returns-in-Err-clause-crash g c clean kept counted left may =
@@ -46,7 +46,7 @@ returns-in-Err-clause-crash g c clean kept counted left may =
     let survives = simp to_z-of_z at wrote in
     let was : HasCleanDisk (state g.S.Store c.args.conn.now) = omega (arith, c.store_changes.ensures.survives.clean, clean) in
     follows_left g.S.Store c.args.number c.args.changes.now (value_in numbers.rows) c.args.conn.now c.store_changes.new.conn was kept counted
-        numbers.top c.has_none_below_0.ensures c.requires.next c.requires.fits clean survives left may
+    numbers.top c.has_none_below_0.ensures c.requires.next c.requires.fits clean survives left may
 
 pub returns-in-Err-clause-reason : goal.returns-in-Err-clause-reason
 returns-in-Err-clause-reason g c clean is =

@@ -1,9 +1,7 @@
-use Rattle.std.proofs.Common.{◌≡◌, Err, inl, inr, ap, rules}
-use Rattle.std.proofs.lemmas.Result.{IfOk-weaker, IfErr-weaker}
+use Rattle.std.proofs.Common.{◌≡◌, Err, inl, inr, rules}
 use Rattle.sqlite.specs.Held.{state}
 use Rattle.sqlite.specs.State.{HasCleanDisk}
-use Rattle.durable_top.specs.declared.store.StoreFault.TheVariants.{Refused}
-use Rattle.sql_store.proofs.Steps.{clean_before, on_ok_then}
+use Rattle.sql_store.proofs.Steps.{clean_before}
 use Rattle.sql_store.proofs.inside.are_both_apart.Goals as goal
 
 pub returns-in_err-is_old_apart-clause-refused : goal.returns-in_err-is_old_apart-clause-refused
@@ -17,5 +15,8 @@ returns-in_err-is_new_apart-clause-refused g c clean inside =
     let was : HasCleanDisk (state g.S.Store c.is_old_apart.new.tx.conn.now) = clean_before (state g.S.Store c.is_old_apart.new.tx.conn.now) (state g.S.Store c.is_new_apart.new.tx.conn.now) c.is_new_apart.ensures.steps.survives clean in
     let e = c.in_err-is_new_apart.field-0.0 in
     let same : c.from_residual-in_err-is_new_apart.result ≡ Err e = search rules in
-    rw same (λ refused. inr (c.is_old_apart.new.tx.conn.now, c.in_ok-is_old_apart.ensures.same was,
-      (c.is_new_apart.new.tx.conn.now, e, c.in_err-is_new_apart.ensures.refused clean (c.in_ok-is_old_apart.ensures.on was inside).0, refused)))
+    rw same (λ refused. inr (
+      c.is_old_apart.new.tx.conn.now,
+      c.in_ok-is_old_apart.ensures.same was,
+      (c.is_new_apart.new.tx.conn.now, e, c.in_err-is_new_apart.ensures.refused clean (c.in_ok-is_old_apart.ensures.on was inside).0, refused),
+    ))

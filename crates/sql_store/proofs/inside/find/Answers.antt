@@ -1,4 +1,4 @@
-use Rattle.std.proofs.Common.{◌≡◌, Err, inl, inr, ap, sym, ◌∙◌, rules}
+use Rattle.std.proofs.Common.{◌≡◌, inr, sym, ◌∙◌}
 use Rattle.sqlite.specs.Held.{state}
 use Rattle.sqlite.specs.State.{HasCleanDisk}
 use Rattle.durable_top.specs.declared.store.StoreFault.TheVariants.{Refused}
@@ -14,5 +14,10 @@ pub returns-in-Err-clause-refused : goal.returns-in-Err-clause-refused
 returns-in-Err-clause-refused g c clean inside is =
     let was : HasCleanDisk (state g.S.Store c.read_both.new.tx.conn.now) = clean_before (state g.S.Store c.read_both.new.tx.conn.now) (state g.S.Store c.are_both_apart.new.tx.conn.now) c.are_both_apart.ensures.steps.survives clean in
     let refused : c.fault_of.result ≡ Refused = cc in
-    inr (c.read_both.new.tx.conn.now, c.in_ok-old.old.items, c.in_ok-old.new.items, c.in_ok-old.ensures.asked was,
-      c.in-Err.ensures.refused clean (c.in_ok-old.ensures.on was inside).0 (sym c.fault_of.ensures ∙ refused))
+    inr (
+      c.read_both.new.tx.conn.now,
+      c.in_ok-old.old.items,
+      c.in_ok-old.new.items,
+      c.in_ok-old.ensures.asked was,
+      c.in-Err.ensures.refused clean (c.in_ok-old.ensures.on was inside).0 (sym c.fault_of.ensures ∙ refused),
+    )

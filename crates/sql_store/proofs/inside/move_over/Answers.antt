@@ -1,8 +1,7 @@
-use Rattle.std.proofs.Common.{◌≡◌, Err, inl, inr, ap, rules}
-use Rattle.std.proofs.lemmas.Result.{IfOk-weaker, IfErr-weaker}
+use Rattle.std.proofs.Common.{inr}
+use Rattle.std.proofs.lemmas.Result.{IfErr-weaker}
 use Rattle.sqlite.specs.Held.{state}
 use Rattle.sqlite.specs.State.{HasCleanDisk}
-use Rattle.durable_top.specs.declared.store.StoreFault.TheVariants.{Refused}
 use Rattle.sql_store.proofs.Steps.{clean_before, on_ok_then}
 use Rattle.sql_store.proofs.inside.move_over.Goals as goal
 

@@ -5,7 +5,6 @@ use Rattle.sqlite.specs.Held.{state}
 use Rattle.sqlite.specs.State.{HasCleanDisk}
 use Rattle.durable_top.specs.declared.store.Row.{Row}
 use Rattle.sql_store.specs.Asked.{PutsEach}
-use Rattle.sql_store.specs.Refusals.{PutRefused}
 use Rattle.sql_store.specs.Laid.{laid, put}
 use Rattle.sql_store.specs.Table.{table_of}
 use Rattle.sql_store.proofs.Steps.{steps_then, steps_from, clean_before}

@@ -1,9 +1,8 @@
-use Rattle.std.proofs.Common.{◌≡◌, Err, inl, inr, ap, rules}
-use Rattle.std.proofs.lemmas.Result.{IfOk-weaker, IfErr-weaker}
+use Rattle.std.proofs.Common.{◌≡◌, Err, inr, ap, rules}
 use Rattle.sqlite.specs.Held.{state}
 use Rattle.sqlite.specs.State.{HasCleanDisk}
 use Rattle.durable_top.specs.declared.store.StoreFault.TheVariants.{Refused}
-use Rattle.sql_store.proofs.Steps.{clean_before, on_ok_then}
+use Rattle.sql_store.proofs.Steps.{clean_before}
 use Rattle.sql_store.proofs.inside.read_both.Goals as goal
 
 pub returns-in_err-new-clause-refused : goal.returns-in_err-new-clause-refused

@@ -1,4 +1,4 @@
-use Rattle.std.proofs.Common.{◌≡◌, inl, inr, rules}
+use Rattle.std.proofs.Common.{inl, inr, rules}
 use Rattle.sqlite.specs.Held.{state}
 use Rattle.sql_store.proofs.Steps.{if_ok_both}
 use Rattle.std.proofs.lemmas.Result.{IfOk-weaker}

@@ -1,9 +1,5 @@
-use Rattle.std.proofs.Common.{◌≡◌, Err, inl, inr, ap, rules}
-use Rattle.std.proofs.lemmas.Result.{IfOk-weaker, IfErr-weaker}
-use Rattle.sqlite.specs.Held.{state}
-use Rattle.sqlite.specs.State.{HasCleanDisk}
+use Rattle.std.proofs.Common.{◌≡◌, Err, ap, rules}
 use Rattle.durable_top.specs.declared.store.StoreFault.TheVariants.{Refused}
-use Rattle.sql_store.proofs.Steps.{clean_before, on_ok_then}
 use Rattle.sql_store.proofs.inside.settle_found.Goals as goal
 
 pub returns-in_err-settle_rows-clause-refused : goal.returns-in_err-settle_rows-clause-refused

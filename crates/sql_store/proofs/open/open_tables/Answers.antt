@@ -51,8 +51,8 @@ returns-in-Err-clause-survives g c =
     let opened = λ (clean : HasCleanDisk (state g.S.Store last)). rw begun at (c.in_ok-opened.ensures.opened clean inside) in
     let whole = survives_then (state g.S.Store old) (state g.S.Store last) (state g.S.Store c.commit.new.self.0) _ _ P (λ _ db none. absurd none)
     (λ clean db is.
-        let was : HasCleanDisk (state g.S.Store last) = omega (arith, c.commit.ensures.survives.clean) in
-        (was_open was, (state g.S.Store last).now, subst (λ (d : Database). IsOpened d (state g.S.Store last).now) (c.requires.settled (was_open was)) (opened was), is))
+    let was : HasCleanDisk (state g.S.Store last) = omega (arith, c.commit.ensures.survives.clean) in
+    (was_open was, (state g.S.Store last).now, subst (λ (d : Database). IsOpened d (state g.S.Store last).now) (c.requires.settled (was_open was)) (opened was), is))
     (survives_begin g.S.Store old (state g.S.Store last) _ (rw begun at c.open_inside.ensures.steps.survives)) c.commit.ensures.survives in
     let same : c.commit.new.self.0 ≡ c.conn-2-1.given.0 = search rules in
     subst (λ h. Survives (state g.S.Store old) (state g.S.Store h) P) same whole

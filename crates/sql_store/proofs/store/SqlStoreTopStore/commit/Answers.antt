@@ -41,15 +41,15 @@ returns-else-is_err-clause-ok g c none =
     let sure = no_doubt _ c.self.inside.is_known none in
     subst (λ (v : Stored _). OnOk c.commit_unless-answer.result (table g.S.Store c.commit_unless-answer.new.conn ≡ overlay c.args.changes.now (table g.S.Store v.connection))) c.self.view_is
     (on_ok_then c.commit_unless-answer.result (values_committed c.args.changes.now (numbered g.S.Store c.self.inside.connection) (numbered g.S.Store c.commit_unless-answer.new.conn))
-      (c.commit_unless-answer.ensures.ok sure.0 (λ _. c.self.invariant.0 sure.1) (λ _. c.self.invariant.1 sure.1)))
+    (c.commit_unless-answer.ensures.ok sure.0 (λ _. c.self.invariant.0 sure.1) (λ _. c.self.invariant.1 sure.1)))
 
 pub returns-else-is_err-clause-settled : goal.returns-else-is_err-clause-settled
 returns-else-is_err-clause-settled g c none =
     let sure = no_doubt _ c.self.inside.is_known none in
     subst (λ (v : Stored _). OnOk c.commit_unless-answer.result ((left : Map) → may_leave g.S.Store c.commit_unless-answer.new.conn left → left ≡ overlay c.args.changes.now (table g.S.Store v.connection))) c.self.view_is
     (on_ok_both c.commit_unless-answer.result (settled_forgotten g.S.Store c.self.inside.connection c.commit_unless-answer.new.conn c.args.changes.now)
-      (c.commit_unless-answer.ensures.ok sure.0 (λ _. c.self.invariant.0 sure.1) (λ _. c.self.invariant.1 sure.1))
-      (c.commit_unless-answer.ensures.settled sure.0 (λ _. c.self.invariant.0 sure.1)))
+    (c.commit_unless-answer.ensures.ok sure.0 (λ _. c.self.invariant.0 sure.1) (λ _. c.self.invariant.1 sure.1))
+    (c.commit_unless-answer.ensures.settled sure.0 (λ _. c.self.invariant.0 sure.1)))
 
 pub returns-then-is_err-clause-asked : goal.returns-then-is_err-clause-asked
 returns-then-is_err-clause-asked g c = record {
