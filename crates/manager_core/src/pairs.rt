@@ -82,6 +82,7 @@ fn are_alone(tree: &Tree, txns: &[TxnNo]) -> bool
 
 // Whether a transaction keeps the access from being answered, of which the list has all who may. Most are not in the list, and a
 // look at the locks costs more.
+#[inline]
 fn is_held_up_by_itself(
     tree: &Tree,
     locks: &TargetLocks,
@@ -99,7 +100,9 @@ fn is_held_up_by_itself(
     }
 }
 
-// Whether the access waits for the other, where those who may keep it from being answered stand in several lists.
+// Whether the access waits for the other, where those who may keep it from being answered stand in several lists. That is so only
+// where somebody holds a sum, and it stays out of the loops over all that wait.
+#[inline(never)]
 fn waits_for_listed(tree: &Tree, locks: &TargetLocks, wait: &Wait, other: TxnNo) -> bool
     ensures { ByLocks tree.now locks.now (λ keeps. result ≡ waits_for_in tree.now keeps wait.now other) }
 {
@@ -140,6 +143,7 @@ pub(crate) fn all_alone(tree: &Tree, all: Option<&[TxnNo]>) -> bool
 /// Whether the access waits for the other, as `waits_for` tells it, where these are all who may keep it from being answered, if one
 /// list has them: for many others they are asked for once. So is whether all of them are known to be top-level without
 /// descendants: then nobody else is in the branch of one, and most are told by the list alone.
+#[inline(always)]
 pub(crate) fn waits_for_among(
     tree: &Tree,
     locks: &TargetLocks,
