@@ -162,7 +162,7 @@ fn due(tables: &'static [&'static str], made: Option<usize>) -> Job {
             let most = tables.len().min(made.saturating_add(2));
             Job::Give(&tables[made.min(most)..most], made)
         }
-        None => Job::Give(&tables[..1], 0),
+        None => Job::Give(&tables[..tables.len().min(1)], 0),
     }
 }
 
