@@ -4,10 +4,11 @@ use Rattle.std.specs.Prelude.{slice_get}
 use Rattle.std.proofs.lemmas.List.{reverse-append}
 use Rattle.serial_spec.specs.declared.entry.Entry.{Entry}
 use Rattle.serial_spec.specs.Rows.{Rows}
-use Rattle.serial_spec.specs.Report.{spelled_history, spelled_rows}
+use Rattle.serial_spec.specs.Report.{line, spelled_history, spelled_rows}
 use Rattle.durable_top.specs.declared.store.Row.{Row}
 use Rattle.durable_top.specs.Store.{plain}
 use Rattle.report_text.specs.Lines.{entry_line, row_line, row_lines}
+use Rattle.report_text.specs.Rows.{numbered_row, numbered_rows}
 
 -- ---- rows
 
@@ -73,3 +74,29 @@ pub plain-take : (rows : List Row) (k : ℕ) → plain (take k rows) ≡ take k 
 plain-take rows zero = refl
 plain-take [] (suc k) = refl
 plain-take (x ∷ rows) (suc k) = ap (λ rs. key_value x ∷ rs) (plain-take rows k)
+
+-- ---- rows with the numbers of their commits
+
+numbered-append : (xs ys : List Row) → numbered_rows (xs ++ ys) ≡ numbered_rows xs ++ numbered_rows ys
+numbered-append [] ys = refl
+numbered-append (x ∷ xs) ys =
+    ap (λ z. line (numbered_row x) ++ z) (numbered-append xs ys) ∙ sym (append_assoc (line (numbered_row x)) (numbered_rows xs) (numbered_rows ys))
+
+-- up to the row at k, and that row
+pub numbered-at : (xs : List Row) (k : ℕ) (r : Row) → k < length xs → r ≡ get_or xs k r
+    → numbered_rows (take (k + 1) xs) ≡ numbered_rows (take k xs) ++ line (numbered_row r)
+numbered-at [] k r h same = absurd (omega (arith, h))
+numbered-at (x ∷ xs) zero r h same = append-nil (line (numbered_row x)) ∙ ap (λ q. line (numbered_row q)) (sym same)
+numbered-at (x ∷ xs) (suc k) r h same =
+    let next : suc k + 1 ≡ suc (k + 1) = omega arith in
+    rw next
+    (ap (λ z. line (numbered_row x) ++ z) (numbered-at xs k r (omega (arith, h)) same)
+    ∙ sym (append_assoc (line (numbered_row x)) (numbered_rows (take k xs)) (line (numbered_row r))))
+
+-- those before the row at k, that row, and those behind it
+pub numbered-parted : (xs : List Row) (k : ℕ) (r : Row) → k < length xs → r ≡ get_or xs k r
+    → (numbered_rows (take k xs) ++ line (numbered_row r)) ++ numbered_rows (drop (k + 1) xs) ≡ numbered_rows xs
+numbered-parted xs k r h same =
+    ap (λ z. z ++ numbered_rows (drop (k + 1) xs)) (sym (numbered-at xs k r h same))
+    ∙ sym (numbered-append (take (k + 1) xs) (drop (k + 1) xs))
+    ∙ ap numbered_rows (take-append-drop (k + 1) xs)

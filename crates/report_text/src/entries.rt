@@ -14,7 +14,7 @@ use txn_bytes::{Sink, WriteFault, put};
 use txn_names::{Key, Label};
 
 // The key, an equals sign and the value.
-fn put_row<W: Sink>(out: &mut W, key: &Key, value: i64) -> Result<(), WriteFault>
+pub(crate) fn put_row<W: Sink>(out: &mut W, key: &Key, value: i64) -> Result<(), WriteFault>
     ensures ok { OnOk result (Appends (W.contents out.old) (W.contents out.new) (key.now ++ codes "=" ++ spelled_number value)) }
     ensures err { OnErr result (AppendsFront (W.contents out.old) (W.contents out.new) (key.now ++ codes "=" ++ spelled_number value)) }
     ensures asked { OnErr result (IsStopped W.takes out.new) }

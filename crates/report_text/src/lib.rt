@@ -1,11 +1,13 @@
-//! The text of a report, and of a verdict on one.
+//! The text of a report, of a verdict on one, and of the rows of a table.
 #![tactic(auto)]
 
 mod entries;
 mod report;
+mod rows;
 mod spelling;
 mod verdict;
 
 pub use report::write_report;
+pub use rows::write_rows;
 pub use txn_bytes::WriteFault;
 pub use verdict::write_verdict;

@@ -1,0 +1,20 @@
+use Rattle.std.proofs.Common.{[], ◌∷◌, SFits, w64, rules}
+use Rattle.std.proofs.lemmas.Int.{to_z-of_z}
+use Rattle.txn_bytes.proofs.Appending.{front_of, on_err, then, then_front, then_on_err}
+use Rattle.report_text.proofs.rows.put_numbered.Goals as goal
+
+pub returns-in_err-put_row-clause-err : goal.returns-in_err-put_row-clause-err
+returns-in_err-put_row-clause-err g c =
+    let fits : SFits w64 c.args.row.now.value = search rules in
+    on_err c.from_residual.result (front_of _ _ _ _ (front_of _ _ _ _ (simp to_z-of_z at c.in_err-put_row.ensures.err)))
+
+pub returns-in_err-put-clause-err : goal.returns-in_err-put-clause-err
+returns-in_err-put-clause-err g c =
+    let fits : SFits w64 c.args.row.now.value = search rules in
+    on_err c.from_residual-in_err-put.result (front_of _ _ _ _ (then_front _ _ _ _ (32 ∷ []) (simp to_z-of_z at c.in_ok-put_row.ensures.ok) c.in_err-put.ensures.err))
+
+pub returns-clause-err : goal.returns-clause-err
+returns-clause-err g c =
+    let fits : SFits w64 c.args.row.now.value = search rules in
+    let commit_fits : SFits w64 c.args.row.now.commit = search rules in
+    then_on_err _ _ _ _ _ _ (then _ _ _ _ (32 ∷ []) (simp to_z-of_z at c.in_ok-put_row.ensures.ok) c.in_ok-put.ensures.ok) (simp to_z-of_z at c.put_number.ensures.err)

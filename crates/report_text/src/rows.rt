@@ -1,0 +1,44 @@
+//! The rows of a table, each with the number of the commit that set it.
+ghost use Rattle.std.specs.Prelude.{ℕ, [], ◌∷◌, ◌++◌, codes, OnErr, OnOk};
+ghost use Rattle.std.specs.Io.KnownBytes.{Appends};
+ghost use Rattle.txn_bytes.specs.Written.{AppendsFront, IsStopped};
+ghost use Rattle.serial_spec.specs.Report.{line};
+ghost use Rattle.report_text.specs.Rows.{numbered_row, numbered_rows};
+
+use crate::entries::put_row;
+use crate::spelling::put_number;
+use durable_top::Row;
+use txn_bytes::{Sink, WriteFault, put};
+
+// The row as in a report, a space and the number.
+fn put_numbered<W: Sink>(out: &mut W, row: &Row) -> Result<(), WriteFault>
+    ensures ok { OnOk result (Appends (W.contents out.old) (W.contents out.new) (numbered_row row.now)) }
+    ensures err { OnErr result (AppendsFront (W.contents out.old) (W.contents out.new) (numbered_row row.now)) }
+    ensures asked { OnErr result (IsStopped W.takes out.new) }
+{
+    put_row(out, &row.key, row.value)?;
+    put(out, b" ")?;
+    put_number(out, row.commit)
+}
+
+fn put_numbered_line<W: Sink>(out: &mut W, row: &Row) -> Result<(), WriteFault>
+    ensures ok { OnOk result (Appends (W.contents out.old) (W.contents out.new) (line (numbered_row row.now))) }
+    ensures err { OnErr result (AppendsFront (W.contents out.old) (W.contents out.new) (line (numbered_row row.now))) }
+    ensures asked { OnErr result (IsStopped W.takes out.new) }
+{
+    put_numbered(out, row)?;
+    put(out, b"\n")
+}
+
+/// Writes each row as a line: the key, an equals sign, the value, a space and the number of the commit that set it. It takes no
+/// memory. After a fault, the only one, which the writer answered, it has taken a beginning of these lines.
+pub fn write_rows<W: Sink>(rows: &[Row], out: &mut W) -> Result<(), WriteFault>
+    ensures ok { OnOk result (Appends (W.contents out.old) (W.contents out.new) (numbered_rows rows.now)) }
+    ensures err { OnErr result (AppendsFront (W.contents out.old) (W.contents out.new) (numbered_rows rows.now)) }
+    ensures asked { OnErr result (IsStopped W.takes out.new) }
+{
+    for row in rows {
+        put_numbered_line(out, row)?;
+    }
+    Ok(())
+}
