@@ -62,6 +62,17 @@ module _ {W E : Type 0} (flushes : W → W → Result (Unit {0}) WriteFault → 
     misused = λ misused. absurd (omega (arith, is, misused));
   }
 
+  -- and that of an output which was asked to pass on what it held
+  pub finish_accounts : (old : W) (status : ℕ) → (status ≡ 0 → flushes old new (Ok tt)) → (status ≡ 0 → err_new ≡ err_old)
+      → (status ≢ 0 → IsSaid err_contents err_takes err_old err_new (spelled_fault CannotWrite)) → status ≤ 1
+      → Accounts flushes err_contents err_takes new err_old err_new status
+  finish_accounts old status passed silent told bound = record {
+    passed = λ is. record { before = old; asked = passed is };
+    silent = silent;
+    failed = λ is. record { fault = CannotWrite; said = told (λ done. absurd (omega (arith, is, done))) };
+    misused = λ is. absurd (omega (arith, is, bound));
+  }
+
   -- and that of words that are no command line
   pub misuse_accounts : (text : List ℕ) (status : ℕ) → IsSaid err_contents err_takes err_old err_new (line text) → status ≡ 2 → Accounts flushes err_contents err_takes new err_old err_new status
   misuse_accounts text status said is = record {

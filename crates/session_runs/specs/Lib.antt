@@ -4,3 +4,4 @@ pub mod Schedules
 pub mod Printing
 pub mod Faults
 pub mod Tellings
+pub mod Listings

@@ -1,10 +1,11 @@
 -- What the two writers of a run were asked, and which line the error writer got.
-use Rattle.std.specs.Prelude.{◌≡◌, ℕ, List, Option, Result, Ok, Err}
+use Rattle.std.specs.Prelude.{◌≡◌, ◌⊎◌, ℕ, List, Option, Result, Ok, Err}
+use Rattle.std.specs.Io.KnownBytes.{Appends}
 use Rattle.txn_bytes.specs.Written.{IsStopped}
 use Rattle.txn_bytes.specs.declared.sink.WriteFault.{WriteFault}
 use Rattle.serial_spec.specs.Report.{line}
 use Rattle.durable_top.specs.declared.store.TopStore.{Ghosts}
-use Rattle.session_runs.specs.Faults.{IsSaid, spelled_fault, told}
+use Rattle.session_runs.specs.Faults.{IsCut, IsSaid, spelled_fault, told}
 use Rattle.session_runs.specs.Replays.{HasReplayCause, IsUnwritten}
 use Rattle.session_runs.specs.Ways.{Way}
 use Rattle.session_runs.specs.declared.fault.Fault.{Fault}
@@ -41,6 +42,22 @@ pub record IsUnflushed {W E : Type 0} (flushes : W → W → Result (Unit {0}) W
     (err_contents : E → Option (List ℕ)) (err_takes : E → E → List ℕ → Result ℕ WriteFault → Type 0) (new : W) (err_old err_new : E) : Type 0 where
   pub fault : WriteFault
   pub refused : IsFlushed flushes new (Err fault)
+  pub said : IsSaid err_contents err_takes err_old err_new (spelled_fault CannotWrite)
+
+-- the output got these bytes and passed them on, and nothing was asked of the error writer
+pub record IsGiven {W E : Type 0} (contents : W → Option (List ℕ)) (flushes : W → W → Result (Unit {0}) WriteFault → Type 0)
+    (old new : W) (err_old err_new : E) (bytes : List ℕ) : Type 0 where
+  pub given : Appends (contents old) (contents new) bytes
+  pub passed : IsFlushed flushes new (Ok tt)
+  pub silent : err_new ≡ err_old
+
+-- the output took a beginning of these bytes and not all, or did not pass them on, and the error writer got the line of that
+pub record IsUngiven {W E : Type 0} (contents : W → Option (List ℕ)) (takes : W → W → List ℕ → Result ℕ WriteFault → Type 0)
+    (flushes : W → W → Result (Unit {0}) WriteFault → Type 0)
+    (err_contents : E → Option (List ℕ)) (err_takes : E → E → List ℕ → Result ℕ WriteFault → Type 0)
+    (old new : W) (err_old err_new : E) (bytes : List ℕ) : Type 0 where
+  pub cut : IsCut contents takes old new bytes
+      ⊎ (Appends (contents old) (contents new) bytes × IsFlushed flushes new (Err (record {})))
   pub said : IsSaid err_contents err_takes err_old err_new (spelled_fault CannotWrite)
 
 -- ---- by the exit status

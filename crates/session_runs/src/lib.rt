@@ -1,8 +1,10 @@
 //! Runs of session texts: from a text's bytes and a store to the bytes of a report, or of the line that says why there is none.
+//! Beside them, the rows of a store.
 #![tactic(auto)]
 
 mod ends;
 mod fault;
+mod listing;
 mod replay;
 mod reporting;
 mod schedule;
@@ -11,6 +13,7 @@ mod telling;
 mod way;
 
 pub use fault::{Fault, fault_of};
+pub use listing::list_rows;
 pub use replay::{ReplayFault, replay_text};
 pub use reporting::{DONE, Ended, FAILED, replay_over, report_opened, report_over};
 pub use schedule::{attempts_of, schedule_of};

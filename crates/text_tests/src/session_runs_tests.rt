@@ -1,6 +1,7 @@
 //! Texts with their reports, over stores of all kinds.
 mod faults;
 mod groups;
+mod listing;
 mod runs;
 mod serial;
 mod sessions;
