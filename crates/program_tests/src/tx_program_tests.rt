@@ -5,6 +5,7 @@ use std::rt::HostRuntime;
 use std::sync::Wait;
 use std::thread::Threads;
 use std::time::Clock;
+use tx_commands::Machine;
 use tx_program::tx_main;
 
 /// One transaction that reads its own write: a text and its report.
@@ -71,7 +72,15 @@ fn run_on<R: Abort + Threads + Wait + Clock + Sync>(
     }
     let mut out = Vec::new(host.alloc());
     let mut err = Vec::new(host.alloc());
-    let status = tx_main(host, rt, host.alloc(), all.as_slice(), &mut out, &mut err);
+    let mut machine = Machine::new(host);
+    let status = tx_main(
+        &mut machine,
+        rt,
+        host.alloc(),
+        all.as_slice(),
+        &mut out,
+        &mut err,
+    );
     Told { status, out, err }
 }
 
@@ -167,6 +176,10 @@ fn words_that_are_no_command_line(rt: HostRuntime) {
         "check a b",
         "check a --db b",
         "check --help",
+        "rows",
+        "rows a b",
+        "rows a --db b",
+        "rows --help",
     ] {
         assert!(rt; run(&rt, &rt, words).is_misuse(), "{words}");
     }
@@ -248,4 +261,38 @@ fn program_that_judges(rt: HostRuntime) {
     assert!(rt; run(&rt, &rt, "check check_test/empty").is_verdict(1, "no 1\n"));
     assert!(rt; run(&rt, &rt, "check nosuch").is_fault("tx: cannot read nosuch\n"));
     fs::remove_dir_all(&rt, "check_test").expect(&rt, "folder");
+}
+
+/// Texts that are run over one database, one after another, and what its rows are then.
+const NUMBERED: [(&[u8], &str); 5] = [
+    (b"", ""),
+    (
+        b"session s\nbegin a\nset a y 1\ncommit a\nbegin b\nset b x 2\ncommit b\n",
+        "x=2 2\ny=1 1\n",
+    ),
+    (
+        b"session s\nbegin c\ndel c x\nset c z 5\ncommit c\n",
+        "y=1 1\nz=5 3\n",
+    ),
+    (b"session s\nbegin d\ndel d z\ncommit d\n", "y=1 1\n"),
+    (b"session s\nbegin e\nset e y 7\ncommit e\n", "y=7 2\n"),
+];
+
+// A commit has the number behind the greatest that is left.
+#[test]
+fn program_that_lists(rt: HostRuntime) {
+    let _ = fs::remove_dir_all(&rt, "rows_test");
+    fs::create_dir_all(&rt, "rows_test").expect(&rt, "folder");
+    for (text, rows) in NUMBERED {
+        fs::write(&rt, "rows_test/a.tx", text).expect(&rt, "file");
+        let told = run(&rt, &rt, "replay rows_test/a.tx --db rows_test/a.db");
+        assert!(rt; told.status == 0, "{rows}");
+        assert!(rt;
+            run(&rt, &rt, "rows rows_test/a.db").is_report(rows.as_bytes()),
+            "{rows}"
+        );
+    }
+    assert!(rt; run(&rt, &rt, "rows rows_test/new.db").is_report(b""));
+    assert!(rt; run(&rt, &rt, "rows rows_test").is_fault("tx: cannot open database\n"));
+    fs::remove_dir_all(&rt, "rows_test").expect(&rt, "folder");
 }

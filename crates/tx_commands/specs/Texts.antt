@@ -27,15 +27,22 @@ abbrev pub HasTextCause : {R : Type 0} → (R → R → Result (List ℕ) ReadFa
 HasTextCause gives remaining old new NoMemory = IsPartRead gives remaining old new
 HasTextCause gives remaining old new Unread = IsUnread gives remaining old new ⊎ IsTooLong gives old new
 
--- the file at this path was found, and reading took it from one state to another so
-pub record HasFile {H R : Type 0} (finds : H → List ℕ → Result R ReadFault → Type 0) (host : H) (path : List ℕ) (IsTaken : R → R → Type 0) : Type 0 where
+-- it gave some bytes, or a whole text
+abbrev pub IsReadSoFar : {R : Type 0} → (R → R → Result (List ℕ) ReadFault → Type 0) → (R → Option (List ℕ)) → R → R → Type 0
+IsReadSoFar gives remaining old new = IsPartRead gives remaining old new ⊎ ((text : List ℕ) × IsWholeText gives old new text)
+
+-- the surroundings were asked for the file at this path and gave it, and reading took it from one state to another so
+pub record HasFile {H R : Type 0} (finds : H → H → List ℕ → Result R ReadFault → Type 0) (host_old host_new : H) (path : List ℕ) (IsTaken : R → R → Type 0) : Type 0 where
   pub file : R
-  pub found : finds host path (Ok file)
+  pub found : finds host_old host_new path (Ok file)
   pub end : R
   pub taken : IsTaken file end
 
 -- why there is no text from this path
-abbrev pub HasUnfoundCause : {H R : Type 0} → (H → List ℕ → Result R ReadFault → Type 0) → (R → R → Result (List ℕ) ReadFault → Type 0) → (R → Option (List ℕ))
-    → H → List ℕ → TextFault → Type 0
-HasUnfoundCause finds gives remaining host path NoMemory = HasFile finds host path (λ old new. HasTextCause gives remaining old new NoMemory)
-HasUnfoundCause finds gives remaining host path Unread = finds host path (Err (record {})) ⊎ HasFile finds host path (λ old new. HasTextCause gives remaining old new Unread)
+abbrev pub HasUnfoundCause : {H R : Type 0} → (H → H → List ℕ → Result R ReadFault → Type 0) → (R → R → Result (List ℕ) ReadFault → Type 0) → (R → Option (List ℕ))
+    → H → H → List ℕ → TextFault → Type 0
+HasUnfoundCause finds gives remaining host_old host_new path NoMemory =
+    HasFile finds host_old host_new path (λ old new. HasTextCause gives remaining old new NoMemory)
+HasUnfoundCause finds gives remaining host_old host_new path Unread =
+    finds host_old host_new path (Err (record {}))
+    ⊎ HasFile finds host_old host_new path (λ old new. HasTextCause gives remaining old new Unread)

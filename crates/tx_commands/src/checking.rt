@@ -1,8 +1,9 @@
 //! The verdict on a report that stands in a file, on standard output.
 ghost use Rattle.std.specs.Prelude.{◌≡◌, ◌≤◌, ◌⊎◌, false, IsTrue};
 ghost use Rattle.session_runs.specs.declared.reporting.TheConstants.{DONE, FAILED};
-ghost use Rattle.session_runs.specs.Tellings.{Accounts};
-ghost use Rattle.tx_commands.specs.Programs.{IsCondemned, IsGiven, IsPassed, IsUngiven, IsUnpassed};
+ghost use Rattle.report_text.specs.Verdicts.{spelled_verdict};
+ghost use Rattle.session_runs.specs.Tellings.{Accounts, IsGiven, IsUngiven};
+ghost use Rattle.tx_commands.specs.Programs.{IsCondemned, IsPassed, IsUnpassed};
 
 use crate::host::Surroundings;
 use report_check::Verdict;
@@ -14,8 +15,11 @@ use txn_bytes::Sink;
 
 // The output is asked to take the verdict and to pass it on. The answer is whether it did both; where not, that is told.
 fn is_given<W: Sink, E: Sink>(verdict: Verdict, out: &mut W, err: &mut E) -> bool
-    ensures given { IsTrue result → IsGiven W.contents W.flushes out.old out.new err.old err.new verdict }
-    ensures ungiven { result ≡ false → IsUngiven W.contents W.takes W.flushes E.contents E.takes out.old out.new err.old err.new verdict }
+    ensures given { IsTrue result →
+        IsGiven W.contents W.flushes out.old out.new err.old err.new (spelled_verdict verdict) }
+    ensures ungiven { result ≡ false →
+        IsUngiven W.contents W.takes W.flushes E.contents E.takes
+        out.old out.new err.old err.new (spelled_verdict verdict) }
 {
     match write_verdict(verdict, out) {
         Ok(()) => finish(out, err) == DONE,
@@ -28,7 +32,7 @@ fn is_given<W: Sink, E: Sink>(verdict: Verdict, out: &mut W, err: &mut E) -> boo
 
 /// Judges the report at this path, gives the verdict to `out`, and answers the exit status. A fault goes to `err`, in one line.
 pub fn judge<H: Surroundings, W: Sink, E: Sink>(
-    host: &H,
+    host: &mut H,
     alloc: Global,
     file: &str,
     out: &mut W,
@@ -36,13 +40,13 @@ pub fn judge<H: Surroundings, W: Sink, E: Sink>(
 ) -> u8
     ensures done { result ≡ DONE →
         IsPassed H.finds H.Text.gives H.Text.remaining W.contents W.flushes
-        host.now file.now out.old out.new err.old err.new }
+        host.old host.new file.now out.old out.new err.old err.new }
     ensures failed { result ≡ FAILED →
         IsUnpassed H.finds H.Text.gives W.contents W.takes W.flushes E.contents E.takes
-        H.Text.remaining host.now file.now out.old out.new err.old err.new }
+        H.Text.remaining host.old host.new file.now out.old out.new err.old err.new }
     ensures accounts { (result ≡ FAILED) ×
         IsCondemned H.finds H.Text.gives W.contents W.takes W.flushes E.contents E.takes
-        H.Text.remaining host.now file.now out.old out.new err.old err.new
+        H.Text.remaining host.old host.new file.now out.old out.new err.old err.new
         ⊎ Accounts W.flushes E.contents E.takes out.new err.old err.new result }
     ensures status { result ≤ FAILED }
 {

@@ -1,5 +1,5 @@
 //! The two commands that run a text: by a list and rounds, and by workers.
-ghost use Rattle.std.specs.Prelude.{◌≡◌, ◌≤◌, IsNone, codes};
+ghost use Rattle.std.specs.Prelude.{◌≡◌, ◌≤◌, ◌↔◌, IsNone, codes};
 ghost use Rattle.std.specs.Option.{option_copied};
 ghost use Rattle.serial_spec.specs.Report.{line};
 ghost use Rattle.session_runs.specs.declared.reporting.TheConstants.{DONE, FAILED};
@@ -25,7 +25,7 @@ use txn_bytes::Sink;
 /// memory that is empty at the beginning. The exit status and the two writers are as `report_over` of session_runs has them.
 /// The list is read first: what of it is no session's number is told once the text is read.
 pub fn replay<H: Surroundings, R: Threads + Wait + Clock + Sync, W: Sink, E: Sink>(
-    host: &H,
+    host: &mut H,
     threads: &R,
     alloc: Global,
     file: &str,
@@ -36,12 +36,12 @@ pub fn replay<H: Surroundings, R: Threads + Wait + Clock + Sync, W: Sink, E: Sin
 ) -> u8
     ensures done { result ≡ DONE →
         Prints H.finds H.Text.gives H.opens H.closes ⟦<MemoryStore as TopStore>⟧ H.Store.TopStore
-        host.now file.now (Scheduled (attempts_of (option_copied list.entry))) (option_copied database.entry)
+        host.old host.new file.now (Scheduled (attempts_of (option_copied list.entry))) (option_copied database.entry)
         (W.contents out.old) (W.contents out.new) }
     ensures failed { result ≡ FAILED →
         Misses H.finds H.Text.gives W.contents W.takes W.flushes E.contents E.takes
         H.Text.remaining H.opens H.closes ⟦<MemoryStore as TopStore>⟧ H.Store.TopStore
-        host.now file.now (Scheduled (attempts_of (option_copied list.entry))) (option_copied database.entry)
+        host.old host.new file.now (Scheduled (attempts_of (option_copied list.entry))) (option_copied database.entry)
         out.old out.new err.old err.new }
     ensures accounts { Accounts W.flushes E.contents E.takes out.new err.old err.new result }
     ensures status { result ≤ FAILED }
@@ -65,7 +65,7 @@ pub fn replay<H: Surroundings, R: Threads + Wait + Clock + Sync, W: Sink, E: Sin
 /// table in memory that is empty at the beginning. The exit status and the two writers are as `report_over` of session_runs has
 /// them. The number of workers is read first; where it is none, nothing else is done.
 pub fn run<H: Surroundings, R: Threads + Wait + Clock + Sync, W: Sink, E: Sink>(
-    host: &H,
+    host: &mut H,
     threads: &R,
     alloc: Global,
     file: &str,
@@ -76,14 +76,15 @@ pub fn run<H: Surroundings, R: Threads + Wait + Clock + Sync, W: Sink, E: Sink>(
 ) -> u8
     ensures done { result ≡ DONE →
         Prints H.finds H.Text.gives H.opens H.closes ⟦<MemoryStore as TopStore>⟧ H.Store.TopStore
-        host.now file.now ByWorkers (option_copied database.entry)
+        host.old host.new file.now ByWorkers (option_copied database.entry)
         (W.contents out.old) (W.contents out.new) }
     ensures failed { result ≡ FAILED →
         Misses H.finds H.Text.gives W.contents W.takes W.flushes E.contents E.takes
         H.Text.remaining H.opens H.closes ⟦<MemoryStore as TopStore>⟧ H.Store.TopStore
-        host.now file.now ByWorkers (option_copied database.entry)
+        host.old host.new file.now ByWorkers (option_copied database.entry)
         out.old out.new err.old err.new }
-    ensures misused { result ≡ MISUSED → (out.new ≡ out.old) × IsNone (workers_of (option_copied workers.entry)) }
+    ensures misused { (result ≡ MISUSED) ↔ IsNone (workers_of (option_copied workers.entry)) }
+    ensures unasked { result ≡ MISUSED → (host.new ≡ host.old) × (out.new ≡ out.old) }
     ensures usage { result ≡ MISUSED →
         IsSaid E.contents E.takes err.old err.new (line (codes "tx: --workers: a number from 1 to 16 is wanted")) }
     ensures accounts { Accounts W.flushes E.contents E.takes out.new err.old err.new result }

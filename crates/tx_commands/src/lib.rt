@@ -4,10 +4,12 @@
 mod checking;
 mod commands;
 mod host;
+mod listing;
 mod reading;
 mod running;
 
 pub use checking::judge;
 pub use commands::{replay, run};
-pub use host::Surroundings;
+pub use host::{Machine, Surroundings};
+pub use listing::list;
 pub use reading::{LONGEST_TEXT, TextFault};

@@ -48,12 +48,13 @@ fn read_within<R: Source>(alloc: Global, from: &mut R) -> Result<Vec<u8>, TextFa
 
 /// The text at this path.
 pub(crate) fn text_at<H: Surroundings>(
-    host: &H,
+    host: &mut H,
     alloc: Global,
     path: &str,
 ) -> Result<Vec<u8>, TextFault>
-    ensures ok { IfOk result (λ text. HasFile H.finds host.now path.now (λ old new. IsWholeText H.Text.gives old new text.items)) }
-    ensures err { IfErr result (HasUnfoundCause H.finds H.Text.gives H.Text.remaining host.now path.now) }
+    ensures ok { IfOk result (λ text.
+        HasFile H.finds host.old host.new path.now (λ old new. IsWholeText H.Text.gives old new text.items)) }
+    ensures err { IfErr result (HasUnfoundCause H.finds H.Text.gives H.Text.remaining host.old host.new path.now) }
 {
     match host.find(path) {
         Ok(mut file) => {

@@ -19,8 +19,9 @@ use txn_bytes::Sink;
 
 // Over a table in memory that is empty at the beginning. The file is read first, then the store is made, and then come the text
 // and the run.
+#[tactic(auto, using(crate::proofs::Ran::read_in_part))]
 fn report_none<H: Surroundings, R: Threads + Wait + Clock + Sync, W: Sink, E: Sink>(
-    host: &H,
+    host: &mut H,
     threads: &R,
     alloc: Global,
     file: &str,
@@ -31,12 +32,12 @@ fn report_none<H: Surroundings, R: Threads + Wait + Clock + Sync, W: Sink, E: Si
     requires { IsServable way.now }
     ensures done { result ≡ DONE →
         Prints H.finds H.Text.gives H.opens H.closes ⟦<MemoryStore as TopStore>⟧ H.Store.TopStore
-        host.now file.now (way_of way.now) None
+        host.old host.new file.now (way_of way.now) None
         (W.contents out.old) (W.contents out.new) }
     ensures failed { result ≡ FAILED →
         Misses H.finds H.Text.gives W.contents W.takes W.flushes E.contents E.takes
         H.Text.remaining H.opens H.closes ⟦<MemoryStore as TopStore>⟧ H.Store.TopStore
-        host.now file.now (way_of way.now) None
+        host.old host.new file.now (way_of way.now) None
         out.old out.new err.old err.new }
     ensures accounts { Accounts W.flushes E.contents E.takes out.new err.old err.new result }
     ensures status { result ≤ FAILED }
@@ -54,8 +55,9 @@ fn report_none<H: Surroundings, R: Threads + Wait + Clock + Sync, W: Sink, E: Si
 }
 
 // Over the database at this path, which is made where there is none. Once it was opened it is closed, however the run ends.
+#[tactic(auto, using(crate::proofs::Ran::read_in_part))]
 fn report_opened<H: Surroundings, R: Threads + Wait + Clock + Sync, W: Sink, E: Sink>(
-    host: &H,
+    host: &mut H,
     threads: &R,
     alloc: Global,
     file: &str,
@@ -67,12 +69,12 @@ fn report_opened<H: Surroundings, R: Threads + Wait + Clock + Sync, W: Sink, E: 
     requires { IsServable way.now }
     ensures done { result ≡ DONE →
         Prints H.finds H.Text.gives H.opens H.closes ⟦<MemoryStore as TopStore>⟧ H.Store.TopStore
-        host.now file.now (way_of way.now) (Some path.now)
+        host.old host.new file.now (way_of way.now) (Some path.now)
         (W.contents out.old) (W.contents out.new) }
     ensures failed { result ≡ FAILED →
         Misses H.finds H.Text.gives W.contents W.takes W.flushes E.contents E.takes
         H.Text.remaining H.opens H.closes ⟦<MemoryStore as TopStore>⟧ H.Store.TopStore
-        host.now file.now (way_of way.now) (Some path.now)
+        host.old host.new file.now (way_of way.now) (Some path.now)
         out.old out.new err.old err.new }
     ensures accounts { Accounts W.flushes E.contents E.takes out.new err.old err.new result }
     ensures status { result ≤ FAILED }
@@ -93,7 +95,7 @@ fn report_opened<H: Surroundings, R: Threads + Wait + Clock + Sync, W: Sink, E: 
 /// Runs the text of this file in this way, over the database at the path or else over a table in memory, and answers the exit
 /// status. The report goes to `out`, and only where the whole run was done; a fault goes to `err`, in one line.
 pub(crate) fn report<H: Surroundings, R: Threads + Wait + Clock + Sync, W: Sink, E: Sink>(
-    host: &H,
+    host: &mut H,
     threads: &R,
     alloc: Global,
     file: &str,
@@ -105,12 +107,12 @@ pub(crate) fn report<H: Surroundings, R: Threads + Wait + Clock + Sync, W: Sink,
     requires { IsServable way.now }
     ensures done { result ≡ DONE →
         Prints H.finds H.Text.gives H.opens H.closes ⟦<MemoryStore as TopStore>⟧ H.Store.TopStore
-        host.now file.now (way_of way.now) (option_copied database.entry)
+        host.old host.new file.now (way_of way.now) (option_copied database.entry)
         (W.contents out.old) (W.contents out.new) }
     ensures failed { result ≡ FAILED →
         Misses H.finds H.Text.gives W.contents W.takes W.flushes E.contents E.takes
         H.Text.remaining H.opens H.closes ⟦<MemoryStore as TopStore>⟧ H.Store.TopStore
-        host.now file.now (way_of way.now) (option_copied database.entry)
+        host.old host.new file.now (way_of way.now) (option_copied database.entry)
         out.old out.new err.old err.new }
     ensures accounts { Accounts W.flushes E.contents E.takes out.new err.old err.new result }
     ensures status { result ≤ FAILED }

@@ -7,9 +7,9 @@ use Rattle.durable_top.specs.declared.store.TopStore.{Ghosts}
 use Rattle.report_judge.specs.declared.source.ReadFault.{ReadFault}
 use Rattle.session_runs.specs.Schedules.{attempts_of}
 use Rattle.session_runs.specs.Ways.{ByWorkers, Scheduled}
-use Rattle.tx_commands.specs.Programs.{IsCondemned, IsPassed, IsUnpassed, Misses, Prints}
+use Rattle.tx_commands.specs.Programs.{IsCondemned, IsPassed, IsUnpassed, Lists, ListsNot, Misses, Prints}
 use Rattle.tx_program.specs.declared.command.Task.{Task}
-use Rattle.tx_program.specs.declared.command.Task.TheVariants.{Check, Replay, Run}
+use Rattle.tx_program.specs.declared.command.Task.TheVariants.{Check, Replay, Rows, Run}
 
 -- some task that words may ask for
 pub record ForSomeTask (Holds : Task → Type 0) : Type 0 where
@@ -23,36 +23,41 @@ pub record ForOutput {W F : Type 0} (out : Result W F) (Holds : W → W → Type
   pub new : W
   pub so : Holds old new
 
-module _ {H R : Type 0} (finds : H → List ℕ → Result R ReadFault → Type 0) (gives : R → R → Result (List ℕ) ReadFault → Type 0)
+module _ {H R : Type 0} (finds : H → H → List ℕ → Result R ReadFault → Type 0) (gives : R → R → Result (List ℕ) ReadFault → Type 0)
     (remaining : R → Option (List ℕ)) where
-  -- it was done: the output got the report, or the verdict yes
-  abbrev pub IsDone : {N P W E : Type 0} → (H → List ℕ → Result P StoreFault → Type 0) → (H → List ℕ → Option P → Type 0) → Ghosts N → Ghosts P
-      → (W → Option (List ℕ)) → (W → W → Result (Unit {0}) WriteFault → Type 0) → H → Task → W → W → E → E → Type 0
-  IsDone opens closes gn gp contents flushes host (Replay file list database) old new err_old err_new =
-      Prints finds gives opens closes gn gp host file.now (Scheduled (attempts_of (option_copied list))) (option_copied database) (contents old) (contents new)
-  IsDone opens closes gn gp contents flushes host (Run file workers database) old new err_old err_new =
-      Prints finds gives opens closes gn gp host file.now ByWorkers (option_copied database) (contents old) (contents new)
-  IsDone opens closes gn gp contents flushes host (Check file) old new err_old err_new =
-      IsPassed finds gives remaining contents flushes host file.now old new err_old err_new
+  -- it was done: the output got the report, or the verdict yes, or the rows
+  abbrev pub IsDone : {N P W E : Type 0} → (H → H → List ℕ → Result P StoreFault → Type 0) → (H → H → List ℕ → Option P → Type 0) → Ghosts N → Ghosts P
+      → (W → Option (List ℕ)) → (W → W → Result (Unit {0}) WriteFault → Type 0) → H → H → Task → W → W → E → E → Type 0
+  IsDone opens closes gn gp contents flushes host_old host_new (Replay file list database) old new err_old err_new =
+      Prints finds gives opens closes gn gp host_old host_new file.now (Scheduled (attempts_of (option_copied list))) (option_copied database) (contents old) (contents new)
+  IsDone opens closes gn gp contents flushes host_old host_new (Run file workers database) old new err_old err_new =
+      Prints finds gives opens closes gn gp host_old host_new file.now ByWorkers (option_copied database) (contents old) (contents new)
+  IsDone opens closes gn gp contents flushes host_old host_new (Check file) old new err_old err_new =
+      IsPassed finds gives remaining contents flushes host_old host_new file.now old new err_old err_new
+  IsDone opens closes gn gp contents flushes host_old host_new (Rows path) old new err_old err_new =
+      Lists opens closes gp contents flushes host_old host_new path.now old new err_old err_new
 
-  -- it was not: there is no whole report, or no verdict yes
-  abbrev pub IsUndone : {N P W E : Type 0} → (H → List ℕ → Result P StoreFault → Type 0) → (H → List ℕ → Option P → Type 0) → Ghosts N → Ghosts P
+  -- it was not: there is no whole report, or no verdict yes, or not all rows
+  abbrev pub IsUndone : {N P W E : Type 0} → (H → H → List ℕ → Result P StoreFault → Type 0) → (H → H → List ℕ → Option P → Type 0) → Ghosts N → Ghosts P
       → (W → Option (List ℕ)) → (W → W → List ℕ → Result ℕ WriteFault → Type 0) → (W → W → Result (Unit {0}) WriteFault → Type 0)
-      → (E → Option (List ℕ)) → (E → E → List ℕ → Result ℕ WriteFault → Type 0) → H → Task → W → W → E → E → Type 0
-  IsUndone opens closes gn gp contents takes flushes err_contents err_takes host (Replay file list database) old new err_old err_new =
+      → (E → Option (List ℕ)) → (E → E → List ℕ → Result ℕ WriteFault → Type 0) → H → H → Task → W → W → E → E → Type 0
+  IsUndone opens closes gn gp contents takes flushes err_contents err_takes host_old host_new (Replay file list database) old new err_old err_new =
       Misses finds gives contents takes flushes err_contents err_takes remaining opens closes gn gp
-      host file.now (Scheduled (attempts_of (option_copied list))) (option_copied database) old new err_old err_new
-  IsUndone opens closes gn gp contents takes flushes err_contents err_takes host (Run file workers database) old new err_old err_new =
+      host_old host_new file.now (Scheduled (attempts_of (option_copied list))) (option_copied database) old new err_old err_new
+  IsUndone opens closes gn gp contents takes flushes err_contents err_takes host_old host_new (Run file workers database) old new err_old err_new =
       Misses finds gives contents takes flushes err_contents err_takes remaining opens closes gn gp
-      host file.now ByWorkers (option_copied database) old new err_old err_new
-  IsUndone opens closes gn gp contents takes flushes err_contents err_takes host (Check file) old new err_old err_new =
-      IsUnpassed finds gives contents takes flushes err_contents err_takes remaining host file.now old new err_old err_new
+      host_old host_new file.now ByWorkers (option_copied database) old new err_old err_new
+  IsUndone opens closes gn gp contents takes flushes err_contents err_takes host_old host_new (Check file) old new err_old err_new =
+      IsUnpassed finds gives contents takes flushes err_contents err_takes remaining host_old host_new file.now old new err_old err_new
+  IsUndone opens closes gn gp contents takes flushes err_contents err_takes host_old host_new (Rows path) old new err_old err_new =
+      ListsNot opens closes gp contents takes flushes err_contents err_takes host_old host_new path.now old new err_old err_new
 
   -- a report was to be judged, and the output got the verdict no
   abbrev pub IsCondemnedBy : {W E : Type 0} → (W → Option (List ℕ)) → (W → W → List ℕ → Result ℕ WriteFault → Type 0)
       → (W → W → Result (Unit {0}) WriteFault → Type 0) → (E → Option (List ℕ)) → (E → E → List ℕ → Result ℕ WriteFault → Type 0)
-      → H → Task → W → W → E → E → Type 0
-  IsCondemnedBy contents takes flushes err_contents err_takes host (Replay file list database) old new err_old err_new = ⊥
-  IsCondemnedBy contents takes flushes err_contents err_takes host (Run file workers database) old new err_old err_new = ⊥
-  IsCondemnedBy contents takes flushes err_contents err_takes host (Check file) old new err_old err_new =
-      IsCondemned finds gives contents takes flushes err_contents err_takes remaining host file.now old new err_old err_new
+      → H → H → Task → W → W → E → E → Type 0
+  IsCondemnedBy contents takes flushes err_contents err_takes host_old host_new (Replay file list database) old new err_old err_new = ⊥
+  IsCondemnedBy contents takes flushes err_contents err_takes host_old host_new (Run file workers database) old new err_old err_new = ⊥
+  IsCondemnedBy contents takes flushes err_contents err_takes host_old host_new (Check file) old new err_old err_new =
+      IsCondemned finds gives contents takes flushes err_contents err_takes remaining host_old host_new file.now old new err_old err_new
+  IsCondemnedBy contents takes flushes err_contents err_takes host_old host_new (Rows path) old new err_old err_new = ⊥

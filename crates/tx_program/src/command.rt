@@ -23,17 +23,22 @@ pub enum Task<'a> {
     Check {
         file: &'a str,
     },
+    /// To print the rows of the database at this path.
+    Rows {
+        path: &'a str,
+    },
 }
 
 /// What stands behind the subcommands of `--help`.
 const NOTES: &str = "\
-Exit status: 0 if the report or the verdict yes was printed; 1 if the verdict no was printed, or one
-line on standard error says why there is no report or verdict; 2 if the words are no command line or
-ask for help.
+Exit status: 0 if the report, the verdict yes or the rows were printed; 1 if the verdict no was printed,
+or one line on standard error says why there is no report, verdict or list of rows; 2 if the words are
+no command line or ask for help.
 
 Example: tx replay examples/retry.tx
 
-'tx replay --help', 'tx run --help' and 'tx check --help' explain the options and name the limits.";
+'tx replay --help', 'tx run --help', 'tx check --help' and 'tx rows --help' explain the options and name
+the limits.";
 
 /// What stands behind the arguments of `replay --help`.
 const REPLAY_NOTES: &str = "\
@@ -102,6 +107,20 @@ none; 2 if the words are no command line or ask for help.
 
 Example: tx check report.txt";
 
+/// What stands behind the arguments of `rows --help`.
+const ROWS_NOTES: &str = "\
+One line for each row, in byte order of the keys: 'K=V N', where K is the key, V its value and N the
+number of the commit that set it. A commit has the number behind the greatest in the table that it
+found, and 1 where it found no row. A row that was there before commits had numbers has the number 0.
+Nothing is printed of a database without rows.
+
+The database is made if there is none. One run at a time has it, from its opening to its end.
+
+Exit status: 0 if the rows were printed; 1 if one line on standard error says why not; 2 if the words
+are no command line or ask for help.
+
+Example: tx rows jobs.db";
+
 fn file_argument<'a>(alloc: Global) -> Arg<'a> {
     Arg::new(alloc, "file")
         .value_name("FILE")
@@ -131,6 +150,20 @@ fn check_command<'a>(alloc: Global) -> Result<Command<'a>, Error> {
             )
             .after_help(CHECK_NOTES)
             .arg(report)?,
+    )
+}
+
+fn rows_command<'a>(alloc: Global) -> Result<Command<'a>, Error> {
+    let path = Arg::new(alloc, "path")
+        .value_name("PATH")
+        .help("The SQLite database that keeps the results")
+        .required(true)
+        .action(ArgAction::Set);
+    Ok(
+        Command::new(alloc, "rows")
+            .about("Prints the rows of a database, each with the number of the commit that set it")
+            .after_help(ROWS_NOTES)
+            .arg(path)?,
     )
 }
 
@@ -179,7 +212,8 @@ fn command<'a>(alloc: Global) -> Result<Command<'a>, Error> {
             .after_help(NOTES)
             .subcommand(replay_command(alloc)?)?
             .subcommand(run_command(alloc)?)?
-            .subcommand(check_command(alloc)?)?,
+            .subcommand(check_command(alloc)?)?
+            .subcommand(rows_command(alloc)?)?,
     )
 }
 
@@ -197,6 +231,9 @@ fn read_task<'a>(name: &str, of: &ArgMatches<'a>) -> Option<Task<'a>> {
         }),
         "check" => Some(Task::Check {
             file: of.get_str("report")?,
+        }),
+        "rows" => Some(Task::Rows {
+            path: of.get_str("path")?,
         }),
         _ => None,
     }

@@ -18,14 +18,14 @@ use std::alloc::{AllocError, Global};
 use std::sync::Wait;
 use std::thread::Threads;
 use std::time::Clock;
-use tx_commands::{Surroundings, judge, replay, run};
+use tx_commands::{Surroundings, judge, list, replay, run};
 use txn_bytes::Sink;
 
 /// Does what the words after the program's name ask for, over the files and databases of `host`, and answers the exit status. A
-/// report or a verdict goes to `out`, and a report only where the whole run was done; a fault goes to `err`, in one line. Words
+/// report, a verdict or rows go to `out`, and a report only where the whole run was done; a fault goes to `err`, in one line. Words
 /// that are no command line are told there too. Workers run on `threads`.
 pub fn tx_main<H: Surroundings, R: Threads + Wait + Clock + Sync, W: Sink, E: Sink>(
-    host: &H,
+    host: &mut H,
     threads: &R,
     alloc: Global,
     words: &[String],
@@ -34,15 +34,16 @@ pub fn tx_main<H: Surroundings, R: Threads + Wait + Clock + Sync, W: Sink, E: Si
 ) -> u8
     ensures done { result ≡ DONE → ForSomeTask (λ task.
         IsDone H.finds H.Text.gives H.Text.remaining H.opens H.closes ⟦<MemoryStore as TopStore>⟧ H.Store.TopStore
-        W.contents W.flushes host.now task out.old out.new err.old err.new) }
+        W.contents W.flushes host.old host.new task out.old out.new err.old err.new) }
     ensures failed { result ≡ FAILED → ForSomeTask (λ task.
         IsUndone H.finds H.Text.gives H.Text.remaining H.opens H.closes ⟦<MemoryStore as TopStore>⟧ H.Store.TopStore
-        W.contents W.takes W.flushes E.contents E.takes host.now task out.old out.new err.old err.new)
-        ⊎ IsUntouched out.old out.new (IsSaid E.contents E.takes err.old err.new (spelled_fault NoMemory)) }
-    ensures misused { result ≡ MISUSED → out.new ≡ out.old }
+        W.contents W.takes W.flushes E.contents E.takes host.old host.new task out.old out.new err.old err.new)
+        ⊎ IsUntouched host.old host.new
+        (IsUntouched out.old out.new (IsSaid E.contents E.takes err.old err.new (spelled_fault NoMemory))) }
+    ensures misused { result ≡ MISUSED → (host.new ≡ host.old) × (out.new ≡ out.old) }
     ensures accounts { (result ≡ FAILED) × ForSomeTask (λ task.
         IsCondemnedBy H.finds H.Text.gives H.Text.remaining W.contents W.takes W.flushes E.contents E.takes
-        host.now task out.old out.new err.old err.new)
+        host.old host.new task out.old out.new err.old err.new)
         ⊎ Accounts W.flushes E.contents E.takes out.new err.old err.new result }
     ensures status { result ≤ MISUSED }
 {
@@ -53,7 +54,7 @@ pub fn tx_main<H: Surroundings, R: Threads + Wait + Clock + Sync, W: Sink, E: Si
         Ok(Some(task)) => perform(host, threads, alloc, task, out, err),
         Ok(None) => misuse(
             err,
-            b"usage: tx replay FILE [--schedule LIST] [--db PATH], or tx run FILE [--workers N] [--db PATH], or tx check REPORT, or tx --help",
+            b"usage: tx replay FILE [--schedule LIST] [--db PATH], or tx run FILE [--workers N] [--db PATH], or tx check REPORT, or tx rows PATH, or tx --help",
         ),
         Err(text) => refuse(alloc, err, &text),
     }
@@ -61,7 +62,7 @@ pub fn tx_main<H: Surroundings, R: Threads + Wait + Clock + Sync, W: Sink, E: Si
 
 // What is asked for is done by its command.
 fn perform<H: Surroundings, R: Threads + Wait + Clock + Sync, W: Sink, E: Sink>(
-    host: &H,
+    host: &mut H,
     threads: &R,
     alloc: Global,
     task: Task,
@@ -70,14 +71,14 @@ fn perform<H: Surroundings, R: Threads + Wait + Clock + Sync, W: Sink, E: Sink>(
 ) -> u8
     ensures done { result ≡ DONE →
         IsDone H.finds H.Text.gives H.Text.remaining H.opens H.closes ⟦<MemoryStore as TopStore>⟧ H.Store.TopStore
-        W.contents W.flushes host.now task.entry out.old out.new err.old err.new }
+        W.contents W.flushes host.old host.new task.entry out.old out.new err.old err.new }
     ensures failed { result ≡ FAILED →
         IsUndone H.finds H.Text.gives H.Text.remaining H.opens H.closes ⟦<MemoryStore as TopStore>⟧ H.Store.TopStore
-        W.contents W.takes W.flushes E.contents E.takes host.now task.entry out.old out.new err.old err.new }
-    ensures misused { result ≡ MISUSED → out.new ≡ out.old }
+        W.contents W.takes W.flushes E.contents E.takes host.old host.new task.entry out.old out.new err.old err.new }
+    ensures misused { result ≡ MISUSED → (host.new ≡ host.old) × (out.new ≡ out.old) }
     ensures accounts { (result ≡ FAILED) ×
         IsCondemnedBy H.finds H.Text.gives H.Text.remaining W.contents W.takes W.flushes E.contents E.takes
-        host.now task.entry out.old out.new err.old err.new
+        host.old host.new task.entry out.old out.new err.old err.new
         ⊎ Accounts W.flushes E.contents E.takes out.new err.old err.new result }
     ensures status { result ≤ MISUSED }
 {
@@ -93,6 +94,7 @@ fn perform<H: Surroundings, R: Threads + Wait + Clock + Sync, W: Sink, E: Sink>(
             database,
         } => run(host, threads, alloc, file, workers, database, out, err),
         Task::Check { file } => judge(host, alloc, file, out, err),
+        Task::Rows { path } => list(host, alloc, path, out, err),
     }
 }
 

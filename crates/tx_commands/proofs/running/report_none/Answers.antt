@@ -1,8 +1,8 @@
-use Rattle.std.proofs.Common.{◌≡◌, ℕ, List, Option, inl, arith}
+use Rattle.std.proofs.Common.{◌≡◌, ℕ, List, Option, inl, inr, refl, arith}
 use Rattle.std.specs.Prelude.{◌≢◌}
 use Rattle.session_runs.specs.declared.fault.Fault.TheVariants.{CannotRead, NoMemory}
 use Rattle.session_runs.proofs.Told.{fault_accounts}
-use Rattle.tx_commands.proofs.Ran.{ran}
+use Rattle.tx_commands.proofs.Ran.{no_value, ran, read_whole}
 use Rattle.tx_commands.proofs.running.report_none.Goals as goal
 
 pub returns-in-Err-NoMemory-clause-accounts : goal.returns-in-Err-NoMemory-clause-accounts
@@ -21,11 +21,20 @@ returns-in_default-clause-accounts g c =
 
 pub returns-clause-done : goal.returns-clause-done
 returns-clause-done g c = λ is.
-    ran _ _ _ _ _ _ c.as_slice.result.now c.in-Ok.text.items c.in-Ok-new.store c.report_over-ended.result.left c.as_slice.ensures.value c.in-Ok.ensures.ok
-    c.in-Ok-new.ensures.empty (c.report_over-ended.ensures.done is)
+    ran _ _ _ c.text_at.new.host _ _ _ _ c.as_slice.result.now c.in-Ok.text.items c.in-Ok-new.store c.report_over-ended.result.left c.as_slice.ensures.value c.in-Ok.ensures.ok
+    (record { empty = λ k. no_value _ (c.in-Ok-new.ensures.empty k); unasked = refl }) (c.report_over-ended.ensures.done is)
 
 pub returns-clause-failed : goal.returns-clause-failed
 returns-clause-failed g c = λ is.
     let undone : c.report_over-ended.result.status ≢ 0 = λ zero_is. absurd (omega (arith, is, zero_is)) in
-    inl (ran _ _ _ _ _ _ c.as_slice.result.now c.in-Ok.text.items c.in-Ok-new.store c.report_over-ended.result.left c.as_slice.ensures.value c.in-Ok.ensures.ok
-    c.in-Ok-new.ensures.empty (record { missed = c.report_over-ended.ensures.undone undone; told = c.report_over-ended.ensures.told undone }))
+    inl (ran _ _ _ c.text_at.new.host _ _ _ _ c.as_slice.result.now c.in-Ok.text.items c.in-Ok-new.store c.report_over-ended.result.left c.as_slice.ensures.value c.in-Ok.ensures.ok
+    (record { empty = λ k. no_value _ (c.in-Ok-new.ensures.empty k); unasked = refl }) (record { missed = c.report_over-ended.ensures.undone undone; told = c.report_over-ended.ensures.told undone }))
+
+pub returns-in_default-clause-failed : goal.returns-in_default-clause-failed
+returns-in_default-clause-failed g c = λ is. inr (record {
+  same = refl;
+  cause = inr (inr (record {
+    asked = inr (read_whole g.H.Surroundings.finds g.H.Text.Source.gives g.H.Text.Read.remaining c.args.host.now c.text_at.new.host c.args.file.now c.in-Ok.text.items c.in-Ok.ensures.ok);
+    said = c.tell-in_default.ensures.told;
+  }));
+})

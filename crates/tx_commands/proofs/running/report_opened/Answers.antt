@@ -21,11 +21,11 @@ returns-in_default-clause-accounts g c =
 
 pub returns-clause-done : goal.returns-clause-done
 returns-clause-done g c = λ is.
-    ran _ _ _ _ _ _ c.as_slice.result.now c.in-Ok.text.items c.in-Ok-open.store c.report_over-ended.result.left c.as_slice.ensures.value c.in-Ok.ensures.ok
-    (record { opened = c.in-Ok-open.ensures.asked; closed = c.close.ensures.asked }) (c.report_over-ended.ensures.done is)
+    ran _ _ _ c.text_at.new.host _ _ _ _ c.as_slice.result.now c.in-Ok.text.items c.in-Ok-open.store c.report_over-ended.result.left c.as_slice.ensures.value c.in-Ok.ensures.ok
+    (record { between = c.open.new.self; opened = c.in-Ok-open.ensures.asked; closed = c.close.ensures.asked }) (c.report_over-ended.ensures.done is)
 
 pub returns-clause-failed : goal.returns-clause-failed
 returns-clause-failed g c = λ is.
     let undone : c.report_over-ended.result.status ≢ 0 = λ zero_is. absurd (omega (arith, is, zero_is)) in
-    inl (ran _ _ _ _ _ _ c.as_slice.result.now c.in-Ok.text.items c.in-Ok-open.store c.report_over-ended.result.left c.as_slice.ensures.value c.in-Ok.ensures.ok
-    (record { opened = c.in-Ok-open.ensures.asked; closed = c.close.ensures.asked }) (record { missed = c.report_over-ended.ensures.undone undone; told = c.report_over-ended.ensures.told undone }))
+    inl (ran _ _ _ c.text_at.new.host _ _ _ _ c.as_slice.result.now c.in-Ok.text.items c.in-Ok-open.store c.report_over-ended.result.left c.as_slice.ensures.value c.in-Ok.ensures.ok
+    (record { between = c.open.new.self; opened = c.in-Ok-open.ensures.asked; closed = c.close.ensures.asked }) (record { missed = c.report_over-ended.ensures.undone undone; told = c.report_over-ended.ensures.told undone }))

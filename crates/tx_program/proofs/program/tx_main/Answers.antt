@@ -11,7 +11,7 @@ returns-in_default-clause-accounts g c =
 
 pub returns-in-Ok-None-clause-accounts : goal.returns-in-Ok-None-clause-accounts
 returns-in-Ok-None-clause-accounts g c =
-    inr (misuse_accounts g.W.Sink.flushes g.E.Write.contents g.E.Sink.takes c.args.out.now c.args.err.now c.misuse.new.err (codes "usage: tx replay FILE [--schedule LIST] [--db PATH], or tx run FILE [--workers N] [--db PATH], or tx check REPORT, or tx --help") c.misuse.result c.misuse.ensures.told c.misuse.ensures.status)
+    inr (misuse_accounts g.W.Sink.flushes g.E.Write.contents g.E.Sink.takes c.args.out.now c.args.err.now c.misuse.new.err (codes "usage: tx replay FILE [--schedule LIST] [--db PATH], or tx run FILE [--workers N] [--db PATH], or tx check REPORT, or tx rows PATH, or tx --help") c.misuse.result c.misuse.ensures.told c.misuse.ensures.status)
 
 pub returns-clause-accounts : goal.returns-clause-accounts
 returns-clause-accounts g c =

@@ -1,0 +1,37 @@
+//! The rows of a database, on standard output.
+ghost use Rattle.std.specs.Prelude.{◌≡◌, ◌≤◌};
+ghost use Rattle.session_runs.specs.declared.reporting.TheConstants.{DONE, FAILED};
+ghost use Rattle.session_runs.specs.Tellings.{Accounts};
+ghost use Rattle.tx_commands.specs.Programs.{Lists, ListsNot};
+
+use crate::host::Surroundings;
+use durable_top::TopStore;
+use session_runs::{Fault, list_rows, tell};
+use std::alloc::Global;
+use txn_bytes::Sink;
+
+/// Prints the rows of the database at this path, which is made where there is none, and answers the exit status. The lines go to
+/// `out`, in byte order of the keys, each with the number of the commit that set the row; a fault goes to `err`, in one line.
+pub fn list<H: Surroundings, W: Sink, E: Sink>(
+    host: &mut H,
+    alloc: Global,
+    path: &str,
+    out: &mut W,
+    err: &mut E,
+) -> u8
+    ensures done { result ≡ DONE →
+        Lists H.opens H.closes H.Store.TopStore W.contents W.flushes
+        host.old host.new path.now out.old out.new err.old err.new }
+    ensures failed { result ≡ FAILED →
+        ListsNot H.opens H.closes H.Store.TopStore W.contents W.takes W.flushes E.contents E.takes
+        host.old host.new path.now out.old out.new err.old err.new }
+    ensures accounts { Accounts W.flushes E.contents E.takes out.new err.old err.new result }
+    ensures status { result ≤ FAILED }
+{
+    let Ok(mut store) = host.open(path) else {
+        return tell(err, Fault::CannotOpen);
+    };
+    let status = list_rows(alloc, &mut store, out, err);
+    host.close(path, Some(store));
+    status
+}
