@@ -1,0 +1,3 @@
+pub mod Feeds
+pub mod Filling
+pub mod Lining
