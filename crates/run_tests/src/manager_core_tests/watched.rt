@@ -159,10 +159,8 @@ fn has_rows(table: &PlainTable, rows: &[Row]) -> bool {
 // Whether they are the same rows, whatever their numbers.
 fn are_same(left: &[Row], right: &[Row]) -> bool {
     left.len() == right.len()
-        && left
-            .iter()
-            .zip(right)
-            .all(|(row, other)| row.key == other.key && row.value == other.value)
+        && left.iter().zip(right).all(|(row, other)| row.key == other.key
+            && row.value == other.value)
 }
 
 fn name_of(event: &Event) -> &Name {
