@@ -1,0 +1,4 @@
+use Rattle.tx_program.proofs.program.perform.Goals as goal
+
+pub returns-in-Check-clause-failed : goal.returns-in-Check-clause-failed
+returns-in-Check-clause-failed g c = λ is. rw c.in-Check.is (c.judge.ensures.failed is)
