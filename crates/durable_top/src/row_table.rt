@@ -76,7 +76,8 @@ fn change_both(
     requires above { numbers.old.top <ℤ number }
     requires rising { AreRising changes.now }
     ensures values { OnOk result (value_in values.new.rows ≡ overlay changes.now (value_in values.old.rows)) }
-    ensures numbers { OnOk result (value_in numbers.new.rows ≡ renumbered number changes.now (value_in numbers.old.rows)) }
+    ensures numbers { OnOk result
+        (value_in numbers.new.rows ≡ renumbered number changes.now (value_in numbers.old.rows)) }
     ensures same_values { OnErr result (values.new.rows ≡ values.old.rows) }
     ensures same_numbers { OnErr result (numbers.new.rows ≡ numbers.old.rows) }
 {
@@ -140,7 +141,8 @@ impl RowTable {
     pub(crate) fn commit(&mut self, changes: &[Change]) -> Result<(), StoreFault>
         requires { AreRising changes.now }
         ensures ok { OnOk result (Commits changes.now (entries_in self.old) (entries_in self.new)) }
-        ensures values { OnOk result (value_in (plain self.new) ≡ overlay changes.now (value_in (plain self.old))) }
+        ensures values { OnOk result
+            (value_in (plain self.new) ≡ overlay changes.now (value_in (plain self.old))) }
         ensures err { OnErr result (self.new ≡ self.old) }
         ensures full { IsFull changes.now (entries_in self.old) → result ≡ Err StoreFault.Refused }
         ensures memory { (IsFull changes.now (entries_in self.old) → ⊥)

@@ -76,14 +76,16 @@ pub trait TopStore: Drop {
     /// leaves nothing that it could not leave before.
     fn load(&mut self, alloc: Global) -> Result<Vec<Row>, StoreFault>
         ensures rows { doubt self.new ≡ 0 → IfOk result (λ rows. value_in (plain rows.items) ≡ table self.old) }
-        ensures numbers { doubt self.new ≡ 0 → IfOk result (λ rows. entries_in rows.items ≡ numbered self.old) }
+        ensures numbers { doubt self.new ≡ 0
+            → IfOk result (λ rows. entries_in rows.items ≡ numbered self.old) }
         ensures least { IfOk result (λ rows. AreNumbered rows.items) }
         ensures rising { IfOk result (λ rows. IsRising (plain rows.items)) }
         ensures kept { doubt self.new ≡ 0 → (IsErrOf result StoreFault.Failed → ⊥) → table self.new ≡ table self.old }
         ensures kept_numbers { doubt self.new ≡ 0 → (IsErrOf result StoreFault.Failed → ⊥)
             → numbered self.new ≡ numbered self.old }
         ensures values { values_of (numbered self.new) ≡ table self.new }
-        ensures leaves_values { (left : Numbered) → may_leave_numbered self.new left → may_leave self.new (values_of left) }
+        ensures leaves_values { (left : Numbered) → may_leave_numbered self.new left
+            → may_leave self.new (values_of left) }
         ensures failures { TellsFailure (failures self.old) (failures self.new) (IsErrOf result StoreFault.Failed) }
         ensures faults { faults self.new ≡ faults self.old }
         ensures doubt { doubt self.old ≤ doubt self.new }
@@ -108,7 +110,8 @@ pub trait TopStore: Drop {
         ensures kept_numbers { doubt self.new ≡ 0 → IfErr result (λ fault.
             (fault ≡ StoreFault.Failed → ⊥) → numbered self.new ≡ numbered self.old) }
         ensures values { values_of (numbered self.new) ≡ table self.new }
-        ensures leaves_values { (left : Numbered) → may_leave_numbered self.new left → may_leave self.new (values_of left) }
+        ensures leaves_values { (left : Numbered) → may_leave_numbered self.new left
+            → may_leave self.new (values_of left) }
         ensures failures { TellsFailure (failures self.old) (failures self.new) (IsErrOf result StoreFault.Failed) }
         ensures faults { faults self.new ≡ faults_after (is_err result) (faults self.old) }
         ensures doubt { doubt self.old ≤ doubt self.new }
