@@ -1,21 +1,20 @@
 -- The greatest number of a table, and what changes make of it.
-use Rattle.std.proofs.Common.{zero, suc, is_some, ◌≡◌, inl, inr, ℕ, ◌+◌, ◌<◌, ℤ, pos, ◌≤ℤ◌, ◌<ℤ◌, Bool, true, false, cond, List, [], ◌∷◌, ◌++◌, length, take, map, get_or, Option, Some, None, IfSome, refl, sym, ap, subst, ◌∙◌, arith}
+use Rattle.std.proofs.Common.{zero, suc, is_some, true≢false, ◌⊎◌, ◌≡◌, inl, inr, ℕ, ◌+◌, ◌<◌, ℤ, pos, ◌≤ℤ◌, ◌<ℤ◌, Bool, true, false, cond, List, [], ◌∷◌, ◌++◌, length, take, map, get_or, Option, Some, None, IfSome, refl, sym, ap, subst, ◌∙◌, arith}
 use Rattle.std.proofs.lemmas.Int.{ints}
 use Rattle.std.proofs.lemmas.List.{take_more}
-use Rattle.std.proofs.lemmas.Option.{get_or_from_slice_get, slice_get_within}
 use Rattle.std.specs.Cmp.Lexicographic.{slice_cmp, nat_list_eq_equiv, texts_ties}
 use Rattle.std.specs.declared.cmp.Ordering.TheVariants.{Less}
-use Rattle.std.specs.List.{AllByRecursion, slice_get}
+use Rattle.std.specs.List.{AllByRecursion}
 use Rattle.std.specs.Option.{option_map}
 use Rattle.std.specs.Ordering.{nat_cmp, is_eq}
 use Rattle.txn_names.specs.Path.{label_eq}
-use Rattle.txn_names.proofs.Names.{label_eq_self}
+use Rattle.txn_names.proofs.Names.{label_eq_self, same_label}
 use Rattle.txn_names.specs.declared.change.Change.{Change}
 use Rattle.serial_spec.specs.Changes.{change_at, AreRising}
 use Rattle.serial_spec.specs.History.{or_else}
 use Rattle.serial_spec.specs.Rows.{Rows, value_in, IsRising}
 use Rattle.serial_spec.specs.Serial.{Map, put}
-use Rattle.durable_top.specs.Numbers.{Has, number_or, renumbered, IsTopIn, IsTopOf, HasValue}
+use Rattle.durable_top.specs.Numbers.{Has, number_or, renumbered, IsKept, IsTopIn, IsTopOf, HasValue}
 use Rattle.durable_top.proofs.Tables.{last_change}
 
 -- ---- lists
@@ -54,27 +53,26 @@ has_mapped f (y ∷ xs) x (inr later) = inr (has_mapped f xs x later)
 
 -- ---- rows
 
-next_is : (rows : Rows) (i : ℕ) (r : List ℕ × ℤ) → slice_get rows i ≡ Some r → take (i + 1) rows ≡ take i rows ++ r ∷ []
-next_is rows i r at =
-    take_more rows i r (slice_get_within rows i r at) ∙ ap (λ x. take i rows ++ x ∷ []) (get_or_from_slice_get rows i r r at)
+next_is : (rows : Rows) (i : ℕ) (r : List ℕ × ℤ) → i < length rows → r ≡ get_or rows i r → take (i + 1) rows ≡ take i rows ++ r ∷ []
+next_is rows i r within at = take_more rows i r within ∙ ap (λ x. take i rows ++ x ∷ []) (sym at)
 
 -- one more row, below the greatest so far
-pub top_below : (rows : Rows) (i : ℕ) (k : List ℕ) (n top : ℤ) → slice_get rows i ≡ Some (k, n)
-    → IsTopOf (take i rows) top → n ≤ℤ top → IsTopOf (take (i + 1) rows) top
-top_below rows i k n top at h below = subst (λ rs. IsTopOf rs top) (sym (next_is rows i (k, n) at)) (record {
+pub top_below : (rows : Rows) (i : ℕ) (r : List ℕ × ℤ) (top : ℤ) → i < length rows → r ≡ get_or rows i r
+    → IsTopOf (take i rows) top → r.1 ≤ℤ top → IsTopOf (take (i + 1) rows) top
+top_below rows i r top within at h below = subst (λ rs. IsTopOf rs top) (sym (next_is rows i r within at)) (record {
   least = h.least;
-  bounds = all_push (λ r. r.1 ≤ℤ top) (take i rows) (k, n) h.bounds below;
-  met = elim h.met [ inl nil ↦ inl nil | inr it ↦ inr (it.0, has_left (take i rows) ((k, n) ∷ []) it.0 it.1, it.2) ];
+  bounds = all_push (λ r. r.1 ≤ℤ top) (take i rows) r h.bounds below;
+  met = elim h.met [ inl nil ↦ inl nil | inr it ↦ inr (it.0, has_left (take i rows) (r ∷ []) it.0 it.1, it.2) ];
 })
 
 -- and one above it
-pub top_above : (rows : Rows) (i : ℕ) (k : List ℕ) (n top : ℤ) → slice_get rows i ≡ Some (k, n)
-    → IsTopOf (take i rows) top → top ≤ℤ n → IsTopOf (take (i + 1) rows) n
-top_above rows i k n top at h above = subst (λ rs. IsTopOf rs n) (sym (next_is rows i (k, n) at)) (record {
+pub top_above : (rows : Rows) (i : ℕ) (r : List ℕ × ℤ) (top : ℤ) → i < length rows → r ≡ get_or rows i r
+    → IsTopOf (take i rows) top → top ≤ℤ r.1 → IsTopOf (take (i + 1) rows) r.1
+top_above rows i r top within at h above = subst (λ rs. IsTopOf rs r.1) (sym (next_is rows i r within at)) (record {
   least = let least = h.least in omega (arith, ints);
-  bounds = all_push (λ r. r.1 ≤ℤ n) (take i rows) (k, n)
-      (all_weaker (λ r. r.1 ≤ℤ top) (λ r. r.1 ≤ℤ n) (take i rows) (λ r low. omega (arith, ints)) h.bounds) (omega (arith, ints));
-  met = inr ((k, n), has_last (take i rows) (k, n), refl);
+  bounds = all_push (λ q. q.1 ≤ℤ r.1) (take i rows) r
+      (all_weaker (λ q. q.1 ≤ℤ top) (λ q. q.1 ≤ℤ r.1) (take i rows) (λ q low. omega (arith, ints)) h.bounds) (omega (arith, ints));
+  met = inr (r, has_last (take i rows) r, refl);
 })
 
 number_had : (rows : Rows) (k : List ℕ) (P : ℤ → Type 0) → ((r : List ℕ × ℤ) → Has rows r → P r.1) → IfSome (value_in rows k) P
@@ -146,6 +144,27 @@ change_found (d ∷ cs) c rising (inl e) = subst (λ (x : Change). change_at (d 
 change_found (d ∷ cs) c rising (inr has) =
     ap (λ x. or_else x (cond (label_eq d.key c.key) (Some d.value) None)) (change_found cs c rising.1 has)
 
+has_split : {X : Type 0} (xs : List X) (y x : X) → Has (xs ++ y ∷ []) x → (Has xs x) ⊎ (x ≡ y)
+has_split [] y x (inl same) = inr same
+has_split [] y x (inr later) = absurd later
+has_split (z ∷ xs) y x (inl same) = inl (inl same)
+has_split (z ∷ xs) y x (inr later) = elim (has_split xs y x later) [ inl has ↦ inl (inr has) | inr same ↦ inr same ]
+
+-- no value is given by one more change that gives none
+pub none_pushed : (cs : List Change) (i : ℕ) (c : Change) → i < length cs → c ≡ get_or cs i c → is_some c.value ≡ false
+    → (HasValue (take i cs) → ⊥) → HasValue (take (i + 1) cs) → ⊥
+none_pushed cs i c within at none before it = elim (has_split (take i cs) c it.0 (subst (λ ds. Has ds it.0) (take_more cs i c within ∙ ap (λ x. take i cs ++ x ∷ []) (sym at)) it.2)) [
+  | inl has ↦ before (it.0, it.1, has, it.3)
+  | inr same ↦ let some : is_some c.value ≡ true = ap is_some (ap (λ (d : Change). d.value) (sym same) ∙ it.3) in true≢false (sym some ∙ none)
+]
+
+-- and keeps the number where the change is not at a key of it
+pub kept_pushed : (m : Map) (n : ℤ) (cs : List Change) (i : ℕ) (c : Change) → i < length cs → c ≡ get_or cs i c
+    → (m c.key ≡ Some n → ⊥) → IsKept m n (take i cs) → IsKept m n (take (i + 1) cs)
+kept_pushed m n cs i c within at other kept =
+    subst (λ ds. IsKept m n ds) (sym (take_more cs i c within ∙ ap (λ x. take i cs ++ x ∷ []) (sym at)))
+    (all_push (λ d. m d.key ≡ Some n → ⊥) (take i cs) c kept other)
+
 pub value_there : (cs : List Change) (i : ℕ) (c : Change) → i < length cs → c ≡ get_or cs i c → is_some c.value ≡ true → HasValue cs
 value_there cs i c h e some = go c.value refl some
   where
@@ -178,3 +197,36 @@ none_below m new cs top n h above is = subst (λ (t : Map). (k : List ℕ) → I
     go None (Some e) b = b.0
     go (Some None) e b = tt
     go (Some (Some v)) e b = let least = h.least in omega (arith, ints)
+
+-- a key's change stands among the changes
+change_from : (cs : List Change) (k : List ℕ) (v : Option ℤ) → change_at cs k ≡ Some v → (c : Change) × Has cs c × (c.key ≡ k) × (c.value ≡ v)
+change_from [] k v e = absurd cc
+change_from (c ∷ cs) k v e = go (change_from cs k v) (change_at cs k) refl (label_eq c.key k) refl e
+  where
+    go : (change_at cs k ≡ Some v → (d : Change) × Has cs d × (d.key ≡ k) × (d.value ≡ v))
+        → (x : Option (Option ℤ)) → change_at cs k ≡ x → (b : Bool) → label_eq c.key k ≡ b
+        → or_else x (cond b (Some c.value) None) ≡ Some v → (d : Change) × Has (c ∷ cs) d × (d.key ≡ k) × (d.value ≡ v)
+    go later (Some w) is b test e = let it = later (is ∙ e) in (it.0, inr it.1, it.2, it.3)
+    go later None is true test e = (c, inl refl, same_label c.key k test, cc)
+    go later None is false test e = absurd cc
+
+-- where no value is given and no key of the greatest number is changed, it stays the greatest
+pub top_kept : (m new : Map) (cs : List Change) (top n : ℤ) → IsTopIn m top → (HasValue cs → ⊥) → IsKept m top cs
+    → new ≡ renumbered n cs m → IsTopIn new top
+top_kept m new cs top n h none kept is = subst (λ t. IsTopIn t top) (sym is) (record {
+  least = h.least;
+  bounds = λ k. go k (change_at cs k) refl (m k) (h.bounds k);
+  met = elim h.met [ inl nil ↦ inl nil | inr it ↦ inr (it.0, met it.0 it.1 (change_at cs it.0) refl) ];
+})
+  where
+    go : (k : List ℕ) (x : Option (Option ℤ)) → change_at cs k ≡ x → (e : Option ℤ)
+        → IfSome e (λ q. (pos 0 ≤ℤ q) × (q ≤ℤ top)) → IfSome (number_or n x e) (λ q. (pos 0 ≤ℤ q) × (q ≤ℤ top))
+    go k None at e b = b
+    go k (Some None) at e b = tt
+    go k (Some (Some v)) at e b = let it = change_from cs k (Some v) at in absurd (none (it.0, v, it.1, it.3))
+
+    met : (k : List ℕ) → m k ≡ Some top → (x : Option (Option ℤ)) → change_at cs k ≡ x → number_or n x (m k) ≡ Some top
+    met k has None at = has
+    met k has (Some v) at =
+        let it = change_from cs k v at in
+        absurd (all_has (λ c. m c.key ≡ Some top → ⊥) cs it.0 kept it.1 (ap m it.2 ∙ has))

@@ -1,7 +1,7 @@
 -- Numbered tables: their values, their numbers, and their rows.
-use Rattle.std.proofs.Common.{is_some, ◌≡◌, inl, inr, ℕ, ◌+◌, ◌<◌, ℤ, pos, ◌+ℤ◌, ◌≤ℤ◌, ◌<ℤ◌, Bool, true, false, cond, List, [], ◌∷◌, ◌++◌, length, take, drop, map, get_or, Option, Some, None, IfSome, refl, sym, ap, subst, ◌∙◌, arith}
+use Rattle.std.proofs.Common.{is_some, ◌≡◌, inl, inr, ℕ, ◌+◌, ℤ, pos, ◌+ℤ◌, ◌≤ℤ◌, ◌<ℤ◌, Bool, true, false, cond, List, [], ◌∷◌, ◌++◌, take, map, Option, Some, None, IfSome, refl, sym, ap, subst, ◌∙◌, arith}
 use Rattle.std.proofs.lemmas.Int.{ints}
-use Rattle.std.proofs.lemmas.List.{drop_more, take_more, map-append}
+use Rattle.std.proofs.lemmas.List.{take_more, map-append}
 use Rattle.std.proofs.lemmas.Option.{get_or_from_slice_get, slice_get_within}
 use Rattle.std.specs.Cmp.Lexicographic.{slice_cmp}
 use Rattle.std.specs.declared.cmp.Ordering.TheVariants.{Less}
@@ -13,7 +13,7 @@ use Rattle.txn_names.proofs.Names.{label_eq_self, same_label}
 use Rattle.txn_names.specs.declared.change.Change.{Change}
 use Rattle.serial_spec.specs.Changes.{change_at, overlay}
 use Rattle.serial_spec.specs.Rows.{Rows, value_in, IsRising}
-use Rattle.serial_spec.specs.Serial.{Map, put}
+use Rattle.serial_spec.specs.Serial.{Map}
 use Rattle.serial_spec.specs.Values.{value_or}
 use Rattle.durable_top.specs.declared.store.Row.{Row}
 use Rattle.durable_top.specs.Store.{plain}
@@ -123,13 +123,6 @@ pub top_of_rows : (rows : List Row) (numbers : Rows) (top : ℤ) → AreNumbered
     → IsRising numbers → IsTopOf numbers top → IsTopIn (value_in numbers) top
 top_of_rows rows numbers top least is rising h =
     top_by numbers top rising (λ k. subst (λ (m : Map). IfSome (m k) (λ n. pos 0 ≤ℤ n)) (sym (is ∙ numbers_in_rows rows)) (entries_from_0 rows least k)) h
-
--- one more row, from the last on
-pub numbers_more : (rows : List Row) (i : ℕ) (r : Row) → i < length rows → r ≡ get_or rows i r
-    → put (value_in (numbers_in (drop (i + 1) rows))) r.key (Some r.commit) ≡ value_in (numbers_in (drop i rows))
-numbers_more rows i r h e =
-    ap (λ (q : Row). put (value_in (numbers_in (drop (i + 1) rows))) q.key (Some q.commit)) e
-    ∙ sym (ap (λ rs. value_in (numbers_in rs)) (drop_more rows i r h))
 
 -- where keys rise, each row is found by its key
 entry_found : (rows : List Row) (r : Row) → IsRising (plain rows) → Has rows r → entries_in rows r.key ≡ Some (r.value, r.commit)

@@ -1,9 +1,10 @@
 -- Rows and changes over one plain table.
-use Rattle.std.proofs.Common.{◌≡◌, ℕ, zero, suc, ℤ, ◌+◌, ◌<◌, Bool, true, false, cond, List, [], ◌∷◌, ◌++◌, length, map, take, drop, get_or, Option, Some, None, refl, sym, ap, ◌∙◌, arith}
-use Rattle.std.proofs.lemmas.List.{drop_more, take_more, map-append}
+use Rattle.std.proofs.Common.{is_some, ◌≡◌, ℕ, zero, suc, ℤ, ◌+◌, ◌<◌, Bool, true, false, cond, List, [], ◌∷◌, ◌++◌, length, map, take, get_or, Option, Some, None, refl, sym, ap, ◌∙◌, arith}
+use Rattle.std.proofs.lemmas.List.{take_more, map-append}
 use Rattle.std.proofs.lemmas.Option.{get_or_from_slice_get, slice_get_within}
 use Rattle.std.specs.List.{slice_get}
 use Rattle.txn_names.specs.Path.{label_eq}
+use Rattle.txn_names.proofs.Names.{on_label}
 use Rattle.txn_names.specs.declared.change.Change.{Change}
 use Rattle.serial_spec.specs.History.{or_else}
 use Rattle.serial_spec.specs.Serial.{Map, put}
@@ -11,6 +12,7 @@ use Rattle.serial_spec.specs.Values.{value_or}
 use Rattle.serial_spec.specs.Rows.{Rows, value_in}
 use Rattle.serial_spec.specs.Changes.{change_at, overlay}
 use Rattle.durable_top.specs.declared.store.Row.{Row}
+use Rattle.durable_top.specs.Numbers.{with_first}
 use Rattle.durable_top.specs.Store.{plain}
 
 -- the keys of rows, from either form
@@ -18,12 +20,48 @@ pub keys_plain : (rows : List Row) → map (λ r. r.key) rows ≡ map (λ r. r.0
 keys_plain [] = refl
 keys_plain (r ∷ rows) = ap (λ ks. r.key ∷ ks) (keys_plain rows)
 
--- one more row, from the last on
-pub value_in-more : (rows : List Row) (i : ℕ) (r : Row) → i < length rows → r ≡ get_or rows i r
-    → put (value_in (plain (drop (i + 1) rows))) r.key (Some r.value) ≡ value_in (plain (drop i rows))
-value_in-more rows i r h e =
-    ap (λ (q : Row). put (value_in (plain (drop (i + 1) rows))) q.key (Some q.value)) e
-    ∙ sym (ap (λ rs. value_in (plain rs)) (drop_more rows i r h))
+keeps_first : (b : Bool) (n : ℤ) (y z : Option ℤ) → cond b (Some n) (or_else y z) ≡ or_else (cond b (Some n) y) z
+keeps_first true n y z = refl
+keeps_first false n y z = refl
+
+row_push : (rows : Rows) (key : List ℕ) (v : ℤ) (k : List ℕ) → value_in (rows ++ (key, v) ∷ []) k ≡ with_first (value_in rows) key v k
+row_push [] key v k = refl
+row_push (r ∷ rows) key v k = ap (λ x. cond (label_eq r.0 k) (Some r.1) x) (row_push rows key v k)
+    ∙ keeps_first (label_eq r.0 k) r.1 (value_in rows k) (cond (label_eq key k) (Some v) None)
+
+-- one more row behind the others gives its key a value where it had none
+rows_push : (rows : Rows) (key : List ℕ) (v : ℤ) → value_in (rows ++ (key, v) ∷ []) ≡ with_first (value_in rows) key v
+rows_push rows key v = λ i k. row_push rows key v k i
+
+-- so one more row of those in a list
+pub with_more : {X : Type 0} (of : X → List ℕ × ℤ) (rows : List X) (i : ℕ) (r : X) → i < length rows → r ≡ get_or rows i r
+    → with_first (value_in (map of (take i rows))) (of r).0 (of r).1 ≡ value_in (map of (take (i + 1) rows))
+with_more of rows i r within at =
+    sym (rows_push (map of (take i rows)) (of r).0 (of r).1)
+    ∙ ap value_in (sym (map-append of (take i rows) (r ∷ [])) ∙ ap (map of) (ap (λ q. take i rows ++ q ∷ []) at ∙ sym (take_more rows i r within)))
+
+-- a key that has a value keeps it, and one that has none is given it
+pub first_kept : (m : Map) (key : List ℕ) (v : ℤ) → is_some (m key) ≡ true → m ≡ with_first m key v
+first_kept m key v some = λ i k. on_label key k (λ b. m k ≡ or_else (m k) (cond b (Some v) None)) (λ same. here k (m k) (ap m same) (m key) refl some) (λ _. apart (m k)) i
+  where
+    here : (k : List ℕ) (x : Option ℤ) → m key ≡ x → (y : Option ℤ) → m key ≡ y → is_some y ≡ true → x ≡ or_else x (Some v)
+    here k (Some w) e y f s = refl
+    here k None e y f s = absurd cc
+
+    apart : (x : Option ℤ) → x ≡ or_else x None
+    apart (Some w) = refl
+    apart None = refl
+
+pub first_put : (m : Map) (key : List ℕ) (v : ℤ) → is_some (m key) ≡ false → put m key (Some v) ≡ with_first m key v
+first_put m key v none = λ i k. on_label key k (λ b. cond b (Some v) (m k) ≡ or_else (m k) (cond b (Some v) None)) (λ same. here (m k) (m key) (ap m same) none) (λ _. apart (m k)) i
+  where
+    here : (x y : Option ℤ) → y ≡ x → is_some y ≡ false → Some v ≡ or_else x (Some v)
+    here None y e n = refl
+    here (Some w) y e n = absurd cc
+
+    apart : (x : Option ℤ) → x ≡ or_else x None
+    apart (Some w) = refl
+    apart None = refl
 
 -- one more row, from the first on
 pub plain_more : (table : Rows) (rows : List Row) (i : ℕ) (r : Row) → plain rows ≡ take i table → slice_get table i ≡ Some (r.key, r.value)

@@ -1,9 +1,11 @@
 -- The numbers of a table, kept in memory beside it, and the greatest of them.
-use Rattle.std.specs.Prelude.{◌≡◌, ◌⊎◌, ℕ, ℤ, pos, ◌≤ℤ◌, List, [], ◌∷◌, map, Option, Some, None, IfSome}
+use Rattle.std.specs.Prelude.{◌≡◌, ◌⊎◌, ℕ, ℤ, pos, ◌≤ℤ◌, if◌then◌else◌, List, [], ◌∷◌, map, Option, Some, None, IfSome}
 use Rattle.std.specs.List.{AllByRecursion}
 use Rattle.std.specs.Option.{option_map}
 use Rattle.txn_names.specs.declared.change.Change.{Change}
+use Rattle.txn_names.specs.Path.{label_eq}
 use Rattle.serial_spec.specs.Changes.{change_at}
+use Rattle.serial_spec.specs.History.{or_else}
 use Rattle.serial_spec.specs.Rows.{Rows}
 use Rattle.serial_spec.specs.Serial.{Map}
 use Rattle.durable_top.specs.declared.store.Row.{Row}
@@ -45,3 +47,11 @@ pub record IsTopOf (rows : Rows) (top : ℤ) : Type 0 where
 -- one of the changes gives a value
 abbrev pub HasValue : List Change → Type 0
 HasValue cs = (c : Change) × (v : ℤ) × Has cs c × (c.value ≡ Some v)
+
+-- no change is at a key that has this number
+abbrev pub IsKept : Map → ℤ → List Change → Type 0
+IsKept m n cs = AllByRecursion (λ c. m c.key ≡ Some n → ⊥) cs
+
+-- the map in which the key has this value where it had none
+abbrev pub with_first : Map → List ℕ → ℤ → Map
+with_first m key v k = or_else (m k) (if label_eq key k then Some v else None)

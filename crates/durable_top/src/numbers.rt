@@ -1,12 +1,13 @@
 //! The numbers of a table beside its values, and the greatest of them.
-ghost use Rattle.std.specs.Prelude.{◌≡◌, ◌≤◌, ◌<◌, ◌+◌, ◌≤ℤ◌, ◌<ℤ◌, ◌+ℤ◌, pos, [], ℤ, None, length, IfOk, IfSome, OnOk, OnErr, IsOk, IsTrue};
+ghost use Rattle.std.specs.Prelude.{◌≡◌, ◌≤◌, ◌<◌, ◌+◌, ◌≤ℤ◌, ◌<ℤ◌, ◌+ℤ◌, pos, [], ℤ, None, length, IfOk, IfSome, OnOk, OnErr, IsOk, IsFalse, IsTrue, ◌↔◌};
 ghost use Rattle.std.specs.Option.{option_map};
 ghost use Rattle.serial_spec.specs.Changes.{AreRising};
 ghost use Rattle.serial_spec.specs.Rows.{IsRising, value_in};
 ghost use Rattle.serial_spec.specs.Serial.{put};
 ghost use Rattle.durable_top.specs.Numbered.{AreNumbered, entries_in, last_number, numbers_of};
-ghost use Rattle.durable_top.specs.Numbers.{IsTopIn, IsTopOf, HasValue, numbers_in, renumbered};
+ghost use Rattle.durable_top.specs.Numbers.{IsKept, IsTopIn, IsTopOf, HasValue, numbers_in, renumbered};
 
+use crate::rows::put_first;
 use crate::store::Row;
 use serial_spec::{NoMemory, PlainTable};
 use std::alloc::Global;
@@ -45,12 +46,11 @@ fn top_in(numbers: &PlainTable) -> i64
     ensures top { IsTopOf numbers.now.rows result }
     ensures rising { IsRising numbers.now.rows }
 {
+    numbers.has_rising_rows();
     let mut top = 0;
-    for place in 0..numbers.len() {
-        if let Some((_, number)) = numbers.at(place) {
-            if number > top {
-                top = number;
-            }
+    for row in numbers.rows() {
+        if row.1 > top {
+            top = row.1;
         }
     }
     top
@@ -61,11 +61,8 @@ fn numbers_from(alloc: Global, rows: &[Row]) -> Result<PlainTable, NoMemory>
     ensures { IfOk result (λ numbers. value_in numbers.rows ≡ value_in (numbers_in rows.now)) }
 {
     let mut numbers = PlainTable::new(alloc);
-    let mut left = rows.len();
-    while left > 0 {
-        left -= 1;
-        let row = &rows[left];
-        numbers.put(&row.key, Some(row.commit))?;
+    for row in rows {
+        put_first(&mut numbers, &row.key, row.commit)?;
     }
     Ok(numbers)
 }
@@ -96,10 +93,22 @@ fn renumber(numbers: &mut PlainTable, number: i64, changes: &[Change])
 
 // Whether one of the changes gives a value.
 fn has_value(changes: &[Change]) -> bool
-    ensures { IsTrue result → HasValue changes.now }
+    ensures { IsTrue result ↔ HasValue changes.now }
 {
     for change in changes {
         if change.value.is_some() {
+            return true;
+        }
+    }
+    false
+}
+
+// Whether one of the changes is at a key that has this number.
+fn is_changed(numbers: &PlainTable, number: i64, changes: &[Change]) -> bool
+    ensures { IsFalse result → IsKept (value_in numbers.now.rows) number changes.now }
+{
+    for change in changes {
+        if numbers.get(&change.key) == Some(number) {
             return true;
         }
     }
@@ -163,19 +172,21 @@ impl NumberTable {
     }
 
     /// Makes the changes under a number above the greatest, for which there is room: a key that is given a value has
-    /// this number, and one that is given none has no number. Where none of them gives a value it looks once through
-    /// all numbers for the greatest.
+    /// this number, and one that is given none has no number. Where none of them gives a value and one of them takes
+    /// the greatest number away, it looks once through all numbers for the greatest.
     pub fn change(&mut self, number: i64, changes: &[Change])
         requires room { length changes.now ≤ self.old.room }
         requires above { self.old.top <ℤ number }
         requires rising { AreRising changes.now }
         ensures { value_in self.new.rows ≡ renumbered number changes.now (value_in self.old.rows) }
     {
+        let raises = has_value(changes);
+        let loses = !raises && is_changed(&self.numbers, self.top, changes);
         renumber(&mut self.numbers, number, changes);
-        self.top = if has_value(changes) {
-            number
-        } else {
-            top_in(&self.numbers)
-        };
+        if raises {
+            self.top = number;
+        } else if loses {
+            self.top = top_in(&self.numbers);
+        }
     }
 }

@@ -5,11 +5,12 @@ ghost use Rattle.serial_spec.specs.Rows.{IsRising, value_in};
 ghost use Rattle.serial_spec.specs.Serial.{put};
 ghost use Rattle.durable_top.specs.Numbered.{AreNumbered};
 ghost use Rattle.durable_top.specs.Store.{plain};
+ghost use Rattle.durable_top.specs.Numbers.{with_first};
 
 use crate::store::Row;
 use serial_spec::{NoMemory, PlainTable};
 use std::alloc::Global;
-use txn_names::Change;
+use txn_names::{Change, Key};
 
 /// Whether the rows stand in byte order of their keys, one for each.
 pub fn are_rising(rows: &[Row]) -> bool
@@ -40,16 +41,24 @@ pub fn are_numbered(rows: &[Row]) -> bool
     true
 }
 
+// Gives the key this value where it has none.
+pub(crate) fn put_first(table: &mut PlainTable, key: &Key, value: i64) -> Result<(), NoMemory>
+    ensures { OnOk result
+        (value_in table.new.rows ≡ with_first (value_in table.old.rows) key.now value) }
+{
+    if table.get(key).is_none() {
+        table.put(key, Some(value))?;
+    }
+    Ok(())
+}
+
 /// The table of these rows. Of several rows with one key the first counts. The only error is that memory runs out.
 pub fn table_of(alloc: Global, rows: &[Row]) -> Result<PlainTable, NoMemory>
     ensures { IfOk result (λ table. value_in table.rows ≡ value_in (plain rows.now)) }
 {
     let mut table = PlainTable::new(alloc);
-    let mut left = rows.len();
-    while left > 0 {
-        left -= 1;
-        let row = &rows[left];
-        table.put(&row.key, Some(row.value))?;
+    for row in rows {
+        put_first(&mut table, &row.key, row.value)?;
     }
     Ok(table)
 }

@@ -184,7 +184,7 @@ impl TargetLocks {
     }
 
     // Those in the list of the key at this place.
-    #[inline]
+    #[inline(always)]
     fn key_list_at(&self, key: &Key, place: usize) -> &[TxnNo]
         ensures each { (u : ℕ) →
             list_any (nat_eq u) result.now ≡ is_listed self.now (target.Key key.now) place u }
@@ -205,7 +205,7 @@ impl TargetLocks {
     /// The transactions in the list of the target at this place, counted from 0, the first begun first. Of a key the list at 0 has
     /// those with a place at it, and the list at another place those with a place at the group of so many bytes, if it is one of
     /// the key's. Of a group the list at 0 has those with a place for a mark at it. The others have nobody.
-    #[inline]
+    #[inline(always)]
     pub fn list_at(&self, target: &Target, place: usize) -> &[TxnNo]
         ensures each { (u : ℕ) →
             list_any (nat_eq u) result.now ≡ is_listed self.now target.now place u }

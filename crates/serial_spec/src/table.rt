@@ -163,6 +163,13 @@ impl PlainTable {
         self.rows.is_empty()
     }
 
+    /// The rows, in byte order of their keys.
+    pub fn rows(&self) -> &[(Key, i64)]
+        ensures { result.now ≡ self.now.rows }
+    {
+        &self.rows
+    }
+
     /// The row at this place, from 0, in byte order of the keys.
     pub fn at(&self, place: usize) -> Option<(&Key, i64)>
         ensures { option_map (λ r. (r.0.now, r.1)) result ≡ slice_get self.now.rows place }

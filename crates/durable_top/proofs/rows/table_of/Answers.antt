@@ -1,21 +1,16 @@
-use Rattle.std.proofs.Common.{◌≡◌, ℕ, ◌+◌, ◌-◌, drop, Some, ap, sym, ◌∙◌, arith, rules, SFits, w64}
+use Rattle.std.proofs.Common.{ap, ◌∙◌, rules, SFits, w64}
 use Rattle.std.proofs.lemmas.Int.{to_z-of_z}
-use Rattle.serial_spec.specs.Serial.{Map, put}
-use Rattle.serial_spec.specs.Rows.{value_in}
-use Rattle.durable_top.specs.Store.{plain}
-use Rattle.durable_top.proofs.Tables.{value_in-more}
+use Rattle.serial_spec.specs.Serial.{Map}
+use Rattle.durable_top.specs.declared.store.Row.{Row}
+use Rattle.durable_top.specs.Numbers.{with_first}
+use Rattle.durable_top.proofs.Tables.{with_more}
 use Rattle.durable_top.proofs.rows.table_of.Goals as goal
 
-pub loop-left-preserved : goal.loop-left-preserved
-loop-left-preserved c =
-    let rows = c.args.rows.now in
-    let row = c.index-rows-left.result in
-    let i : ℕ = c.loop-left.left - 1 in
+pub loop-row-preserved : goal.loop-row-preserved
+loop-row-preserved c =
+    let row = c.row-item.result in
     let fits : SFits w64 row.value = search rules in
-    let put_row = simp to_z-of_z at c.in_ok-put.ensures.ok in
-    let back : i + 1 ≡ c.loop-left.left = omega arith in (
-      omega arith,
-      put_row
-          ∙ ap (λ (m : Map). put m row.key (Some row.value)) (c.loop-left.invariant.1 ∙ ap (λ n. value_in (plain (drop n rows))) (sym back))
-          ∙ value_in-more rows i row (omega arith) c.index-rows-left.is,
-    )
+    let put_row = simp to_z-of_z at c.in_ok-put_first.ensures in
+    put_row
+    ∙ ap (λ (m : Map). with_first m row.key row.value) c.loop-row.invariant
+    ∙ with_more (λ (r : Row). (r.key, r.value)) c.args.rows.now c.loop-row.row-index row c.loop-row-test.true c.row-item.is
