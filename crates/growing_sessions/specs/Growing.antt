@@ -1,5 +1,5 @@
 -- Sessions that grow while they run: by a line behind the others of its session, or by a session behind the others.
-use Rattle.std.specs.Prelude.{◌≡◌, ◌<◌, ◌≤◌, ◌++◌, ℕ, zero, suc, List, [], ◌∷◌, length, map, codes, slice_get, IsFalse, Some}
+use Rattle.std.specs.Prelude.{◌≡◌, ◌<◌, ◌≤◌, ◌++◌, ℕ, List, [], ◌∷◌, length, map, codes, slice_get, IsFalse, Some}
 use Rattle.txn_names.specs.Text.{IsLabel}
 use Rattle.serial_spec.specs.declared.entry.By.{By}
 use Rattle.serial_spec.specs.declared.entry.By.TheVariants.{Line, Victim, Close}
@@ -14,6 +14,7 @@ use Rattle.serial_spec.specs.Follows.{StepOfEach}
 use Rattle.serial_spec.specs.Report.{line, spelled_rows, spelled_history, report}
 use Rattle.txn_history.specs.Turns.{IsUnderWay}
 use Rattle.session_text.specs.Grammar.{IsEvent, IsText, is_taken}
+use Rattle.session_text.specs.Growing.{with_line_of}
 use Rattle.session_text.specs.Texts.{with_header}
 
 -- Each session of the first list stands in the second at the same place, with its label and its lines, and maybe more
@@ -49,12 +50,6 @@ abbrev pub RoundStaysOpen : Type 0
 RoundStaysOpen = (rows : Rows) (ss : List Session) (n : ℕ) (h h2 : History) → IsOpenEnded h → StepOfEach rows ss n h h2 → IsOpenEnded h2
 
 -- ---- the two ways of growing
-
--- one line more of session s, and the same where there is no such session
-abbrev pub with_line_of : List Session → ℕ → Event → List Session
-with_line_of [] s e = []
-with_line_of (x ∷ ss) zero e = record { label = x.label; lines = x.lines ++ e ∷ [] } ∷ ss
-with_line_of (x ∷ ss) (suc s) e = x ∷ with_line_of ss s e
 
 abbrev pub LineExtends : Type 0
 LineExtends = (ss : List Session) (s : ℕ) (e : Event) → Extends ss (with_line_of ss s e)

@@ -6,10 +6,10 @@ use Rattle.std.proofs.lemmas.Bool.{eqb-false}
 use Rattle.serial_spec.specs.Interleaving.{Session}
 use Rattle.serial_spec.specs.declared.event.Event.{Event}
 use Rattle.session_text.specs.declared.text_line.TextLine.{TextLine}
-use Rattle.session_text.specs.declared.text_line.TextLine.TheVariants.{Header, Command}
+use Rattle.session_text.specs.declared.text_line.TextLine.TheVariants.{Command}
 use Rattle.session_text.specs.Grammar.{IsText}
-use Rattle.session_text.specs.Texts.{IsTextLine, open_lines, misplaced, with_header, grown}
-use Rattle.session_text.proofs.Growth.{push_last, unchanged_last, text_with_header, text_with_line, header_placed}
+use Rattle.session_text.specs.Texts.{IsTextLine, open_lines, misplaced, grown}
+use Rattle.session_text.proofs.Growth.{push_last, unchanged_last, text_with_line, header_placed}
 
 pub some_placed : (ss : List Session) (e : Event) → misplaced ss (Command e) ≡ None → 0 < length ss
 some_placed ss e h = omega (arith, eqb-false (length ss) 0 (header_placed (nat_eq (length ss) 0) (nat_le 1024 (length (open_lines ss))) h).0)
@@ -28,10 +28,6 @@ pub kept : (ss : List Session) (e : Event) (l : TextLine) → IsText ss → IsTe
 kept ss e l h valid is placed =
     let placed2 : misplaced ss (Command e) ≡ None = subst (λ (x : TextLine). misplaced ss x ≡ None) is placed in
     subst (λ (x : TextLine). IsText (grown ss x)) (sym is) (text_with_line ss e h (subst IsTextLine is valid) placed2)
-
-pub kept_header : (ss more : List Session) (l : TextLine) (a : List ℕ) → IsText ss → IsTextLine l → l ≡ Header a → misplaced ss l ≡ None → more ≡ with_header ss a → IsText more
-kept_header ss more l a h valid is placed grows =
-    subst IsText (sym grows) (text_with_header ss a h (subst IsTextLine is valid) (subst (λ (x : TextLine). misplaced ss x ≡ None) is placed))
 
 -- a push that failed
 pub unpushed : (ss : List Session) (n : ℕ) (s t : Session) (e : Event) (l : TextLine)

@@ -11,3 +11,6 @@ pub mod Feeds
 pub mod ReadBack
 pub mod FirstFaults
 pub mod Counting
+pub mod Places
+pub mod Growing
+pub mod Requests

@@ -46,7 +46,7 @@ pub or_fault_ok : {A D E : Type 0} (e : E) (r : Result A D) (x : A) → or_fault
 or_fault_ok e (Ok y) x h = cc
 or_fault_ok e (Err d) x h = cc
 
-ok_or_ok : {A E : Type 0} (o : Option A) (e : E) (x : A) → ok_or o e ≡ Ok x → o ≡ Some x
+pub ok_or_ok : {A E : Type 0} (o : Option A) (e : E) (x : A) → ok_or o e ≡ Ok x → o ≡ Some x
 ok_or_ok (Some y) e x h = cc
 ok_or_ok None e x h = cc
 

@@ -5,3 +5,5 @@ pub mod Commands
 pub mod Grammar
 pub mod Texts
 pub mod Laws
+pub mod Growing
+pub mod Requests

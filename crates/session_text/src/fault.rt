@@ -8,9 +8,10 @@ pub enum LineKind {
     End,
     /// The line has no bytes.
     Empty,
-    /// The first word is not one that starts a line, or the last word of `after` is neither `begun` nor `done`.
+    /// The first word is not one that starts a line, or the last word of `after` is neither `begun` nor `done`. Or a request has an
+    /// `after` line.
     Word,
-    /// There are more or fewer words than the first one asks.
+    /// There are more or fewer words than the first one asks, or no line stands behind the label of a request.
     Shape,
     Label,
     Name,
@@ -21,6 +22,10 @@ pub enum LineKind {
     Header,
     /// A 65th header, or a 1,025th line of a session.
     Limit,
+    /// A line of the session waits. It is a fault of requests alone.
+    Turn,
+    /// There are more bytes than any request has. It is a fault of requests alone.
+    Long,
 }
 
 /// Why a text is refused.

@@ -6,6 +6,9 @@
 //! `after N done`, where N is a name, K a key, V a number and G a group. Words stand one space apart. Each line has one
 //! spelling.
 //! There are at most 64 sessions, each with a label of its own and at most 1,024 lines.
+//!
+//! Sessions also grow while they run: `Sessions` takes one more session or one more line of a session, and takes the last one
+//! back. A request `LABEL LINE` asks for such a line of the session with this label.
 #![tactic(auto)]
 
 mod command;
@@ -14,6 +17,7 @@ pub mod laws;
 mod line;
 mod number;
 mod parting;
+mod request;
 mod sessions;
 mod text_line;
 mod verbs;
@@ -22,4 +26,5 @@ pub use fault::{LineKind, TextFault};
 pub use line::{Line, parse_event, parse_line};
 pub use number::parse_number;
 pub use parting::cut;
+pub use request::parse_request;
 pub use sessions::Sessions;

@@ -4,6 +4,8 @@ ghost use Rattle.std.specs.Option.{option_copied};
 ghost use Rattle.session_text.specs.Grammar.{IsText, is_taken};
 ghost use Rattle.session_text.specs.Texts.{IsTextLine, Tells, at_line, grown, label_at, line_at, misplaced, open_lines, sessions_of, with_bytes};
 
+mod growing;
+
 use crate::fault::{LineKind, TextFault};
 use crate::line::Line;
 use crate::parting::cut;
@@ -51,9 +53,7 @@ impl Sessions {
     pub fn parse(alloc: Global, bytes: &[u8]) -> Result<Sessions, TextFault>
         ensures { let read = sessions_of bytes.now in MatchResult result (λ sessions. read ≡ Ok sessions) (λ fault. Tells fault read) }
     {
-        let mut sessions = Sessions {
-            sessions: Vec::new(alloc),
-        };
+        let mut sessions = Sessions::new(alloc);
         let mut number = 1;
         let mut rest = bytes;
         while !rest.is_empty() {
@@ -155,11 +155,7 @@ impl Sessions {
         ensures err { OnErr result (self.new ≡ self.old) }
     {
         match line {
-            TextLine::Header(label) => {
-                let lines = Vec::new(alloc);
-                self.sessions.push(Session { label, lines })?;
-                Ok(())
-            }
+            TextLine::Header(label) => self.add_session(alloc, label),
             TextLine::Command(line) => {
                 let last = self.sessions.len() - 1;
                 self.sessions[last].push(line)?;
