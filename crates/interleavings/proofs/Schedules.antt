@@ -3,7 +3,7 @@ use Rattle.std.proofs.Common.{◌≡◌, ℕ, suc, inl, inr, List, [], ◌∷◌
 use Rattle.serial_spec.specs.History.{History}
 use Rattle.serial_spec.specs.Rows.{Rows}
 use Rattle.serial_spec.specs.Interleaving.{Session, AllAnswered, Step, StepsOn, next_event}
-use Rattle.serial_spec.specs.Follows.{Steps, Unsticks, Round}
+use Rattle.serial_spec.specs.Follows.{Steps, StepOfEach, Unsticks, Round}
 use Rattle.durable_top.specs.declared.store.TopStore.{Ghosts}
 use Rattle.manager_core.specs.State.{State}
 use Rattle.manager_core.specs.Asked.{IsLater}
@@ -11,9 +11,9 @@ use Rattle.interleavings.specs.declared.turns.Turn.{Turn}
 use Rattle.interleavings.specs.declared.turns.Turn.TheVariants.{OutOfTurn}
 use Rattle.interleavings.specs.Trails.{Trail}
 use Rattle.interleavings.specs.Attempts.{GoesOn}
-use Rattle.interleavings.specs.Turning.{Turning, Stepped, Unstuck, GivesUpLine}
+use Rattle.interleavings.specs.Turning.{Turning, NoneGoesOn, Stepped, Unstuck, GivesUpLine}
 use Rattle.interleavings.proofs.Trails.{trail_more, trail_none}
-use Rattle.interleavings.specs.Scheduled.{Goes, RunsList, RunsEach, RunsRound, RunsSoFar, RunsAll}
+use Rattle.interleavings.specs.Scheduled.{Goes, RunsList, RunsEach, RunsRound, RunsSoFar, RunsAll, SettlesSoFar, Settles}
 
 -- ---- going on
 
@@ -134,4 +134,28 @@ module _ {S : Type 0} (g : Ghosts S) where
     count = so_far.count;
     rounds = so_far.rounds;
     all = subst (λ ss. AllAnswered ss new.core.history) so_far.goes.sessions all;
+  }
+
+  -- ---- until none can go on
+
+  pub settles_none : (t : Turning S) → SettlesSoFar g t t
+  settles_none t = record { goes = goes_same t; count = 0; steps = refl }
+
+  pub settles_more : (old mid new : Turning S) → SettlesSoFar g old mid → RunsEach g (length mid.sessions) mid new → SettlesSoFar g old new
+  settles_more old mid new so_far each = record {
+    goes = goes_still old mid new so_far.goes each.goes;
+    count = suc so_far.count;
+    steps = (
+      mid.core.history,
+      so_far.steps,
+      back old mid new so_far.goes (λ r ss. StepOfEach r ss (length ss) mid.core.history new.core.history) each.each,
+    );
+  }
+
+  pub settles_all : (old new : Turning S) → SettlesSoFar g old new → NoneGoesOn new.core.rows new.sessions new.core.history → Settles g old new
+  settles_all old new so_far none = record {
+    goes = so_far.goes;
+    count = so_far.count;
+    steps = so_far.steps;
+    settled = subst (λ r. NoneGoesOn r old.sessions new.core.history) so_far.goes.on.rows (subst (λ ss. NoneGoesOn new.core.rows ss new.core.history) so_far.goes.sessions none);
   }

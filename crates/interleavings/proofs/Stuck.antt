@@ -9,14 +9,15 @@ use Rattle.serial_spec.specs.History.{History}
 use Rattle.serial_spec.specs.Rows.{Rows}
 use Rattle.serial_spec.specs.Allowed.{answer}
 use Rattle.serial_spec.specs.Interleaving.{Session, lines_of, answered, next_event, next_line, AllAnswered, MustGiveUp}
-use Rattle.serial_spec.specs.Follows.{NoneGivesUp}
-use Rattle.txn_history.specs.Turns.{IsUnderWay}
+use Rattle.serial_spec.specs.Follows.{NoneGivesUp, StepOfEach}
+use Rattle.txn_history.specs.Turns.{IsUnderWay, pending_in}
 use Rattle.txn_history.specs.Lines.{CanGiveUp}
+use Rattle.txn_history.proofs.Rounds.{steps_move}
 use Rattle.txn_history.proofs.Tests.{clash}
 use Rattle.txn_history.proofs.Theorems.{legal_allowed}
 use Rattle.txn_history.proofs.NextLines.{next_can_give_up}
 use Rattle.manager_core.specs.Parking.{IsKeptOut}
-use Rattle.interleavings.specs.Turning.{IsFirstOpen, has_answer, can_go_on, next_number}
+use Rattle.interleavings.specs.Turning.{IsFirstOpen, SomeGoesOn, has_answer, can_go_on, next_number}
 
 module _ (ss : List Session) (h : History) where
   -- where there is no session there is no line
@@ -65,6 +66,14 @@ module _ (ss : List Session) (h : History) where
         by : (x : Option Answer) → answer rows h (next_line h u) e ≡ x → answer rows h (next_line h u) e ≡ None
         by None is = is
         by (Some a) is = clash (ap (has_answer rows h u) due ∙ ap is_some is) stays
+
+    -- where no session is none can go on
+    pub none_goes : ((u : ℕ) → u < length ss → goes u ≡ false) → (u : ℕ) → goes u ≡ false
+    none_goes none u = by (cases_lt u (length ss))
+      where
+        by : (u < length ss) ⊎ (length ss ≤ u) → goes u ≡ false
+        by (inl within) = none u within
+        by (inr past) = ap (has_answer rows h u) (none_past u past)
 
     -- where one can go on none must give up
     pub nobody_must : (u : ℕ) → goes u ≡ true → NoneGivesUp rows ss h
@@ -116,3 +125,16 @@ module _ (ss : List Session) (h : History) where
               none = ap (λ b2. answer rows h b2 e) line ∙ at;
             })) refl
         by false t (Some a) at = sym (ap (has_answer rows h s) due ∙ ap is_some at)
+
+    -- where one can go on, a step of each adds an entry
+    pub some_moves : (h2 : History) → SomeGoesOn rows ss h → StepOfEach rows ss (length ss) h h2 → pending_in ss h2 (length ss) < pending_in ss h (length ss)
+    some_moves h2 (s, on) each = by (steps_move rows ss h h2 each)
+      where
+        by : ((h2 ≡ h) × ((u : ℕ) (e : Event) → next_event ss h u ≡ Some e → answer rows h (next_line h u) e ≡ None)) ⊎ (pending_in ss h2 (length ss) < pending_in ss h (length ss))
+            → pending_in ss h2 (length ss) < pending_in ss h (length ss)
+        by (inr fewer) = fewer
+        by (inl (same, none)) = clash on (stays (next_event ss h s) refl)
+          where
+            stays : (x : Option Event) → next_event ss h s ≡ x → goes s ≡ false
+            stays None is = ap (has_answer rows h s) is
+            stays (Some e) is = ap (has_answer rows h s) is ∙ ap is_some (none s e is)

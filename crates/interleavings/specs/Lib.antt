@@ -5,3 +5,4 @@ pub mod Attempts
 pub mod Turning
 pub mod Scheduled
 pub mod Runs
+pub mod Progressing

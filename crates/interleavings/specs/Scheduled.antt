@@ -1,13 +1,15 @@
 -- What the parts of a run come to.
-use Rattle.std.specs.Prelude.{◌≡◌, ℕ, List}
-use Rattle.serial_spec.specs.Interleaving.{AllAnswered}
+use Rattle.std.specs.Prelude.{◌≡◌, ℕ, zero, suc, List, length}
+use Rattle.serial_spec.specs.History.{History}
+use Rattle.serial_spec.specs.Rows.{Rows}
+use Rattle.serial_spec.specs.Interleaving.{Session, AllAnswered}
 use Rattle.serial_spec.specs.Follows.{Steps, StepOfEach, Round, Rounds}
 use Rattle.durable_top.specs.declared.store.TopStore.{Ghosts}
 use Rattle.txn_history.specs.Turns.{IsUnderWay}
 use Rattle.manager_core.specs.Sound.{IsSound}
 use Rattle.interleavings.specs.Told.{Told}
 use Rattle.interleavings.specs.Attempts.{GoesOn}
-use Rattle.interleavings.specs.Turning.{Turning, IsClosed}
+use Rattle.interleavings.specs.Turning.{Turning, IsClosed, NoneGoesOn}
 
 -- ---- the parts of a run
 
@@ -53,6 +55,24 @@ pub record RunsAll {S : Type 0} (g : Ghosts S) (old new : Turning S) : Type 0 wh
   pub count : ℕ
   pub rounds : Rounds old.core.rows old.sessions count old.core.history new.core.history
   pub all : AllAnswered old.sessions new.core.history
+
+-- each session is attempted, so many times
+abbrev pub StepsOfAll : Rows → List Session → ℕ → History → History → Type 0
+StepsOfAll rows ss zero h h2 = h2 ≡ h
+StepsOfAll rows ss (suc n) h h2 = (mid : History) × StepsOfAll rows ss n h mid × StepOfEach rows ss (length ss) mid h2
+
+-- so far
+pub record SettlesSoFar {S : Type 0} (g : Ghosts S) (old new : Turning S) : Type 0 where
+  pub goes : Goes g old new
+  pub count : ℕ
+  pub steps : StepsOfAll old.core.rows old.sessions count old.core.history new.core.history
+
+-- until no session's next line may be answered or begin to wait
+pub record Settles {S : Type 0} (g : Ghosts S) (old new : Turning S) : Type 0 where
+  pub goes : Goes g old new
+  pub count : ℕ
+  pub steps : StepsOfAll old.core.rows old.sessions count old.core.history new.core.history
+  pub settled : NoneGoesOn old.core.rows old.sessions new.core.history
 
 -- the schedule's attempts, and then the rounds
 pub record RunsWhole {S : Type 0} (g : Ghosts S) (schedule : List ℕ) (old new : Turning S) : Type 0 where

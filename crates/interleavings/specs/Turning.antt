@@ -41,6 +41,14 @@ has_answer rows h s (Some e) = is_some (answer rows h (next_line h s) e)
 abbrev pub can_go_on : Rows → List Session → History → ℕ → Bool
 can_go_on rows ss h s = has_answer rows h s (next_event ss h s)
 
+-- some session's can
+abbrev pub SomeGoesOn : Rows → List Session → History → Type 0
+SomeGoesOn rows ss h = (s : ℕ) × IsTrue (can_go_on rows ss h s)
+
+-- none can
+abbrev pub NoneGoesOn : Rows → List Session → History → Type 0
+NoneGoesOn rows ss h = (s : ℕ) → can_go_on rows ss h s ≡ false
+
 -- the session whose line must be given up, if one must
 abbrev pub TellsStuck : Rows → List Session → History → Option ℕ → Type 0
 TellsStuck rows ss h None = NoneGivesUp rows ss h

@@ -65,8 +65,12 @@ fn close<S: TopStore>(turns: Turns<'_, S>) -> Result<(Report, S), RunFault>
     }
 }
 
-// The schedule, the rounds and the close.
-fn run_opened<S: TopStore>(turns: Turns<'_, S>, schedule: &[u32]) -> Result<(Report, S), RunFault>
+/// Runs sessions under way to their end: the schedule's attempts, the rounds and the close, as in `run_schedule`. The only error is
+/// that memory runs out; the store is dropped then.
+pub fn run_opened<S: TopStore>(
+    turns: Turns<'_, S>,
+    schedule: &[u32],
+) -> Result<(Report, S), RunFault>
     ensures ok { IfOk result (λ run. RunsOut S.TopStore schedule.now turns.entry run.0 run.1) }
     ensures err { IfErr result (λ fault. fault ≡ RunFault.NoMemory) }
     ensures off { OnErr result (BreaksOff S.TopStore turns.entry) }

@@ -1,6 +1,6 @@
 //! Sessions by a schedule.
 ghost use Rattle.std.specs.Prelude.{OnErr, OnOk, length};
-ghost use Rattle.interleavings.specs.Scheduled.{Goes, RunsAll, RunsEach, RunsList, RunsRound, RunsWhole};
+ghost use Rattle.interleavings.specs.Scheduled.{Goes, RunsAll, RunsEach, RunsList, RunsRound, RunsWhole, Settles};
 
 use crate::turns::Turns;
 use durable_top::TopStore;
@@ -24,6 +24,18 @@ fn run_each<S: TopStore>(turns: &mut Turns<S>) -> Result<(), NoMemory>
 {
     for session in 0..turns.count() {
         turns.step(session)?;
+    }
+    Ok(())
+}
+
+/// Attempts each session, in order, again and again, until no line may be answered or begin to wait. The only error is that
+/// memory runs out; what was done until then stands.
+pub fn settle<S: TopStore>(turns: &mut Turns<S>) -> Result<(), NoMemory>
+    ensures ok { OnOk result (Settles S.TopStore turns.old turns.new) }
+    ensures err { OnErr result (Goes S.TopStore turns.old turns.new) }
+{
+    while turns.goes_on() {
+        run_each(turns)?;
     }
     Ok(())
 }

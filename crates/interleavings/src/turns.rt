@@ -1,13 +1,15 @@
 //! Sessions under way, a line at a time.
-ghost use Rattle.std.specs.Prelude.{◌≡◌, ◌↔◌, length, replicate, IfErr, IfOk, IsTrue, OnErr, OnOk};
+ghost use Rattle.std.specs.Prelude.{◌≡◌, ◌↔◌, length, replicate, IfErr, IfOk, IsTrue, MatchBool, OnErr, OnOk};
 ghost use Rattle.serial_spec.specs.Interleaving.{AllAnswered};
 ghost use Rattle.txn_history.specs.Turns.{IsUnderWay};
 ghost use Rattle.durable_top.specs.Store.{plain};
 ghost use Rattle.manager_core.specs.Opening.{HasCause};
+ghost use Rattle.interleavings.specs.Progressing.{AreUnderWay, turning};
 ghost use Rattle.interleavings.specs.Scheduled.{Stands};
-ghost use Rattle.interleavings.specs.Turning.{IsClosed, IsFirstOpen, IsStart, Stepped, TellsStuck, Unstuck, can_go_on, next_number};
+ghost use Rattle.interleavings.specs.Turning.{IsClosed, IsFirstOpen, IsStart, NoneGoesOn, SomeGoesOn, Stepped, TellsStuck, Unstuck, can_go_on, next_number};
 
 use crate::attempt::attempt;
+use crate::progress::Progress;
 use crate::report::{Report, labels_of, report_of};
 use durable_top::{Row, TopStore};
 use manager_core::{Manager, OpenFault, Outcome};
@@ -162,15 +164,27 @@ impl<'a, S: TopStore> Turns<'a, S> {
         }
     }
 
+    /// Whether the next line of some session may be answered, or begin to wait. Of each session it takes one look.
+    pub fn goes_on(&self) -> bool
+        ensures { MatchBool result
+            (SomeGoesOn self.now.core.rows self.now.sessions self.now.core.history)
+            (NoneGoesOn self.now.core.rows self.now.sessions self.now.core.history) }
+    {
+        for session in 0..self.count() {
+            if self.can_go_on(session) {
+                return true;
+            }
+        }
+        false
+    }
+
     // The session whose line must be given up, if one must.
     fn stuck_session(&self) -> Option<u32>
         ensures { TellsStuck self.now.core.rows self.now.sessions self.now.core.history result }
     {
         let first = self.first_open()?;
-        for session in 0..self.count() {
-            if self.can_go_on(session) {
-                return None;
-            }
+        if self.goes_on() {
+            return None;
         }
         Some(first)
     }
@@ -194,6 +208,42 @@ impl<'a, S: TopStore> Turns<'a, S> {
             .cancel(By::Line { session, line }, text.event())?;
         self.next[session as usize] = line + 1;
         Ok(Some((session, line)))
+    }
+
+    /// What is kept beside the sessions, which these no longer hold then.
+    pub fn into_progress(self) -> Progress<S>
+        ensures core { result.core ≡ self.entry.core }
+        ensures way { AreUnderWay self.entry.sessions result }
+    {
+        let Turns {
+            alloc,
+            manager,
+            next,
+            ..
+        } = self;
+        Progress {
+            alloc,
+            manager,
+            next,
+        }
+    }
+
+    /// Goes on with what is kept, over sessions that are under way by it.
+    pub fn from_progress(progress: Progress<S>, sessions: &'a Sessions) -> Turns<'a, S>
+        requires { AreUnderWay sessions.now progress }
+        ensures { result ≡ turning sessions.now progress }
+    {
+        let Progress {
+            alloc,
+            manager,
+            next,
+        } = progress;
+        Turns {
+            alloc,
+            sessions,
+            manager,
+            next,
+        }
     }
 
     /// Aborts the live top-level transactions in the order in which they began, and gives the report of the run, and the

@@ -1,6 +1,6 @@
 use Rattle.std.proofs.Common.{◌≡◌, ℕ, ◌<◌, false}
 use Rattle.interleavings.specs.Turning.{can_go_on}
-use Rattle.interleavings.proofs.turns.Turns.stuck_session.Given as goal
+use Rattle.interleavings.proofs.turns.Turns.goes_on.Given as goal
 
 -- none before can go on
 abbrev pub invariant-loop-session : goal.invariant-loop-session

@@ -1,0 +1,17 @@
+use Rattle.std.proofs.Common.{sym, ◌∙◌, arith}
+use Rattle.interleavings.proofs.Stuck.{goes_more, none_goes}
+use Rattle.interleavings.proofs.turns.Turns.goes_on.Goals as goal
+
+pub loop-session-preserved : goal.loop-session-preserved
+loop-session-preserved g c u less =
+    let t = c.args.self.now in
+    goes_more t.sessions t.core.history t.core.rows c.loop-session.session c.loop-session.invariant (sym c.can_go_on.ensures ∙ c.if-can_go_on.false) u (omega (arith, less))
+
+pub returns-then-can_go_on : goal.returns-then-can_go_on
+returns-then-can_go_on g c = (c.loop-session.session, sym c.can_go_on.ensures ∙ c.if-can_go_on.true)
+
+pub returns : goal.returns
+returns g c =
+    let t = c.args.self.now in
+    none_goes t.sessions t.core.history t.core.rows
+    (λ u less. c.loop-session.invariant u (omega (arith, less, c.loop-session-test.false, c.count-session-end.ensures)))

@@ -1,0 +1,67 @@
+//! What a run keeps beside its sessions, so that these can grow between two attempts.
+ghost use Rattle.std.specs.Prelude.{◌≡◌, ◌++◌, ◌∷◌, [], reverse, slice_get, OnErr, OnOk};
+ghost use Rattle.durable_top.specs.Store.{plain};
+ghost use Rattle.manager_core.specs.Sound.{IsSound};
+
+use durable_top::{Row, TopStore};
+use manager_core::Manager;
+use serial_spec::{Entry, NoMemory};
+use std::alloc::Global;
+use std::marker::Model;
+
+/// The manager, and the number of each session's next line. `Turns` are made of it and of the sessions, and give it back.
+#[derive(Drop)]
+pub struct Progress<S: TopStore> {
+    pub(crate) alloc: Global,
+    pub(crate) manager: Manager<S>,
+    // One past its last where all lines of the session are answered.
+    pub(crate) next: Vec<u32>,
+}
+
+impl<S: TopStore> Model for Progress<S> {
+    ghost use Rattle.interleavings.specs.Progressing.{Going};
+
+    ghost Value = { Going S };
+
+    ghost view = { λ p. record { core = p.manager; next = p.next.items } };
+}
+
+impl<S: TopStore> Progress<S> {
+    /// The number of the session's next line, where there is such a session.
+    pub fn next(&self, session: u32) -> Option<u32>
+        ensures { result ≡ slice_get self.now.next session }
+    {
+        self.next.get(session as usize).copied()
+    }
+
+    /// The opening rows, in byte order.
+    pub fn opening(&self) -> &[Row]
+        ensures { plain result.now ≡ self.now.core.rows }
+    {
+        self.manager.opening()
+    }
+
+    /// The entries, the oldest first.
+    pub fn history(&self) -> &[Entry]
+        ensures { reverse result.now ≡ self.now.core.history }
+    {
+        self.manager.history()
+    }
+
+    /// The manager is sound. The call does nothing: it tells the prover so.
+    pub fn has_sound_manager(&self)
+        ensures { IsSound S.TopStore self.now.core }
+    {
+        self.manager.table();
+    }
+
+    /// One session more, none of whose lines is answered. If memory runs out, the only error, nothing has changed.
+    pub fn add_session(&mut self) -> Result<(), NoMemory>
+        ensures core { self.new.core ≡ self.old.core }
+        ensures ok { OnOk result (self.new.next ≡ self.old.next ++ 1 ∷ []) }
+        ensures err { OnErr result (self.new ≡ self.old) }
+    {
+        self.next.push(1)?;
+        Ok(())
+    }
+}
