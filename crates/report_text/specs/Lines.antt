@@ -2,7 +2,8 @@
 use Rattle.std.specs.Prelude.{ℕ, ℤ, List, [], ◌++◌, codes, Option, Some, None}
 use Rattle.serial_spec.specs.declared.entry.Entry.{Entry}
 use Rattle.serial_spec.specs.Printing.{spelled_number}
-use Rattle.serial_spec.specs.Report.{line, spelled_entry}
+use Rattle.serial_spec.specs.Report.{line, spelled_entry, spelled_rows}
+use Rattle.serial_spec.specs.Rows.{Rows}
 
 abbrev pub row_line : List ℕ × ℤ → List ℕ
 row_line r = line (r.0 ++ codes "=" ++ spelled_number r.1)
@@ -11,6 +12,13 @@ row_line r = line (r.0 ++ codes "=" ++ spelled_number r.1)
 abbrev pub row_lines : Option (List ℕ × ℤ) → List ℕ
 row_lines None = []
 row_lines (Some r) = row_line r
+
+-- how a report begins, and how it ends
+abbrev pub opening_text : Rows → List ℕ
+opening_text rows = line (codes "open") ++ spelled_rows rows
+
+abbrev pub ending_text : Rows → List ℕ
+ending_text rows = line (codes "table") ++ spelled_rows rows ++ line (codes "end")
 
 abbrev pub entry_line : List (List ℕ) → Entry → List ℕ
 entry_line labels e = line (spelled_entry labels e.by e.event e.answer)

@@ -7,7 +7,7 @@ mod rows;
 mod spelling;
 mod verdict;
 
-pub use report::write_report;
+pub use report::{write_ending, write_entries, write_opening, write_report};
 pub use rows::write_rows;
 pub use txn_bytes::WriteFault;
 pub use verdict::write_verdict;

@@ -1,17 +1,19 @@
 //! A report, from its first line to its last.
-ghost use Rattle.std.specs.Prelude.{ℕ, [], ◌∷◌, ◌++◌, codes, OnErr, OnOk};
+ghost use Rattle.std.specs.Prelude.{ℕ, [], ◌∷◌, ◌++◌, codes, reverse, OnErr, OnOk};
 ghost use Rattle.std.specs.Io.KnownBytes.{Appends};
 ghost use Rattle.txn_bytes.specs.Written.{AppendsFront, IsStopped};
-ghost use Rattle.serial_spec.specs.Report.{report, spelled_rows};
+ghost use Rattle.serial_spec.specs.Report.{report, spelled_history, spelled_rows};
 ghost use Rattle.durable_top.specs.Store.{plain};
 ghost use Rattle.report_check.specs.Verdicts.{HasVerdict};
 ghost use Rattle.report_check.specs.declared.verdict.Verdict.TheVariants.{Yes};
-ghost use Rattle.report_text.specs.Lines.{row_line};
+ghost use Rattle.report_text.specs.Lines.{ending_text, opening_text, row_line};
 
 use crate::entries::{put_history, put_row_line, put_table};
 use durable_top::Row;
 use interleavings::Report;
+use serial_spec::{Entry, PlainTable};
 use txn_bytes::{Sink, WriteFault, put};
+use txn_names::Label;
 
 fn put_opening_row<W: Sink>(out: &mut W, row: &Row) -> Result<(), WriteFault>
     ensures ok { OnOk result (Appends (W.contents out.old) (W.contents out.new) (row_line (row.now.key, row.now.value))) }
@@ -32,6 +34,43 @@ fn put_opening<W: Sink>(out: &mut W, rows: &[Row]) -> Result<(), WriteFault>
     Ok(())
 }
 
+/// Writes how a report begins: its first line and the opening rows. It takes no memory. After a fault, the only one, which the
+/// writer answered, it has taken a beginning of that.
+pub fn write_opening<W: Sink>(rows: &[Row], out: &mut W) -> Result<(), WriteFault>
+    ensures ok { OnOk result (Appends (W.contents out.old) (W.contents out.new) (opening_text (plain rows.now))) }
+    ensures err { OnErr result (AppendsFront (W.contents out.old) (W.contents out.new) (opening_text (plain rows.now))) }
+    ensures asked { OnErr result (IsStopped W.takes out.new) }
+{
+    put(out, b"open\n")?;
+    put_opening(out, rows)
+}
+
+/// Writes entries of a history, the oldest first, each as a line. It takes no memory. After a fault, the only one, which the writer
+/// answered, it has taken a beginning of these lines.
+pub fn write_entries<W: Sink>(
+    labels: &[Label],
+    entries: &[Entry],
+    out: &mut W,
+) -> Result<(), WriteFault>
+    ensures ok { OnOk result (Appends (W.contents out.old) (W.contents out.new) (spelled_history labels.now (reverse entries.now))) }
+    ensures err { OnErr result (AppendsFront (W.contents out.old) (W.contents out.new) (spelled_history labels.now (reverse entries.now))) }
+    ensures asked { OnErr result (IsStopped W.takes out.new) }
+{
+    put_history(out, labels, entries)
+}
+
+/// Writes how a report ends: the final table and its last line. It takes no memory. After a fault, the only one, which the writer
+/// answered, it has taken a beginning of that.
+pub fn write_ending<W: Sink>(table: &PlainTable, out: &mut W) -> Result<(), WriteFault>
+    ensures ok { OnOk result (Appends (W.contents out.old) (W.contents out.new) (ending_text table.now.rows)) }
+    ensures err { OnErr result (AppendsFront (W.contents out.old) (W.contents out.new) (ending_text table.now.rows)) }
+    ensures asked { OnErr result (IsStopped W.takes out.new) }
+{
+    put(out, b"table\n")?;
+    put_table(out, table)?;
+    put(out, b"end\n")
+}
+
 /// Writes the report: the opening rows, each entry of the history, and the final table. It takes no memory. What was
 /// written is accepted by whoever checks reports. After a fault, the only one, the writer has taken a beginning of it.
 pub fn write_report<W: Sink>(told: &Report, out: &mut W) -> Result<(), WriteFault>
@@ -40,10 +79,7 @@ pub fn write_report<W: Sink>(told: &Report, out: &mut W) -> Result<(), WriteFaul
     ensures err { OnErr result (AppendsFront (W.contents out.old) (W.contents out.new) (report told.now.opening told.now.labels told.now.history told.now.table)) }
     ensures asked { OnErr result (IsStopped W.takes out.new) }
 {
-    put(out, b"open\n")?;
-    put_opening(out, told.opening())?;
-    put_history(out, told.labels(), told.history())?;
-    put(out, b"table\n")?;
-    put_table(out, told.table())?;
-    put(out, b"end\n")
+    write_opening(told.opening(), out)?;
+    write_entries(told.labels(), told.history(), out)?;
+    write_ending(told.table(), out)
 }

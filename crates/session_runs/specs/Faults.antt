@@ -42,6 +42,8 @@ spelled_kind kinds.Key = codes "key"
 spelled_kind kinds.Number = codes "number"
 spelled_kind kinds.Header = codes "header"
 spelled_kind kinds.Limit = codes "limit"
+spelled_kind kinds.Turn = codes "turn"
+spelled_kind kinds.Long = codes "long"
 
 -- what a fault's line says, without its line feed
 abbrev pub spelled_cause : Fault → List ℕ

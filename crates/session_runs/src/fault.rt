@@ -45,6 +45,8 @@ pub(crate) fn word_of(kind: &LineKind) -> &'static str
         LineKind::Number => "number",
         LineKind::Header => "header",
         LineKind::Limit => "limit",
+        LineKind::Turn => "turn",
+        LineKind::Long => "long",
     }
 }
 
