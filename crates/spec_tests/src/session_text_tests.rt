@@ -1,6 +1,6 @@
 //! Texts with the faults that they are due, and what is read of those without one.
 use serial_spec::{Event, Op, When};
-use session_text::{LineKind, Sessions, TextFault, parse_line, parse_number};
+use session_text::{Line, LineKind, Sessions, TextFault, parse_line, parse_number, parse_request};
 use std::alloc::Global;
 use std::process::Abort;
 use txn_names::{Group, Key, Label, Name};
@@ -385,4 +385,49 @@ fn numbers_have_one_spelling(rt: HostRuntime) {
     ] {
         assert!(rt; parse_number(text.as_bytes()) == number, "{text}");
     }
+}
+
+// Whether these bytes are the request for this line of the session with this label, or have this fault.
+fn is_request(text: &str, wanted: Result<(&str, &str), LineKind>) -> bool {
+    match (parse_request(text.as_bytes()), wanted) {
+        (Ok((label, line)), Ok((name, spelled))) => {
+            label.as_bytes() == name.as_bytes() && line.text() == spelled.as_bytes()
+        }
+        (Err(kind), Err(due)) => kind == due,
+        _ => false,
+    }
+}
+
+#[test]
+fn requests_and_their_faults(rt: HostRuntime) {
+    for (text, wanted) in [
+        ("s begin a", Ok(("s", "begin a"))),
+        ("s add a x -5", Ok(("s", "add a x -5"))),
+        ("", Err(LineKind::Empty)),
+        ("s", Err(LineKind::Shape)),
+        ("s ", Err(LineKind::Empty)),
+        (" begin a", Err(LineKind::Label)),
+        ("s after a begun", Err(LineKind::Word)),
+        ("s session t", Err(LineKind::Word)),
+        ("s begin a/", Err(LineKind::Name)),
+        ("s begin a b", Err(LineKind::Shape)),
+    ] {
+        assert!(rt; is_request(text, wanted), "{text}");
+    }
+}
+
+fn request_of(rt: &impl Abort, text: &str) -> (Label, Line) {
+    parse_request(text.as_bytes()).expect(rt, text)
+}
+
+#[test]
+fn sessions_that_grow(rt: HostRuntime) {
+    let alloc = rt.alloc();
+    let mut sessions = Sessions::new(alloc);
+    let (label, line) = request_of(&rt, "s begin a");
+    assert!(rt; sessions.place(&label).is_none());
+    sessions.add_session(alloc, label).expect(&rt, "a session");
+    sessions.add_line(0, line).expect(&rt, "a line");
+    assert!(rt; sessions.place(&label) == Some(0) && sessions.line_count(0) == 1);
+    assert!(rt; is_line(&sessions, 0, 1, Event::Begin(name(&rt, "a")), "begin a"));
 }
