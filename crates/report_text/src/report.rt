@@ -37,8 +37,10 @@ fn put_opening<W: Sink>(out: &mut W, rows: &[Row]) -> Result<(), WriteFault>
 /// Writes how a report begins: its first line and the opening rows. It takes no memory. After a fault, the only one, which the
 /// writer answered, it has taken a beginning of that.
 pub fn write_opening<W: Sink>(rows: &[Row], out: &mut W) -> Result<(), WriteFault>
-    ensures ok { OnOk result (Appends (W.contents out.old) (W.contents out.new) (opening_text (plain rows.now))) }
-    ensures err { OnErr result (AppendsFront (W.contents out.old) (W.contents out.new) (opening_text (plain rows.now))) }
+    ensures ok { OnOk result
+        (Appends (W.contents out.old) (W.contents out.new) (opening_text (plain rows.now))) }
+    ensures err { OnErr result
+        (AppendsFront (W.contents out.old) (W.contents out.new) (opening_text (plain rows.now))) }
     ensures asked { OnErr result (IsStopped W.takes out.new) }
 {
     put(out, b"open\n")?;
@@ -52,8 +54,10 @@ pub fn write_entries<W: Sink>(
     entries: &[Entry],
     out: &mut W,
 ) -> Result<(), WriteFault>
-    ensures ok { OnOk result (Appends (W.contents out.old) (W.contents out.new) (spelled_history labels.now (reverse entries.now))) }
-    ensures err { OnErr result (AppendsFront (W.contents out.old) (W.contents out.new) (spelled_history labels.now (reverse entries.now))) }
+    ensures ok { OnOk result
+        (Appends (W.contents out.old) (W.contents out.new) (spelled_history labels.now (reverse entries.now))) }
+    ensures err { OnErr result
+        (AppendsFront (W.contents out.old) (W.contents out.new) (spelled_history labels.now (reverse entries.now))) }
     ensures asked { OnErr result (IsStopped W.takes out.new) }
 {
     put_history(out, labels, entries)
@@ -62,8 +66,10 @@ pub fn write_entries<W: Sink>(
 /// Writes how a report ends: the final table and its last line. It takes no memory. After a fault, the only one, which the writer
 /// answered, it has taken a beginning of that.
 pub fn write_ending<W: Sink>(table: &PlainTable, out: &mut W) -> Result<(), WriteFault>
-    ensures ok { OnOk result (Appends (W.contents out.old) (W.contents out.new) (ending_text table.now.rows)) }
-    ensures err { OnErr result (AppendsFront (W.contents out.old) (W.contents out.new) (ending_text table.now.rows)) }
+    ensures ok { OnOk result
+        (Appends (W.contents out.old) (W.contents out.new) (ending_text table.now.rows)) }
+    ensures err { OnErr result
+        (AppendsFront (W.contents out.old) (W.contents out.new) (ending_text table.now.rows)) }
     ensures asked { OnErr result (IsStopped W.takes out.new) }
 {
     put(out, b"table\n")?;
