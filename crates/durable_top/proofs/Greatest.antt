@@ -158,13 +158,6 @@ none_pushed cs i c within at none before it = elim (has_split (take i cs) c it.0
   | inr same ↦ let some : is_some c.value ≡ true = ap is_some (ap (λ (d : Change). d.value) (sym same) ∙ it.3) in true≢false (sym some ∙ none)
 ]
 
--- and keeps the number where the change is not at a key of it
-pub kept_pushed : (m : Map) (n : ℤ) (cs : List Change) (i : ℕ) (c : Change) → i < length cs → c ≡ get_or cs i c
-    → (m c.key ≡ Some n → ⊥) → IsKept m n (take i cs) → IsKept m n (take (i + 1) cs)
-kept_pushed m n cs i c within at other kept =
-    subst (λ ds. IsKept m n ds) (sym (take_more cs i c within ∙ ap (λ x. take i cs ++ x ∷ []) (sym at)))
-    (all_push (λ d. m d.key ≡ Some n → ⊥) (take i cs) c kept other)
-
 pub value_there : (cs : List Change) (i : ℕ) (c : Change) → i < length cs → c ≡ get_or cs i c → is_some c.value ≡ true → HasValue cs
 value_there cs i c h e some = go c.value refl some
   where

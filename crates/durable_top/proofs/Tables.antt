@@ -15,11 +15,6 @@ use Rattle.durable_top.specs.declared.store.Row.{Row}
 use Rattle.durable_top.specs.Numbers.{with_first}
 use Rattle.durable_top.specs.Store.{plain}
 
--- the keys of rows, from either form
-pub keys_plain : (rows : List Row) → map (λ r. r.key) rows ≡ map (λ r. r.0) (plain rows)
-keys_plain [] = refl
-keys_plain (r ∷ rows) = ap (λ ks. r.key ∷ ks) (keys_plain rows)
-
 keeps_first : (b : Bool) (n : ℤ) (y z : Option ℤ) → cond b (Some n) (or_else y z) ≡ or_else (cond b (Some n) y) z
 keeps_first true n y z = refl
 keeps_first false n y z = refl
@@ -40,18 +35,7 @@ with_more of rows i r within at =
     sym (rows_push (map of (take i rows)) (of r).0 (of r).1)
     ∙ ap value_in (sym (map-append of (take i rows) (r ∷ [])) ∙ ap (map of) (ap (λ q. take i rows ++ q ∷ []) at ∙ sym (take_more rows i r within)))
 
--- a key that has a value keeps it, and one that has none is given it
-pub first_kept : (m : Map) (key : List ℕ) (v : ℤ) → is_some (m key) ≡ true → m ≡ with_first m key v
-first_kept m key v some = λ i k. on_label key k (λ b. m k ≡ or_else (m k) (cond b (Some v) None)) (λ same. here k (m k) (ap m same) (m key) refl some) (λ _. apart (m k)) i
-  where
-    here : (k : List ℕ) (x : Option ℤ) → m key ≡ x → (y : Option ℤ) → m key ≡ y → is_some y ≡ true → x ≡ or_else x (Some v)
-    here k (Some w) e y f s = refl
-    here k None e y f s = absurd cc
-
-    apart : (x : Option ℤ) → x ≡ or_else x None
-    apart (Some w) = refl
-    apart None = refl
-
+-- a key that has none is given it
 pub first_put : (m : Map) (key : List ℕ) (v : ℤ) → is_some (m key) ≡ false → put m key (Some v) ≡ with_first m key v
 first_put m key v none = λ i k. on_label key k (λ b. cond b (Some v) (m k) ≡ or_else (m k) (cond b (Some v) None)) (λ same. here (m k) (m key) (ap m same) none) (λ _. apart (m k)) i
   where
