@@ -1,6 +1,6 @@
 //! Sessions under way, and the book over them: each call once.
 use durable_top::{MemStore, Row};
-use interleavings::{Report, Turn, Turns};
+use interleavings::{Report, Turn, Turns, run_opened, settle};
 use session_text::Sessions;
 use shared_book::Book;
 use std::alloc::Global;
@@ -60,6 +60,26 @@ fn sessions_in_turn(rt: HostRuntime) {
     };
     assert!(rt; report.history().len() == 3);
     drop(report);
+    drop(sessions);
+}
+
+// The lines go on until none can, and what is kept beside the sessions is taken apart from them in between.
+#[test]
+fn turns_taken_apart(rt: HostRuntime) {
+    let sessions = Sessions::parse(rt.alloc(), TEXT).expect(&rt, "a text");
+    let store = one_row(&rt, rt.alloc());
+    let mut turns = Turns::open(rt.alloc(), &sessions, store).expect(&rt, "opened");
+    assert!(rt; turns.goes_on());
+    settle(&mut turns).expect(&rt, "memory");
+    assert!(rt; turns.finished());
+    let progress = turns.into_progress();
+    assert!(rt; progress.history().len() == 3 && progress.opening().len() == 1);
+    assert!(rt; progress.next(0) == Some(3) && progress.next(2).is_none());
+    let turns = Turns::from_progress(progress, &sessions);
+    match run_opened(turns, &[]) {
+        Ok(run) => drop(report_alone(run)),
+        Err(_) => rt.panic("memory"),
+    }
     drop(sessions);
 }
 
