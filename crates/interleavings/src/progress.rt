@@ -55,6 +55,9 @@ impl<S: TopStore> Progress<S> {
         self.manager.table();
     }
 
+    /// Lets it go, with the manager and its store, as a run does that ends without a report.
+    pub fn give_up(self) {}
+
     /// One session more, none of whose lines is answered. If memory runs out, the only error, nothing has changed.
     pub fn add_session(&mut self) -> Result<(), NoMemory>
         ensures core { self.new.core ≡ self.old.core }
