@@ -1,0 +1,4 @@
+pub mod Faults
+pub mod Showing
+pub mod Hearing
+pub mod Living

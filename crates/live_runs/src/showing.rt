@@ -1,0 +1,60 @@
+//! The report as it grows: each part is written and passed on.
+ghost use Rattle.std.specs.Prelude.{◌≤◌, ◌++◌, length, reverse, OnErr, OnOk};
+ghost use Rattle.serial_spec.specs.Report.{spelled_history};
+ghost use Rattle.durable_top.specs.Store.{plain};
+ghost use Rattle.interleavings.specs.Reports.{IsReport};
+ghost use Rattle.report_text.specs.Lines.{ending_text, opening_text};
+ghost use Rattle.live_runs.specs.Showing.{IsShown, IsUnshown, entries_behind};
+
+use durable_top::Row;
+use interleavings::Report;
+use report_text::{WriteFault, write_ending, write_entries, write_opening};
+use serial_spec::Entry;
+use txn_bytes::Sink;
+use txn_names::Label;
+
+/// The opening.
+pub(crate) fn show_opening<W: Sink>(rows: &[Row], out: &mut W) -> Result<(), WriteFault>
+    ensures ok { OnOk result (IsShown W.contents W.flushes out.old out.new (opening_text (plain rows.now))) }
+    ensures err { OnErr result
+        (IsUnshown W.contents W.takes W.flushes out.old out.new (opening_text (plain rows.now))) }
+{
+    write_opening(rows, out)?;
+    out.pass_on()
+}
+
+/// The entries behind the first so many.
+pub(crate) fn show_entries<W: Sink>(
+    labels: &[Label],
+    history: &[Entry],
+    written: usize,
+    out: &mut W,
+) -> Result<(), WriteFault>
+    requires { written ≤ length history.now }
+    ensures ok { OnOk result (IsShown W.contents W.flushes out.old out.new
+        (spelled_history labels.now (entries_behind written (reverse history.now)))) }
+    ensures err { OnErr result (IsUnshown W.contents W.takes W.flushes out.old out.new
+        (spelled_history labels.now (entries_behind written (reverse history.now)))) }
+{
+    write_entries(labels, &history[written..], out)?;
+    out.pass_on()
+}
+
+/// The entries behind the first so many, and the final table.
+pub(crate) fn show_rest<W: Sink>(
+    report: &Report,
+    written: usize,
+    out: &mut W,
+) -> Result<(), WriteFault>
+    requires { written ≤ length report.now.history }
+    ensures ok { OnOk result (IsShown W.contents W.flushes out.old out.new
+        (spelled_history report.now.labels (entries_behind written report.now.history) ++ ending_text report.now.table)) }
+    ensures err { OnErr result (IsUnshown W.contents W.takes W.flushes out.old out.new
+        (spelled_history report.now.labels (entries_behind written report.now.history) ++ ending_text report.now.table)) }
+    ensures report { IsReport report.now }
+{
+    let table = report.table();
+    write_entries(report.labels(), &report.history()[written..], out)?;
+    write_ending(table, out)?;
+    out.pass_on()
+}
