@@ -96,7 +96,7 @@ class Stuck(Error):
 
 
 class NotTaken(Error):
-    """A request was not taken, and changed nothing. `kind` is the program's word, as `name`, `key`, `limit` or `memory`."""
+    """A request was not taken, and changed nothing. `kind` is the program's word, as `name`, `key` or `limit`."""
 
     def __init__(self, kind: str) -> None:
         super().__init__(f"the request was not taken: {kind}")

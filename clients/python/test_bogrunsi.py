@@ -11,6 +11,7 @@ from __future__ import annotations
 
 import json
 import os
+import subprocess
 import sys
 import tempfile
 import threading
@@ -102,7 +103,7 @@ class Replies(unittest.TestCase):
             "get a x": ["= orphan a"],
             "get a y": ["= stuck"],
             "get a Z": ["! key"],
-            "set a x 1": ["! memory"],
+            "set a x 1": ["! limit"],
         }
         with stand_in(replies) as jobs:
             job = jobs.begin("a")
@@ -114,7 +115,7 @@ class Replies(unittest.TestCase):
                 job.get("x")
             self.assertEqual(undone.exception.name, "a")
             self.assertRaises(bogrunsi.Stuck, job.get, "y")
-            for kind, call in (("key", lambda: job.get("Z")), ("memory", lambda: job.set("x", 1))):
+            for kind, call in (("key", lambda: job.get("Z")), ("limit", lambda: job.set("x", 1))):
                 with self.assertRaises(bogrunsi.NotTaken) as not_taken:
                     call()
                 self.assertEqual(not_taken.exception.kind, kind)
@@ -357,6 +358,149 @@ class Program(unittest.TestCase):
                     other.get("x")
                 self.assertRaises(bogrunsi.Undone, other.get, "y")
         self.assertEqual(jobs.table, {"x": 1})
+
+    def test_a_client_that_dies(self) -> None:
+        # It is killed within a part. The program sees the end of its input, and ends by itself.
+        script = (
+            "import bogrunsi, os, sys\n"
+            "jobs = bogrunsi.open(sys.argv[1], program=sys.argv[2])\n"
+            "with jobs.begin('a') as job:\n"
+            "    job.set('x', 1)\n"
+            "part = jobs.begin('b').begin('part')\n"
+            "part.set('y', 2)\n"
+            "os.kill(os.getpid(), 9)\n"
+        )
+        words = [sys.executable, "-c", script, self.path, os.environ["BOGRUNSI_TX"]]
+        died = subprocess.run(words, cwd=Path(__file__).parent, check=False)
+        self.assertEqual(died.returncode, -9)
+        for _ in range(100):
+            # Another run has the database only once this one has ended.
+            try:
+                with self.opened() as jobs:
+                    self.assertEqual(jobs.opening, {"x": 1})
+                return
+            except bogrunsi.Failed:
+                time.sleep(0.1)
+        self.fail("the program did not end")
+
+    def test_a_program_that_is_killed(self) -> None:
+        jobs = self.opened()
+        with jobs.begin("a") as job:
+            job.set("x", 1)
+        one, other = jobs.begin("b"), jobs.begin("c")
+        one.set("x", 2)
+        raised: list[BaseException] = []
+
+        def waiting() -> None:
+            try:
+                other.get("x")
+            except bogrunsi.Failed as fault:
+                raised.append(fault)
+
+        thread = threading.Thread(target=waiting)
+        thread.start()
+        until_it_waits(jobs)
+        jobs._process.kill()
+        thread.join()
+        self.assertRegex(str(raised[0]), "the program ended with status -9")
+        self.assertRaisesRegex(bogrunsi.Failed, "status -9", one.commit)
+        self.assertRaisesRegex(bogrunsi.Failed, "status -9", jobs.close)
+        with self.opened() as jobs:
+            self.assertEqual(jobs.opening, {"x": 1})
+
+    def test_rubbish(self) -> None:
+        # Each line has a line that comes back, and costs those beside it nothing.
+        rubbish = [b"", b" ", b"a", b"A begin x", b"a  begin x", b"a begin x ", b"a after x done", b"a begin \xff\0", b"x" * 9000]
+        lines = [b"a begin job", *rubbish, b"a set job x 1", *rubbish, b"a commit job"]
+        sent = b"".join(line + b"\n" for line in lines) + b"a begin cut"
+        ran = subprocess.run([os.environ["BOGRUNSI_TX"], "live"], input=sent, capture_output=True, check=True)
+        self.assertEqual(
+            ran.stdout, b"open\na 1 begin job -> ok\na 2 set job x 1 -> ok\na 3 commit job -> ok\ntable\nx=1\nend\n"
+        )
+        told = ran.stderr.decode().splitlines()
+        kinds = ["empty", "label", "shape", "label", "word", "shape", "word", "name", "long"]
+        numbers = [*range(2, 11), *range(12, 21)]
+        wanted = [f"tx: line {number}: {kind}" for number, kind in zip(numbers, kinds * 2, strict=True)]
+        self.assertEqual(told, [*wanted, "tx: line 22: end"])
+
+    def test_sixteen_threads(self) -> None:
+        # Each job counts one up in two of sixteen keys, each in a part that is tried again where it was undone.
+        jobs_each = 100
+
+        def work(number: int) -> None:
+            for count in range(jobs_each):
+                while True:
+                    name = f"t{number}x{count}a{len(made[number])}"
+                    made[number].append(name)
+                    try:
+                        with jobs.begin(name) as job:
+                            for part, key in (("one", number % 4), ("two", 4 + (number + count) % 12)):
+                                for attempt in job.tries(part, 3):
+                                    with attempt as counted:
+                                        counted.add(f"sum.k{key}", 1)
+                        break
+                    except bogrunsi.Undone:
+                        pass
+
+        made: list[list[str]] = [[] for _ in range(16)]
+        with self.opened() as jobs:
+            threads = [threading.Thread(target=work, args=(number,)) for number in range(16)]
+            for thread in threads:
+                thread.start()
+            for thread in threads:
+                thread.join()
+        self.assertEqual(sum(jobs.table.values()), 2 * 16 * jobs_each)
+        self.assertGreater(jobs.report.count(" -> ") - jobs.report.count(" -> waits"), 10000)
+        report = Path(self.path).with_suffix(".report")
+        report.write_text(jobs.report)
+        judged = subprocess.run([os.environ["BOGRUNSI_TX"], "check", str(report)], capture_output=True, check=False)
+        self.assertEqual(judged.stdout, b"yes\n")
+
+    def test_sixty_four_sessions(self) -> None:
+        # Sixteen writers send the lines of four sessions each, twenty thousand in all: adds to keys of their own, and to one that
+        # all of them share, one job after another.
+        rounds = 39
+        process = subprocess.Popen([os.environ["BOGRUNSI_TX"], "live", "--db", self.path], stdin=subprocess.PIPE, stdout=subprocess.PIPE)
+        assert process.stdin is not None and process.stdout is not None
+        answered = {f"s{number}": threading.Semaphore(0) for number in range(64)}
+        entries: list[bytes] = []
+
+        def read() -> None:
+            assert process.stdout is not None
+            for line in process.stdout:
+                entries.append(line)
+                if b" -> " in line and not line.endswith(b" -> waits\n"):
+                    answered[line.split(b" ")[0].decode()].release()
+
+        writing = threading.Lock()
+
+        def work(number: int) -> None:
+            labels = [f"s{number * 4 + place}" for place in range(4)]
+            for count in range(rounds):
+                for label in labels:
+                    name = f"{label}x{count}"
+                    texts = [f"begin {name}", f"begin {name}/p", f"add {name}/p own.{label} 1", f"add {name}/p own.{label} 1"]
+                    texts += [f"commit {name}/p", f"add {name} all 1", f"get {name} all", f"commit {name}"]
+                    for text in texts:
+                        with writing:
+                            process.stdin.write(f"{label} {text}\n".encode())
+                            process.stdin.flush()
+                        answered[label].acquire()
+
+        reader = threading.Thread(target=read)
+        threads = [threading.Thread(target=work, args=(number,)) for number in range(16)]
+        for thread in (reader, *threads):
+            thread.start()
+        for thread in threads:
+            thread.join()
+        process.stdin.close()
+        reader.join()
+        process.stdout.close()
+        self.assertEqual(process.wait(), 0)
+        rows = dict(row.rstrip(b"\n").split(b"=") for row in entries[entries.index(b"table\n") + 1 : -1])
+        self.assertEqual(int(rows[b"all"]), 64 * rounds)
+        self.assertEqual(sum(map(int, rows.values())), 64 * rounds * 3)
+        self.assertGreaterEqual(sum(b" -> " in line and not line.endswith(b"waits\n") for line in entries), 19968)
 
     def test_what_is_not_taken(self) -> None:
         with self.opened() as jobs, jobs.begin("a") as job:

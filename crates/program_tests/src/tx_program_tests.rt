@@ -65,6 +65,18 @@ fn run_on<R: Abort + Threads + Wait + Clock + Sync>(
     words: &str,
     path: &str,
 ) -> Told {
+    run_with(rt, host, words, path, b"")
+}
+
+// The same with these bytes on its standard input.
+fn run_with<R: Abort + Threads + Wait + Clock + Sync>(
+    rt: &R,
+    host: &HostRuntime,
+    words: &str,
+    path: &str,
+    requests: &[u8],
+) -> Told {
+    let mut input = requests;
     let mut all = Vec::new(host.alloc());
     for word in words.split_whitespace().chain(path.split_whitespace()) {
         let word = String::from_str(host.alloc(), word).expect(rt, "memory");
@@ -78,6 +90,7 @@ fn run_on<R: Abort + Threads + Wait + Clock + Sync>(
         rt,
         host.alloc(),
         all.as_slice(),
+        &mut input,
         &mut out,
         &mut err,
     );
@@ -97,6 +110,32 @@ fn program_on_files(rt: HostRuntime) {
     assert!(rt; run(&rt, &rt, "replay empty.tx").is_report(EMPTY_REPORT));
     assert!(rt; run(&rt, &rt, "replay fault.tx").is_fault("tx: line 2: end\n"));
     assert!(rt; run(&rt, &rt, "replay nosuch.tx").is_fault("tx: cannot read nosuch.tx\n"));
+}
+
+/// The same lines as requests, and one that is not taken.
+const FIRST_REQUESTS: &[u8] = b"s begin a\ns set a x 5\nt after a done\ns get a x\ns commit a\n";
+
+// What a live run leaves in a database is there for the next.
+#[test]
+fn program_on_requests(rt: HostRuntime) {
+    let _ = fs::remove_dir_all(&rt, "live_test");
+    fs::create_dir_all(&rt, "live_test").expect(&rt, "folder");
+    fs::write(&rt, "live_test/no.db", b"no database, but some text").expect(&rt, "file");
+    for (words, path) in [("live", ""), ("live --db", "live_test/a.db")] {
+        let told = run_with(&rt, &rt, words, path, FIRST_REQUESTS);
+        assert!(rt;
+            told.status == 0 && told.out.as_slice() == FIRST_REPORT,
+            "{words}"
+        );
+        assert!(rt;
+            told.err.as_slice() == b"tx: line 3: word\n".as_slice(),
+            "{words}"
+        );
+    }
+    assert!(rt; run_with(&rt, &rt, "live --db", "live_test/a.db", b"").is_report(LATER_REPORT));
+    let told = run_with(&rt, &rt, "live --db", "live_test/no.db", FIRST_REQUESTS);
+    assert!(rt; told.is_fault("tx: cannot open database\n"));
+    fs::remove_dir_all(&rt, "live_test").expect(&rt, "folder");
 }
 
 /// A run of no session over the row that the first text leaves.
@@ -167,6 +206,10 @@ fn words_that_are_no_command_line(rt: HostRuntime) {
         "run a --workers -1",
         "run a --workers two",
         "run a --schedule 0",
+        "live a",
+        "live --db",
+        "live --workers 2",
+        "live --help",
         "replay",
         "replay a b",
         "replay a --workers 2",

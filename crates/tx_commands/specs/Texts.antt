@@ -1,10 +1,6 @@
 -- What the file at a path gave.
 use Rattle.std.specs.Prelude.{◌<◌, ◌≤◌, ◌⊎◌, ℕ, List, length, Option, Result, Ok, Err}
-use Rattle.report_check.specs.declared.verdict.Verdict.{Verdict}
-use Rattle.report_judge.specs.Judging.{HasCheckCause, IsVerdictOn}
 use Rattle.report_judge.specs.Sources.{HasGiven, IsPartRead, IsReadWhole, IsUnread}
-use Rattle.report_judge.specs.declared.reading.CheckFault.{CheckFault}
-use Rattle.report_judge.specs.declared.reading.CheckFault.TheVariants as judging
 use Rattle.report_judge.specs.declared.source.ReadFault.{ReadFault}
 use Rattle.tx_commands.specs.declared.reading.TheConstants.{LONGEST_TEXT}
 use Rattle.tx_commands.specs.declared.reading.TextFault.{TextFault}

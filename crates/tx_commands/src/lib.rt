@@ -5,6 +5,7 @@ mod checking;
 mod commands;
 mod host;
 mod listing;
+mod living;
 mod reading;
 mod running;
 
@@ -12,4 +13,5 @@ pub use checking::judge;
 pub use commands::{replay, run};
 pub use host::{Machine, Surroundings};
 pub use listing::list;
+pub use living::live;
 pub use reading::{LONGEST_TEXT, TextFault};

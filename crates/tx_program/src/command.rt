@@ -19,6 +19,11 @@ pub enum Task<'a> {
         workers: Option<&'a str>,
         database: Option<&'a str>,
     },
+    /// To run the sessions whose lines come on standard input, and to print the report as it grows; over the database at a path, or
+    /// else over an empty table in memory.
+    Live {
+        database: Option<&'a str>,
+    },
     /// To judge this report and to print the verdict.
     Check {
         file: &'a str,
@@ -37,8 +42,8 @@ no command line or ask for help.
 
 Example: tx replay examples/retry.tx
 
-'tx replay --help', 'tx run --help', 'tx check --help' and 'tx rows --help' explain the options and name
-the limits.";
+'tx replay --help', 'tx run --help', 'tx live --help', 'tx check --help' and 'tx rows --help' explain the
+options and name the limits.";
 
 /// What stands behind the arguments of `replay --help`.
 const REPLAY_NOTES: &str = "\
@@ -84,11 +89,51 @@ error says why there is none; 2 if the words are no command line or ask for help
 
 Example: tx run examples/retry.tx --workers 8 --db jobs.db";
 
+/// What stands behind the arguments of `live --help`.
+const LIVE_NOTES: &str = "\
+A request is a line 'LABEL LINE' on standard input: a line of the session with that label, which begins
+with the first use of the label. LINE is a line of a session text other than 'after'. It is attempted at
+once, and what it brings about is printed before the next one is read: its own entry, then victims, then
+the answers of lines that waited. At the end of the input (Control-D at a terminal) the lines that still
+wait are answered or given up, what is live at the top is aborted, and the table is printed.
+
+A request that is not taken changes nothing. One line on standard error tells it: 'tx: line N: KIND', where
+N counts the lines of the input from 1, and KIND is 'empty', 'label', 'shape', 'word', 'name', 'key' or
+'number' as in a session text; 'long' for a line longer than any request; 'turn' where the session's line
+still waits; 'limit' for the 1,025th line of a session and for the 65th session. Bytes at the end with no
+line feed behind them are no request: 'end'. So each line that is sent has a line that comes back.
+
+To give up a line that waits, abort its transaction from another session.
+
+    a begin job             you type: a top-level transaction
+    a 1 begin job -> ok     the program's answer
+    a set job x 5
+    a 2 set job x 5 -> ok
+    b get job x             another session may work on the same job
+    b 1 get job x -> value 5
+    a commit job
+    a 3 commit job -> ok
+
+Limits: 64 sessions of 1,024 lines each; 16,384 transactions, those of all levels together; names of 16
+labels, joined by '/'; labels of 1 to 16 bytes of a-z and 0-9; keys of 1 to 32 bytes of a-z, 0-9, '.', '_'
+and '-', and groups of 1 to 31; 4,096 keys, and as many rows of the table. Values are whole numbers of 64
+bits, from -9223372036854775808 to 9223372036854775807.
+
+The database is made if there is none. One run at a time has it, from its opening to its end. When the
+program has ended, whatever its exit status, the file at PATH holds by itself what was committed; it stays
+in WAL mode. A run that was killed, or that could not close the database (on a full disk, say), leaves it
+in PATH and PATH-wal together, until the next run has ended or sqlite3 has opened them.
+
+Exit status: 0 if the report was printed to its end, whatever lines were refused or not taken; 1 if the
+last line on standard error says why it was not; 2 if the words are no command line or ask for help.
+
+Example: tx live --db jobs.db";
+
 /// What stands behind the arguments of `check --help`.
 const CHECK_NOTES: &str = "\
 The verdict is 'yes', or 'no N' with the number of a line; behind a report that was cut, N is the
-number of its last line, or one more. Every report that 'tx replay' or 'tx run' printed whole has the
-verdict yes.
+number of its last line, or one more. Every report that 'tx replay', 'tx run' or 'tx live' printed whole
+has the verdict yes.
 
 A yes says that the committed top-level transactions, one after another in the order of their commits,
 were replied what the entries say, and lead from the opening rows to the final table; that what was
@@ -185,6 +230,17 @@ fn run_command<'a>(alloc: Global) -> Result<Command<'a>, Error> {
     )
 }
 
+fn live_command<'a>(alloc: Global) -> Result<Command<'a>, Error> {
+    Ok(
+        Command::new(alloc, "live")
+            .about(
+                "Runs sessions whose lines come on standard input and prints the report as it grows",
+            )
+            .after_help(LIVE_NOTES)
+            .arg(database_argument(alloc))?,
+    )
+}
+
 fn replay_command<'a>(alloc: Global) -> Result<Command<'a>, Error> {
     let schedule = Arg::new(alloc, "schedule")
         .long("schedule")
@@ -212,6 +268,7 @@ fn command<'a>(alloc: Global) -> Result<Command<'a>, Error> {
             .after_help(NOTES)
             .subcommand(replay_command(alloc)?)?
             .subcommand(run_command(alloc)?)?
+            .subcommand(live_command(alloc)?)?
             .subcommand(check_command(alloc)?)?
             .subcommand(rows_command(alloc)?)?,
     )
@@ -227,6 +284,9 @@ fn read_task<'a>(name: &str, of: &ArgMatches<'a>) -> Option<Task<'a>> {
         "run" => Some(Task::Run {
             file: of.get_str("file")?,
             workers: of.get_str("workers"),
+            database: of.get_str("db"),
+        }),
+        "live" => Some(Task::Live {
             database: of.get_str("db"),
         }),
         "check" => Some(Task::Check {

@@ -6,80 +6,102 @@ ghost use Rattle.session_runs.specs.declared.telling.TheConstants.{MISUSED};
 ghost use Rattle.session_runs.specs.Faults.{IsSaid, spelled_fault};
 ghost use Rattle.session_runs.specs.Tellings.{Accounts, HasUsageLine};
 ghost use Rattle.tx_commands.specs.Programs.{IsUntouched};
-ghost use Rattle.tx_program.specs.Programs.{ForSomeTask, IsDone, IsUndone, IsCondemnedBy};
+ghost use Rattle.tx_program.specs.Programs.{ForSomeTask, IsDone, IsUndone, IsCondemnedBy, IsLiveBy};
 
 use crate::command::{Task, task_of};
 use clap::Error;
 use durable_top::TopStore;
 use report_judge::Source;
+use request_lines::Source as RequestSource;
 use session_runs::{Fault, MISUSED, misuse, tell};
 use sql_store::MemoryStore;
 use std::alloc::{AllocError, Global};
 use std::sync::Wait;
 use std::thread::Threads;
 use std::time::Clock;
-use tx_commands::{Surroundings, judge, list, replay, run};
+use tx_commands::{Surroundings, judge, list, live, replay, run};
 use txn_bytes::Sink;
 
 /// Does what the words after the program's name ask for, over the files and databases of `host`, and answers the exit status. A
-/// report, a verdict or rows go to `out`, and a report only where the whole run was done; a fault goes to `err`, in one line. Words
-/// that are no command line are told there too. Workers run on `threads`.
-pub fn tx_main<H: Surroundings, R: Threads + Wait + Clock + Sync, W: Sink, E: Sink>(
+/// report, a verdict or rows go to `out`, and a report only where the whole run was done, unless it is a live run's, which grows;
+/// a fault goes to `err`, in one line. Words that are no command line are told there too. Workers run on `threads`, and the requests
+/// of a live run come from `input`, of which nothing else reads.
+pub fn tx_main<
+    H: Surroundings,
+    R: Threads + Wait + Clock + Sync,
+    I: RequestSource,
+    W: Sink,
+    E: Sink,
+>(
     host: &mut H,
     threads: &R,
     alloc: Global,
     words: &[String],
+    input: &mut I,
     out: &mut W,
     err: &mut E,
 ) -> u8
     ensures done { result ≡ DONE → ForSomeTask (λ task.
-        IsDone H.finds H.Text.gives H.Text.remaining H.opens H.closes ⟦<MemoryStore as TopStore>⟧ H.Store.TopStore
-        W.contents W.flushes host.old host.new task out.old out.new err.old err.new) }
+        IsDone H.finds H.Text.gives H.Text.remaining I.gives I.remaining H.opens H.closes
+        ⟦<MemoryStore as TopStore>⟧ H.Store.TopStore W.contents W.flushes E.contents E.takes
+        host.old host.new task input.old input.new out.old out.new err.old err.new) }
     ensures failed { result ≡ FAILED → ForSomeTask (λ task.
-        IsUndone H.finds H.Text.gives H.Text.remaining H.opens H.closes ⟦<MemoryStore as TopStore>⟧ H.Store.TopStore
-        W.contents W.takes W.flushes E.contents E.takes host.old host.new task out.old out.new err.old err.new)
+        IsUndone H.finds H.Text.gives H.Text.remaining I.gives I.remaining H.opens H.closes
+        ⟦<MemoryStore as TopStore>⟧ H.Store.TopStore W.contents W.takes W.flushes E.contents E.takes
+        host.old host.new task input.old input.new out.old out.new err.old err.new)
         ⊎ IsUntouched host.old host.new
         (IsUntouched out.old out.new (IsSaid E.contents E.takes err.old err.new (spelled_fault NoMemory))) }
-    ensures misused { result ≡ MISUSED → (host.new ≡ host.old) × (out.new ≡ out.old) }
+    ensures misused { result ≡ MISUSED →
+        (host.new ≡ host.old) × (input.new ≡ input.old) × (out.new ≡ out.old) }
     ensures accounts { (result ≡ FAILED) × ForSomeTask (λ task.
         IsCondemnedBy H.finds H.Text.gives H.Text.remaining W.contents W.takes W.flushes E.contents E.takes
         host.old host.new task out.old out.new err.old err.new)
-        ⊎ Accounts W.flushes E.contents E.takes out.new err.old err.new result }
+        ⊎ (Accounts W.flushes E.contents E.takes out.new err.old err.new result
+        ⊎ ForSomeTask (λ task. IsLiveBy I.gives I.remaining H.opens H.closes
+        ⟦<MemoryStore as TopStore>⟧ H.Store.TopStore W.contents W.takes W.flushes E.contents E.takes
+        host.old host.new task input.old input.new out.old out.new err.old err.new result)) }
     ensures status { result ≤ MISUSED }
 {
     let Ok(all) = command_line(alloc, words) else {
         return tell(err, Fault::NoMemory);
     };
     match task_of(alloc, all.as_slice()) {
-        Ok(Some(task)) => perform(host, threads, alloc, task, out, err),
+        Ok(Some(task)) => perform(host, threads, alloc, task, input, out, err),
         Ok(None) => misuse(
             err,
-            b"usage: tx replay FILE [--schedule LIST] [--db PATH], or tx run FILE [--workers N] [--db PATH], or tx check REPORT, or tx rows PATH, or tx --help",
+            b"usage: tx replay FILE [--schedule LIST] [--db PATH], or tx run FILE [--workers N] [--db PATH], or tx live [--db PATH], or tx check REPORT, or tx rows PATH, or tx --help",
         ),
         Err(text) => refuse(alloc, err, &text),
     }
 }
 
 // What is asked for is done by its command.
-fn perform<H: Surroundings, R: Threads + Wait + Clock + Sync, W: Sink, E: Sink>(
+fn perform<H: Surroundings, R: Threads + Wait + Clock + Sync, I: RequestSource, W: Sink, E: Sink>(
     host: &mut H,
     threads: &R,
     alloc: Global,
     task: Task,
+    input: &mut I,
     out: &mut W,
     err: &mut E,
 ) -> u8
     ensures done { result ≡ DONE →
-        IsDone H.finds H.Text.gives H.Text.remaining H.opens H.closes ⟦<MemoryStore as TopStore>⟧ H.Store.TopStore
-        W.contents W.flushes host.old host.new task.entry out.old out.new err.old err.new }
+        IsDone H.finds H.Text.gives H.Text.remaining I.gives I.remaining H.opens H.closes
+        ⟦<MemoryStore as TopStore>⟧ H.Store.TopStore W.contents W.flushes E.contents E.takes
+        host.old host.new task.entry input.old input.new out.old out.new err.old err.new }
     ensures failed { result ≡ FAILED →
-        IsUndone H.finds H.Text.gives H.Text.remaining H.opens H.closes ⟦<MemoryStore as TopStore>⟧ H.Store.TopStore
-        W.contents W.takes W.flushes E.contents E.takes host.old host.new task.entry out.old out.new err.old err.new }
-    ensures misused { result ≡ MISUSED → (host.new ≡ host.old) × (out.new ≡ out.old) }
+        IsUndone H.finds H.Text.gives H.Text.remaining I.gives I.remaining H.opens H.closes
+        ⟦<MemoryStore as TopStore>⟧ H.Store.TopStore W.contents W.takes W.flushes E.contents E.takes
+        host.old host.new task.entry input.old input.new out.old out.new err.old err.new }
+    ensures misused { result ≡ MISUSED →
+        (host.new ≡ host.old) × (input.new ≡ input.old) × (out.new ≡ out.old) }
     ensures accounts { (result ≡ FAILED) ×
         IsCondemnedBy H.finds H.Text.gives H.Text.remaining W.contents W.takes W.flushes E.contents E.takes
         host.old host.new task.entry out.old out.new err.old err.new
-        ⊎ Accounts W.flushes E.contents E.takes out.new err.old err.new result }
+        ⊎ (Accounts W.flushes E.contents E.takes out.new err.old err.new result
+        ⊎ IsLiveBy I.gives I.remaining H.opens H.closes
+        ⟦<MemoryStore as TopStore>⟧ H.Store.TopStore W.contents W.takes W.flushes E.contents E.takes
+        host.old host.new task.entry input.old input.new out.old out.new err.old err.new result) }
     ensures status { result ≤ MISUSED }
 {
     match task {
@@ -93,6 +115,7 @@ fn perform<H: Surroundings, R: Threads + Wait + Clock + Sync, W: Sink, E: Sink>(
             workers,
             database,
         } => run(host, threads, alloc, file, workers, database, out, err),
+        Task::Live { database } => live(host, alloc, input, database, out, err),
         Task::Check { file } => judge(host, alloc, file, out, err),
         Task::Rows { path } => list(host, alloc, path, out, err),
     }

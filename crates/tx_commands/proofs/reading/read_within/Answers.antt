@@ -1,4 +1,4 @@
-use Rattle.std.proofs.Common.{◌≡◌, ◌≤◌, ◌<◌, ◌+◌, ◌++◌, take, length, sym, subst, ap, inr, arith, List, ℕ}
+use Rattle.std.proofs.Common.{◌≡◌, ◌+◌, ◌++◌, take, length, sym, subst, ap, inr, arith, List, ℕ}
 use Rattle.std.specs.Io.KnownBytes.{Consumes}
 use Rattle.report_judge.specs.Sources.{HasGiven}
 use Rattle.std.proofs.KnownBytes.{Consumes-trans}

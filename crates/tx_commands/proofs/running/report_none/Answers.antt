@@ -1,4 +1,4 @@
-use Rattle.std.proofs.Common.{◌≡◌, ℕ, List, Option, inl, inr, refl, arith}
+use Rattle.std.proofs.Common.{inl, inr, refl, arith}
 use Rattle.std.specs.Prelude.{◌≢◌}
 use Rattle.session_runs.specs.declared.fault.Fault.TheVariants.{CannotRead, NoMemory}
 use Rattle.session_runs.proofs.Told.{fault_accounts}

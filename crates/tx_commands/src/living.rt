@@ -1,0 +1,92 @@
+//! Live runs over a table in memory or over a database.
+ghost use Rattle.std.specs.Prelude.{◌≡◌, ◌≤◌, Some, None};
+ghost use Rattle.std.specs.Option.{option_copied};
+ghost use Rattle.session_runs.specs.declared.reporting.TheConstants.{DONE, FAILED};
+ghost use Rattle.tx_commands.specs.Lives.{Lives, LivesNot};
+
+use crate::host::Surroundings;
+use durable_top::TopStore;
+use live_runs::live_over;
+use request_lines::Source;
+use session_runs::{Fault, tell};
+use sql_store::MemoryStore;
+use std::alloc::Global;
+use txn_bytes::Sink;
+
+// Over a table in memory that is empty at the beginning.
+fn live_none<H: Surroundings, I: Source, W: Sink, E: Sink>(
+    host: &mut H,
+    alloc: Global,
+    input: &mut I,
+    out: &mut W,
+    err: &mut E,
+) -> u8
+    ensures done { result ≡ DONE →
+        Lives I.gives I.remaining W.contents W.flushes E.contents E.takes
+        H.opens H.closes ⟦<MemoryStore as TopStore>⟧ H.Store.TopStore
+        host.old host.new None input.old input.new out.old out.new err.old err.new }
+    ensures failed { result ≡ FAILED →
+        LivesNot I.gives I.remaining W.contents W.takes W.flushes E.contents E.takes
+        H.opens H.closes ⟦<MemoryStore as TopStore>⟧ H.Store.TopStore
+        host.old host.new None input.old input.new out.old out.new err.old err.new }
+    ensures status { result ≤ FAILED }
+{
+    let Ok(store) = MemoryStore::new(alloc) else {
+        return tell(err, Fault::NoMemory);
+    };
+    live_over(alloc, input, store, out, err).status
+}
+
+// Over the database at this path, which is made where there is none. Once it was opened it is closed, however the run ends.
+fn live_opened<H: Surroundings, I: Source, W: Sink, E: Sink>(
+    host: &mut H,
+    alloc: Global,
+    input: &mut I,
+    path: &str,
+    out: &mut W,
+    err: &mut E,
+) -> u8
+    ensures done { result ≡ DONE →
+        Lives I.gives I.remaining W.contents W.flushes E.contents E.takes
+        H.opens H.closes ⟦<MemoryStore as TopStore>⟧ H.Store.TopStore
+        host.old host.new (Some path.now) input.old input.new out.old out.new err.old err.new }
+    ensures failed { result ≡ FAILED →
+        LivesNot I.gives I.remaining W.contents W.takes W.flushes E.contents E.takes
+        H.opens H.closes ⟦<MemoryStore as TopStore>⟧ H.Store.TopStore
+        host.old host.new (Some path.now) input.old input.new out.old out.new err.old err.new }
+    ensures status { result ≤ FAILED }
+{
+    let Ok(store) = host.open(path) else {
+        return tell(err, Fault::CannotOpen);
+    };
+    let ended = live_over(alloc, input, store, out, err);
+    host.close(path, ended.left);
+    ended.status
+}
+
+/// Runs sessions whose lines are read from `input` as they come, over the database at the path or else over a table in memory
+/// that is empty at the beginning, and answers the exit status. The two writers are as `live_over` of live_runs has them. A
+/// database that was opened is closed, however the run ends.
+pub fn live<H: Surroundings, I: Source, W: Sink, E: Sink>(
+    host: &mut H,
+    alloc: Global,
+    input: &mut I,
+    database: Option<&str>,
+    out: &mut W,
+    err: &mut E,
+) -> u8
+    ensures done { result ≡ DONE →
+        Lives I.gives I.remaining W.contents W.flushes E.contents E.takes
+        H.opens H.closes ⟦<MemoryStore as TopStore>⟧ H.Store.TopStore
+        host.old host.new (option_copied database.entry) input.old input.new out.old out.new err.old err.new }
+    ensures failed { result ≡ FAILED →
+        LivesNot I.gives I.remaining W.contents W.takes W.flushes E.contents E.takes
+        H.opens H.closes ⟦<MemoryStore as TopStore>⟧ H.Store.TopStore
+        host.old host.new (option_copied database.entry) input.old input.new out.old out.new err.old err.new }
+    ensures status { result ≤ FAILED }
+{
+    match database {
+        Some(path) => live_opened(host, alloc, input, path, out, err),
+        None => live_none(host, alloc, input, out, err),
+    }
+}
