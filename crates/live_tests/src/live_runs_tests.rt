@@ -12,6 +12,10 @@ const REQUESTS: &[u8] =
 const REPORT: &[u8] =
     b"open\na 1 begin job -> ok\nb 1 begin job/part -> ok\nb 2 set job/part x 5 -> ok\na 2 get job x -> waits\nb 3 commit job/part -> ok\na 2 get job x -> value 5\na 3 commit job -> ok\ntable\nx=5\nend\n";
 
+/// The same where the store finds no memory for the commit, and refuses it.
+const REFUSED: &[u8] =
+    b"open\na 1 begin job -> ok\nb 1 begin job/part -> ok\nb 2 set job/part x 5 -> ok\na 2 get job x -> waits\nb 3 commit job/part -> ok\na 2 get job x -> value 5\na 3 commit job -> refused store\n* close job\ntable\nend\n";
+
 const TOLD: &[u8] = b"tx: line 3: empty\ntx: line 6: turn\ntx: line 7: word\ntx: line 10: end\n";
 
 // Bytes that are given at most so many at a time. The call with this number, from 0, fails.
@@ -94,11 +98,14 @@ impl Told {
         self.status == status && self.out.as_slice() == out && self.err.as_slice() == err
     }
 
-    // Whether the run ended for want of memory. What was written is a beginning of the report even so.
+    // Whether the run, or its store, found no memory. What was written is a beginning of a report even so.
     fn wanted_memory(&self) -> bool {
-        self.status == 1
-            && self.err.ends_with(b"tx: no memory\n")
-            && REPORT.starts_with(self.out.as_slice())
+        let out = self.out.as_slice();
+        if REPORT.starts_with(out) {
+            self.status == 1 && self.err.ends_with(b"tx: no memory\n")
+        } else {
+            REFUSED.starts_with(out)
+        }
     }
 }
 
