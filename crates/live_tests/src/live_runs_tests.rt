@@ -42,7 +42,7 @@ impl Read for Requests<'_> {
     }
 }
 
-fn requests(text: &[u8], piece: usize, fails_at: usize) -> Requests<'_> {
+fn reader(text: &[u8], piece: usize, fails_at: usize) -> Requests<'_> {
     Requests {
         rest: text,
         piece,
@@ -77,7 +77,7 @@ impl Write for Narrow {
 }
 
 // It has room for the whole report.
-fn narrow(alloc: Global, left: usize, flushes: usize) -> Result<Narrow, AllocError> {
+fn writer(alloc: Global, left: usize, flushes: usize) -> Result<Narrow, AllocError> {
     Ok(Narrow {
         taken: Vec::with_capacity(alloc, REPORT.len())?,
         left,
@@ -116,7 +116,7 @@ fn lived_once(
     flushes: usize,
 ) -> Result<Told, AllocError> {
     let store = MemStore::new(alloc, &[])?;
-    let mut out = narrow(alloc, left, flushes)?;
+    let mut out = writer(alloc, left, flushes)?;
     let mut err = Vec::with_capacity(alloc, 200)?;
     let ended = live_over(alloc, input, store, &mut out, &mut err);
     Ok(Told {
@@ -136,12 +136,12 @@ fn lived(
     left: usize,
     flushes: usize,
 ) -> Told {
-    if let Ok(told) = lived_once(alloc, &mut requests(text, piece, fails_at), left, flushes) {
+    if let Ok(told) = lived_once(alloc, &mut reader(text, piece, fails_at), left, flushes) {
         if !told.wanted_memory() {
             return told;
         }
     }
-    lived_once(alloc, &mut requests(text, piece, fails_at), left, flushes).expect(rt, "memory")
+    lived_once(alloc, &mut reader(text, piece, fails_at), left, flushes).expect(rt, "memory")
 }
 
 #[test]
