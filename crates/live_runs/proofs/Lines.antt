@@ -1,5 +1,5 @@
 -- The lines of a live run, as far as they were heard.
-use Rattle.std.proofs.Common.{◌≡◌, ◌+◌, ℕ, suc, Bool, true, false, inl, inr, List, [], ◌∷◌, length, Option, Some, Result, refl, sym, ap, subst, ◌∙◌, arith, Ok, Err, IfOk, IfErr}
+use Rattle.std.proofs.Common.{◌≡◌, ◌+◌, ℕ, suc, Bool, true, false, inl, inr, List, [], ◌∷◌, length, Option, Some, Result, refl, sym, ap, subst, ◌∙◌, arith}
 use Rattle.txn_bytes.specs.declared.sink.WriteFault.{WriteFault}
 use Rattle.session_text.specs.declared.fault.LineKind.TheVariants as kind
 use Rattle.durable_top.specs.declared.store.TopStore.{Ghosts}
@@ -19,7 +19,7 @@ module _ {R S W E : Type 0} (gives : R → R → Result (List ℕ) ReadFault →
     (err_contents : E → Option (List ℕ)) (err_takes : E → E → List ℕ → Result ℕ WriteFault → Type 0) where
   -- ---- one line
 
-  hears_whole : (n : ℕ) (old new : Moment R S W E) → Takes gives remaining old.reader new.reader old.holds new.holds Whole
+  pub hears_whole : (n : ℕ) (old new : Moment R S W E) → Takes gives remaining old.reader new.reader old.holds new.holds Whole
       → Answers g contents flushes err_contents err_takes n new.holds.kept old.live new.live old.out new.out old.err new.err
       → HearsSome gives remaining g contents flushes err_contents err_takes n old new
   hears_whole n old new taken a = record {
@@ -34,36 +34,12 @@ module _ {R S W E : Type 0} (gives : R → R → Result (List ℕ) ReadFault →
     heard = record { taken = Long; takes = taken; bytes = refl; becomes = (refl, live); told = said; shown = out };
   }
 
-  unheard : (old : Moment R S W E) (reader : R) (holds : Holds) (out : W) (fault : LiveFault) → Takes gives remaining old.reader reader old.holds holds Whole
+  pub unheard : (old : Moment R S W E) (reader : R) (holds : Holds) (out : W) (fault : LiveFault) → Takes gives remaining old.reader reader old.holds holds Whole
       → HasAnswerFault g contents takes flushes holds.kept old.live old.out out fault → HasHearingFault gives remaining g contents takes flushes old reader out fault
   unheard old reader holds out (Open cause) taken why = why
   unheard old reader holds out Read taken why = absurd why
   unheard old reader holds out NoMemory taken why = record { holds = holds; whole = taken; cause = why }
   unheard old reader holds out Write taken why = record { holds = holds; whole = taken; cause = why }
-
-  -- a whole line was answered, or has no answer
-  module _ (old : Moment R S W E) (reader : R) (holds : Holds) (out : W) (taken : Takes gives remaining old.reader reader old.holds holds Whole)
-      (r : Result (Turning S × Bool) LiveFault) where
-    pub hears_next : (n : ℕ) (err : E)
-        → IfOk r (λ x. (x.1 ≡ true) × Answers g contents flushes err_contents err_takes n holds.kept old.live x.0 old.out out old.err err)
-        → IfOk r (λ x. HearsNext gives remaining g contents flushes err_contents err_takes n old (moment reader holds x.0 out err) x.1)
-    hears_next n err h = by r h
-      where
-        by : (q : Result (Turning S × Bool) LiveFault) → IfOk q (λ x. (x.1 ≡ true) × Answers g contents flushes err_contents err_takes n holds.kept old.live x.0 old.out out old.err err)
-            → IfOk q (λ x. HearsNext gives remaining g contents flushes err_contents err_takes n old (moment reader holds x.0 out err) x.1)
-        by (Ok x) (more, a) =
-            subst (λ b. HearsNext gives remaining g contents flushes err_contents err_takes n old (moment reader holds x.0 out err) b) (sym more)
-            (hears_whole n old (moment reader holds x.0 out err) taken a)
-        by (Err fault) a = tt
-
-    pub unheard_next : IfErr r (λ fault. HasAnswerFault g contents takes flushes holds.kept old.live old.out out fault)
-        → IfErr r (λ fault. HasHearingFault gives remaining g contents takes flushes old reader out fault)
-    unheard_next h = by r h
-      where
-        by : (q : Result (Turning S × Bool) LiveFault) → IfErr q (λ fault. HasAnswerFault g contents takes flushes holds.kept old.live old.out out fault)
-            → IfErr q (λ fault. HasHearingFault gives remaining g contents takes flushes old reader out fault)
-        by (Ok x) why = tt
-        by (Err fault) why = unheard old reader holds out fault taken why
 
   -- ---- line after line
 

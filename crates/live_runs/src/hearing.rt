@@ -1,5 +1,5 @@
 //! The lines of the input, one after another.
-ghost use Rattle.std.specs.Prelude.{◌≡◌, true, IfErr, IfOk, OnErr};
+ghost use Rattle.std.specs.Prelude.{◌≡◌, IfErr, IfOk, OnErr};
 ghost use Rattle.session_runs.specs.Faults.{IsSaid, spelled_fault};
 ghost use Rattle.session_runs.specs.declared.fault.Fault.TheVariants.{Line};
 ghost use Rattle.interleavings.specs.Scheduled.{Stands};
@@ -30,32 +30,32 @@ pub(crate) fn end_by<S: TopStore>(live: Live<S>, fault: LiveFault) -> LiveFault
     fault
 }
 
-// Handles a whole line, behind which there may be more. What it brought about is shown; if it was not taken, that is told.
+// Handles a whole line. What it brought about is shown; if it was not taken, that is told.
 fn answer<S: TopStore, W: Sink, E: Sink>(
     live: Live<S>,
     line: usize,
     bytes: &[u8],
     out: &mut W,
     err: &mut E,
-) -> Result<(Live<S>, bool), LiveFault>
-    ensures ok { IfOk result (λ r. (r.1 ≡ true) ×
-        Answers S.TopStore W.contents W.flushes E.contents E.takes
-        line bytes.now live r.0 out.old out.new err.old err.new) }
+) -> Result<Live<S>, LiveFault>
+    ensures ok { IfOk result (λ new. Answers S.TopStore W.contents W.flushes E.contents E.takes
+        line bytes.now live new out.old out.new err.old err.new) }
     ensures err { IfErr result (λ fault.
         HasAnswerFault S.TopStore W.contents W.takes W.flushes bytes.now live out.old out.new fault) }
     ensures untold { OnErr result (err.new ≡ err.old) }
 {
     live.has_legal_history();
     let written = live.history().len();
-    let Ok((live, fault)) = live.request(bytes) else {
-        return Err(LiveFault::NoMemory);
+    let (live, fault) = match live.request(bytes) {
+        Ok(handled) => handled,
+        Err(_) => return Err(LiveFault::NoMemory),
     };
     if let Some(kind) = fault {
         refuse(err, line, kind);
-        return Ok((live, true));
+        return Ok(live);
     }
     match show_entries(live.labels(), live.history(), written, out) {
-        Ok(()) => Ok((live, true)),
+        Ok(()) => Ok(live),
         Err(_) => Err(end_by(live, LiveFault::Write)),
     }
 }
@@ -76,7 +76,10 @@ fn hear_next<R: Source, S: TopStore, W: Sink, E: Sink>(
     ensures untold { OnErr result (err.new ≡ err.old) }
 {
     match lines.take_line(input) {
-        Ok(Taken::Whole) => answer(live, line, lines.line(), out, err),
+        Ok(Taken::Whole) => match answer(live, line, lines.line(), out, err) {
+            Ok(live) => Ok((live, true)),
+            Err(fault) => Err(fault),
+        },
         Ok(Taken::Long) => {
             refuse(err, line, LineKind::Long);
             Ok((live, true))

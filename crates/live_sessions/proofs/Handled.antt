@@ -1,5 +1,5 @@
 -- What a request comes to.
-use Rattle.std.proofs.Common.{◌≡◌, ℕ, zero, suc, inl, inr, List, [], length, Option, None, Result, Ok, Err, OnOk, OnErr, IfOk, refl, sym, ap, ap₂, subst, ◌∙◌}
+use Rattle.std.proofs.Common.{◌≡◌, ℕ, zero, suc, inl, inr, List, [], length, Result, Ok, Err, OnOk, refl, sym, ap, ap₂, subst, ◌∙◌}
 use Rattle.serial_spec.specs.declared.event.Event.{Event}
 use Rattle.serial_spec.specs.History.{History}
 use Rattle.serial_spec.specs.Rows.{Rows}
@@ -16,10 +16,8 @@ use Rattle.interleavings.specs.Scheduled.{Goes, Settles, Stands, StepsOfAll}
 use Rattle.interleavings.specs.Turning.{IsStart, Turning, Stepped, NoneGoesOn}
 use Rattle.interleavings.specs.declared.turns.Turn.{Turn}
 use Rattle.interleavings.proofs.Schedules.{goes_still, on_same}
-use Rattle.session_text.specs.declared.fault.LineKind.{LineKind}
-use Rattle.session_text.specs.Requests.{request_of}
-use Rattle.live_sessions.specs.Handling.{Attempted, Breaks, BreaksAt, Grows, Handled, IsLive}
-use Rattle.live_sessions.specs.Requested.{number_of, request_fault, with_request}
+use Rattle.live_sessions.specs.Handling.{Attempted, BreaksAt, Grows, IsLive}
+use Rattle.live_sessions.specs.Requested.{number_of, with_request}
 
 steps_open : (rows : Rows) (ss : List Session) (n : ℕ) (h h2 : History) → IsOpenEnded h → StepsOfAll rows ss n h h2 → IsOpenEnded h2
 steps_open rows ss zero h h2 lasting same = subst IsOpenEnded (sym same) lasting
@@ -103,15 +101,3 @@ module _ {S : Type 0} (g : Ghosts S) (ss : List Session) (p : Going S) (l : List
         subst (λ n. Attempted g n (record { sessions = more; core = p.core }) (turning more q)) number
         (subst (λ (t : Turning S). Attempted g s t (turning more q)) begun_so (subst (λ (t : Turning S). Attempted g s old t) ended a)) in
         record { sessions = more_is; on = attempted.goes.on; attempted = attempted }
-
--- ---- from a request to its line
-
-module _ {S E : Type 0} (g : Ghosts S) (old : Turning S) (bs l : List ℕ) (e : Event) (read : request_of bs ≡ Ok (l, e))
-    (welcome : request_fault old.sessions old.core.history bs ≡ None) where
-  pub handled : (r : Result (Turning S × Option LineKind) E) → IfOk r (λ x. (x.1 ≡ None) × Grows g old l e x.0) → IfOk r (λ x. Handled g old bs x.0 x.1)
-  handled (Ok x) (none, grows) = subst (Handled g old bs x.0) (sym none) (record { label = l; event = e; read = read; welcome = welcome; grows = grows })
-  handled (Err fault) h = tt
-
-  pub broken : (r : Result (Turning S × Option LineKind) E) → OnErr r (BreaksAt g old l e) → OnErr r (Breaks g old bs)
-  broken (Ok x) h = tt
-  broken (Err fault) h = record { label = l; event = e; read = read; welcome = welcome; breaks = h }

@@ -95,11 +95,10 @@ impl<S: TopStore> Live<S> {
         self.progress.has_sound_manager();
     }
 
-    // Adds the line to its session and attempts it, and answers as `request` does. Each value that holds the manager costs its size at
-    // every place where it is handed on, so it is answered in the form in which it goes on.
-    fn take(self, label: Label, line: Line) -> Result<(Live<S>, Option<LineKind>), NoMemory>
+    // Adds the line to its session and attempts it.
+    fn take(self, label: Label, line: Line) -> Result<Live<S>, NoMemory>
         requires welcome { fault_at self.sessions self.core.history (place_of label self.sessions) ≡ None }
-        ensures ok { IfOk result (λ r. (r.1 ≡ None) × Grows S.TopStore self label line r.0) }
+        ensures ok { IfOk result (λ live. Grows S.TopStore self label line live) }
         ensures err { OnErr result (BreaksAt S.TopStore self label line) }
     {
         let Live {
@@ -128,15 +127,12 @@ impl<S: TopStore> Live<S> {
         turns.has_legal_history();
         let progress = turns.into_progress();
         match attempted {
-            Ok(()) => Ok((
-                Live {
-                    alloc,
-                    sessions,
-                    labels,
-                    progress,
-                },
-                None,
-            )),
+            Ok(()) => Ok(Live {
+                alloc,
+                sessions,
+                labels,
+                progress,
+            }),
             Err(fault) => {
                 progress.give_up();
                 Err(fault)
@@ -149,7 +145,6 @@ impl<S: TopStore> Live<S> {
     /// attempted, in order, again and again until none of them goes on. What was not taken changes nothing, and is told by a
     /// kind: what `parse_request` tells; `Turn`, where the session has a line that is not answered; `Limit`, where it has 1,024 lines
     /// or there are 64 sessions and a new one is named. The only error is that memory runs out, and the store is dropped then.
-    #[tactic(auto, using(crate::proofs::Handled::broken, crate::proofs::Handled::handled))]
     pub fn request(self, bytes: &[u8]) -> Result<(Live<S>, Option<LineKind>), NoMemory>
         ensures ok { IfOk result (λ r. Handled S.TopStore self bytes.now r.0 r.1) }
         ensures err { OnErr result (Breaks S.TopStore self bytes.now) }
@@ -161,7 +156,10 @@ impl<S: TopStore> Live<S> {
         if let Some(kind) = refusal(&self.sessions, &self.progress, &label) {
             return Ok((self, Some(kind)));
         }
-        self.take(label, line)
+        match self.take(label, line) {
+            Ok(live) => Ok((live, None)),
+            Err(fault) => Err(fault),
+        }
     }
 
     /// Runs the sessions to their end, which take no line any more: rounds with the stuck rule until no line is left, and the

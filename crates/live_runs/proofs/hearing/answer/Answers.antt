@@ -9,33 +9,31 @@ use Rattle.live_runs.proofs.hearing.answer.Goals as goal
 pub show_entries-requires : goal.show_entries-requires
 show_entries-requires g c =
     let old = c.args.live in
-    let new = c.in-Ok.live in
-    let taken = subst (λ f. Handled g.S.TopStore old c.args.bytes.now new f) c.in_default-fault.is c.in-Ok.ensures.ok in
+    let new = c.in-Ok.handled.0 in
+    let taken = subst (λ f. Handled g.S.TopStore old c.args.bytes.now new f) c.in_default.is c.in-Ok.ensures.ok in
     let count = sym (length-reverse c.history-written.result.now) ∙ ap (λ (h : History). length h) c.history-written.ensures in
     room_behind g.S.TopStore old new c.args.bytes.now taken (length c.history-written.result.now) count c.history.result.now c.history.ensures
 
 pub returns-in-Ok-show_entries-clause-ok : goal.returns-in-Ok-show_entries-clause-ok
 returns-in-Ok-show_entries-clause-ok g c =
     let old = c.args.live in
-    let new = c.in-Ok.live in
-    let taken = subst (λ f. Handled g.S.TopStore old c.args.bytes.now new f) c.in_default-fault.is c.in-Ok.ensures.ok in
-    let count = sym (length-reverse c.history-written.result.now) ∙ ap (λ (h : History). length h) c.history-written.ensures in (
-      refl,
-      record {
-        fault = None;
-        handled = taken;
-        told = refl;
-        shown = shown_since g.S.TopStore old new c.args.bytes.now taken (length c.history-written.result.now) count c.history.result.now c.history.ensures
-            g.W.Write.contents g.W.Sink.takes g.W.Sink.flushes c.has_legal_history.ensures c.labels.result.now c.labels.ensures
-            c.args.out.now c.show_entries.new.out c.in-Ok-show_entries.ensures.ok;
-      },
-    )
+    let new = c.in-Ok.handled.0 in
+    let taken = subst (λ f. Handled g.S.TopStore old c.args.bytes.now new f) c.in_default.is c.in-Ok.ensures.ok in
+    let count = sym (length-reverse c.history-written.result.now) ∙ ap (λ (h : History). length h) c.history-written.ensures in
+    record {
+      fault = None;
+      handled = taken;
+      told = refl;
+      shown = shown_since g.S.TopStore old new c.args.bytes.now taken (length c.history-written.result.now) count c.history.result.now c.history.ensures
+          g.W.Write.contents g.W.Sink.takes g.W.Sink.flushes c.has_legal_history.ensures c.labels.result.now c.labels.ensures
+          c.args.out.now c.show_entries.new.out c.in-Ok-show_entries.ensures.ok;
+    }
 
-pub returns-in-Err-clause-err : goal.returns-in-Err-clause-err
-returns-in-Err-clause-err g c =
+pub returns-in-Err-show_entries-clause-err : goal.returns-in-Err-show_entries-clause-err
+returns-in-Err-show_entries-clause-err g c =
     let old = c.args.live in
-    let new = c.in-Ok.live in
-    let taken = subst (λ f. Handled g.S.TopStore old c.args.bytes.now new f) c.in_default-fault.is c.in-Ok.ensures.ok in
+    let new = c.in-Ok.handled.0 in
+    let taken = subst (λ f. Handled g.S.TopStore old c.args.bytes.now new f) c.in_default.is c.in-Ok.ensures.ok in
     let count = sym (length-reverse c.history-written.result.now) ∙ ap (λ (h : History). length h) c.history-written.ensures in
     subst (HasAnswerFault g.S.TopStore g.W.Write.contents g.W.Sink.takes g.W.Sink.flushes c.args.bytes.now old c.args.out.now c.show_entries.new.out)
     (sym c.end_by.ensures.fault)
@@ -45,5 +43,5 @@ returns-in-Err-clause-err g c =
       stands = c.end_by.ensures.stands;
       unshown = unshown_since g.S.TopStore old new c.args.bytes.now taken (length c.history-written.result.now) count c.history.result.now c.history.ensures
           g.W.Write.contents g.W.Sink.takes g.W.Sink.flushes c.has_legal_history.ensures c.labels.result.now c.labels.ensures
-          c.args.out.now c.show_entries.new.out c.in-Err.ensures.err;
+          c.args.out.now c.show_entries.new.out c.in-Err-show_entries.ensures.err;
     })

@@ -1,4 +1,3 @@
-use Rattle.std.proofs.Common.{refl}
 use Rattle.live_sessions.proofs.Grown.{open_still}
 use Rattle.live_sessions.proofs.Handled.{breaks_behind, breaks_here, grows_of, live_still}
 use Rattle.live_sessions.proofs.live.Live.take.Goals as goal
@@ -18,13 +17,11 @@ invariant_of-result g c =
     c.into_progress-progress.ensures.core c.into_progress-progress.ensures.way c.in-Ok.ensures.labels
 
 pub returns-in-Ok-attempted-clause-ok : goal.returns-in-Ok-attempted-clause-ok
-returns-in-Ok-attempted-clause-ok g c = (
-  refl,
-  rw (← c.self.view_is)
-      (grows_of g.S.TopStore c.self.inside.sessions c.self.inside.progress c.args.label c.args.line c.grow.new.sessions c.grow.new.progress
-      c.from_progress-turns.result c.attempt_all-attempted.new.turns c.in-Ok.ensures.sessions c.in-Ok.ensures.core c.from_progress-turns.ensures
-      c.in-Ok.session c.into_progress-progress.result c.in-Ok.ensures.place c.in-Ok-attempted.ensures.ok c.into_progress-progress.ensures.core),
-)
+returns-in-Ok-attempted-clause-ok g c =
+    rw (← c.self.view_is)
+    (grows_of g.S.TopStore c.self.inside.sessions c.self.inside.progress c.args.label c.args.line c.grow.new.sessions c.grow.new.progress
+    c.from_progress-turns.result c.attempt_all-attempted.new.turns c.in-Ok.ensures.sessions c.in-Ok.ensures.core c.from_progress-turns.ensures
+    c.in-Ok.session c.into_progress-progress.result c.in-Ok.ensures.place c.in-Ok-attempted.ensures.ok c.into_progress-progress.ensures.core)
 
 pub returns-in-Err-attempted-clause-err : goal.returns-in-Err-attempted-clause-err
 returns-in-Err-attempted-clause-err g c =
