@@ -69,9 +69,11 @@ fn hear_next<R: Source, S: TopStore, W: Sink, E: Sink>(
     out: &mut W,
     err: &mut E,
 ) -> Result<(Live<S>, bool), LiveFault>
-    ensures ok { IfOk result (λ r. HearsNext R.gives R.remaining S.TopStore W.contents W.flushes E.contents E.takes line
+    ensures ok { IfOk result (λ r. HearsNext R.gives R.remaining S.TopStore
+        W.contents W.flushes E.contents E.takes line
         (moment input.old lines.old live out.old err.old) (moment input.new lines.new r.0 out.new err.new) r.1) }
-    ensures err { IfErr result (λ fault. HasHearingFault R.gives R.remaining S.TopStore W.contents W.takes W.flushes
+    ensures err { IfErr result (λ fault. HasHearingFault R.gives R.remaining S.TopStore
+        W.contents W.takes W.flushes
         (moment input.old lines.old live out.old err.old) input.new out.new fault) }
     ensures untold { OnErr result (err.new ≡ err.old) }
 {
@@ -102,9 +104,11 @@ pub(crate) fn hear_all<R: Source, S: TopStore, W: Sink, E: Sink>(
     out: &mut W,
     err: &mut E,
 ) -> Result<Live<S>, LiveFault>
-    ensures ok { IfOk result (λ last. HearsAll R.gives R.remaining S.TopStore W.contents W.flushes E.contents E.takes
+    ensures ok { IfOk result (λ last. HearsAll R.gives R.remaining S.TopStore
+        W.contents W.flushes E.contents E.takes
         (moment input.old holds_nothing live out.old err.old) input.new last out.new err.new) }
-    ensures err { IfErr result (λ fault. BreaksHearing R.gives R.remaining S.TopStore W.contents W.takes W.flushes E.contents E.takes
+    ensures err { IfErr result (λ fault. BreaksHearing R.gives R.remaining S.TopStore
+        W.contents W.takes W.flushes E.contents E.takes
         (moment input.old holds_nothing live out.old err.old) input.new out.new err.new fault) }
 {
     let mut live = live;

@@ -16,7 +16,8 @@ use txn_bytes::Sink;
 // No sessions yet, and the opening is shown.
 fn begin<S: TopStore, W: Sink>(alloc: Global, store: S, out: &mut W) -> Result<Live<S>, LiveFault>
     ensures ok { IfOk result (λ live. Begins S.TopStore W.contents W.flushes store live out.old out.new) }
-    ensures err { IfErr result (λ fault. HasBeginFault S.TopStore W.contents W.takes W.flushes store out.old out.new fault) }
+    ensures err { IfErr result (λ fault.
+        HasBeginFault S.TopStore W.contents W.takes W.flushes store out.old out.new fault) }
 {
     let live = match Live::open(alloc, store) {
         Ok(live) => live,
@@ -31,7 +32,8 @@ fn begin<S: TopStore, W: Sink>(alloc: Global, store: S, out: &mut W) -> Result<L
 // Runs the sessions to their end, and shows what of the report was not shown before.
 fn end<S: TopStore, W: Sink>(live: Live<S>, out: &mut W) -> Result<S, LiveFault>
     ensures ok { IfOk result (λ left. Finishes S.TopStore W.contents W.flushes live left out.old out.new) }
-    ensures err { IfErr result (λ fault. HasEndFault S.TopStore W.contents W.takes W.flushes live out.old out.new fault) }
+    ensures err { IfErr result (λ fault.
+        HasEndFault S.TopStore W.contents W.takes W.flushes live out.old out.new fault) }
 {
     let written = live.history().len();
     let (report, left) = match live.finish() {
@@ -52,9 +54,11 @@ fn run_live<R: Source, S: TopStore, W: Sink, E: Sink>(
     out: &mut W,
     err: &mut E,
 ) -> Result<S, LiveFault>
-    ensures ok { IfOk result (λ left. IsLived R.gives R.remaining S.TopStore W.contents W.flushes E.contents E.takes
+    ensures ok { IfOk result (λ left. IsLived R.gives R.remaining S.TopStore
+        W.contents W.flushes E.contents E.takes
         store input.old input.new out.old out.new err.old err.new left) }
-    ensures err { IfErr result (λ fault. HasLiveCause R.gives R.remaining S.TopStore W.contents W.takes W.flushes E.contents E.takes
+    ensures err { IfErr result (λ fault. HasLiveCause R.gives R.remaining S.TopStore
+        W.contents W.takes W.flushes E.contents E.takes
         store input.old input.new out.old out.new err.old err.new fault) }
 {
     let live = begin(alloc, store, out)?;
