@@ -8,7 +8,7 @@ use Rattle.serial_spec.specs.Interleaving.{IsInterleaving}
 use Rattle.serial_spec.specs.Report.{line, spelled_entry, spelled_history, spelled_rows}
 use Rattle.serial_spec.specs.Rows.{Rows}
 use Rattle.durable_top.specs.declared.store.TopStore.{Ghosts}
-use Rattle.growing_sessions.specs.Growing.{Extends, begun_report, labels_in}
+use Rattle.growing_sessions.specs.Growing.{Extends, labels_in}
 use Rattle.growing_sessions.proofs.Spelled.{history_reads_same}
 use Rattle.interleavings.specs.Attempts.{GoesOn}
 use Rattle.interleavings.specs.Scheduled.{Goes, RunsOut}
@@ -78,18 +78,11 @@ trail_later g rows h0 s0 (e ∷ h) s (inr (before, trail, asks)) =
 
 -- ---- their lines
 
-entry_line : List (List ℕ) → Entry → List ℕ
-entry_line labels e = line (spelled_entry labels e.by e.event e.answer)
-
 spelled_more : (labels : List (List ℕ)) (later h : History) → spelled_history labels (later ++ h) ≡ spelled_history labels h ++ spelled_history labels later
 spelled_more labels [] h = sym (append-nil (spelled_history labels h))
 spelled_more labels (e ∷ later) h =
     ap (λ z. z ++ line (spelled_entry labels e.by e.event e.answer)) (spelled_more labels later h)
     ∙ append_assoc (spelled_history labels h) (spelled_history labels later) (line (spelled_entry labels e.by e.event e.answer))
-
--- what is written before any session begins
-pub begun_opening : (rows : Rows) → begun_report rows [] [] ≡ opening_text rows
-begun_opening rows = append-nil (opening_text rows)
 
 -- what sessions that went on and grew have more of their report
 module _ {S : Type 0} (g : Ghosts S) (old new : Turning S) (on : GoesOn g old.core new.core) where

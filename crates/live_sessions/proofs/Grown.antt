@@ -1,7 +1,6 @@
 -- Sessions that a request made grow are under way.
-use Rattle.std.proofs.Common.{◌≡◌, ◌<◌, ◌≤◌, ℕ, zero, suc, Bool, true, false, cond, List, [], ◌∷◌, ◌++◌, length, slice_get, Option, Some, None, Result, Ok, Err, OnOk, IfOk, refl, sym, ap, ap₂, subst, ◌∙◌, arith, length-append}
-use Rattle.std.specs.Prelude.{nat_lt}
-use Rattle.std.proofs.lemmas.Bool.{le-ltb, lt-ltb, ltb-true}
+use Rattle.std.proofs.Common.{◌≡◌, ◌<◌, ◌≤◌, ℕ, zero, suc, List, [], ◌∷◌, ◌++◌, length, slice_get, Option, Some, None, Result, Ok, Err, OnOk, IfOk, refl, sym, ap, ap₂, subst, ◌∙◌, arith, length-append}
+use Rattle.std.proofs.lemmas.Bool.{le-ltb, lt-ltb}
 use Rattle.serial_spec.specs.declared.event.Event.{Event}
 use Rattle.serial_spec.specs.History.{History}
 use Rattle.serial_spec.specs.Interleaving.{Session, answered, lines_of}
@@ -15,25 +14,9 @@ use Rattle.growing_sessions.proofs.Growth.{growth_keeps, new_session_unanswered}
 use Rattle.growing_sessions.proofs.Lines.{line_extends, session_extends}
 use Rattle.manager_core.specs.State.{State}
 use Rattle.interleavings.specs.Progressing.{Going, AreUnderWay}
-use Rattle.live_sessions.specs.Requested.{fault_at, fault_behind}
+use Rattle.live_sessions.specs.Requested.{fault_at}
 
--- ---- room
-
-fits : (turn room : Bool) → cond turn (Some kind.Turn) (cond room None (Some kind.Limit)) ≡ None → room ≡ true
-fits true room e = cc
-fits false true e = refl
-fits false false e = cc
-
--- a session that takes a line has room for it
-pub few_lines : (done lines : ℕ) → fault_behind done lines ≡ None → lines < 1024
-few_lines done lines e = ltb-true lines 1024 (fits (nat_lt done lines) (nat_lt lines 1024) e)
-
--- and where a new one may be there is room for it
-pub few_sessions : (ss : List Session) (h : History) → fault_at ss h None ≡ None → length ss < 64
-few_sessions ss h e = ltb-true (length ss) 64 (fits false (nat_lt (length ss) 64) e)
-
-pub unsome : {X : Type 0} (a b : X) → Some a ≡ Some b → a ≡ b
-unsome a b e = cc
+-- ---- why a line is not taken
 
 -- where a label has a place, the number of the next line is kept there
 pub next_there : {S : Type 0} (ss : List Session) (p : Going S) → AreUnderWay ss p → (l : List ℕ) (s : ℕ) → place_of l ss ≡ Some s
