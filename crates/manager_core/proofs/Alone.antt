@@ -16,7 +16,7 @@ use Rattle.serial_spec.specs.Targets.{meets, target}
 use Rattle.wait_cycles.specs.declared.waits.Wait.{Wait}
 use Rattle.serial_spec.proofs.Taking.{take_next}
 use Rattle.wait_cycles.specs.Waiting.{wait_in}
-use Rattle.manager_core.specs.Pairs.{Keeps, AreAlone, IsAlone, IsNobodysWay, is_beside, is_beside_it, is_held_up, is_in_branch, waits_by_way_of, waits_for_in}
+use Rattle.manager_core.specs.Pairs.{Keeps, AreOwnBranches, IsAlone, IsNobodysWay, IsOwnBranch, is_beside, is_beside_it, is_held_up, is_in_branch, waits_by_way_of, waits_for_in}
 use Rattle.manager_core.proofs.HeldUp.{holder_begun, open_holds_nobody}
 
 -- a path that shares its first label with one of one label is that or below it
@@ -107,9 +107,9 @@ module _ (tree : States) (b : ℕ) (a : IsAlone tree b) where
   pub nobodys_way : (waits : List Wait) → wait_in waits b ≡ None → IsNobodysWay tree waits b
   nobodys_way waits none keeps s = nobodys_way_among keeps s waits waits (λ t. nobody_beside t waits none)
 
--- where all who may keep an access from being answered are alone, the access waits for whoever keeps it from being answered itself, and for nobody else
+-- where all who may keep an access from being answered are alone in their branches, the access waits for whoever keeps it from being answered itself, and for nobody else
 module _ (tree : States) (keeps : Keeps) (w : Wait) (u : ℕ) (holders : List ℕ)
-    (out : (v : ℕ) → list_any (nat_eq v) holders ≡ false → keeps w.txn w.asked v ≡ false) (alone : AreAlone tree holders) where
+    (out : (v : ℕ) → list_any (nat_eq v) holders ≡ false → keeps w.txn w.asked v ≡ false) (alone : AreOwnBranches tree w.txn holders) where
   pub flat_waited_for : is_held_up tree keeps w u u ≡ waits_for_in tree keeps w u
   flat_waited_for = both_ways (holds u) (list_any holds (numbers tree)) there here
     where
@@ -124,24 +124,24 @@ module _ (tree : States) (keeps : Keeps) (w : Wait) (u : ℕ) (holders : List �
       among : (b : ℕ) → holds b ≡ true → (found : Bool) → list_any (nat_eq b) holders ≡ found → holds u ≡ true
       among b e true found =
           let beside = (and_parts (keeps w.txn w.asked b) (is_in_branch tree w.txn b u) e).1 in
-          subst (λ v. holds v ≡ true) (only_itself tree b (alone b found) w.txn u beside) e
+          subst (λ v. holds v ≡ true) (alone b found u beside) e
       among b e false found = absurd (open_holds_nobody tree keeps w u b e (out b found))
 
       here : list_any holds (numbers tree) ≡ true → holds u ≡ true
       here e = let b = witness holds (numbers tree) e in among b.0 b.1 (list_any (nat_eq b.0) holders) refl
 
--- one more that is alone
-alone_at_end : (tree : States) (u v : ℕ) → IsAlone tree u → (xs : List ℕ) → AreAlone tree xs → list_any (nat_eq v) (xs ++ u ∷ []) ≡ true → IsAlone tree v
-alone_at_end tree u v one [] none e = last (nat_eq v u) refl e
+-- one more of those of whom this holds
+at_end : (P : ℕ → Type 0) (u v : ℕ) → P u → (xs : List ℕ) → ((x : ℕ) → list_any (nat_eq x) xs ≡ true → P x) → list_any (nat_eq v) (xs ++ u ∷ []) ≡ true → P v
+at_end P u v one [] none e = last (nat_eq v u) refl e
   where
-    last : (c : Bool) → nat_eq v u ≡ c → list_any (nat_eq v) (u ∷ []) ≡ true → IsAlone tree v
-    last true is e = subst (IsAlone tree) (sym (eqb-true v u is)) one
+    last : (c : Bool) → nat_eq v u ≡ c → list_any (nat_eq v) (u ∷ []) ≡ true → P v
+    last true is e = subst P (sym (eqb-true v u is)) one
     last false is e = absurd (false≢true (sym (ap (λ c. c || false) is) ∙ e))
-alone_at_end tree u v one (x ∷ xs) some e = first (alone_at_end tree u v one xs (λ y f. some y (or_right (nat_eq y x) (list_any (nat_eq y) xs) f))) (nat_eq v x) refl e
+at_end P u v one (x ∷ xs) some e = first (at_end P u v one xs (λ y f. some y (or_right (nat_eq y x) (list_any (nat_eq y) xs) f))) (nat_eq v x) refl e
   where
-    first : (list_any (nat_eq v) (xs ++ u ∷ []) ≡ true → IsAlone tree v) → (c : Bool) → nat_eq v x ≡ c → list_any (nat_eq v) (x ∷ (xs ++ u ∷ [])) ≡ true → IsAlone tree v
+    first : (list_any (nat_eq v) (xs ++ u ∷ []) ≡ true → P v) → (c : Bool) → nat_eq v x ≡ c → list_any (nat_eq v) (x ∷ (xs ++ u ∷ [])) ≡ true → P v
     first others true is e = some v (rw is refl)
     first others false is e = others (subst (λ c. (c || list_any (nat_eq v) (xs ++ u ∷ [])) ≡ true) is e)
 
-pub one_more_alone : (tree : States) (us : List ℕ) (i u : ℕ) → slice_get us i ≡ Some u → AreAlone tree (take i us) → IsAlone tree u → AreAlone tree (take (i + 1) us)
-one_more_alone tree us i u at alone one v e = alone_at_end tree u v one (take i us) alone (subst (λ xs. list_any (nat_eq v) xs ≡ true) (take_next us i u at) e)
+pub one_more_own : (tree : States) (t : ℕ) (us : List ℕ) (i u : ℕ) → slice_get us i ≡ Some u → AreOwnBranches tree t (take i us) → IsOwnBranch tree t u → AreOwnBranches tree t (take (i + 1) us)
+one_more_own tree t us i u at own one v e = at_end (IsOwnBranch tree t) u v one (take i us) own (subst (λ xs. list_any (nat_eq v) xs ≡ true) (take_next us i u at) e)

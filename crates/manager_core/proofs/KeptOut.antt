@@ -1,5 +1,5 @@
 -- What keeps a line from its answer, by the tables and by the history.
-use Rattle.std.proofs.Common.{◌≡◌, ◌<◌, Bool, true, false, not, cond, ◌&&◌, ◌||◌, length, Option, Some, None, option_map, is_some, unwrap_or, refl, sym, ap, subst, ◌∙◌}
+use Rattle.std.proofs.Common.{◌≡◌, ◌<◌, ℕ, Bool, true, false, not, cond, ◌&&◌, ◌||◌, length, Option, Some, None, option_map, is_some, unwrap_or, refl, sym, ap, subst, ◌∙◌}
 use Rattle.std.specs.Prelude.{IsTrue, ◌↔◌}
 use Rattle.std.proofs.lemmas.Bool.{and_parts, not-true, true≢false}
 use Rattle.serial_spec.specs.declared.target.Asked.{Asked}
@@ -24,7 +24,9 @@ use Rattle.serial_spec.specs.Allowed.{when, refused_or, is_full_for, waits_elsew
 use Rattle.serial_spec.specs.Legal.{AreAllowed}
 use Rattle.manager_core.specs.Kept.{AreTablesOf}
 use Rattle.manager_core.specs.Lines.{IsWaitOf, waiting_access}
-use Rattle.manager_core.specs.Parking.{IsKeptOut, come_by}
+use Rattle.lock_table.specs.ByAsked.{MayAsk}
+use Rattle.manager_core.specs.Parking.{IsKeptOut, WaitsOn, come_by}
+use Rattle.manager_core.proofs.Locks.{may_as}
 use Rattle.manager_core.specs.Tables.{Tabled, cause_in}
 use Rattle.txn_history.proofs.Lists.{any-find}
 use Rattle.manager_core.proofs.Events.{access_by_at, answer_at, is_wait, may_give_up, own_wait, same_asked}
@@ -130,6 +132,17 @@ module _ (rows : Rows) (h : History) (by : By) (t : Name) (asked : Asked) where
 pub by_may : {X : Type 0} (b m : Bool) → m ≡ not b → IsTrue b ↔ X → IsTrue (not m) ↔ X
 by_may true m is both = (λ e. both.0 refl, λ x. ap not is)
 by_may false m is both = (λ e. both.0 (sym (ap not is) ∙ e), λ x. ap not is ∙ both.1 x)
+
+module _ (rows : Rows) (h : History) (tables : Tabled) (allowed : AreAllowed rows h) (are : AreTablesOf rows h tables) (by : By) (t : Name) (asked : Asked) (n : ℕ)
+    (waits : WaitsOn rows h tables.tree by t asked n) where
+  -- one that waits, and whose key is none too many, is kept out exactly where it may not have what it asks
+  pub out_by_locks : (b : Bool) → IsTrue b ↔ MayAsk tables.tree tables.estate.locks n asked → IsTrue (not b) ↔ IsKeptOut rows h by (event_of t asked)
+  out_by_locks b both =
+      by_may (is_blocked h t asked) b (may_as rows h tables are t n waits.number asked b both)
+      (kept_out_as rows h by t asked allowed waits.waits (none_but_full rows h by t asked allowed waits.waits waits.room))
+
+  pub out_if_blocked : (MayAsk tables.tree tables.estate.locks n asked → ⊥) → IsKeptOut rows h by (event_of t asked)
+  out_if_blocked blocked = (out_by_locks false (λ e. absurd (true≢false (sym e)), λ may. absurd (blocked may))).0 refl
 
 -- ---- whether an access waits by a line
 

@@ -3,6 +3,7 @@ pub mod Trees
 pub mod Named
 pub mod Blocking
 pub mod Locks
+pub mod Looked
 pub mod Contents
 pub mod Estates
 pub mod Causes
@@ -31,6 +32,8 @@ pub mod Lines
 pub mod Branches
 pub mod HeldUp
 pub mod Alone
+pub mod OwnBranches
+pub mod Alike
 pub mod Pairing
 pub mod Suspects
 pub mod Victims

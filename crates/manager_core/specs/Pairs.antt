@@ -9,7 +9,7 @@ use Rattle.lock_table.specs.Targeted.{Targeted}
 use Rattle.serial_spec.specs.declared.target.Asked.{Asked}
 use Rattle.serial_spec.specs.declared.target.Target.{Target}
 use Rattle.serial_spec.specs.Targets.{meets, target}
-use Rattle.wait_cycles.specs.Cycles.{Pairs}
+use Rattle.wait_cycles.specs.Cycles.{Pairs, waits_in}
 use Rattle.wait_cycles.specs.declared.waits.Wait.{Wait}
 
 -- Whether by its locks the third keeps the first from what it asks, by their numbers: a test that stands for locks
@@ -46,9 +46,13 @@ pub record IsAlone (tree : States) (u : ℕ) : Type 0 where
   pub named : slice_get (names tree) u ≡ Some (label ∷ [])
   pub alone : (v : ℕ) → IsTrue (is_under tree u v) → u ≡ v
 
--- each of these is top-level, and nobody else is below it
-abbrev pub AreAlone : States → List ℕ → Type 0
-AreAlone tree us = (u : ℕ) → IsTrue (list_any (nat_eq u) us) → IsAlone tree u
+-- nobody but b itself is in the branch by which b parts from t
+abbrev pub IsOwnBranch : States → ℕ → ℕ → Type 0
+IsOwnBranch tree t b = (u : ℕ) → IsTrue (is_in_branch tree t b u) → b ≡ u
+
+-- so it is with each of these
+abbrev pub AreOwnBranches : States → ℕ → List ℕ → Type 0
+AreOwnBranches tree t bs = (b : ℕ) → IsTrue (list_any (nat_eq b) bs) → IsOwnBranch tree t b
 
 -- whether somebody keeps this access from being answered, and u is in its branch
 abbrev pub waits_for_in : States → Keeps → Wait → ℕ → Bool
@@ -87,3 +91,7 @@ IsNobodysWay tree waits t = (keeps : Keeps) (s : Target) → list_any (waits_by_
 abbrev pub passes : (Wait → Bool) → Option Wait → Bool
 passes p (Some w) = p w
 passes p o = false
+
+-- by both lists the same wait for the same, in whatever order they stand
+abbrev pub AreAlike : Pairs → Pairs → Type 0
+AreAlike ps qs = (a b : ℕ) → waits_in ps a b ≡ waits_in qs a b

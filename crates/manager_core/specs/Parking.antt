@@ -1,15 +1,18 @@
 -- Lines that are parked: what comes of an `after` line, and what its condition is by the cause that refuses other lines.
-use Rattle.std.specs.Prelude.{◌≡◌, ◌⊎◌, Bool, true, false, Option, Some, None}
+use Rattle.std.specs.Prelude.{◌≡◌, ◌⊎◌, ℕ, Bool, true, false, Option, Some, None}
+use Rattle.txn_tree.specs.Asked.{IsNumberOf}
+use Rattle.txn_tree.specs.States.{States}
 use Rattle.serial_spec.specs.declared.entry.By.{By}
 use Rattle.serial_spec.specs.declared.entry.Refusal.{Refusal}
 use Rattle.serial_spec.specs.declared.entry.Refusal.TheVariants.{Unknown}
 use Rattle.serial_spec.specs.declared.event.Event.{Event}
+use Rattle.serial_spec.specs.declared.target.Asked.{Asked}
 use Rattle.serial_spec.specs.declared.event.When.{When}
 use Rattle.serial_spec.specs.declared.event.When.TheVariants.{Begun, Done as Ended}
-use Rattle.serial_spec.specs.History.{History}
+use Rattle.serial_spec.specs.History.{History, Name, event_of}
 use Rattle.serial_spec.specs.Rows.{Rows}
-use Rattle.serial_spec.specs.Allowed.{answer}
-use Rattle.txn_history.specs.Lines.{CanGiveUp}
+use Rattle.serial_spec.specs.Allowed.{answer, is_full_for}
+use Rattle.txn_history.specs.Lines.{CanGiveUp, IsWaitOf}
 use Rattle.manager_core.specs.declared.outcome.Outcome.{Outcome}
 use Rattle.manager_core.specs.declared.outcome.Outcome.TheVariants.{Waits}
 use Rattle.manager_core.specs.State.{State}
@@ -24,6 +27,12 @@ pub record Awaits {S : Type 0} (old new : State S) (by : By) (event : Event) (ou
 -- the line was answered, or its condition does not hold yet
 abbrev pub Awaited : {S : Type 0} → State S → State S → By → Event → Outcome → Type 0
 Awaited old new by event outcome = Added old new by event outcome ⊎ Awaits old new by event outcome
+
+-- the transaction with this number waits for the access by this line, and the access makes no key one too many
+pub record WaitsOn (rows : Rows) (h : History) (tree : States) (by : By) (t : Name) (asked : Asked) (n : ℕ) : Type 0 where
+  pub number : IsNumberOf tree t n
+  pub waits : IsWaitOf h by (event_of t asked)
+  pub room : is_full_for rows h asked ≡ false
 
 -- a call may give the line up, and no call answers it
 pub record IsKeptOut (rows : Rows) (h : History) (by : By) (event : Event) : Type 0 where

@@ -19,6 +19,7 @@ impl Tables {
         ensures fewer { result ≡ None → (n : ℕ) → IsTrue (is_below (slice_get (names self.old.tree) n) name.now) → IsTrue (is_some (wait_at self.old n)) → length self.new.waits.waits < length self.old.waits.waits }
         ensures room { self.old.marks.room ≤ self.new.marks.room + 1 }
     {
+        self.looks.clear();
         match self.tree.abort(name) {
             Ok(_) => {
                 self.marks.mark(name);

@@ -78,6 +78,7 @@ impl Tables {
             Ok(txn) => {
                 // One that has to wait takes no place at what it asks for, so that those with a place are those with a lock.
                 if !self.may(txn, asked) {
+                    self.looks.put(*by, txn, asked);
                     return Ok(Outcome::Waits);
                 }
                 self.estate.reserve_asked(txn, asked)?;

@@ -39,6 +39,7 @@ impl Tables {
         requires room { MayGoUp self.old.estate child parent }
         ensures { (t : Path) → slice_get (names self.old.tree) child ≡ Some t → CommitsIn self.old self.new t child parent }
     {
+        self.looks.clear();
         self.tree.commit_at(child);
         match parent {
             Some(parent) => self.estate.commit_child(child, parent),

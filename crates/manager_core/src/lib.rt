@@ -13,6 +13,7 @@ mod committing;
 mod deciding;
 pub mod laws;
 mod log;
+mod looks;
 mod manager;
 mod outcome;
 mod pairs;

@@ -1,8 +1,9 @@
 //! Which of those that wait wait for which.
-ghost use Rattle.std.specs.Prelude.{◌≡◌, ◌≤◌, ◌+◌, ◌*◌, ◌++◌, length, vec_len, vec_capacity, IfSome, IsTrue};
+ghost use Rattle.std.specs.Prelude.{◌≡◌, ◌≤◌, ◌+◌, ◌*◌, ◌&&◌, ◌++◌, is_some, length, vec_len, vec_capacity, IfSome, IsTrue};
 ghost use Rattle.std.specs.List.{list_any};
 ghost use Rattle.txn_tree.specs.States.{States};
-ghost use Rattle.manager_core.specs.Pairs.{AreAlone, AreLockers, ByLocks, IsAlone, is_held_up, is_in_branch, pairs_of, pairs_with, waits_for_in};
+ghost use Rattle.wait_cycles.specs.Waiting.{wait_of};
+ghost use Rattle.manager_core.specs.Pairs.{AreAlike, AreLockers, AreOwnBranches, ByLocks, IsAlone, IsOwnBranch, is_held_up, is_in_branch, pairs_of, pairs_with, waits_for_in};
 
 use lock_table::TargetLocks;
 use txn_names::Name;
@@ -67,13 +68,31 @@ pub(crate) fn is_alone(tree: &Tree, txn: TxnNo) -> bool
     tree.first_child(txn).is_none()
 }
 
-// Whether each of them is top-level and has no descendants.
-#[tactic(auto, using(crate::proofs::Alone::one_more_alone))]
-fn are_alone(tree: &Tree, txns: &[TxnNo]) -> bool
-    ensures { IsTrue result → AreAlone tree.now txns.now }
+// Whether the blocker is seen to be alone in the branch by which it parts from the transaction: it is above it, so that there is no
+// such branch, or it parts from it by itself and has no descendants.
+fn is_own_branch(tree: &Tree, txn: TxnNo, blocker: TxnNo) -> bool
+    ensures { IsTrue result → IsOwnBranch tree.now txn blocker }
 {
-    for place in 0..txns.len() {
-        if !is_alone(tree, txns[place]) {
+    match (tree.name_of(txn), tree.name_of(blocker)) {
+        (Some(name), Some(holder)) => {
+            let shared = Name::meet_depth(name, holder);
+            let depth = holder.depth();
+            if depth > shared {
+                depth - shared == 1 && tree.first_child(blocker).is_none()
+            } else {
+                true
+            }
+        }
+        _ => false,
+    }
+}
+
+// Whether each of them is.
+fn are_own_branches(tree: &Tree, txn: TxnNo, blockers: &[TxnNo]) -> bool
+    ensures { IsTrue result → AreOwnBranches tree.now txn blockers.now }
+{
+    for place in 0..blockers.len() {
+        if !is_own_branch(tree, txn, blockers[place]) {
             return false;
         }
     }
@@ -130,19 +149,19 @@ pub(crate) fn lockers<'a>(locks: &'a TargetLocks, wait: &Wait) -> Option<&'a [Tx
     Some(locks.list_at(&target, 0))
 }
 
-/// Whether they stand in one list, and each of them is top-level and has no descendants.
-pub(crate) fn all_alone(tree: &Tree, all: Option<&[TxnNo]>) -> bool
-    ensures { IsTrue result → IfSome all.entry (λ us. AreAlone tree.now us.now) }
+/// Whether they stand in one list, and each of them is seen to be alone in the branch by which it parts from the transaction.
+pub(crate) fn all_alone(tree: &Tree, txn: TxnNo, all: Option<&[TxnNo]>) -> bool
+    ensures { IsTrue result → IfSome all.entry (λ us. AreOwnBranches tree.now txn us.now) }
 {
     match all {
-        Some(txns) => are_alone(tree, txns),
+        Some(blockers) => are_own_branches(tree, txn, blockers),
         None => false,
     }
 }
 
 /// Whether the access waits for the other, as `waits_for` tells it, where these are all who may keep it from being answered, if one
-/// list has them: for many others they are asked for once. So is whether all of them are known to be top-level without
-/// descendants: then nobody else is in the branch of one, and most are told by the list alone.
+/// list has them: for many others they are asked for once. So is whether each of them is known to be alone in its branch: then most
+/// are told by the list alone.
 #[inline(always)]
 pub(crate) fn waits_for_among(
     tree: &Tree,
@@ -153,7 +172,7 @@ pub(crate) fn waits_for_among(
     alone: bool,
 ) -> bool
     requires all { IfSome all (λ us. AreLockers tree.now locks.now wait.now us.now) }
-    requires alone { IsTrue alone → IfSome all (λ us. AreAlone tree.now us.now) }
+    requires alone { IsTrue alone → IfSome all (λ us. AreOwnBranches tree.now wait.now.txn us.now) }
     ensures { ByLocks tree.now locks.now (λ keeps. result ≡ waits_for_in tree.now keeps wait.now other) }
 {
     let Some(holders) = all else {
@@ -177,8 +196,8 @@ pub(crate) fn waits_for(tree: &Tree, locks: &TargetLocks, wait: &Wait, other: Tx
     waits_for_among(tree, locks, wait, other, lockers(locks, wait), false)
 }
 
-// Adds the pairs of this one that waits.
-fn add_pairs_of(
+// Adds the pairs of this one that waits, by a look at each that waits.
+fn add_pairs_by_waits(
     tree: &Tree,
     locks: &TargetLocks,
     waits: &Waits,
@@ -191,7 +210,7 @@ fn add_pairs_of(
     ensures capacity { vec_capacity pairs.old ≤ vec_capacity pairs.new }
 {
     let all = lockers(locks, wait);
-    let alone = all_alone(tree, all);
+    let alone = all_alone(tree, wait.txn, all);
     for place in 0..waits.len() {
         if let Some(other) = waits.at(place) {
             if waits_for_among(tree, locks, wait, other.txn, all, alone) {
@@ -201,7 +220,71 @@ fn add_pairs_of(
     }
 }
 
-/// All pairs of those that wait of which the first waits for the second. It takes no memory.
+// Whether the blocker, which is alone in its branch, waits and keeps the access from being answered.
+fn is_waited_for_itself(
+    tree: &Tree,
+    locks: &TargetLocks,
+    waits: &Waits,
+    wait: &Wait,
+    blocker: TxnNo,
+) -> bool
+    ensures { ByLocks tree.now locks.now (λ keeps.
+        result ≡ (is_some (wait_of waits.now blocker) && is_held_up tree.now keeps wait.now blocker blocker)) }
+{
+    // Few wait, and a look at the locks costs more.
+    waits.of(blocker).is_some() && is_held_up(tree, locks, wait, blocker, blocker)
+}
+
+// The same, by a look at each of those who may keep it from being answered, who are all alone in their branches.
+fn add_pairs_by_blockers(
+    tree: &Tree,
+    locks: &TargetLocks,
+    waits: &Waits,
+    wait: &Wait,
+    blockers: &[TxnNo],
+    pairs: &mut Vec<(TxnNo, TxnNo)>,
+)
+    requires all { AreLockers tree.now locks.now wait.now blockers.now }
+    requires alone { AreOwnBranches tree.now wait.now.txn blockers.now }
+    requires room { vec_len pairs.old + length blockers.now ≤ vec_capacity pairs.old }
+    ensures pairs { ByLocks tree.now locks.now (λ keeps.
+        AreAlike pairs.new.items (pairs.old.items ++ pairs_with tree.now keeps waits.now.waits wait.now)) }
+    ensures len { vec_len pairs.new ≤ vec_len pairs.old + length blockers.now }
+    ensures capacity { vec_capacity pairs.old ≤ vec_capacity pairs.new }
+{
+    for place in 0..blockers.len() {
+        let blocker = blockers[place];
+        if is_waited_for_itself(tree, locks, waits, wait, blocker) {
+            pairs.push_reserved((wait.txn, blocker));
+        }
+    }
+}
+
+// The same, by the shorter of the two ways.
+fn add_pairs_of(
+    tree: &Tree,
+    locks: &TargetLocks,
+    waits: &Waits,
+    wait: &Wait,
+    pairs: &mut Vec<(TxnNo, TxnNo)>,
+)
+    requires room { vec_len pairs.old + length waits.now.waits ≤ vec_capacity pairs.old }
+    ensures pairs { ByLocks tree.now locks.now (λ keeps.
+        AreAlike pairs.new.items (pairs.old.items ++ pairs_with tree.now keeps waits.now.waits wait.now)) }
+    ensures len { vec_len pairs.new ≤ vec_len pairs.old + length waits.now.waits }
+    ensures capacity { vec_capacity pairs.old ≤ vec_capacity pairs.new }
+{
+    let Some(blockers) = lockers(locks, wait) else {
+        return add_pairs_by_waits(tree, locks, waits, wait, pairs);
+    };
+    if blockers.len() <= waits.len() && are_own_branches(tree, wait.txn, blockers) {
+        add_pairs_by_blockers(tree, locks, waits, wait, blockers, pairs);
+    } else {
+        add_pairs_by_waits(tree, locks, waits, wait, pairs);
+    }
+}
+
+/// All pairs of those that wait of which the first waits for the second, in any order. It takes no memory.
 pub(crate) fn collect_pairs(
     tree: &Tree,
     locks: &TargetLocks,
@@ -209,7 +292,7 @@ pub(crate) fn collect_pairs(
     pairs: &mut Vec<(TxnNo, TxnNo)>,
 )
     requires room { length waits.now.waits * length waits.now.waits ≤ vec_capacity pairs.old }
-    ensures pairs { ByLocks tree.now locks.now (λ keeps. pairs.new.items ≡ pairs_of tree.now keeps waits.now.waits waits.now.waits) }
+    ensures pairs { ByLocks tree.now locks.now (λ keeps. AreAlike pairs.new.items (pairs_of tree.now keeps waits.now.waits waits.now.waits)) }
     ensures len { vec_len pairs.new ≤ length waits.now.waits * length waits.now.waits }
     ensures capacity { vec_capacity pairs.old ≤ vec_capacity pairs.new }
 {

@@ -1,7 +1,8 @@
 //! What keeps a line from its answer, read off the tables.
-ghost use Rattle.std.specs.Prelude.{◌≡◌, ◌↔◌, not, IsTrue};
+ghost use Rattle.std.specs.Prelude.{◌≡◌, ◌↔◌, not, IfNone, IfSome, IsTrue};
 ghost use Rattle.txn_names.specs.Path.{Path};
-ghost use Rattle.txn_tree.specs.Asked.{IsNumberOf};
+ghost use Rattle.txn_tree.specs.Asked.{IsNumberOf, is_absent_in};
+ghost use Rattle.lock_table.specs.ByAsked.{MayAsk};
 ghost use Rattle.serial_spec.specs.Allowed.{has_come};
 ghost use Rattle.serial_spec.specs.History.{History, event_of};
 ghost use Rattle.serial_spec.specs.Legal.{AreAllowed};
@@ -10,10 +11,11 @@ ghost use Rattle.serial_spec.specs.Rows.{Rows};
 ghost use Rattle.serial_spec.specs.Waits.{same_line};
 ghost use Rattle.manager_core.specs.Kept.{AreTablesOf};
 ghost use Rattle.manager_core.specs.Lines.{IsWaitOf};
-ghost use Rattle.manager_core.specs.Parking.{IsKeptOut, come_by};
+ghost use Rattle.manager_core.specs.Parking.{IsKeptOut, WaitsOn, come_by};
 
 use crate::deciding::is_full_for;
 use crate::log::Log;
+use crate::looks::Look;
 use crate::tables::Tables;
 use crate::waiting::same_line;
 use serial_spec::{Asked, By, Refusal, When};
@@ -41,6 +43,13 @@ fn is_of(wait: (By, Asked), by: By, asked: &Asked) -> bool
     same_line(wait.0, by) && wait.1 == *asked
 }
 
+// Whether what was seen is this access of the transaction with this number.
+fn is_look(look: Look, txn: TxnNo, asked: &Asked) -> bool
+    ensures { IsTrue result → (look.txn ≡ txn) × (look.asked ≡ asked.now) }
+{
+    look.txn == txn && look.asked == *asked
+}
+
 impl Tables {
     /// Whether the condition of an `after` line holds.
     pub(crate) fn has_come(&self, name: &Name, when: When) -> bool
@@ -61,9 +70,59 @@ impl Tables {
 
     /// Whether no lock keeps the access out.
     pub(crate) fn may(&self, txn: TxnNo, asked: &Asked) -> bool
-        ensures { (t : Path) → IsNumberOf self.now.tree t txn → (rows : Rows) (h : History) → AreTablesOf rows h self.now → result ≡ not (is_blocked h t asked.now) }
+        ensures blocked { (t : Path) → IsNumberOf self.now.tree t txn → (rows : Rows) (h : History) → AreTablesOf rows h self.now → result ≡ not (is_blocked h t asked.now) }
+        ensures locks { IsTrue result ↔ MayAsk self.now.tree self.now.estate.locks txn asked.now }
     {
         self.estate.locks().may_ask(&self.tree, txn, asked)
+    }
+
+    // Whether the access was seen kept out by this line, and nothing has ended since.
+    fn was_kept_out(&self, by: By, txn: TxnNo, asked: &Asked) -> bool
+        ensures { IsTrue result → MayAsk self.now.tree self.now.estate.locks txn asked.now → ⊥ }
+    {
+        match self.looks.at(by) {
+            Some(look) => is_look(look, txn, asked),
+            None => false,
+        }
+    }
+
+    // The number of the transaction, if an access by this line was seen kept out and it is of this transaction.
+    fn number_seen(&self, by: By, name: &Name) -> Option<TxnNo>
+        ensures { IfSome result (IsNumberOf self.now.tree name.now) }
+    {
+        self.tree.has_distinct_names();
+        let txn = self.looks.txn_at(by)?;
+        let seen = self.tree.name_of(txn)?;
+        if *seen == *name { Some(txn) } else { None }
+    }
+
+    // The number of the transaction, if it has begun. Of an access that was seen kept out it is not looked up.
+    fn number_by(&self, by: By, name: &Name) -> Option<TxnNo>
+        ensures number { IfSome result (IsNumberOf self.now.tree name.now) }
+        ensures begun { IfNone result (IsTrue (is_absent_in self.now.tree name.now)) }
+    {
+        match self.number_seen(by, name) {
+            Some(txn) => Some(txn),
+            None => self.tree.no_of(name),
+        }
+    }
+
+    // The number of the transaction, if it waits for this access by this line and no cause refuses the access.
+    fn number_of_wait(&self, log: &Log, by: By, name: &Name, asked: &Asked) -> Option<TxnNo>
+        requires allowed { AreAllowed log.now.rows log.now.entries }
+        requires are { AreTablesOf log.now.rows log.now.entries self.now }
+        ensures some { IfSome result (WaitsOn log.now.rows log.now.entries self.now.tree by name.now asked.now) }
+        ensures none { IfNone result (IsKeptOut log.now.rows log.now.entries by (event_of name.now asked.now) → ⊥) }
+    {
+        let txn = self.number_by(by, name)?;
+        if !self.waits_by(txn, by, asked) {
+            return None;
+        }
+        // Of the causes that refuse an access this alone can hold for one that waits.
+        if is_full_for(log, asked) {
+            return None;
+        }
+        Some(txn)
     }
 
     /// Whether this access waits, and by this line, and is kept out still.
@@ -72,16 +131,32 @@ impl Tables {
         requires are { AreTablesOf log.now.rows log.now.entries self.now }
         ensures { IsTrue result ↔ IsKeptOut log.now.rows log.now.entries by (event_of name.now asked.now) }
     {
-        let Some(txn) = self.tree.no_of(name) else {
+        let Some(txn) = self.number_of_wait(log, by, name, asked) else {
             return false;
         };
-        if !self.waits_by(txn, by, asked) {
-            return false;
-        }
-        // Of the causes that refuse an access this alone can hold for one that waits.
-        if is_full_for(log, asked) {
-            return false;
+        if self.was_kept_out(by, txn, asked) {
+            return true;
         }
         !self.may(txn, asked)
+    }
+
+    /// The same. That it is kept out is remembered, until a transaction ends.
+    pub(crate) fn stays_out(&mut self, log: &Log, by: By, name: &Name, asked: &Asked) -> bool
+        requires allowed { AreAllowed log.now.rows log.now.entries }
+        requires are { AreTablesOf log.now.rows log.now.entries self.old }
+        ensures out { IsTrue result ↔ IsKeptOut log.now.rows log.now.entries by (event_of name.now asked.now) }
+        ensures same { self.new ≡ self.old }
+    {
+        let Some(txn) = self.number_of_wait(log, by, name, asked) else {
+            return false;
+        };
+        if self.was_kept_out(by, txn, asked) {
+            return true;
+        }
+        if self.may(txn, asked) {
+            return false;
+        }
+        self.looks.put(by, txn, asked);
+        true
     }
 }

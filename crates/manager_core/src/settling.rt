@@ -14,7 +14,7 @@ ghost use Rattle.serial_spec.specs.Waits.{Quiet};
 ghost use Rattle.wait_cycles.specs.Waiting.{AreOnce};
 ghost use Rattle.manager_core.specs.Kept.{AreTablesOf};
 ghost use Rattle.manager_core.specs.Outcomes.{answer_of};
-ghost use Rattle.manager_core.specs.Pairs.{AreAlone, AreLockers, ByLocks, IsNobodysWay, is_beside_it, passes, waits_by_way_of, waits_for_other, waits_for_this};
+ghost use Rattle.manager_core.specs.Pairs.{AreLockers, AreOwnBranches, ByLocks, IsNobodysWay, is_beside_it, passes, waits_by_way_of, waits_for_other, waits_for_this};
 ghost use Rattle.manager_core.specs.State.{entry};
 ghost use Rattle.manager_core.specs.Tables.{rows_in};
 ghost use Rattle.manager_core.specs.Victims.{Breaks, StaysQuiet};
@@ -43,7 +43,7 @@ fn waits_for_one_at(
     place: usize,
 ) -> bool
     requires all { IfSome all (λ us. AreLockers tree.now locks.now wait.now us.now) }
-    requires alone { IsTrue alone → IfSome all (λ us. AreAlone tree.now us.now) }
+    requires alone { IsTrue alone → IfSome all (λ us. AreOwnBranches tree.now wait.now.txn us.now) }
     ensures { ByLocks tree.now locks.now (λ keeps.
         result ≡ passes (waits_for_other tree.now keeps wait.now) (slice_get waits.now.waits place)) }
 {
@@ -61,7 +61,7 @@ fn waits_for_any(tree: &Tree, locks: &TargetLocks, waits: &Waits, wait: &Wait) -
     ensures once { AreOnce waits.now }
 {
     let all = lockers(locks, wait);
-    let alone = all_alone(tree, all);
+    let alone = all_alone(tree, wait.txn, all);
     for place in 0..waits.len() {
         if waits_for_one_at(tree, locks, waits, wait, all, alone, place) {
             return true;

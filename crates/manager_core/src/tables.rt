@@ -6,6 +6,7 @@ ghost use Rattle.serial_spec.specs.declared.target.Target.{Target};
 ghost use Rattle.inherit.specs.LocksAndVersions.{free, left_of, modes_of};
 ghost use Rattle.manager_core.specs.Tables.{HasOtherRoom, rows_in};
 
+use crate::looks::Looks;
 use inherit::Estate;
 use orphans::Marks;
 use serial_spec::{NoMemory, PlainTable};
@@ -23,9 +24,11 @@ pub(crate) struct Tables {
     pub(crate) marks: Marks,
     pub(crate) estate: Estate,
     pub(crate) waits: Waits,
+    pub(crate) looks: Looks,
 }
 
 impl Model for Tables {
+    ghost use Rattle.manager_core.specs.Looked.{AreSeen};
     ghost use Rattle.manager_core.specs.Tables.{Tabled};
 
     ghost Value = { Tabled };
@@ -36,6 +39,8 @@ impl Model for Tables {
       estate = t.estate;
       waits = t.waits;
     } };
+
+    ghost invariant = { λ t. AreSeen t.tree t.estate.locks t.looks };
 }
 
 impl Tables {
@@ -53,6 +58,7 @@ impl Tables {
             marks: Marks::new(alloc),
             estate: Estate::new(alloc, base),
             waits: Waits::new(alloc),
+            looks: Looks::new(alloc),
         }
     }
 
@@ -72,8 +78,9 @@ impl Tables {
             marks,
             estate,
             waits,
+            looks,
         } = self;
-        drop((tree, marks, waits));
+        drop((tree, marks, waits, looks));
         estate.into_base()
     }
 

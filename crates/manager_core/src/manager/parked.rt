@@ -51,6 +51,24 @@ impl<S: TopStore> Manager<S> {
         }
     }
 
+    /// The same. Of an access that is kept out it is remembered until a transaction ends, so that to ask again costs one look.
+    pub fn stays_held_up(&mut self, by: By, event: &Event) -> bool
+        ensures out { IsTrue result ↔ IsKeptOut self.old.rows self.old.history by event.now }
+        ensures same { self.new ≡ self.old }
+    {
+        match event {
+            Event::Access(name, key, op) => {
+                let asked = Asked::At(*key, *op);
+                self.tables.stays_out(&self.log, by, name, &asked)
+            }
+            Event::Sum(name, group) => {
+                let asked = Asked::Over(*group);
+                self.tables.stays_out(&self.log, by, name, &asked)
+            }
+            _ => self.held_up(by, event),
+        }
+    }
+
     // Gives up an access that waits by this line.
     fn cancel_access(&mut self, by: By, event: &Event) -> Result<(), NoMemory>
         requires waits { IsWaitOf self.old.history by event.now }

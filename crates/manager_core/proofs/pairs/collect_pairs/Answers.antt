@@ -1,9 +1,10 @@
-use Rattle.std.proofs.Common.{◌≡◌, ℕ, ◌+◌, ◌*◌, List, ◌++◌, length, sym, ap, ◌∙◌, add-one, arith}
+use Rattle.std.proofs.Common.{◌≡◌, ℕ, ◌+◌, ◌*◌, List, length, sym, ap, ◌∙◌, add-one, arith}
 use Rattle.std.proofs.Math.Nat.{suc-mul}
 use Rattle.serial_spec.proofs.Taking.{take_past}
 use Rattle.wait_cycles.specs.declared.waits.Wait.{Wait}
-use Rattle.manager_core.specs.Pairs.{pairs_of, pairs_with}
-use Rattle.manager_core.proofs.HeldUp.{pairs_next}
+use Rattle.manager_core.specs.Pairs.{pairs_of}
+use Rattle.wait_cycles.specs.Cycles.{waits_in}
+use Rattle.manager_core.proofs.Alike.{alike_next}
 use Rattle.manager_core.proofs.pairs.collect_pairs.Goals as goal
 use Rattle.manager_core.proofs.pairs.collect_pairs.Goals.{in-Some, in_default}
 
@@ -16,16 +17,13 @@ loop-place-preserved c =
     elim c.match-at.branch [
       | in-Some w ↦
           rw w.pairs-is (
-            λ keeps tells.
-                w.add_pairs_of.ensures.pairs keeps tells
-                ∙ ap (λ xs. xs ++ pairs_with c.args.tree.now keeps vs w.in-Some.wait.now) (inv.0 keeps tells)
-                ∙ sym (pairs_next c.args.tree.now keeps vs vs i w.in-Some.wait.now (sym w.in-Some.ensures.wait)),
+            λ keeps tells. alike_next c.args.tree.now keeps vs i w.in-Some.wait.now _ _ (sym w.in-Some.ensures.wait) (inv.0 keeps tells) (w.add_pairs_of.ensures.pairs keeps tells),
             omega (arith, inv.1, w.add_pairs_of.ensures.len, more),
             omega (arith, inv.2, w.add_pairs_of.ensures.capacity),
           )
       | in_default w ↦
           rw w.pairs-is (
-            λ keeps tells. inv.0 keeps tells ∙ ap (λ xs. pairs_of c.args.tree.now keeps xs vs) (sym (take_past vs i (sym w.in_default.ensures.wait))),
+            λ keeps tells a b. inv.0 keeps tells a b ∙ ap (λ xs. waits_in (pairs_of c.args.tree.now keeps xs vs) a b) (sym (take_past vs i (sym w.in_default.ensures.wait))),
             omega (arith, inv.1, more),
             inv.2,
           )

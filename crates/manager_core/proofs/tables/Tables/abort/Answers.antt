@@ -1,6 +1,7 @@
 use Rattle.std.proofs.Common.{rules, ◌∙◌}
 use Rattle.manager_core.specs.Tables.{Tabled}
 use Rattle.manager_core.proofs.Locks.{aborts_by_name, below_named}
+use Rattle.manager_core.proofs.Looked.{seen_none}
 use Rattle.manager_core.proofs.tables.Tables.abort.Goals as goal
 
 pub returns-in-Ok-clause-aborts : goal.returns-in-Ok-clause-aborts
@@ -14,3 +15,12 @@ returns-in-Ok-clause-fewer c =
     let m = c.self.inside in
     rw (← c.self.view_is)
     (λ none n below waits. c.drop_under.ensures.fewer n (below_named m.tree _ c.args.name.now c.number_of-txn.result c.in-Ok.ensures.names c.number_of-txn.ensures.number n ∙ below) waits)
+
+pub invariant_of-self : goal.invariant_of-self
+invariant_of-self c = seen_none _ _ _ c.clear.ensures
+
+pub invariant_of-self-in-Ok : goal.invariant_of-self-in-Ok
+invariant_of-self-in-Ok c = seen_none _ _ _ c.clear.ensures
+
+pub invariant_of-self-in-Err : goal.invariant_of-self-in-Err
+invariant_of-self-in-Err c = seen_none _ _ _ c.clear.ensures

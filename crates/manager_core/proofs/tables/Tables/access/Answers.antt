@@ -1,7 +1,10 @@
 use Rattle.std.proofs.Common.{is_some, refl, sym, ap, ◌∙◌}
-use Rattle.std.proofs.lemmas.Bool.{false≢true}
+use Rattle.std.proofs.lemmas.Bool.{false≢true, true≢false}
+use Rattle.serial_spec.specs.Locks.{mode_of}
+use Rattle.serial_spec.specs.Targets.{kind_of, target}
 use Rattle.manager_core.proofs.Reaching.{comes_done, comes_waits, kept_by_lock, left_by_name, modes_by_name}
 use Rattle.manager_core.specs.Tables.{Tabled, HasOtherRoom}
+use Rattle.manager_core.proofs.Looked.{seen_more, seen_raised, seen_same}
 use Rattle.manager_core.proofs.tables.Tables.access.Goals as goal
 use Rattle.manager_core.proofs.tables.Tables.access.Goals.{in-Some, in-None}
 
@@ -27,7 +30,7 @@ pub returns-then-not-may-clause-comes : goal.returns-then-not-may-clause-comes
 returns-then-not-may-clause-comes c =
     let log = c.args.log.now in (
       c.in-Ok.ensures.cause,
-      kept_by_lock _ c.may.result (c.may.ensures c.args.request.now.name c.in-Ok.ensures.number log.rows log.entries c.requires.are) c.if-not-may.true,
+      kept_by_lock _ c.may.result (c.may.ensures.blocked c.args.request.now.name c.in-Ok.ensures.number log.rows log.entries c.requires.are) c.if-not-may.true,
     )
 
 pub returns-after-ask-clause-reaches : goal.returns-after-ask-clause-reaches
@@ -53,4 +56,32 @@ returns-after-ask-clause-reaches c =
       | in-None w ↦
           let same_estate = rw w.in-None.is at c.ask.ensures.blocked in
           rw (w.result-is, ← c.self.view_is) (record { tree = refl; marks = refl; estate = rw same_estate roomy })
+    ]
+
+pub invariant_of-self : goal.invariant_of-self
+invariant_of-self c =
+    let m = c.self.inside in
+    let asked = c.args.request.now in
+    let locks = rw (← c.self.view_is) at c.may.ensures.locks in
+    let number = rw (← c.self.view_is) at c.in-Ok.ensures.number in
+    seen_more m.tree m.estate.locks m.looks c.put.new.self c.in-Ok.txn asked.asked c.put.ensures asked.name number
+    (λ may. true≢false (sym (locks.1 may) ∙ c.if-not-may.true)) c.self.invariant
+
+pub invariant_of-self-in_err-reserve_asked-in-Ok : goal.invariant_of-self-in_err-reserve_asked-in-Ok
+invariant_of-self-in_err-reserve_asked-in-Ok c =
+    let m = c.self.inside in
+    seen_same m.tree m.estate.locks c.reserve_asked.new.self.locks c.reserve_asked.ensures.same.modes m.looks c.self.invariant
+
+pub invariant_of-self-in-Ok : goal.invariant_of-self-in-Ok
+invariant_of-self-in-Ok c =
+    let m = c.self.inside in
+    let asked = c.args.request.now.asked in
+    let roomy = seen_same m.tree m.estate.locks c.reserve_asked.new.self.locks c.reserve_asked.ensures.same.modes m.looks c.self.invariant in
+    elim c.match-ask.branch [
+      | in-Some w ↦
+          let has = rw w.in-Some.is at c.ask.ensures.accessed in
+          seen_raised m.tree c.reserve_asked.new.self.locks c.ask.new.self.locks c.in-Ok.txn (target asked) (mode_of (kind_of asked)) has.modes m.looks roomy
+      | in-None w ↦
+          let same = rw w.in-None.is at c.ask.ensures.blocked in
+          rw same roomy
     ]

@@ -1,4 +1,5 @@
 use Rattle.std.proofs.Common.{refl}
+use Rattle.manager_core.proofs.Looked.{seen_none}
 use Rattle.manager_core.proofs.tables.Tables.commit.Goals as goal
 
 pub returns-in-Some : goal.returns-in-Some
@@ -12,3 +13,9 @@ returns-in-Some c =
       up = c.commit_child.ensures;
       waits = refl;
     })
+
+pub invariant_of-self : goal.invariant_of-self
+invariant_of-self c = seen_none _ _ _ c.clear.ensures
+
+pub invariant_of-self-in-None : goal.invariant_of-self-in-None
+invariant_of-self-in-None c = seen_none _ _ _ c.clear.ensures

@@ -2,7 +2,10 @@ use Rattle.manager_core.specs.Tables.{Tabled}
 use Rattle.manager_core.proofs.Locks.{may_as}
 use Rattle.manager_core.proofs.tables.Tables.may.Goals as goal
 
-pub returns : goal.returns
-returns c =
+pub returns-clause-blocked : goal.returns-clause-blocked
+returns-clause-blocked c =
     let m : Tabled = record { tree = c.self.inside.tree; marks = c.self.inside.marks; estate = c.self.inside.estate; waits = c.self.inside.waits } in
     rw (← c.self.view_is) (λ t number rows h are. may_as rows h m are t c.args.txn number c.args.asked.now c.may_ask.result (rw c.locks.ensures at c.may_ask.ensures))
+
+pub returns-clause-locks : goal.returns-clause-locks
+returns-clause-locks c = rw (← c.self.view_is) (rw c.locks.ensures at c.may_ask.ensures)

@@ -1,7 +1,7 @@
 use Rattle.std.proofs.Common.{◌≡◌, ◌≤◌, ◌+◌, ◌++◌, take}
 use Rattle.std.specs.Prelude.{vec_len, vec_capacity}
 use Rattle.manager_core.specs.Pairs.{ByLocks, pairs_with}
-use Rattle.manager_core.proofs.pairs.add_pairs_of.Given as goal
+use Rattle.manager_core.proofs.pairs.add_pairs_by_waits.Given as goal
 
 abbrev pub invariant-loop-place : goal.invariant-loop-place
 invariant-loop-place l =

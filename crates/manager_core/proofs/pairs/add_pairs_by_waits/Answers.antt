@@ -5,8 +5,8 @@ use Rattle.wait_cycles.specs.declared.waits.Wait.{Wait}
 use Rattle.manager_core.specs.Pairs.{Keeps, pairs_with, waits_for_in}
 use Rattle.serial_spec.proofs.Taking.{take_past}
 use Rattle.manager_core.proofs.HeldUp.{pairs_more}
-use Rattle.manager_core.proofs.pairs.add_pairs_of.Goals as goal
-use Rattle.manager_core.proofs.pairs.add_pairs_of.Goals.{in-Some+then-waits_for_among, in-Some+else-waits_for_among, in_default}
+use Rattle.manager_core.proofs.pairs.add_pairs_by_waits.Goals as goal
+use Rattle.manager_core.proofs.pairs.add_pairs_by_waits.Goals.{in-Some+then-waits_for_among, in-Some+else-waits_for_among, in_default}
 
 pub loop-place-preserved : goal.loop-place-preserved
 loop-place-preserved c =

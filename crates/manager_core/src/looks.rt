@@ -1,0 +1,93 @@
+//! Accesses that were seen kept out, by session.
+ghost use Rattle.std.specs.Prelude.{◌≡◌, ◌⊎◌, IfSome};
+ghost use Rattle.manager_core.specs.Looked.{HasSeen};
+
+use serial_spec::{Asked, By};
+use std::alloc::Global;
+use std::marker::Model;
+use txn_tree::TxnNo;
+
+/// Of so many sessions it is kept what was seen. An access by a line of another session is looked at anew each time.
+const SESSIONS: usize = 64;
+
+/// An access that was seen kept out: by the number of its transaction, and what it asks.
+#[derive(Clone, Copy)]
+pub(crate) struct Look {
+    pub(crate) txn: TxnNo,
+    pub(crate) asked: Asked,
+}
+
+/// For each session the access of it that was last seen kept out. Locks only rise until a transaction ends (Moss 1981), so that it
+/// is kept out still as long as none has ended since.
+#[derive(Drop)]
+pub(crate) struct Looks {
+    seen: Vec<Option<Look>>,
+}
+
+impl Model for Looks {
+    ghost use Rattle.std.specs.Prelude.{List, Option};
+    ghost use Rattle.manager_core.specs.declared.looks.Look.{Look};
+
+    ghost Value = { List (Option Look) };
+
+    ghost view = { λ l. l.seen.items };
+}
+
+impl Looks {
+    /// Nothing was seen. It takes no memory yet.
+    pub(crate) fn new(alloc: Global) -> Looks
+        ensures { (l : Look) → HasSeen result l → ⊥ }
+    {
+        Looks {
+            seen: Vec::new(alloc),
+        }
+    }
+
+    // Room for each session, where memory is left.
+    fn make_room(&mut self)
+        ensures { (l : Look) → HasSeen self.new l → HasSeen self.old l }
+    {
+        if self.seen.is_empty() {
+            let _ = self.seen.resize(SESSIONS, None);
+        }
+    }
+
+    /// The access of the line's session that was last seen kept out.
+    pub(crate) fn at(&self, by: By) -> Option<Look>
+        ensures { IfSome result (HasSeen self.now) }
+    {
+        match by {
+            By::Line { session, .. } => *self.seen.get(session as usize)?,
+            _ => None,
+        }
+    }
+
+    /// The transaction of that access.
+    pub(crate) fn txn_at(&self, by: By) -> Option<TxnNo> {
+        match self.at(by) {
+            Some(look) => Some(look.txn),
+            None => None,
+        }
+    }
+
+    /// An access by this line was seen kept out. Where memory runs out it is not kept.
+    pub(crate) fn put(&mut self, by: By, txn: TxnNo, asked: &Asked)
+        ensures { (l : Look) → HasSeen self.new l
+            → HasSeen self.old l ⊎ (l ≡ record { txn = txn; asked = asked.now }) }
+    {
+        self.make_room();
+        if let By::Line { session, .. } = by {
+            let place = session as usize;
+            if place < self.seen.len() {
+                self.seen[place] = Some(Look { txn, asked: *asked });
+            }
+        }
+    }
+
+    /// Nothing was seen any more, since something may have been let go.
+    pub(crate) fn clear(&mut self)
+        ensures { (l : Look) → HasSeen self.new l → ⊥ }
+    {
+        self.seen.clear();
+    }
+}
