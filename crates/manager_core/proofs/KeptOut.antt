@@ -1,5 +1,5 @@
 -- What keeps a line from its answer, by the tables and by the history.
-use Rattle.std.proofs.Common.{◌≡◌, ◌<◌, ℕ, Bool, true, false, not, cond, ◌&&◌, ◌||◌, length, Option, Some, None, option_map, is_some, unwrap_or, refl, sym, ap, subst, ◌∙◌}
+use Rattle.std.proofs.Common.{◌≡◌, ◌<◌, ℕ, Bool, true, false, not, cond, ◌&&◌, ◌||◌, List, [], ◌∷◌, length, Option, Some, None, option_map, is_some, unwrap_or, refl, sym, ap, subst, ◌∙◌, arith}
 use Rattle.std.specs.Prelude.{IsTrue, ◌↔◌}
 use Rattle.std.proofs.lemmas.Bool.{and_parts, not-true, true≢false}
 use Rattle.serial_spec.specs.declared.target.Asked.{Asked}
@@ -25,8 +25,12 @@ use Rattle.serial_spec.specs.Legal.{AreAllowed}
 use Rattle.manager_core.specs.Kept.{AreTablesOf}
 use Rattle.manager_core.specs.Lines.{IsWaitOf, waiting_access}
 use Rattle.lock_table.specs.ByAsked.{MayAsk}
-use Rattle.manager_core.specs.Parking.{IsKeptOut, WaitsOn, come_by}
+use Rattle.manager_core.specs.Parking.{IsKeptOut, IsParked, WaitsOn, come_by}
 use Rattle.manager_core.proofs.Locks.{may_as}
+use Rattle.manager_core.proofs.OneWait.{only_event}
+use Rattle.manager_core.proofs.Pairing.{tell_waits}
+use Rattle.wait_cycles.specs.Waiting.{wait_in}
+use Rattle.wait_cycles.specs.declared.waits.Wait.{Wait}
 use Rattle.manager_core.specs.Tables.{Tabled, cause_in}
 use Rattle.txn_history.proofs.Lists.{any-find}
 use Rattle.manager_core.proofs.Events.{access_by_at, answer_at, is_wait, may_give_up, own_wait, same_asked}
@@ -143,6 +147,24 @@ module _ (rows : Rows) (h : History) (tables : Tabled) (allowed : AreAllowed row
 
   pub out_if_blocked : (MayAsk tables.tree tables.estate.locks n asked → ⊥) → IsKeptOut rows h by (event_of t asked)
   out_if_blocked blocked = (out_by_locks false (λ e. absurd (true≢false (sym e)), λ may. absurd (blocked may))).0 refl
+
+-- a line by which an access waits that may not have what it asks is kept out, whatever it may be attempted with
+pub parked : (rows : Rows) (h : History) (tables : Tabled) → AreAllowed rows h → AreTablesOf rows h tables → (by : By) (t : Name) (asked : Asked) (n : ℕ)
+    → WaitsOn rows h tables.tree by t asked n → (MayAsk tables.tree tables.estate.locks n asked → ⊥) → IsParked rows h by
+parked rows h tables allowed are by t asked n waits blocked event next =
+    subst (IsKeptOut rows h by) (sym (only_event h by t asked waits.waits event next)) (out_if_blocked rows h tables allowed are by t asked n waits blocked)
+
+-- where nobody waits this access does not
+pub nobody_waits : (rows : Rows) (h : History) (tables : Tabled) → AreAllowed rows h → AreTablesOf rows h tables → length tables.waits.waits ≡ 0
+    → (by : By) (t : Name) (asked : Asked) → IsWaitOf h by (event_of t asked) → ⊥
+nobody_waits rows h tables allowed are nobody by t asked waits =
+    let own = own_wait h by t asked waits in
+    let kept = (tell_waits rows h tables allowed are).all t own.wait own.waits in
+    none tables.waits.waits nobody kept.0 kept.1 kept.3
+  where
+    none : (ws : List Wait) → length ws ≡ 0 → (n : ℕ) (w : Wait) → wait_in ws n ≡ Some w → ⊥
+    none [] e n w is = true≢false (sym (ap is_some is))
+    none (x ∷ ws) e n w is = omega (arith, e)
 
 -- ---- whether an access waits by a line
 

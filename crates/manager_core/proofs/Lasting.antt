@@ -1,5 +1,5 @@
 -- How long a wait lasts: what each kind of entry does to who waits.
-use Rattle.std.proofs.Common.{◌≡◌, Bool, true, false, not, cond, ◌&&◌, ◌||◌, List, [], ◌∷◌, filter, find, Option, Some, None, is_some, inl, inr, ⊎_elim, refl, sym, ap, subst, ◌∙◌}
+use Rattle.std.proofs.Common.{◌≡◌, Bool, true, false, not, cond, ◌&&◌, ◌||◌, List, [], ◌∷◌, filter, find, Option, Some, None, is_some, unwrap_or, inl, inr, ⊎_elim, refl, sym, ap, subst, ◌∙◌}
 use Rattle.std.proofs.lemmas.Bool.{false≢true, and_parts, and_from, and_right, or_from, or_left, or_right, or_cases, not-true, false_from_ne_true}
 use Rattle.std.proofs.lemmas.Map.Views.{any-filter_same}
 use Rattle.std.specs.List.{list_any}
@@ -79,7 +79,7 @@ alone_passes : (p : Entry → Bool) (w : Entry) → list_any p (w ∷ []) ≡ tr
 alone_passes p w any = on_test (p w) (λ b. b || false ≡ true → b ≡ true) (λ _ _. refl) (λ _ e. e) any
 
 module _ (h : History) (by : By) (event : Event) (free : IsFree h by event) where
-  other_line : (u : Name) (w : Entry) → wait_of h u ≡ Some w → same_line w.by by ≡ false
+  pub other_line : (u : Name) (w : Entry) → wait_of h u ≡ Some w → same_line w.by by ≡ false
   other_line u w waits = false_from_ne_true _ (λ (s : same_line w.by by ≡ true). of_line s)
     where
       stands : IsOpen h u w
@@ -190,6 +190,18 @@ one_of_line f g by (e ∷ h) a b =
         (λ _ some. any-filter (of_line k) (λ w. not (same_line w.by e.by)) (open_waits h) some)
         any
 
+by_line : (h : History) (by : By) (v : Name) (x : Entry) → wait_of h v ≡ Some x → same_line x.by by ≡ true → list_any (λ y. accesses v y.event && same_line y.by by) (open_waits h) ≡ true
+by_line h by v x e s =
+    let stands = is_open h v x e in
+    any-find (λ y. accesses v y.event) (λ y. accesses v y.event && same_line y.by by) (open_waits h) x stands.found (and_from (accesses v x.event) (same_line x.by by) stands.of_it s)
+
+-- by one line one access waits
+pub one_wait : (h : History) (by : By) (t u : Name) (w x : Entry) → wait_of h t ≡ Some w → same_line w.by by ≡ true → wait_of h u ≡ Some x → same_line x.by by ≡ true → w ≡ x
+one_wait h by t u w x is_w s_w is_x s_x =
+    let one = one_of_line (λ y. accesses t y.event) (λ y. accesses u y.event) by h (by_line h by t w is_w s_w) (by_line h by u x is_x s_x) in
+    let same : t ≡ u = same_accessor t u one.wait.event one.first one.second in
+    ap (λ o. unwrap_or o w) (sym is_w ∙ ap (wait_of h) same ∙ is_x)
+
 -- so an entry of the line by which t waits ends the wait of t, and no other
 pub unless_own : (h : History) (by : By) (t : Name) (w : Entry) → wait_of h t ≡ Some w → same_line w.by by ≡ true
     → (u : Name) → unless_by by (wait_of h u) ≡ cond (path_eq t u) None (wait_of h u)
@@ -198,18 +210,13 @@ unless_own h by t w waits of_line u =
     (λ same. ap (unless_by by) (subst (λ (v : Name). wait_of h v ≡ Some w) (same_path t u same) waits) ∙ ap (λ b. cond b None (Some w)) of_line)
     (λ other. go (wait_of h u) refl other)
   where
-    by_line : (v : Name) (x : Entry) → wait_of h v ≡ Some x → same_line x.by by ≡ true → list_any (λ y. accesses v y.event && same_line y.by by) (open_waits h) ≡ true
-    by_line v x e s =
-        let stands = is_open h v x e in
-        any-find (λ y. accesses v y.event) (λ y. accesses v y.event && same_line y.by by) (open_waits h) x stands.found (and_from (accesses v x.event) (same_line x.by by) stands.of_it s)
-
     go : (x : Option Entry) → wait_of h u ≡ x → path_eq t u ≡ false → unless_by by x ≡ x
     go None e other = refl
     go (Some x) e other = ap (λ b. cond b None (Some x)) (false_from_ne_true _ (λ (s : same_line x.by by ≡ true). apart s))
       where
         apart : same_line x.by by ≡ true → ⊥
         apart s =
-            let one = one_of_line (λ y. accesses t y.event) (λ y. accesses u y.event) by h (by_line t w waits of_line) (by_line u x e s) in
+            let one = one_of_line (λ y. accesses t y.event) (λ y. accesses u y.event) by h (by_line h by t w waits of_line) (by_line h by u x e s) in
             let same : t ≡ u = same_accessor t u one.wait.event one.first one.second in
             false≢true (sym other ∙ sym (ap (path_eq t) same) ∙ path_eq_self t)
 

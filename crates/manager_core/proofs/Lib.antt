@@ -27,6 +27,7 @@ pub mod Waits
 pub mod Lasting
 pub mod WaitTables
 pub mod Retrying
+pub mod OneWait
 pub mod KeptOut
 pub mod Lines
 pub mod Branches

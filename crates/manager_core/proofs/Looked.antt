@@ -1,10 +1,13 @@
 -- Whoever was seen kept out is so until a transaction ends: names stay, and locks only rise.
 use Rattle.std.proofs.Common.{◌≡◌, ◌⊎◌, ℕ, zero, suc, ◌&&◌, nat_eq, Bool, true, false, cond, List, [], ◌∷◌, ◌++◌, length, take, replicate, Option, Some, None, is_some, unwrap_or, inl, inr, refl, sym, ap, subst, ◌∙◌, arith}
 use Rattle.std.specs.Prelude.{slice_get, slice_set}
+use Rattle.std.specs.List.{IsDistinct}
 use Rattle.std.proofs.lemmas.Bool.{false≢true}
+use Rattle.txn_names.specs.Path.{path_eq}
 use Rattle.txn_tree.specs.States.{States, names}
 use Rattle.txn_tree.specs.Asked.{IsNumberOf}
-use Rattle.txn_tree.proofs.Places.{get_front}
+use Rattle.txn_tree.proofs.Numbers.{number_at}
+use Rattle.txn_tree.proofs.Places.{found_at, get_front}
 use Rattle.serial_spec.specs.declared.mode.Mode.{Mode}
 use Rattle.serial_spec.specs.declared.mode.Mode.TheVariants as mode
 use Rattle.serial_spec.specs.declared.operation.Kind.{Kind}
@@ -117,6 +120,14 @@ seen_more tree locks old new txn asked each t number blocked seen l has =
 
 pub seen_none : (tree : States) (locks : Targeted) (looks : List (Option Look)) → ((l : Look) → HasSeen looks l → ⊥) → AreSeen tree locks looks
 seen_none tree locks looks none l has = absurd (none l has)
+
+-- whoever has a number has a name
+pub numbered : (tree : States) → IsDistinct path_eq (names tree) → (n : ℕ) → has_number tree n ≡ true → (t : Name) × IsNumberOf tree t n
+numbered tree distinct n e = by (slice_get (names tree) n) refl e
+  where
+    by : (o : Option Name) → slice_get (names tree) n ≡ o → is_some o ≡ true → (t : Name) × IsNumberOf tree t n
+    by None at f = absurd (false≢true f)
+    by (Some t) at f = (t, number_at (names tree) distinct t n (found_at (names tree) distinct t n at))
 
 -- ---- how it is kept
 

@@ -12,7 +12,7 @@ use Rattle.serial_spec.specs.declared.event.When.TheVariants.{Begun, Done as End
 use Rattle.serial_spec.specs.History.{History, Name, event_of}
 use Rattle.serial_spec.specs.Rows.{Rows}
 use Rattle.serial_spec.specs.Allowed.{answer, is_full_for}
-use Rattle.txn_history.specs.Lines.{CanGiveUp, IsWaitOf}
+use Rattle.txn_history.specs.Lines.{CanGiveUp, IsFree, IsWaitOf}
 use Rattle.manager_core.specs.declared.outcome.Outcome.{Outcome}
 use Rattle.manager_core.specs.declared.outcome.Outcome.TheVariants.{Waits}
 use Rattle.manager_core.specs.State.{State}
@@ -38,6 +38,10 @@ pub record WaitsOn (rows : Rows) (h : History) (tree : States) (by : By) (t : Na
 pub record IsKeptOut (rows : Rows) (h : History) (by : By) (event : Event) : Type 0 where
   pub can : CanGiveUp h by event
   pub none : answer rows h by event ≡ None
+
+-- whatever the line may be attempted with, it is kept out
+abbrev pub IsParked : Rows → History → By → Type 0
+IsParked rows h by = (event : Event) → IsFree h by event ⊎ IsWaitOf h by event → IsKeptOut rows h by event
 
 -- Whether a condition holds, by the cause that refuses an abort: whoever has begun is live, or has come to its end
 abbrev pub come_by : Option Refusal → When → Bool

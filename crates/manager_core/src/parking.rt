@@ -11,7 +11,7 @@ ghost use Rattle.serial_spec.specs.Rows.{Rows};
 ghost use Rattle.serial_spec.specs.Waits.{same_line};
 ghost use Rattle.manager_core.specs.Kept.{AreTablesOf};
 ghost use Rattle.manager_core.specs.Lines.{IsWaitOf};
-ghost use Rattle.manager_core.specs.Parking.{IsKeptOut, WaitsOn, come_by};
+ghost use Rattle.manager_core.specs.Parking.{IsKeptOut, IsParked, WaitsOn, come_by};
 
 use crate::deciding::is_full_for;
 use crate::log::Log;
@@ -114,6 +114,10 @@ impl Tables {
         ensures some { IfSome result (WaitsOn log.now.rows log.now.entries self.now.tree by name.now asked.now) }
         ensures none { IfNone result (IsKeptOut log.now.rows log.now.entries by (event_of name.now asked.now) → ⊥) }
     {
+        // Then no name need be looked up, as for most lines.
+        if self.waits.is_empty() {
+            return None;
+        }
         let txn = self.number_by(by, name)?;
         if !self.waits_by(txn, by, asked) {
             return None;
@@ -123,6 +127,22 @@ impl Tables {
             return None;
         }
         Some(txn)
+    }
+
+    /// Whether an access that waits by this line is seen at once to be kept out still: it was seen so, and nothing has ended since.
+    pub(crate) fn is_parked(&self, log: &Log, by: By) -> bool
+        requires allowed { AreAllowed log.now.rows log.now.entries }
+        requires are { AreTablesOf log.now.rows log.now.entries self.now }
+        ensures { IsTrue result → IsParked log.now.rows log.now.entries by }
+    {
+        self.tree.has_distinct_names();
+        match self.looks.at(by) {
+            Some(look) => {
+                let Look { txn, asked } = look;
+                self.waits_by(txn, by, &asked) && !is_full_for(log, &asked)
+            }
+            None => false,
+        }
     }
 
     /// Whether this access waits, and by this line, and is kept out still.

@@ -3,7 +3,7 @@ ghost use Rattle.std.specs.Prelude.{◌≡◌, ◌↔◌, ◌∷◌, IfOk, OnErr
 ghost use Rattle.serial_spec.specs.declared.event.Event.TheVariants.{After};
 ghost use Rattle.serial_spec.specs.declared.entry.Answer.TheVariants.{Stuck};
 ghost use Rattle.manager_core.specs.Lines.{CanGiveUp, IsFree, IsWaitOf};
-ghost use Rattle.manager_core.specs.Parking.{Awaited, IsKeptOut};
+ghost use Rattle.manager_core.specs.Parking.{Awaited, IsKeptOut, IsParked};
 ghost use Rattle.manager_core.specs.State.{entry};
 
 use crate::manager::Manager;
@@ -51,7 +51,15 @@ impl<S: TopStore> Manager<S> {
         }
     }
 
-    /// The same. Of an access that is kept out it is remembered until a transaction ends, so that to ask again costs one look.
+    /// Whether it is seen at once that the line is held up: an access waits by it that was seen kept out, and no transaction has ended
+    /// since, so that locks have only risen (Moss 1981). Else `held_up` tells. It takes no memory.
+    pub fn is_parked(&self, by: By) -> bool
+        ensures { IsTrue result → IsParked self.now.rows self.now.history by }
+    {
+        self.tables.is_parked(&self.log, by)
+    }
+
+    /// The same as `held_up`. Of an access that is kept out it is remembered until a transaction ends, so that to ask again costs one look.
     pub fn stays_held_up(&mut self, by: By, event: &Event) -> bool
         ensures out { IsTrue result ↔ IsKeptOut self.old.rows self.old.history by event.now }
         ensures same { self.new ≡ self.old }
