@@ -1,22 +1,19 @@
--- The index of holders by key: rising numbers, and what a look-up finds after the lists of one key have been put.
-use Rattle.std.proofs.Common.{◌≡◌, ℕ, zero, suc, ◌<◌, ◌≤◌, Bool, true, false, cond, not, nat_eq, ◌&&◌, ◌||◌, filter, List, [], ◌∷◌, length, get_or, Option, Some, None, unwrap_or, is_some, Result, Ok, Err, inl, inr, refl, sym, ap, subst, ◌∙◌, arith}
-use Rattle.std.specs.Prelude.{insert, remove, slice_index_or}
+-- The holders of a key: rising numbers.
+use Rattle.std.proofs.Common.{◌≡◌, ℕ, zero, suc, ◌<◌, ◌≤◌, Bool, true, false, cond, not, nat_eq, ◌&&◌, ◌||◌, filter, List, [], ◌∷◌, length, get_or, Some, unwrap_or, is_some, Result, Ok, Err, inl, inr, refl, sym, ap, subst, ◌∙◌, arith}
+use Rattle.std.specs.Prelude.{insert, remove, slice_get, slice_index_or}
 use Rattle.std.specs.List.{list_any, IsDistinct, AllByRecursion}
 use Rattle.std.specs.List.Sorted.{IsBinarySearchResult, IsStrictlyIncreasing}
-use Rattle.std.specs.Map.{lookup}
 use Rattle.std.specs.Ordering.{nat_cmp}
 use Rattle.std.specs.Result.{MatchResult}
-use Rattle.std.proofs.lemmas.Bool.{and_from, and_parts, cases_lt, eq-eqb, eqb-true, ne_eqb, or_cases, or_parts}
+use Rattle.std.proofs.lemmas.Bool.{and_from, and_parts, cases_lt, eq-eqb, eqb-true, false≢true, ne_eqb, or_cases, or_left, or_parts, or_right}
 use Rattle.std.proofs.lemmas.Cmp.{nat_eq_equiv}
+use Rattle.std.proofs.lemmas.List.{get_or_default}
 use Rattle.std.proofs.lemmas.List.Kept.{IsStrictlyIncreasing-filter}
 use Rattle.std.proofs.lemmas.List.Sorted.{IsPermutation-insert, IsNonDecreasingBy-insert, list_any-IsPermutation, searched}
 use Rattle.std.proofs.lemmas.Map.Made.{length-le_from_is_member}
 use Rattle.std.proofs.lemmas.Map.Views.{any-filter_same}
 use Rattle.std.proofs.lemmas.Map.Keys.{IsDistinct-IsPermutation, IsDistinct-cons, IsDistinct-from_apart, IsStrictlyIncreasing-from_distinct, sorted_from_strictly_increasing, non_decreasing_from_sorted, below_from_sorted}
-use Rattle.txn_names.specs.Path.{label_eq}
-use Rattle.txn_names.proofs.Names.{on_label}
-use Rattle.txn_cells.specs.Kept.{AreAmong, Holding, Index, holding_at, is_holder, nobody}
-use Rattle.txn_cells.proofs.Puts.{none_from, unwrap_cond}
+use Rattle.txn_cells.specs.Kept.{AreAmong}
 
 eqb_comm : (a b : ℕ) → nat_eq a b ≡ nat_eq b a
 eqb_comm = nat_eq_equiv.symm
@@ -55,6 +52,13 @@ pub any-without : (xs : List ℕ) (t u : ℕ) → list_any (nat_eq u) (filter (�
 any-without xs t u =
     any-filter_same (nat_eq u) (λ v. not (nat_eq v t)) (not (nat_eq t u)) (λ k same. ap not (ap (λ v. nat_eq v t) (sym (eqb-true u k same)) ∙ eqb_comm u t)) xs
 
+-- a number that is at no place is not among them
+not_among : (t : ℕ) (xs : List ℕ) → ((k : ℕ) → k < length xs → get_or xs k 0 ≡ t → ⊥) → list_any (nat_eq t) xs ≡ false
+not_among t [] other = refl
+not_among t (x ∷ xs) other =
+    ap (λ b. b || list_any (nat_eq t) xs) (ne_eqb t x (λ same. other 0 (omega arith) (sym same)))
+    ∙ not_among t xs (λ k less. other (suc k) (omega (arith, less)))
+
 -- where it is not there, all stay
 keeps_all : (t : ℕ) (xs : List ℕ) → ((k : ℕ) → k < length xs → get_or xs k 0 ≡ t → ⊥) → filter (λ v. not (nat_eq v t)) xs ≡ xs
 keeps_all t [] other = refl
@@ -62,7 +66,7 @@ keeps_all t (x ∷ xs) other =
     ap (λ b. cond (not b) (x ∷ filter (λ v. not (nat_eq v t)) xs) (filter (λ v. not (nat_eq v t)) xs)) (ne_eqb x t (other 0 (omega arith)))
     ∙ ap (λ ys. x ∷ ys) (keeps_all t xs (λ k less. other (suc k) (omega (arith, less))))
 
-removed : (xs : List ℕ) (t i : ℕ) → ((j k : ℕ) → j < k → k < length xs → get_or xs j 0 < get_or xs k 0) → i < length xs → get_or xs i 0 ≡ t
+pub removed : (xs : List ℕ) (t i : ℕ) → ((j k : ℕ) → j < k → k < length xs → get_or xs j 0 < get_or xs k 0) → i < length xs → get_or xs i 0 ≡ t
     → remove xs i ≡ filter (λ v. not (nat_eq v t)) xs
 removed [] t i rises within at = absurd (omega (arith, within))
 removed (x ∷ xs) t zero rises within at =
@@ -75,7 +79,7 @@ removed (x ∷ xs) t (suc i) rises within at =
     (ne_eqb x t (λ same. let up = rises 0 (suc i) (omega arith) within in omega (arith, up, at, same))))
 
 module _ (xs : List ℕ) (t : ℕ) (rising : IsStrictlyIncreasing xs) where
-  rises : (j k : ℕ) → j < k → k < length xs → get_or xs j 0 < get_or xs k 0
+  pub rises : (j k : ℕ) → j < k → k < length xs → get_or xs j 0 < get_or xs k 0
   rises j k less within = below_from_sorted xs j k 0 (sorted_from_strictly_increasing xs rising) less within
 
   never_falls : (j k : ℕ) → j ≤ k → k < length xs → get_or xs j 0 ≤ get_or xs k 0
@@ -101,7 +105,45 @@ module _ (xs : List ℕ) (t : ℕ) (rising : IsStrictlyIncreasing xs) where
         | inr past ↦ let more = found.2 k past within in omega (arith, more, same)
       ]))
 
+  -- where the search ends without it
+  module _ (i : ℕ) (is : IsBinarySearchResult (λ y. nat_cmp y t) xs (Err i)) where
+    ends : (i ≤ length xs) × ((k : ℕ) → k < i → get_or xs k 0 < t) × ((k : ℕ) → i ≤ k → k < length xs → t < get_or xs k 0)
+    ends = searched xs t (Err i) is never_falls
+
+    pub absent_at : list_any (nat_eq t) xs ≡ false
+    absent_at =
+        not_among t xs (λ k within same.
+        elim (cases_lt k i) [
+          | inl before ↦ let less = ends.1 k before in omega (arith, less, same)
+          | inr past ↦ let more = ends.2 k past within in omega (arith, more, same)
+        ])
+
+    pub rising_at : IsStrictlyIncreasing (insert xs i t)
+    rising_at =
+        rising_insert xs t i rising absent_at ends.0
+        (λ k d before. let less = ends.1 k before in omega (arith, less, ends.0, get_or_default xs k d 0 (omega (arith, before, ends.0))))
+        (λ k d since within. let more = ends.2 k since within in omega (arith, more, get_or_default xs k d 0 within))
+
 -- ---- some numbers among others
+
+-- one more among all
+pub among_put : (some all : List ℕ) (t i : ℕ) → AreAmong some all → AreAmong some (insert all i t)
+among_put some all t i are = record {
+  rising = are.rising;
+  within = λ u e. any-insert all t i u ∙ or_right (nat_eq t u) (list_any (nat_eq u) all) (are.within u e);
+}
+
+-- one more of them
+pub among_one : (some more all : List ℕ) (t : ℕ) → AreAmong some all → list_any (nat_eq t) all ≡ true → IsStrictlyIncreasing more
+    → ((u : ℕ) → list_any (nat_eq u) more ≡ (nat_eq t u || list_any (nat_eq u) some)) → AreAmong more all
+among_one some more all t are there rising each = record {
+  rising = rising;
+  within = λ u e.
+      elim (or_cases (nat_eq t u) (list_any (nat_eq u) some) (sym (each u) ∙ e)) [
+        | inl same ↦ subst (λ (v : ℕ). list_any (nat_eq v) all ≡ true) (eqb-true t u same) there
+        | inr before ↦ are.within u before
+      ];
+}
 
 -- where one leaves both
 pub among_left : (some all : List ℕ) (t : ℕ) → AreAmong some all → AreAmong (filter (λ v. not (nat_eq v t)) some) (filter (λ v. not (nat_eq v t)) all)
@@ -135,61 +177,6 @@ pub contained : (xs : List ℕ) (t : ℕ) → list_any (λ y. nat_eq y t) xs ≡
 contained [] t = refl
 contained (x ∷ xs) t = ap (λ b. b || list_any (λ y. nat_eq y t) xs) (eqb_comm x t) ∙ ap (λ b. nat_eq t x || b) (contained xs t)
 
--- ---- lists by key
-
-module _ (index : Index) (k : List ℕ) where
-  pub list_found : (h : Holding) → lookup (label_eq k) index ≡ Some h → holding_at index k ≡ h
-  list_found h e = ap (λ o. unwrap_or o nobody) e
-
-  pub has_list : (u : ℕ) → is_holder index u k ≡ true → is_some (lookup (label_eq k) index) ≡ true
-  has_list u e = by (lookup (label_eq k) index) e
-    where
-      by : (o : Option Holding) → list_any (nat_eq u) (unwrap_or o nobody).numbers ≡ true → is_some o ≡ true
-      by None f = f
-      by (Some h) f = refl
-
-  -- empty lists are as none
-  pub list_empty : is_some (lookup (label_eq k) index) ≡ false → (q : List ℕ) → unwrap_or (cond (label_eq k q) (Some nobody) (lookup (label_eq q) index)) nobody ≡ holding_at index q
-  list_empty none q =
-      on_label k q (λ b. unwrap_or (cond b (Some nobody) (lookup (label_eq q) index)) nobody ≡ holding_at index q)
-      (λ e. subst (λ (p : List ℕ). nobody ≡ holding_at index p) e (sym (ap (λ o. unwrap_or o nobody) (none_from (lookup (label_eq k) index) none))))
-      (λ _. refl)
-
--- where the key has other lists now
-module _ (index changed : Index) (k : List ℕ) (h : Holding) (at : (q : List ℕ) → lookup (label_eq q) changed ≡ cond (label_eq k q) (Some h) (lookup (label_eq q) index)) where
-  holding-put : (q : List ℕ) → holding_at changed q ≡ cond (label_eq k q) h (holding_at index q)
-  holding-put q = ap (λ o. unwrap_or o nobody) (at q) ∙ unwrap_cond (label_eq k q) h nobody (lookup (label_eq q) index)
-
-  -- and who is in one of its lists is a function of who was
-  pub listed-put : (pick : Holding → List ℕ) (f : ℕ → Bool → Bool) → ((u : ℕ) → list_any (nat_eq u) (pick h) ≡ f u (list_any (nat_eq u) (pick (holding_at index k))))
-      → (u : ℕ) (q : List ℕ)
-      → list_any (nat_eq u) (pick (holding_at changed q)) ≡ cond (label_eq k q) (f u (list_any (nat_eq u) (pick (holding_at index q)))) (list_any (nat_eq u) (pick (holding_at index q)))
-  listed-put pick f is u q =
-      ap (λ x. list_any (nat_eq u) (pick x)) (holding-put q)
-      ∙ on_label k q (λ b. list_any (nat_eq u) (pick (cond b h (holding_at index q))) ≡ cond b (f u (list_any (nat_eq u) (pick (holding_at index q)))) (list_any (nat_eq u) (pick (holding_at index q))))
-      (λ e. subst (λ (p : List ℕ). list_any (nat_eq u) (pick h) ≡ f u (list_any (nat_eq u) (pick (holding_at index p)))) e (is u))
-      (λ _. refl)
-
-pub without_none : (t h : Bool) → h ≡ (not (t && false) && h)
-without_none true h = refl
-without_none false h = refl
-
--- where a key has no lists nobody leaves them
-pub none_left : (index : Index) (k : List ℕ) → lookup (label_eq k) index ≡ None → (pick : Holding → List ℕ) → pick nobody ≡ [] → (t u : ℕ) (q : List ℕ)
-    → list_any (nat_eq u) (pick (holding_at index q)) ≡ (not (nat_eq t u && label_eq k q) && list_any (nat_eq u) (pick (holding_at index q)))
-none_left index k none pick empty t u q =
-    on_label k q (λ b. list_any (nat_eq u) (pick (holding_at index q)) ≡ (not (nat_eq t u && b) && list_any (nat_eq u) (pick (holding_at index q))))
-    (λ e. subst (λ (p : List ℕ). list_any (nat_eq u) (pick (holding_at index p)) ≡ (not (nat_eq t u && true) && list_any (nat_eq u) (pick (holding_at index p)))) e
-    (nowhere (nat_eq t u) ∙ ap (λ h. not (nat_eq t u && true) && h) (sym nobody_there)))
-    (λ _. without_none (nat_eq t u) (list_any (nat_eq u) (pick (holding_at index q))))
-  where
-    nobody_there : list_any (nat_eq u) (pick (holding_at index k)) ≡ false
-    nobody_there = ap (λ o. list_any (nat_eq u) (pick (unwrap_or o nobody))) none ∙ ap (list_any (nat_eq u)) empty
-
-    nowhere : (b : Bool) → list_any (nat_eq u) (pick (holding_at index k)) ≡ (not (b && true) && false)
-    nowhere true = nobody_there
-    nowhere false = nobody_there
-
 pub cond_with : (a b c : Bool) → cond a (b || c) c ≡ ((b && a) || c)
 cond_with true true c = refl
 cond_with true false c = refl
@@ -202,11 +189,8 @@ cond_without true false c = refl
 cond_without false true c = refl
 cond_without false false c = refl
 
--- ---- keys gone through
-
-pub without_next : (t h a b : Bool) → (not (t && b) && (not (t && a) && h)) ≡ (not (t && (a || b)) && h)
-without_next true h true true = refl
-without_next true h true false = refl
-without_next true h false true = refl
-without_next true h false false = refl
-without_next false h a b = refl
+-- one at a place is among them
+pub any_at : (xs : List ℕ) (t i : ℕ) → slice_get xs i ≡ Some t → list_any (nat_eq t) xs ≡ true
+any_at [] t i at = absurd (false≢true (ap is_some at))
+any_at (x ∷ xs) t zero at = or_left (nat_eq t x) (list_any (nat_eq t) xs) (eq-eqb t x (sym (ap (λ o. unwrap_or o t) at)))
+any_at (x ∷ xs) t (suc i) at = or_right (nat_eq t x) (list_any (nat_eq t) xs) (any_at xs t i at)

@@ -1,86 +1,131 @@
--- A child's cells, handed to its parent one after the other: what is left to hand over makes up for what is not yet there.
-use Rattle.std.proofs.Common.{◌≡◌, ℕ, Bool, true, false, cond, List, ◌∷◌, Option, Some, None, unwrap_or, is_some, refl, sym, ap, subst, ◌∙◌}
-use Rattle.std.specs.Map.{lookup, keys_of}
-use Rattle.std.specs.List.{IsDistinct}
-use Rattle.std.proofs.lemmas.Map.{lookup-none}
-use Rattle.std.proofs.lemmas.Map.Entries.{none_past_head}
-use Rattle.std.proofs.lemmas.Map.Keys.{IsDistinct-tail}
-use Rattle.std.proofs.lemmas.Cmp.{nat_list_eq_equiv}
+-- What a child has, handed up key by key.
+use Rattle.std.proofs.Common.{◌≡◌, ℕ, Bool, true, false, cond, not, nat_eq, ◌&&◌, ◌||◌, List, [], ◌∷◌, ◌++◌, take, Option, Some, None, refl, sym, ap, subst, ◌∙◌}
+use Rattle.std.specs.Prelude.{IfSome, IsFalse, IsTrue}
+use Rattle.std.specs.List.{list_any}
+use Rattle.std.proofs.lemmas.Bool.{eq-eqb}
 use Rattle.txn_names.specs.Path.{label_eq}
-use Rattle.txn_names.proofs.Names.{on_label, label_eq_self}
-use Rattle.txn_cells.specs.Cells.{merged}
-use Rattle.txn_cells.specs.Kept.{Cells, has_cell_at, content_at}
+use Rattle.txn_names.proofs.Names.{on_label, on_test}
+use Rattle.txn_cells.specs.Cells.{handed_up, is_it, merged}
+use Rattle.txn_cells.proofs.Puts.{on_number}
+use Rattle.txn_cells.proofs.Reserving.{among_more}
 
--- the parent has what was handed over, and the rest is still to come
-pub record IsHanding {V : Type 0} (inherited : V → Option V → V) (first parents rest : Cells V) (due : List ℕ → Option V) : Type 0 where
-  pub distinct : IsDistinct label_eq (keys_of rest)
-  pub contents : (q : List ℕ) → merged inherited (content_at rest q) (content_at parents q) ≡ due q
-  pub cells : (q : List ℕ) → has_cell_at parents q ≡ has_cell_at first q
-  pub within : (q : List ℕ) → has_cell_at rest q ≡ true → has_cell_at first q ≡ true
+-- handing up once more where all has been handed up changes nothing
+again : {V : Type 0} (inherited : V → Option V → V) (a x y : Bool) (childs own now_childs now_own : Option V) → now_childs ≡ cond a None childs
+    → now_own ≡ cond a (cond x None (cond y (merged inherited childs own) own)) own
+    → cond x None (cond y (merged inherited now_childs now_own) now_own) ≡ cond (a || true) (cond x None (cond y (merged inherited childs own) own)) own
+again inherited true true y childs own now_childs now_own e f = refl
+again inherited true false true childs own now_childs now_own e f = ap (λ o. merged inherited o now_own) e ∙ f
+again inherited true false false childs own now_childs now_own e f = f
+again inherited false true y childs own now_childs now_own e f = refl
+again inherited false false true childs own now_childs now_own e f = ap (λ o. merged inherited o now_own) e ∙ ap (merged inherited childs) f
+again inherited false false false childs own now_childs now_own e f = f
 
-module _ {V : Type 0} (inherited : V → Option V → V) (k : List ℕ) (m : Option V) (rest : Cells V) where
-  head_found : lookup (label_eq k) ((k, m) ∷ rest) ≡ Some m
-  head_found = ap (λ b. cond b (Some m) (lookup (label_eq k) rest)) (label_eq_self k)
+or_false : {X : Type 0} (a : Bool) (x y : X) → cond a x y ≡ cond (a || false) x y
+or_false true x y = refl
+or_false false x y = refl
 
-  -- the label of the head does not stand further on
-  past_head : IsDistinct label_eq (keys_of ((k, m) ∷ rest)) → content_at rest k ≡ None
-  past_head distinct = ap (λ o. unwrap_or o None) (lookup-none (label_eq k) rest (none_past_head nat_list_eq_equiv k (k, m) rest distinct (label_eq_self k)))
+module _ {V : Type 0} (inherited : V → Option V → V) (old : ℕ → List ℕ → Option V) (child : ℕ) (parent : Option ℕ) where
+  abbrev handed : ℕ → List ℕ → Option V
+  handed u q = handed_up inherited old child parent u q
 
-  other_found : (q : List ℕ) → label_eq k q ≡ false → lookup (label_eq q) ((k, m) ∷ rest) ≡ lookup (label_eq q) rest
-  other_found q e = ap (λ b. cond b (Some m) (lookup (label_eq q) rest)) (nat_list_eq_equiv.symm q k ∙ e)
+  module _ (keys : List (List ℕ)) (k : List ℕ) (now next : ℕ → List ℕ → Option V) (is : (u : ℕ) (q : List ℕ) → now u q ≡ cond (list_any (label_eq q) keys) (handed u q) (old u q)) where
+    childs : (q : List ℕ) → now child q ≡ cond (list_any (label_eq q) keys) None (old child q)
+    childs q =
+        is child q
+        ∙ ap (λ b. cond (list_any (label_eq q) keys) (cond b None (cond (is_it parent child) (merged inherited (old child q) (old child q)) (old child q))) (old child q)) (eq-eqb child child refl)
 
-  still_there : (q : List ℕ) → has_cell_at rest q ≡ true → has_cell_at ((k, m) ∷ rest) q ≡ true
-  still_there q there = by (label_eq q k)
-    where
-      by : (b : Bool) → is_some (cond b (Some m) (lookup (label_eq q) rest)) ≡ true
-      by true = refl
-      by false = there
+    pub contents_next : ((u : ℕ) (q : List ℕ) → next u q ≡ cond (label_eq k q) (handed_up inherited now child parent u q) (now u q))
+        → (u : ℕ) (q : List ℕ) → next u q ≡ cond (list_any (label_eq q) (keys ++ k ∷ [])) (handed u q) (old u q)
+    contents_next step u q =
+        step u q
+        ∙ on_label k q (λ b. cond b (handed_up inherited now child parent u q) (now u q) ≡ cond (list_any (label_eq q) keys || b) (handed u q) (old u q))
+        (λ _. again inherited (list_any (label_eq q) keys) (nat_eq child u) (is_it parent u) (old child q) (old u q) (now child q) (now u q) (childs q) (is u q))
+        (λ _. is u q ∙ or_false (list_any (label_eq q) keys) (handed u q) (old u q))
+        ∙ ap (λ b. cond b (handed u q) (old u q)) (sym (among_more q k keys))
 
-  module _ (first parents : Cells V) (due : List ℕ → Option V) (is : IsHanding inherited first parents ((k, m) ∷ rest) due) where
-    -- the parent has a cell for the next one
-    pub cell_for_next : has_cell_at parents k ≡ true
-    cell_for_next = is.cells k ∙ is.within k (ap is_some head_found)
+without_next : (t h a b : Bool) → (not (t && b) && (not (t && a) && h)) ≡ (not (t && (a || b)) && h)
+without_next true h true true = refl
+without_next true h true false = refl
+without_next true h false true = refl
+without_next true h false false = refl
+without_next false h a b = refl
 
-    -- the next one has been handed over
-    pub handed_next : (next : Cells V) → ((q : List ℕ) → has_cell_at next q ≡ has_cell_at parents q)
-        → ((q : List ℕ) → content_at next q ≡ cond (label_eq k q) (merged inherited m (content_at parents q)) (content_at parents q))
-        → IsHanding inherited first next rest due
-    handed_next next cells step = record {
-      distinct = IsDistinct-tail label_eq k (keys_of rest) is.distinct;
-      contents = λ q.
-          ap (λ n. merged inherited (content_at rest q) n) (step q)
-          ∙ on_label k q (λ b. merged inherited (content_at rest q) (cond b (merged inherited m (content_at parents q)) (content_at parents q)) ≡ due q)
-          (λ e. subst (λ (p : List ℕ). merged inherited (content_at rest p) (merged inherited m (content_at parents p)) ≡ due p) e here)
-          (λ e. ap (λ o. merged inherited (unwrap_or o None) (content_at parents q)) (sym (other_found q e)) ∙ is.contents q);
-      cells = λ q. cells q ∙ is.cells q;
-      within = λ q there. is.within q (still_there q there);
-    }
-      where
-        here : merged inherited (content_at rest k) (merged inherited m (content_at parents k)) ≡ due k
-        here =
-            ap (λ r. merged inherited r (merged inherited m (content_at parents k))) (past_head is.distinct)
-            ∙ ap (λ o. merged inherited (unwrap_or o None) (content_at parents k)) (sym head_found)
-            ∙ is.contents k
+pub places_next : (old now next : ℕ → List ℕ → Bool) (child : ℕ) (keys : List (List ℕ)) (k : List ℕ)
+    → ((u : ℕ) (q : List ℕ) → now u q ≡ (not (nat_eq child u && list_any (label_eq q) keys) && old u q))
+    → ((u : ℕ) (q : List ℕ) → next u q ≡ (not (nat_eq child u && label_eq k q) && now u q))
+    → (u : ℕ) (q : List ℕ) → next u q ≡ (not (nat_eq child u && list_any (label_eq q) (keys ++ k ∷ [])) && old u q)
+places_next old now next child keys k is step u q =
+    step u q
+    ∙ ap (λ h. not (nat_eq child u && label_eq k q) && h) (is u q)
+    ∙ without_next (nat_eq child u) (old u q) (list_any (label_eq q) keys) (label_eq k q)
+    ∙ ap (λ b. not (nat_eq child u && b) && old u q) (sym (among_more q k keys))
 
-module _ {V : Type 0} (inherited : V → Option V → V) (k : List ℕ) (parents : Cells V) where
-  -- what stands in a cell is handed over
-  pub value_handed : (v : V) (next : Cells V) → ((q : List ℕ) → content_at next q ≡ cond (label_eq k q) (Some (inherited v (content_at parents k))) (content_at parents q))
-      → (q : List ℕ) → content_at next q ≡ cond (label_eq k q) (merged inherited (Some v) (content_at parents q)) (content_at parents q)
-  value_handed v next step q =
-      step q
-      ∙ on_label k q (λ b. cond b (Some (inherited v (content_at parents k))) (content_at parents q) ≡ cond b (merged inherited (Some v) (content_at parents q)) (content_at parents q))
-      (λ e. ap (λ p. Some (inherited v (content_at parents p))) e)
-      (λ _. refl)
+-- ---- at all keys of the child
 
-  -- an empty cell hands nothing over
-  pub nothing_handed : (q : List ℕ) → content_at parents q ≡ cond (label_eq k q) (merged inherited None (content_at parents q)) (content_at parents q)
-  nothing_handed q = by (label_eq k q)
-    where
-      by : (b : Bool) → content_at parents q ≡ cond b (merged inherited None (content_at parents q)) (content_at parents q)
-      by true = refl
-      by false = refl
+-- where the child has nothing nothing changes
+nothing_up : {V : Type 0} (inherited : V → Option V → V) (y : Bool) (childs own : Option V) → childs ≡ None → cond y (merged inherited childs own) own ≡ own
+nothing_up inherited true childs own e = ap (λ o. merged inherited o own) e
+nothing_up inherited false childs own e = refl
 
--- at the start all is still to come, and at the end nothing
-pub handing_all : {V : Type 0} (inherited : V → Option V → V) (first rest : Cells V) → IsDistinct label_eq (keys_of rest) → ((q : List ℕ) → has_cell_at rest q ≡ true → has_cell_at first q ≡ true)
-    → IsHanding inherited first first rest (λ q. merged inherited (content_at rest q) (content_at first q))
-handing_all inherited first rest distinct within = record { distinct = distinct; contents = λ q. refl; cells = λ q. refl; within = within }
+pub handed_all : {V : Type 0} (inherited : V → Option V → V) (old : ℕ → List ℕ → Option V) (child : ℕ) (heir parent : Option ℕ) (among : List ℕ → Bool)
+    → ((q : List ℕ) → among q ≡ false → old child q ≡ None) → ((u : ℕ) → nat_eq child u ≡ false → is_it heir u ≡ is_it parent u)
+    → (u : ℕ) (q : List ℕ) → cond (among q) (handed_up inherited old child heir u q) (old u q) ≡ handed_up inherited old child parent u q
+handed_all inherited old child heir parent among none same u q =
+    on_test (among q) (λ b. cond b (handed_up inherited old child heir u q) (old u q) ≡ handed_up inherited old child parent u q)
+    (λ _. on_number child u (λ x. cond x None (cond (is_it heir u) (merged inherited (old child q) (old u q)) (old u q)) ≡ cond x None (cond (is_it parent u) (merged inherited (old child q) (old u q)) (old u q)))
+    (λ _. refl)
+    (λ other. ap (λ y. cond y (merged inherited (old child q) (old u q)) (old u q)) (same u other)))
+    (λ away. on_number child u (λ x. old u q ≡ cond x None (cond (is_it parent u) (merged inherited (old child q) (old u q)) (old u q)))
+    (λ e. subst (λ (v : ℕ). old v q ≡ None) e (none q away))
+    (λ _. sym (nothing_up inherited (is_it parent u) (old child q) (old u q) (none q away))))
+
+not_itself : (a : Bool) → (not (true && a) && a) ≡ false
+not_itself true = refl
+not_itself false = refl
+
+-- the child has no place any more
+pub none_left : (old : ℕ → List ℕ → Bool) (child : ℕ) (among : List ℕ → Bool) → ((q : List ℕ) → old child q ≡ among q)
+    → (u : ℕ) (q : List ℕ) → (not (nat_eq child u && among q) && old u q) ≡ (not (nat_eq child u) && old u q)
+none_left old child among each u q =
+    on_number child u (λ b. (not (b && among q) && old u q) ≡ (not b && old u q))
+    (λ e. subst (λ (v : ℕ). (not (true && among q) && old v q) ≡ false) e (ap (λ b. not (true && among q) && b) (each q) ∙ not_itself (among q)))
+    (λ _. refl)
+
+-- ---- at one key
+
+none_merged : {V : Type 0} (inherited : V → Option V → V) (x y : Bool) (childs own : Option V) → childs ≡ None → own ≡ None → cond x None (cond y (merged inherited childs own) own) ≡ None
+none_merged inherited true y childs own e f = refl
+none_merged inherited false true childs own e f = ap (λ o. merged inherited o own) e ∙ f
+none_merged inherited false false childs own e f = f
+
+-- where nobody has anything at the key nothing changes
+pub none_up : {V : Type 0} (inherited : V → Option V → V) (had : ℕ → List ℕ → Option V) (child : ℕ) (parent : Option ℕ) (k : List ℕ) → ((u : ℕ) → had u k ≡ None)
+    → (u : ℕ) (q : List ℕ) → had u q ≡ cond (label_eq k q) (handed_up inherited had child parent u q) (had u q)
+none_up inherited had child parent k none u q =
+    on_label k q (λ b. had u q ≡ cond b (handed_up inherited had child parent u q) (had u q))
+    (λ e. subst (λ (p : List ℕ). had u p ≡ handed_up inherited had child parent u p) e
+    (none u ∙ sym (none_merged inherited (nat_eq child u) (is_it parent u) (had child k) (had u k) (none child) (none u))))
+    (λ _. refl)
+
+pub none_out : (place : ℕ → List ℕ → Bool) (child : ℕ) (k : List ℕ) → ((u : ℕ) → place u k ≡ false) → (u : ℕ) (q : List ℕ) → place u q ≡ (not (nat_eq child u && label_eq k q) && place u q)
+none_out place child k none u q =
+    on_label k q (λ b. place u q ≡ (not (nat_eq child u && b) && place u q))
+    (λ e. subst (λ (p : List ℕ). place u p ≡ (not (nat_eq child u && true) && place u p)) e (by (nat_eq child u) (place u k) (none u)))
+    (λ _. by_none (nat_eq child u) (place u q))
+  where
+    by : (t h : Bool) → h ≡ false → h ≡ (not (t && true) && h)
+    by true h e = e
+    by false h e = refl
+
+    by_none : (t h : Bool) → h ≡ (not (t && false) && h)
+    by_none true h = refl
+    by_none false h = refl
+
+-- the parent has a place at the next key
+pub parents_there : (old now : ℕ → List ℕ → Bool) (child : ℕ) (keys : List (List ℕ)) (n : ℕ) (k : List ℕ) (parent : Option ℕ) → IfSome parent (λ p. IsFalse (nat_eq child p))
+    → IfSome parent (λ p. (q : List ℕ) → IsTrue (list_any (label_eq q) keys) → IsTrue (old p q))
+    → ((u : ℕ) (q : List ℕ) → now u q ≡ (not (nat_eq child u && list_any (label_eq q) (take n keys)) && old u q))
+    → list_any (label_eq k) keys ≡ true → IfSome parent (λ p. IsTrue (now p k))
+parents_there old now child keys n k None other places is among = tt
+parents_there old now child keys n k (Some p) other places is among =
+    is p k ∙ ap (λ b. not (b && list_any (label_eq k) (take n keys)) && old p k) other ∙ places k among

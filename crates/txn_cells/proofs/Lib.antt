@@ -1,6 +1,10 @@
-pub mod Puts
-pub mod Handing
-pub mod Reserving
 pub mod ByKey
-pub mod Dropping
-pub mod Marking
+mod Dropping
+mod HandedUp
+mod Handing
+mod Holding
+mod Lists
+mod Puts
+pub mod Reserving
+mod Seen
+mod Zipped

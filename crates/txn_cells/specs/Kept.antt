@@ -1,10 +1,13 @@
--- Cells as they are kept: a list of keys for each transaction, each key with what stands there. Beside it an index: for each
--- key the numbers of the transactions with a place there.
-use Rattle.std.specs.Prelude.{◌≡◌, ℕ, Bool, true, false, nat_eq, List, [], Option, Some, None, is_some, unwrap_or}
+-- Cells as callers see them: for each transaction that has any, a list of its keys, each with what stands there. And as they
+-- are kept: at each key the transactions with a place there, each with what it has, and beside that the keys of each
+-- transaction, at its number.
+use Rattle.std.specs.Prelude.{◌≡◌, ◌+◌, ℕ, suc, Bool, true, false, nat_eq, List, [], ◌∷◌, Option, Some, None, is_some, unwrap_or, slice_get, map}
 use Rattle.std.specs.List.{list_any}
 use Rattle.std.specs.List.Sorted.{IsStrictlyIncreasing}
-use Rattle.std.specs.Map.{lookup, keys_of}
+use Rattle.std.specs.Map.{lookup}
 use Rattle.txn_names.specs.Path.{label_eq}
+
+-- ---- as callers see them
 
 -- the cells of one transaction
 abbrev pub Cells : Type 0 → Type 0
@@ -33,44 +36,80 @@ has_place table t k = has_cell_at (cells_in table t) k
 abbrev pub content : {V : Type 0} → Table V → ℕ → List ℕ → Option V
 content table t k = content_at (cells_in table t) k
 
--- the keys that t has a cell for
-abbrev pub keys_in : {V : Type 0} → Table V → ℕ → List (List ℕ)
-keys_in table t = keys_of (cells_in table t)
+-- whether what is there stands out
+abbrev pub stands : {V : Type 0} → (V → Bool) → Option V → Bool
+stands outstanding None = false
+stands outstanding (Some v) = outstanding v
 
--- the transactions with a place at one key, and those of them that are marked
-pub record Holding : Type 0 where
-  pub numbers : List ℕ
-  pub marked : List ℕ
+-- ---- at one key
 
-abbrev pub nobody : Holding
-nobody = record { numbers = []; marked = [] }
+-- the transactions with a place at the key, each with what it has there
+abbrev pub Held : Type 0 → Type 0
+Held V = List (ℕ × Option V)
+
+abbrev pub holds : {V : Type 0} → Held V → ℕ → Bool
+holds held t = is_some (lookup (nat_eq t) held)
+
+abbrev pub content_of : {V : Type 0} → Held V → ℕ → Option V
+content_of held t = unwrap_or (lookup (nat_eq t) held) None
 
 -- each once, rising, and all of them are among the others
 pub record AreAmong (some all : List ℕ) : Type 0 where
   pub rising : IsStrictlyIncreasing some
   pub within : (u : ℕ) → list_any (nat_eq u) some ≡ true → list_any (nat_eq u) all ≡ true
 
-abbrev pub Index : Type 0
-Index = List (List ℕ × Holding)
+-- whoever has what stands out is marked
+abbrev pub AreMarked : {V : Type 0} → (V → Bool) → Held V → List ℕ → Type 0
+AreMarked outstanding held marked = (u : ℕ) → stands outstanding (content_of held u) ≡ true → list_any (nat_eq u) marked ≡ true
 
-abbrev pub holding_at : Index → List ℕ → Holding
-holding_at index k = unwrap_or (lookup (label_eq k) index) nobody
+-- ---- at all keys
 
-abbrev pub is_holder : Index → ℕ → List ℕ → Bool
-is_holder index u k = list_any (nat_eq u) (holding_at index k).numbers
+abbrev pub AtKeys : Type 0 → Type 0
+AtKeys V = List (List ℕ × Held V)
 
-abbrev pub is_marked : Index → ℕ → List ℕ → Bool
-is_marked index u k = list_any (nat_eq u) (holding_at index k).marked
+abbrev pub held_at : {V : Type 0} → AtKeys V → List ℕ → Held V
+held_at kept k = unwrap_or (lookup (label_eq k) kept) []
 
--- whether what is there stands out
-abbrev pub stands : {V : Type 0} → (V → Bool) → Option V → Bool
-stands outstanding None = false
-stands outstanding (Some v) = outstanding v
+abbrev pub place_kept : {V : Type 0} → AtKeys V → ℕ → List ℕ → Bool
+place_kept kept t k = holds (held_at kept k) t
 
--- whoever has what stands out is marked at its key
-abbrev pub AreMarkedIn : {V : Type 0} → (V → Bool) → Table V → Index → Type 0
-AreMarkedIn outstanding table index = (u : ℕ) (q : List ℕ) → stands outstanding (content table u q) ≡ true → is_marked index u q ≡ true
+abbrev pub content_kept : {V : Type 0} → AtKeys V → ℕ → List ℕ → Option V
+content_kept kept t k = content_of (held_at kept k) t
 
--- at each key those have a place that the index names
-abbrev pub AreHoldersOf : {V : Type 0} → Table V → Index → Type 0
-AreHoldersOf table index = (u : ℕ) (q : List ℕ) → is_holder index u q ≡ has_place table u q
+-- ---- by transaction
+
+-- the keys of each transaction, at its number
+abbrev pub Lists : Type 0
+Lists = List (List (List ℕ))
+
+abbrev pub keys_at : Lists → ℕ → List (List ℕ)
+keys_at lists t = unwrap_or (slice_get lists t) []
+
+-- 1 for a list with keys
+abbrev pub one_busy : List (List ℕ) → ℕ
+one_busy [] = 0
+one_busy (k ∷ ks) = 1
+
+-- how many transactions have keys
+abbrev pub busy_in : Lists → ℕ
+busy_in [] = 0
+busy_in (keys ∷ lists) = one_busy keys + busy_in lists
+
+-- at each key those have a place that list it
+abbrev pub AreListed : {V : Type 0} → AtKeys V → Lists → Type 0
+AreListed kept lists = (u : ℕ) (q : List ℕ) → place_kept kept u q ≡ list_any (label_eq q) (keys_at lists u)
+
+-- ---- what is seen of what is kept
+
+-- the cells of t at these keys
+abbrev pub cells_of : {V : Type 0} → AtKeys V → ℕ → List (List ℕ) → Cells V
+cells_of kept t keys = map (λ k. (k, content_kept kept t k)) keys
+
+-- the cells of those with keys, where the first of the lists is that of t
+abbrev pub seen_from : {V : Type 0} → ℕ → Lists → AtKeys V → Table V
+seen_from t [] kept = []
+seen_from t ([] ∷ lists) kept = seen_from (suc t) lists kept
+seen_from t ((k ∷ ks) ∷ lists) kept = (t, cells_of kept t (k ∷ ks)) ∷ seen_from (suc t) lists kept
+
+abbrev pub seen : {V : Type 0} → Lists → AtKeys V → Table V
+seen lists kept = seen_from 0 lists kept

@@ -1,122 +1,155 @@
-//! The transactions that have a place at one key.
-ghost use Rattle.std.specs.Prelude.{◌≡◌, ◌+◌, ◌≤◌, ◌<◌, ◌&&◌, ◌||◌, not, nat_eq, filter, length, slice_index_or, vec_capacity, IsFalse, IsOk, IsTrue, OnErr, OnOk, ℕ};
-ghost use Rattle.std.specs.List.{list_any};
+//! What stands at one key.
+ghost use Rattle.std.specs.Prelude.{◌≡◌, ◌≤◌, ◌<◌, ◌&&◌, ◌||◌, not, nat_eq, [], length, slice_get, vec_capacity, IsFalse, IsOk, IsTrue, IfOk, IfSome, OnErr, OnOk, Option, ℕ, if◌then◌else◌, Some, None};
+ghost use Rattle.std.specs.List.{insert, list_any, zip};
 ghost use Rattle.std.specs.List.Sorted.{IsStrictlyIncreasing};
-ghost use Rattle.txn_cells.specs.Kept.{AreAmong, nobody};
+ghost use Rattle.std.specs.Map.{keys_of};
+ghost use Rattle.txn_cells.specs.Cells.{is_it, merged};
+ghost use Rattle.txn_cells.specs.Kept.{content_of, holds, stands};
 
+use crate::inherit::Inherit;
+use crate::numbers::{find, put_in, take_from};
 use serial_spec::NoMemory;
-use std::alloc::{AllocError, Global};
+use std::alloc::Global;
 use std::marker::Model;
 use txn_tree::TxnNo;
 
-/// The numbers of the transactions, each once, rising, and those of them that are marked. There is room to mark all.
+/// The numbers of the transactions that have a place at a key, each once, rising; in the same order what each has there;
+/// and, rising too, at least those whose content stands out. There is room to mark all.
 #[derive(Drop)]
-pub(crate) struct Holders {
+pub(crate) struct Holders<V: Inherit> {
     numbers: Vec<TxnNo>,
+    contents: Vec<Option<V>>,
     marked: Vec<TxnNo>,
 }
 
-impl Model for Holders {
-    ghost use Rattle.std.specs.Prelude.{◌≤◌, length, vec_capacity};
+impl<V: Inherit> Model for Holders<V> {
+    ghost use Rattle.std.specs.Prelude.{◌≡◌, ◌≤◌, length, vec_capacity};
+    ghost use Rattle.std.specs.List.{zip};
     ghost use Rattle.std.specs.List.Sorted.{IsStrictlyIncreasing};
-    ghost use Rattle.txn_cells.specs.Kept.{AreAmong, Holding};
+    ghost use Rattle.txn_cells.specs.Kept.{AreAmong, AreMarked, Held};
 
-    ghost Value = { Holding };
+    ghost Value = { Held V };
 
-    ghost view = { λ h. record { numbers = h.numbers.items; marked = h.marked.items } };
+    ghost view = { λ h. zip h.numbers.items h.contents.items };
 
-    ghost invariant = { λ h. IsStrictlyIncreasing h.numbers.items × AreAmong h.marked.items h.numbers.items × (length h.numbers.items ≤ vec_capacity h.marked) };
+    ghost invariant = { λ h.
+        IsStrictlyIncreasing h.numbers.items × (length h.contents.items ≡ length h.numbers.items)
+        × AreAmong h.marked.items h.numbers.items × (length h.numbers.items ≤ vec_capacity h.marked)
+        × AreMarked V.outstanding (zip h.numbers.items h.contents.items) h.marked.items };
 }
 
-// Where the number belongs.
-fn place_for(numbers: &[TxnNo], txn: TxnNo) -> usize
-    requires { IsStrictlyIncreasing numbers.now }
-    ensures within { result ≤ length numbers.now }
-    ensures below { (i : ℕ) → (d : ℕ) → i < result → slice_index_or numbers.now i d < txn }
-    ensures from { (i : ℕ) → (d : ℕ) → result ≤ i → i < length numbers.now → txn ≤ slice_index_or numbers.now i d }
-{
-    numbers.partition_point(|number| number.place() < txn.place())
-}
-
-// Puts a number where it belongs. If memory runs out, nothing changes.
-fn put_in(numbers: &mut Vec<TxnNo>, txn: TxnNo) -> Result<(), NoMemory>
-    requires rising { IsStrictlyIncreasing numbers.old.items }
-    requires fresh { IsFalse (list_any (nat_eq txn) numbers.old.items) }
-    ensures rising { IsStrictlyIncreasing numbers.new.items }
-    ensures ok { OnOk result ((u : ℕ) → list_any (nat_eq u) numbers.new.items ≡ (nat_eq txn u || list_any (nat_eq u) numbers.old.items)) }
-    ensures len { OnOk result (length numbers.new.items ≡ length numbers.old.items + 1) }
-    ensures err { OnErr result (numbers.new.items ≡ numbers.old.items) }
-    ensures capacity { vec_capacity numbers.old ≤ vec_capacity numbers.new }
-    ensures succeeds { length numbers.old.items < vec_capacity numbers.old → IsOk result }
-{
-    let place = place_for(numbers.as_slice(), txn);
-    match numbers.insert(place, txn) {
-        Ok(()) => Ok(()),
-        Err(_) => Err(AllocError),
-    }
-}
-
-// Takes a number out, if it is there.
-fn take_from(numbers: &mut Vec<TxnNo>, txn: TxnNo)
-    requires { IsStrictlyIncreasing numbers.old.items }
-    ensures left { numbers.new.items ≡ filter (λ v. not (nat_eq v txn)) numbers.old.items }
-    ensures capacity { vec_capacity numbers.new ≡ vec_capacity numbers.old }
-{
-    if let Ok(place) = numbers.binary_search(&txn) {
-        numbers.remove(place);
-    }
-}
-
-impl Holders {
+impl<V: Inherit> Holders<V> {
     pub(crate) fn new(alloc: Global) -> Self
-        ensures { result ≡ nobody }
+        ensures { result ≡ [] }
     {
         Holders {
             numbers: Vec::new(alloc),
+            contents: Vec::new(alloc),
             marked: Vec::new(alloc),
         }
     }
 
     pub(crate) fn numbers(&self) -> &[TxnNo]
-        ensures same { result.now ≡ self.now.numbers }
-        ensures rising { IsStrictlyIncreasing self.now.numbers }
+        ensures each { (u : ℕ) → list_any (nat_eq u) result.now ≡ holds self.now u }
+        ensures rising { IsStrictlyIncreasing result.now }
     {
         self.numbers.as_slice()
     }
 
     pub(crate) fn marked(&self) -> &[TxnNo]
-        ensures same { result.now ≡ self.now.marked }
-        ensures among { AreAmong self.now.marked self.now.numbers }
+        ensures all { (u : ℕ) → IsTrue (stands V.outstanding (content_of self.now u)) → IsTrue (list_any (nat_eq u) result.now) }
+        ensures places { (u : ℕ) → IsTrue (list_any (nat_eq u) result.now) → IsTrue (holds self.now u) }
+        ensures rising { IsStrictlyIncreasing result.now }
     {
         self.marked.as_slice()
     }
 
-    pub(crate) fn add(&mut self, txn: TxnNo) -> Result<(), NoMemory>
-        requires { IsFalse (list_any (nat_eq txn) self.old.numbers) }
-        ensures ok { OnOk result ((u : ℕ) → list_any (nat_eq u) self.new.numbers ≡ (nat_eq txn u || list_any (nat_eq u) self.old.numbers)) }
-        ensures err { OnErr result (self.new.numbers ≡ self.old.numbers) }
-        ensures marked { self.new.marked ≡ self.old.marked }
+    /// What the transaction has here.
+    pub(crate) fn get(&self, txn: TxnNo) -> Option<V>
+        ensures { result ≡ content_of self.now txn }
     {
-        self.marked.reserve(self.numbers.len() + 1)?;
-        put_in(&mut self.numbers, txn)
-    }
-
-    /// Marks one that is there. It takes no memory.
-    pub(crate) fn mark(&mut self, txn: TxnNo)
-        requires { IsTrue (list_any (nat_eq txn) self.old.numbers) }
-        ensures numbers { self.new.numbers ≡ self.old.numbers }
-        ensures marked { (u : ℕ) → list_any (nat_eq u) self.new.marked ≡ (nat_eq txn u || list_any (nat_eq u) self.old.marked) }
-    {
-        if !self.marked.contains(&txn) {
-            put_in(&mut self.marked, txn).unwrap();
+        match find(self.numbers.as_slice(), txn) {
+            Ok(place) => self.contents[place],
+            Err(_) => None,
         }
     }
 
-    pub(crate) fn remove(&mut self, txn: TxnNo)
-        ensures numbers { (u : ℕ) → list_any (nat_eq u) self.new.numbers ≡ (not (nat_eq txn u) && list_any (nat_eq u) self.old.numbers) }
-        ensures marked { (u : ℕ) → list_any (nat_eq u) self.new.marked ≡ (not (nat_eq txn u) && list_any (nat_eq u) self.old.marked) }
+    // Puts an empty place where the number belongs.
+    fn insert(&mut self, place: usize, txn: TxnNo) -> Result<(), NoMemory>
+        requires fresh { IsFalse (holds self.old txn) }
+        requires within { place ≤ length self.old }
+        requires rising { IsStrictlyIncreasing (insert (keys_of self.old) place txn) }
+        ensures ok { OnOk result (self.new ≡ insert self.old place (txn, None)) }
+        ensures err { OnErr result (self.new ≡ self.old) }
     {
-        take_from(&mut self.numbers, txn);
-        take_from(&mut self.marked, txn);
+        self.marked.reserve(self.numbers.len() + 1)?;
+        self.contents.reserve(1)?;
+        self.numbers.reserve(1)?;
+        self.numbers.insert(place, txn).unwrap();
+        self.contents.insert(place, None).unwrap();
+        Ok(())
+    }
+
+    /// Makes an empty place for the transaction, if it has none, and tells whether it had none.
+    pub(crate) fn add(&mut self, txn: TxnNo) -> Result<bool, NoMemory>
+        ensures made { IfOk result (λ made. made ≡ not (holds self.old txn)) }
+        ensures contents { (u : ℕ) → content_of self.new u ≡ content_of self.old u }
+        ensures ok { OnOk result ((u : ℕ) → holds self.new u ≡ (nat_eq txn u || holds self.old u)) }
+        ensures err { OnErr result (self.new ≡ self.old) }
+        ensures succeeds { IsTrue (holds self.old txn) → IsOk result }
+    {
+        match find(self.numbers.as_slice(), txn) {
+            Ok(_) => Ok(false),
+            Err(place) => {
+                self.insert(place, txn)?;
+                Ok(true)
+            }
+        }
+    }
+
+    /// Sets what the transaction has. It takes no memory.
+    pub(crate) fn set(&mut self, txn: TxnNo, value: V)
+        requires { IsTrue (holds self.old txn) }
+        ensures contents { (u : ℕ) → content_of self.new u ≡ (if nat_eq txn u then Some value else content_of self.old u) }
+        ensures places { (u : ℕ) → holds self.new u ≡ holds self.old u }
+    {
+        if let Ok(place) = find(self.numbers.as_slice(), txn) {
+            self.contents[place] = Some(value);
+            if value.stands_out() {
+                put_in(&mut self.marked, txn);
+            }
+        }
+    }
+
+    // Takes the transaction out, and gives what it had.
+    fn remove(&mut self, txn: TxnNo) -> Option<V>
+        ensures had { result ≡ content_of self.old txn }
+        ensures contents { (u : ℕ) → content_of self.new u ≡ (if nat_eq txn u then None else content_of self.old u) }
+        ensures places { (u : ℕ) → holds self.new u ≡ (not (nat_eq txn u) && holds self.old u) }
+    {
+        match find(self.numbers.as_slice(), txn) {
+            Ok(place) => {
+                self.numbers.remove(place);
+                take_from(&mut self.marked, txn);
+                self.contents.remove(place)
+            }
+            Err(_) => None,
+        }
+    }
+
+    /// Takes the child out. Its parent, if there is one, inherits what it had. It takes no memory.
+    pub(crate) fn hand_up(&mut self, child: TxnNo, parent: Option<TxnNo>)
+        requires other { IfSome parent (λ p. IsFalse (nat_eq child p)) }
+        requires place { IfSome parent (λ p. IsTrue (holds self.old p)) }
+        ensures contents { (u : ℕ) → content_of self.new u
+            ≡ (if nat_eq child u then None else if is_it parent u then merged V.inherited (content_of self.old child) (content_of self.old u) else content_of self.old u) }
+        ensures places { (u : ℕ) → holds self.new u ≡ (not (nat_eq child u) && holds self.old u) }
+    {
+        let had = self.remove(child);
+        if let Some(value) = had {
+            if let Some(parent) = parent {
+                self.set(parent, V::inherit(value, self.get(parent)));
+            }
+        }
     }
 }

@@ -2,11 +2,11 @@
 //! dropped without memory.
 #![tactic(auto)]
 
-mod by_txn;
-mod cells;
 mod holders;
-mod index;
 mod inherit;
+mod key_lists;
+mod numbers;
+mod places;
 mod table;
 
 pub use inherit::Inherit;

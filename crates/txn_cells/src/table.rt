@@ -1,15 +1,14 @@
 //! What all transactions have, by transaction and by key.
-ghost use Rattle.std.specs.Prelude.{◌≡◌, ◌&&◌, ◌↔◌, nat_eq, not, length, IsFalse, IsOk, IsTrue, IfSome, OnErr, OnOk, List, ℕ, if◌then◌else◌, slice_get, false, Some, None};
+ghost use Rattle.std.specs.Prelude.{◌≡◌, ◌&&◌, ◌↔◌, nat_eq, not, IsFalse, IsOk, IsTrue, IfSome, OnErr, OnOk, List, ℕ, if◌then◌else◌, false, Some, None};
 ghost use Rattle.std.specs.List.{IsDistinct, list_any};
 ghost use Rattle.std.specs.List.Sorted.{IsStrictlyIncreasing};
 ghost use Rattle.txn_names.specs.Path.{label_eq};
-ghost use Rattle.txn_cells.specs.Cells.{IsTowards, handed_up, is_under, merged, nothing, with_childs, with_place};
-ghost use Rattle.txn_cells.specs.Kept.{cells_in, content, content_at, has_cell_at, has_place, is_holder, is_marked, keys_in, stands};
+ghost use Rattle.txn_cells.specs.Cells.{IsTowards, handed_up, is_it, is_under, nothing, with_childs, with_place};
+ghost use Rattle.txn_cells.specs.Kept.{AreListed, content, content_kept, has_place, keys_at, place_kept, stands};
 
-use crate::by_txn::CellsByTxn;
-use crate::cells::Cells;
-use crate::index::KeyIndex;
 use crate::inherit::Inherit;
+use crate::key_lists::KeyLists;
+use crate::places::Places;
 use serial_spec::NoMemory;
 use std::alloc::Global;
 use std::marker::Model;
@@ -20,32 +19,77 @@ use txn_tree::{Tree, TxnNo};
 /// is empty.
 #[derive(Drop)]
 pub struct CellTable<V: Inherit> {
-    cells: CellsByTxn<V>,
-    index: KeyIndex,
+    places: Places<V>,
+    keys: KeyLists,
 }
 
 impl<V: Inherit> Model for CellTable<V> {
-    ghost use Rattle.txn_cells.specs.Kept.{AreHoldersOf, AreMarkedIn, Table};
+    ghost use Rattle.txn_cells.specs.Kept.{AreListed, Table, seen};
 
     ghost Value = { Table V };
 
-    ghost view = { λ t. t.cells };
+    ghost view = { λ t. seen t.keys t.places };
 
-    ghost invariant = { λ t. AreHoldersOf t.cells t.index × AreMarkedIn V.outstanding t.cells t.index };
+    ghost invariant = { λ t. AreListed t.places t.keys };
 }
 
-// Marks the transaction at each of these keys where what it has stands out.
-fn mark_at<V: Inherit>(cells: &CellsByTxn<V>, index: &mut KeyIndex, txn: TxnNo, keys: &[Key])
-    requires { (q : List ℕ) → IsTrue (list_any (label_eq q) keys.now) → IsTrue (is_holder index.old txn q) }
-    ensures holders { (u : ℕ) → (q : List ℕ) → is_holder index.new u q ≡ is_holder index.old u q }
-    ensures kept { (u : ℕ) → (q : List ℕ) → IsTrue (is_marked index.old u q) → IsTrue (is_marked index.new u q) }
-    ensures marked { (q : List ℕ) → IsTrue (list_any (label_eq q) keys.now) → IsTrue (stands V.outstanding (content cells.now txn q)) → IsTrue (is_marked index.new txn q) }
+// Makes a place, if there is none. The keys of others stay in their order.
+fn make_place<V: Inherit>(
+    places: &mut Places<V>,
+    keys: &mut KeyLists,
+    txn: TxnNo,
+    key: &Key,
+) -> Result<(), NoMemory>
+    requires listed { AreListed places.old keys.old }
+    ensures listed { AreListed places.new keys.new }
+    ensures contents { (u : ℕ) → (q : List ℕ) → content_kept places.new u q ≡ content_kept places.old u q }
+    ensures ok { OnOk result ((u : ℕ) → (q : List ℕ) → place_kept places.new u q ≡ with_place (place_kept places.old) txn key.now u q) }
+    ensures err { OnErr result ((u : ℕ) → (q : List ℕ) → place_kept places.new u q ≡ place_kept places.old u q) }
+    ensures succeeds { IsTrue (place_kept places.old txn key.now) → IsOk result }
+    ensures others { (u : ℕ) → (u ≡ txn → ⊥) → keys_at keys.new u ≡ keys_at keys.old u }
 {
-    for key in keys {
-        if cells.stands_out(txn, key) {
-            index.mark(txn, key);
-        }
+    if !places.add(txn, key)? {
+        return Ok(());
     }
+    let listed = keys.add(txn, key);
+    if listed.is_err() {
+        places.hand_up(key, txn, None);
+    }
+    listed
+}
+
+// The parent, if there is one and it is not the child.
+fn heir(child: TxnNo, parent: Option<TxnNo>) -> Option<TxnNo>
+    ensures other { IfSome result (λ p. IsFalse (nat_eq child p)) }
+    ensures same { (u : ℕ) → IsFalse (nat_eq child u) → is_it result u ≡ is_it parent u }
+    ensures parent { IfSome result (λ p. parent ≡ Some p) }
+{
+    match parent {
+        Some(heir) if heir.place() != child.place() => Some(heir),
+        _ => None,
+    }
+}
+
+// Makes a place for the parent at each key of the child, another transaction.
+fn make_places<V: Inherit>(
+    places: &mut Places<V>,
+    keys: &mut KeyLists,
+    child: TxnNo,
+    parent: TxnNo,
+) -> Result<(), NoMemory>
+    requires listed { AreListed places.old keys.old }
+    requires other { child ≡ parent → ⊥ }
+    ensures listed { AreListed places.new keys.new }
+    ensures contents { (u : ℕ) → (q : List ℕ) → content_kept places.new u q ≡ content_kept places.old u q }
+    ensures ok { OnOk result ((u : ℕ) → (q : List ℕ) → place_kept places.new u q ≡ with_childs (place_kept places.old) child parent u q) }
+    ensures err { OnErr result (IsTowards (place_kept places.old) (place_kept places.new) child parent) }
+    ensures succeeds { ((q : List ℕ) → IsTrue (place_kept places.old child q) → IsTrue (place_kept places.old parent q)) → IsOk result }
+{
+    for index in 0..keys.keys(child).len() {
+        let key = keys.keys(child)[index];
+        make_place(places, keys, parent, &key)?;
+    }
+    Ok(())
 }
 
 impl<V: Inherit> CellTable<V> {
@@ -55,8 +99,8 @@ impl<V: Inherit> CellTable<V> {
         ensures places { (u : ℕ) → (q : List ℕ) → has_place result u q ≡ false }
     {
         CellTable {
-            cells: CellsByTxn::new(alloc),
-            index: KeyIndex::new(alloc),
+            places: Places::new(alloc),
+            keys: KeyLists::new(alloc),
         }
     }
 
@@ -64,14 +108,14 @@ impl<V: Inherit> CellTable<V> {
     pub fn is_empty(&self) -> bool
         ensures { IsTrue result ↔ (self.now ≡ nothing) }
     {
-        self.cells.is_empty()
+        self.keys.is_empty()
     }
 
     /// What the transaction has at the key.
     pub fn get(&self, txn: TxnNo, key: &Key) -> Option<V>
         ensures { result ≡ content self.now txn key.now }
     {
-        self.cells.get(txn, key)
+        self.places.get(txn, key)
     }
 
     /// The transactions that have a place at the key, each once, in the order in which they began. No other has anything
@@ -81,7 +125,7 @@ impl<V: Inherit> CellTable<V> {
         ensures rising { IsStrictlyIncreasing result.now }
         ensures elsewhere { (u : ℕ) → IsFalse (has_place self.now u key.now) → content self.now u key.now ≡ None }
     {
-        self.index.holders(key)
+        self.places.holders(key)
     }
 
     /// Transactions that have a place at the key, each once, in the order in which they began: all those whose content there
@@ -91,26 +135,7 @@ impl<V: Inherit> CellTable<V> {
         ensures places { (u : ℕ) → IsTrue (list_any (nat_eq u) result.now) → IsTrue (has_place self.now u key.now) }
         ensures rising { IsStrictlyIncreasing result.now }
     {
-        self.index.marked(key)
-    }
-
-    // Makes a place as `reserve` does, and leaves the keys of others in their order.
-    fn make_place(&mut self, txn: TxnNo, key: &Key) -> Result<(), NoMemory>
-        ensures contents { (u : ℕ) → (q : List ℕ) → content self.new u q ≡ content self.old u q }
-        ensures ok { OnOk result ((u : ℕ) → (q : List ℕ) → has_place self.new u q ≡ with_place (has_place self.old) txn key.now u q) }
-        ensures err { OnErr result ((u : ℕ) → (q : List ℕ) → has_place self.new u q ≡ has_place self.old u q) }
-        ensures succeeds { IsTrue (has_place self.old txn key.now) → IsOk result }
-        ensures others { (u : ℕ) → (u ≡ txn → ⊥) → cells_in self.new u ≡ cells_in self.old u }
-    {
-        if self.cells.has_place(txn, key) {
-            return Ok(());
-        }
-        self.index.add(txn, key)?;
-        let made = self.cells.add_place(txn, key);
-        if made.is_err() {
-            self.index.remove(txn, key);
-        }
-        made
+        self.places.marked(key)
     }
 
     /// Makes a place for the transaction and the key, if there is none, so that it can be set without memory. What any
@@ -121,7 +146,7 @@ impl<V: Inherit> CellTable<V> {
         ensures err { OnErr result ((u : ℕ) → (q : List ℕ) → has_place self.new u q ≡ has_place self.old u q) }
         ensures succeeds { IsTrue (has_place self.old txn key.now) → IsOk result }
     {
-        self.make_place(txn, key)
+        make_place(&mut self.places, &mut self.keys, txn, key)
     }
 
     /// Makes a place for the parent at each key where the child has one, so that what the child has can be handed up
@@ -136,24 +161,7 @@ impl<V: Inherit> CellTable<V> {
         if child == parent {
             return Ok(());
         }
-        for index in 0..self.count(child) {
-            if let Some(key) = self.key_at(child, index) {
-                self.make_place(parent, &key)?;
-            }
-        }
-        Ok(())
-    }
-
-    fn count(&self, txn: TxnNo) -> usize
-        ensures { result ≡ length (keys_in self.now txn) }
-    {
-        self.cells.count(txn)
-    }
-
-    fn key_at(&self, txn: TxnNo, index: usize) -> Option<Key>
-        ensures { result ≡ slice_get (keys_in self.now txn) index }
-    {
-        self.cells.key_at(txn, index)
+        make_places(&mut self.places, &mut self.keys, child, parent)
     }
 
     /// The keys at which the transaction has a place, each once. It has nothing at any other key.
@@ -162,7 +170,7 @@ impl<V: Inherit> CellTable<V> {
         ensures once { IsDistinct label_eq result.now }
         ensures elsewhere { (q : List ℕ) → IsFalse (has_place self.now txn q) → content self.now txn q ≡ None }
     {
-        self.cells.keys(txn)
+        self.keys.keys(txn)
     }
 
     /// Sets what the transaction has at the key. It takes no memory.
@@ -172,33 +180,7 @@ impl<V: Inherit> CellTable<V> {
             content self.new u q ≡ (if nat_eq txn u && label_eq key.now q then Some value else content self.old u q) }
         ensures places { (u : ℕ) → (q : List ℕ) → has_place self.new u q ≡ has_place self.old u q }
     {
-        self.cells.set(txn, key, value);
-        if value.stands_out() {
-            self.index.mark(txn, key);
-        }
-    }
-
-    // Takes the transaction's cells out. It has no place any more.
-    fn take_out(&mut self, txn: TxnNo) -> Cells<V>
-        ensures taken { (q : List ℕ) → content_at result q ≡ content self.old txn q }
-        ensures taken_cells { (q : List ℕ) → has_cell_at result q ≡ has_place self.old txn q }
-        ensures contents { (u : ℕ) → (q : List ℕ) → content self.new u q ≡ (if nat_eq txn u then None else content self.old u q) }
-        ensures places { (u : ℕ) → (q : List ℕ) → has_place self.new u q ≡ (not (nat_eq txn u) && has_place self.old u q) }
-    {
-        let cells = self.cells.take_out(txn);
-        self.index.remove_at(txn, cells.keys());
-        cells
-    }
-
-    // The transaction inherits what stands in these cells.
-    fn inherit(&mut self, txn: TxnNo, child: &Cells<V>)
-        requires cells { (q : List ℕ) → IsTrue (has_cell_at child.now q) → IsTrue (has_place self.old txn q) }
-        ensures contents { (u : ℕ) → (q : List ℕ) →
-            content self.new u q ≡ (if nat_eq txn u then merged V.inherited (content_at child.now q) (content self.old u q) else content self.old u q) }
-        ensures places { (u : ℕ) → (q : List ℕ) → has_place self.new u q ≡ has_place self.old u q }
-    {
-        self.cells.inherit(txn, child);
-        mark_at(&self.cells, &mut self.index, txn, child.keys());
+        self.places.set(txn, key, value);
     }
 
     // Drops the cells of the transaction.
@@ -206,7 +188,7 @@ impl<V: Inherit> CellTable<V> {
         ensures contents { (u : ℕ) → (q : List ℕ) → content self.new u q ≡ (if nat_eq txn u then None else content self.old u q) }
         ensures places { (u : ℕ) → (q : List ℕ) → has_place self.new u q ≡ (not (nat_eq txn u) && has_place self.old u q) }
     {
-        let _ = self.take_out(txn);
+        self.hand_up(txn, None);
     }
 
     /// Drops the cells of the transaction and of all below it. It goes to no other transaction, and takes no memory.
@@ -232,11 +214,8 @@ impl<V: Inherit> CellTable<V> {
         ensures contents { (u : ℕ) → (q : List ℕ) → content self.new u q ≡ handed_up V.inherited (content self.old) child parent u q }
         ensures places { (u : ℕ) → (q : List ℕ) → has_place self.new u q ≡ (not (nat_eq child u) && has_place self.old u q) }
     {
-        let cells = self.take_out(child);
-        if let Some(parent) = parent {
-            if parent != child {
-                self.inherit(parent, &cells);
-            }
-        }
+        let keys = self.keys.take(child);
+        let heir = heir(child, parent);
+        self.places.hand_up_at(keys.as_slice(), child, &heir);
     }
 }

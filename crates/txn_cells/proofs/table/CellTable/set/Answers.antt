@@ -1,27 +1,27 @@
-use Rattle.std.proofs.Common.{sym, ◌∙◌, true≢false}
-use Rattle.txn_cells.proofs.Marking.{marked_set, marks_more, marks_one}
+use Rattle.std.proofs.Common.{nat_eq, ◌&&◌, Some, if◌then◌else◌, ap, sym, ◌∙◌}
+use Rattle.txn_names.specs.Path.{label_eq}
+use Rattle.txn_cells.specs.Kept.{AreListed}
+use Rattle.txn_cells.proofs.Seen.{seen_content, seen_place}
 use Rattle.txn_cells.proofs.table.CellTable.set.Goals as goal
 
-pub mark-requires : goal.mark-requires
-mark-requires g c = c.self.invariant.0 c.args.txn c.args.key.now ∙ (rw (sym c.self.view_is) at c.requires.place)
+pub set-requires : goal.set-requires
+set-requires g c =
+    let t = c.self.inside in
+    sym (seen_place t.places t.keys c.self.invariant c.args.txn c.args.key.now) ∙ (rw (sym c.self.view_is) at c.requires.place)
 
-pub invariant_of-self : goal.invariant_of-self
-invariant_of-self g c =
-    let i = c.self.invariant in
-    let index = c.self.inside.index in
-    let t = c.args.txn in
-    let k = c.args.key.now in
-    let e = c.mark.ensures in (
-      λ u q. e.holders u q ∙ i.0 u q ∙ sym (c.set.ensures.places u q),
-      marked_set g.V.Inherit.outstanding c.self.inside.cells c.set.new.self index c.mark.new.self t k c.args.value i.1 c.set.ensures.contents (marks_more index c.mark.new.self t k e.marked)
-          (λ _. marks_one index c.mark.new.self t k e.marked),
-    )
+pub returns-clause-contents : goal.returns-clause-contents
+returns-clause-contents g c =
+    let t = c.self.inside in
+    let listed : AreListed c.set.new.self t.keys = λ u q. c.set.ensures.places u q ∙ c.self.invariant u q in
+    rw (sym c.self.view_is)
+    (λ u q.
+    seen_content c.set.new.self t.keys listed u q
+    ∙ c.set.ensures.contents u q
+    ∙ ap (λ o. if nat_eq c.args.txn u && label_eq c.args.key.now q then Some c.args.value else o) (sym (seen_content t.places t.keys c.self.invariant u q)))
 
-pub invariant_of-self-else-stands_out : goal.invariant_of-self-else-stands_out
-invariant_of-self-else-stands_out g c =
-    let i = c.self.invariant in
-    let index = c.self.inside.index in (
-      λ u q. i.0 u q ∙ sym (c.set.ensures.places u q),
-      marked_set g.V.Inherit.outstanding c.self.inside.cells c.set.new.self index index c.args.txn c.args.key.now c.args.value i.1 c.set.ensures.contents (λ u q e. e)
-          (λ on. absurd (true≢false (sym on ∙ sym c.stands_out.ensures ∙ c.if-stands_out.false))),
-    )
+pub returns-clause-places : goal.returns-clause-places
+returns-clause-places g c =
+    let t = c.self.inside in
+    let listed : AreListed c.set.new.self t.keys = λ u q. c.set.ensures.places u q ∙ c.self.invariant u q in
+    rw (sym c.self.view_is)
+    (λ u q. seen_place c.set.new.self t.keys listed u q ∙ c.set.ensures.places u q ∙ sym (seen_place t.places t.keys c.self.invariant u q))

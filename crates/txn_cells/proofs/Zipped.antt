@@ -1,0 +1,119 @@
+-- What a look-up finds in rising numbers beside what belongs to each.
+use Rattle.std.proofs.Common.{◌≡◌, ℕ, zero, suc, ◌<◌, ◌≤◌, Bool, true, false, cond, not, nat_eq, ◌&&◌, ◌||◌, List, [], ◌∷◌, length, get_or, set, Option, Some, None, unwrap_or, is_some, refl, sym, ap, subst, ◌∙◌, arith}
+use Rattle.std.specs.List.{insert, list_any, remove, zip}
+use Rattle.std.specs.Map.{lookup}
+use Rattle.std.proofs.lemmas.Bool.{eq-eqb, false≢true, ne_eqb}
+use Rattle.std.proofs.lemmas.Map.Made.{keys_of-zip}
+use Rattle.txn_cells.specs.Kept.{Held, content_of, holds}
+use Rattle.txn_cells.proofs.Puts.{none_from, on_number}
+use Rattle.txn_cells.proofs.Reserving.{found_by_key}
+
+-- no two numbers are equal, since they rise
+abbrev pub Rises : List ℕ → Type 0
+Rises ns = (j k : ℕ) → j < k → k < length ns → get_or ns j 0 < get_or ns k 0
+
+rises_on : (n : ℕ) (ns : List ℕ) → Rises (n ∷ ns) → Rises ns
+rises_on n ns rises j k less past = rises (suc j) (suc k) (omega (arith, less)) (omega (arith, past))
+
+module _ {X : Type 0} where
+  pub listed : (ns : List ℕ) (cs : List X) → length cs ≡ length ns → (u : ℕ) → is_some (lookup (nat_eq u) (zip ns cs)) ≡ list_any (nat_eq u) ns
+  listed ns cs same u = found_by_key (nat_eq u) (zip ns cs) ∙ ap (list_any (nat_eq u)) (keys_of-zip ns cs same)
+
+  -- what is beside a number
+  pub found_at : (ns : List ℕ) (cs : List X) (t i : ℕ) (d : X) → Rises ns → length cs ≡ length ns → i < length ns → get_or ns i 0 ≡ t → lookup (nat_eq t) (zip ns cs) ≡ Some (get_or cs i d)
+  found_at [] cs t i d rises same within at = absurd (omega (arith, within))
+  found_at (n ∷ ns) [] t i d rises same within at = absurd (omega (arith, same))
+  found_at (n ∷ ns) (c ∷ cs) t zero d rises same within at = ap (λ b. cond b (Some c) (lookup (nat_eq t) (zip ns cs))) (eq-eqb t n (sym at))
+  found_at (n ∷ ns) (c ∷ cs) t (suc i) d rises same within at =
+      ap (λ b. cond b (Some c) (lookup (nat_eq t) (zip ns cs))) (ne_eqb t n (λ e. let up = rises 0 (suc i) (omega arith) within in omega (arith, up, at, e)))
+      ∙ found_at ns cs t i d (rises_on n ns rises) (omega (arith, same)) (omega (arith, within)) at
+
+  -- one number has something else beside it
+  pub found-set : (ns : List ℕ) (cs : List X) (t i : ℕ) (c : X) → Rises ns → length cs ≡ length ns → i < length ns → get_or ns i 0 ≡ t
+      → (u : ℕ) → lookup (nat_eq u) (zip ns (set cs i c)) ≡ cond (nat_eq t u) (Some c) (lookup (nat_eq u) (zip ns cs))
+  found-set [] cs t i c rises same within at u = absurd (omega (arith, within))
+  found-set (n ∷ ns) [] t i c rises same within at u = absurd (omega (arith, same))
+  found-set (n ∷ ns) (b ∷ cs) t zero c rises same within at u =
+      on_number t u (λ a. cond (nat_eq u n) (Some c) (lookup (nat_eq u) (zip ns cs)) ≡ cond a (Some c) (cond (nat_eq u n) (Some b) (lookup (nat_eq u) (zip ns cs))))
+      (λ e. ap (λ a. cond a (Some c) (lookup (nat_eq u) (zip ns cs))) (eq-eqb u n (sym e ∙ sym at)))
+      (λ e. ap (λ a. cond a (Some c) (lookup (nat_eq u) (zip ns cs))) (apart e) ∙ sym (ap (λ a. cond a (Some b) (lookup (nat_eq u) (zip ns cs))) (apart e)))
+    where
+      apart : nat_eq t u ≡ false → nat_eq u n ≡ false
+      apart e = ne_eqb u n (λ same_number. false≢true (sym e ∙ eq-eqb t u (sym at ∙ sym same_number)))
+  found-set (n ∷ ns) (b ∷ cs) t (suc i) c rises same within at u =
+      ap (cond (nat_eq u n) (Some b)) (found-set ns cs t i c (rises_on n ns rises) (omega (arith, same)) (omega (arith, within)) at u)
+      ∙ on_number u n (λ a. cond a (Some b) (cond (nat_eq t u) (Some c) (lookup (nat_eq u) (zip ns cs))) ≡ cond (nat_eq t u) (Some c) (cond a (Some b) (lookup (nat_eq u) (zip ns cs))))
+      (λ e. sym (ap (λ a. cond a (Some c) (Some b)) (ne_eqb t u (λ here. let up = rises 0 (suc i) (omega arith) within in omega (arith, up, at, e, here)))))
+      (λ _. refl)
+
+  -- one number is taken out, and what is beside it
+  pub found-remove : (ns : List ℕ) (cs : List X) (t i : ℕ) → Rises ns → length cs ≡ length ns → i < length ns → get_or ns i 0 ≡ t
+      → (u : ℕ) → lookup (nat_eq u) (zip (remove ns i) (remove cs i)) ≡ cond (nat_eq t u) None (lookup (nat_eq u) (zip ns cs))
+  found-remove [] cs t i rises same within at u = absurd (omega (arith, within))
+  found-remove (n ∷ ns) [] t i rises same within at u = absurd (omega (arith, same))
+  found-remove (n ∷ ns) (b ∷ cs) t zero rises same within at u =
+      on_number t u (λ a. lookup (nat_eq u) (zip ns cs) ≡ cond a None (cond (nat_eq u n) (Some b) (lookup (nat_eq u) (zip ns cs))))
+      (λ e. none_from (lookup (nat_eq u) (zip ns cs)) (listed ns cs (omega (arith, same)) u ∙ later ns (λ k less. let up = rises 0 (suc k) (omega arith) (omega (arith, less)) in omega (arith, up, at, e))))
+      (λ e. sym (ap (λ a. cond a (Some b) (lookup (nat_eq u) (zip ns cs))) (ne_eqb u n (λ same_number. false≢true (sym e ∙ eq-eqb t u (sym at ∙ sym same_number))))))
+    where
+      later : (xs : List ℕ) → ((k : ℕ) → k < length xs → u < get_or xs k 0) → list_any (nat_eq u) xs ≡ false
+      later [] above = refl
+      later (x ∷ xs) above =
+          ap (λ a. a || list_any (nat_eq u) xs) (ne_eqb u x (λ e. let up = above 0 (omega arith) in omega (arith, up, e)))
+          ∙ later xs (λ k less. above (suc k) (omega (arith, less)))
+  found-remove (n ∷ ns) (b ∷ cs) t (suc i) rises same within at u =
+      ap (cond (nat_eq u n) (Some b)) (found-remove ns cs t i (rises_on n ns rises) (omega (arith, same)) (omega (arith, within)) at u)
+      ∙ on_number u n (λ a. cond a (Some b) (cond (nat_eq t u) None (lookup (nat_eq u) (zip ns cs))) ≡ cond (nat_eq t u) None (cond a (Some b) (lookup (nat_eq u) (zip ns cs))))
+      (λ e. sym (ap (λ a. cond a None (Some b)) (ne_eqb t u (λ here. let up = rises 0 (suc i) (omega arith) within in omega (arith, up, at, e, here)))))
+      (λ _. refl)
+
+  -- one number is put in, and what is beside it
+  pub zip-insert : (ns : List ℕ) (cs : List X) (i t : ℕ) (c : X) → length cs ≡ length ns → i ≤ length ns → zip (insert ns i t) (insert cs i c) ≡ insert (zip ns cs) i (t, c)
+  zip-insert ns cs zero t c same within = refl
+  zip-insert [] cs (suc i) t c same within = absurd (omega (arith, within))
+  zip-insert (n ∷ ns) [] (suc i) t c same within = absurd (omega (arith, same))
+  zip-insert (n ∷ ns) (b ∷ cs) (suc i) t c same within = ap (λ es. (n, b) ∷ es) (zip-insert ns cs i t c (omega (arith, same)) (omega (arith, within)))
+
+-- what is had of what a look-up finds
+module _ {V : Type 0} (t u : ℕ) (old new : Held V) where
+  pub content-put : (c : Option V) → lookup (nat_eq u) new ≡ cond (nat_eq t u) (Some c) (lookup (nat_eq u) old) → content_of new u ≡ cond (nat_eq t u) c (content_of old u)
+  content-put c e = ap (λ o. unwrap_or o None) e ∙ by (nat_eq t u)
+    where
+      by : (b : Bool) → unwrap_or (cond b (Some c) (lookup (nat_eq u) old)) None ≡ cond b c (content_of old u)
+      by true = refl
+      by false = refl
+
+  pub holds-put : (c : Option V) → lookup (nat_eq u) new ≡ cond (nat_eq t u) (Some c) (lookup (nat_eq u) old) → holds new u ≡ (nat_eq t u || holds old u)
+  holds-put c e = ap is_some e ∙ by (nat_eq t u)
+    where
+      by : (b : Bool) → is_some (cond b (Some c) (lookup (nat_eq u) old)) ≡ (b || holds old u)
+      by true = refl
+      by false = refl
+
+  pub content-taken : lookup (nat_eq u) new ≡ cond (nat_eq t u) None (lookup (nat_eq u) old) → content_of new u ≡ cond (nat_eq t u) None (content_of old u)
+  content-taken e = ap (λ o. unwrap_or o None) e ∙ by (nat_eq t u)
+    where
+      by : (b : Bool) → unwrap_or (cond b None (lookup (nat_eq u) old)) None ≡ cond b None (content_of old u)
+      by true = refl
+      by false = refl
+
+  pub holds-taken : lookup (nat_eq u) new ≡ cond (nat_eq t u) None (lookup (nat_eq u) old) → holds new u ≡ (not (nat_eq t u) && holds old u)
+  holds-taken e = ap is_some e ∙ by (nat_eq t u)
+    where
+      by : (b : Bool) → is_some (cond b None (lookup (nat_eq u) old)) ≡ (not b && holds old u)
+      by true = refl
+      by false = refl
+
+-- one that has a place has it still, and no more do
+pub still : {V : Type 0} (held : Held V) (t u : ℕ) → holds held t ≡ true → (nat_eq t u || holds held u) ≡ holds held u
+still held t u there =
+    on_number t u (λ b. (b || holds held u) ≡ holds held u)
+    (λ e. subst (λ (v : ℕ). true ≡ holds held v) e (sym there))
+    (λ _. refl)
+
+-- an empty place is as none
+pub empty_as_none : {V : Type 0} (held : Held V) (t u : ℕ) → holds held t ≡ false → cond (nat_eq t u) None (content_of held u) ≡ content_of held u
+empty_as_none held t u none =
+    on_number t u (λ b. cond b None (content_of held u) ≡ content_of held u)
+    (λ e. subst (λ (v : ℕ). None ≡ content_of held v) e (sym (ap (λ o. unwrap_or o None) (none_from (lookup (nat_eq t) held) none))))
+    (λ _. refl)

@@ -1,0 +1,9 @@
+use Rattle.std.proofs.Common.{ap, nat_eq, sym, ◌∙◌}
+use Rattle.std.specs.List.{list_any}
+use Rattle.txn_cells.proofs.Zipped.{listed}
+use Rattle.txn_cells.proofs.holders.Holders.numbers.Goals as goal
+
+pub returns-clause-each : goal.returns-clause-each
+returns-clause-each g c =
+    let h = c.self.inside in
+    rw (sym c.self.view_is) (λ u. ap (list_any (nat_eq u)) c.as_slice.ensures.value ∙ sym (listed h.numbers.items h.contents.items c.self.invariant.1 u))

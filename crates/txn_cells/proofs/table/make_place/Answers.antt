@@ -1,0 +1,9 @@
+use Rattle.std.proofs.Common.{sym, ◌∙◌}
+use Rattle.txn_cells.proofs.Puts.{at_ok}
+use Rattle.txn_cells.proofs.Seen.{listed_more}
+use Rattle.txn_cells.proofs.table.make_place.Goals as goal
+
+pub returns-else-is_err-clause-listed : goal.returns-else-is_err-clause-listed
+returns-else-is_err-clause-listed g c =
+    listed_more c.args.places.now c.args.keys.now c.requires.listed c.add.new.self c.add-listed.new.self c.args.txn c.args.key.now c.in_ok-add.ensures.ok
+    (at_ok c.add-listed.result c.add-listed.ensures.ok (sym c.is_err.ensures.value ∙ c.if-is_err.false))

@@ -1,0 +1,142 @@
+//! What stands at each key.
+ghost use Rattle.std.specs.Prelude.{◌≡◌, ◌&&◌, not, nat_eq, false, length, [], IsFalse, IsOk, IsTrue, IfOk, IfSome, OnErr, OnOk, List, ℕ, if◌then◌else◌, Some, None};
+ghost use Rattle.std.specs.List.{list_any};
+ghost use Rattle.std.specs.List.Sorted.{IsStrictlyIncreasing};
+ghost use Rattle.std.specs.Map.{lookup};
+ghost use Rattle.txn_names.specs.Path.{label_eq};
+ghost use Rattle.txn_cells.specs.Cells.{handed_up, is_it, with_place};
+ghost use Rattle.txn_cells.specs.Kept.{content_kept, place_kept, stands};
+
+use crate::holders::Holders;
+use crate::inherit::Inherit;
+use indexmap::IndexMap;
+use serial_spec::NoMemory;
+use std::alloc::{AllocError, Global};
+use std::marker::Model;
+use txn_names::Key;
+use txn_tree::TxnNo;
+
+/// The places at each key. A key stays when its last place goes.
+#[derive(Drop)]
+pub(crate) struct Places<V: Inherit> {
+    alloc: Global,
+    holders: IndexMap<Key, Holders<V>>,
+}
+
+impl<V: Inherit> Model for Places<V> {
+    ghost use Rattle.txn_cells.specs.Kept.{AtKeys};
+
+    ghost Value = { AtKeys V };
+
+    ghost view = { λ p. p.holders.entries };
+}
+
+impl<V: Inherit> Places<V> {
+    pub(crate) fn new(alloc: Global) -> Self
+        ensures { result ≡ [] }
+    {
+        Places {
+            alloc,
+            holders: IndexMap::new(alloc),
+        }
+    }
+
+    /// What the transaction has at the key.
+    pub(crate) fn get(&self, txn: TxnNo, key: &Key) -> Option<V>
+        ensures { result ≡ content_kept self.now txn key.now }
+    {
+        self.holders.get(key)?.get(txn)
+    }
+
+    /// Those that have a place at the key, each once, rising.
+    pub(crate) fn holders(&self, key: &Key) -> &[TxnNo]
+        ensures each { (u : ℕ) → list_any (nat_eq u) result.now ≡ place_kept self.now u key.now }
+        ensures rising { IsStrictlyIncreasing result.now }
+    {
+        match self.holders.get(key) {
+            Some(holders) => holders.numbers(),
+            None => &[],
+        }
+    }
+
+    /// Those of them whose content_kept stands out, and maybe more of them.
+    pub(crate) fn marked(&self, key: &Key) -> &[TxnNo]
+        ensures all { (u : ℕ) → IsTrue (stands V.outstanding (content_kept self.now u key.now)) → IsTrue (list_any (nat_eq u) result.now) }
+        ensures places { (u : ℕ) → IsTrue (list_any (nat_eq u) result.now) → IsTrue (place_kept self.now u key.now) }
+        ensures rising { IsStrictlyIncreasing result.now }
+    {
+        match self.holders.get(key) {
+            Some(holders) => holders.marked(),
+            None => &[],
+        }
+    }
+
+    // Makes the first place at a key.
+    fn add_key(&mut self, txn: TxnNo, key: &Key) -> Result<bool, NoMemory>
+        requires { lookup (label_eq key.now) self.old ≡ None }
+        ensures made { IfOk result (λ made. IsTrue made) }
+        ensures contents { (u : ℕ) → (q : List ℕ) → content_kept self.new u q ≡ content_kept self.old u q }
+        ensures ok { OnOk result ((u : ℕ) → (q : List ℕ) → place_kept self.new u q ≡ with_place (place_kept self.old) txn key.now u q) }
+        ensures err { OnErr result (self.new ≡ self.old) }
+    {
+        let mut holders = Holders::new(self.alloc);
+        let made = holders.add(txn)?;
+        match self.holders.insert(*key, holders) {
+            Ok(_) => Ok(made),
+            Err(_) => Err(AllocError),
+        }
+    }
+
+    /// Makes an empty place for the transaction, if it has none, and tells whether it had none.
+    pub(crate) fn add(&mut self, txn: TxnNo, key: &Key) -> Result<bool, NoMemory>
+        ensures made { IfOk result (λ made. made ≡ not (place_kept self.old txn key.now)) }
+        ensures contents { (u : ℕ) → (q : List ℕ) → content_kept self.new u q ≡ content_kept self.old u q }
+        ensures ok { OnOk result ((u : ℕ) → (q : List ℕ) → place_kept self.new u q ≡ with_place (place_kept self.old) txn key.now u q) }
+        ensures err { OnErr result ((u : ℕ) → (q : List ℕ) → place_kept self.new u q ≡ place_kept self.old u q) }
+        ensures succeeds { IsTrue (place_kept self.old txn key.now) → IsOk result }
+    {
+        match self.holders.get_mut(key) {
+            Some(holders) => holders.add(txn),
+            None => self.add_key(txn, key),
+        }
+    }
+
+    /// Sets what the transaction has at the key. It takes no memory.
+    pub(crate) fn set(&mut self, txn: TxnNo, key: &Key, value: V)
+        requires { IsTrue (place_kept self.old txn key.now) }
+        ensures contents { (u : ℕ) → (q : List ℕ) →
+            content_kept self.new u q ≡ (if nat_eq txn u && label_eq key.now q then Some value else content_kept self.old u q) }
+        ensures places { (u : ℕ) → (q : List ℕ) → place_kept self.new u q ≡ place_kept self.old u q }
+    {
+        if let Some(holders) = self.holders.get_mut(key) {
+            holders.set(txn, value);
+        }
+    }
+
+    /// Takes the child out of those at the key. Its parent, if there is one, inherits what it had there. It takes no memory.
+    pub(crate) fn hand_up(&mut self, key: &Key, child: TxnNo, parent: Option<TxnNo>)
+        requires other { IfSome parent (λ p. IsFalse (nat_eq child p)) }
+        requires place { IfSome parent (λ p. IsTrue (place_kept self.old p key.now)) }
+        ensures contents { (u : ℕ) → (q : List ℕ) →
+            content_kept self.new u q ≡ (if label_eq key.now q then handed_up V.inherited (content_kept self.old) child parent u q else content_kept self.old u q) }
+        ensures places { (u : ℕ) → (q : List ℕ) → place_kept self.new u q ≡ (not (nat_eq child u && label_eq key.now q) && place_kept self.old u q) }
+    {
+        if let Some(holders) = self.holders.get_mut(key) {
+            holders.hand_up(child, parent);
+        }
+    }
+
+    /// Does so at each of these keys.
+    pub(crate) fn hand_up_at(&mut self, keys: &[Key], child: TxnNo, parent: &Option<TxnNo>)
+        requires other { IfSome parent.now (λ p. IsFalse (nat_eq child p)) }
+        requires places { IfSome parent.now (λ p. (q : List ℕ) → IsTrue (list_any (label_eq q) keys.now) → IsTrue (place_kept self.old p q)) }
+        ensures contents { (u : ℕ) → (q : List ℕ) →
+            content_kept self.new u q ≡ (if list_any (label_eq q) keys.now then handed_up V.inherited (content_kept self.old) child parent.now u q else content_kept self.old u q) }
+        ensures places { (u : ℕ) → (q : List ℕ) →
+            place_kept self.new u q ≡ (not (nat_eq child u && list_any (label_eq q) keys.now) && place_kept self.old u q) }
+    {
+        for key in keys {
+            self.hand_up(key, child, *parent);
+        }
+    }
+}
