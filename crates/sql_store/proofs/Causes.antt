@@ -1,5 +1,5 @@
 -- An error that stands for a failure of the device has one as its cause.
-use Rattle.std.proofs.Common.{◌≡◌, ◌⊎◌, inl, inr, ℕ, Bool, false, List, [], Option, Some, None, Err, sym, subst, ◌∙◌, true≢false, arith}
+use Rattle.std.proofs.Common.{◌≡◌, ◌⊎◌, inl, inr, ℕ, Bool, false, List, [], Option, Some, None, Result, Ok, Err, IfErr, sym, subst, ◌∙◌, true≢false, arith}
 use Rattle.std.proofs.lemmas.Bool.{cases_Bool}
 use Rattle.sqlite_value.specs.Order.{Row}
 use Rattle.sqlite_trees.specs.Tree.{Trees}
@@ -96,6 +96,11 @@ down_later a b c P Q first clean second (inl shut) = elim (cases_Bool a.is_open)
   | inr closed ↦ inl closed
 ]
 down_later a b c P Q first clean second (inr more) = inr (omega (arith, more, first.counts))
+
+-- an error that has its cause in the second of two calls has it in both
+pub caused_later : {T : Type 0} (a b c : State) (r : Result T Error) → Survives a b (λ _. ⊥) → HasCleanDisk b → Survives b c (λ _. ⊥) → IfErr r (IsCaused b c) → IfErr r (IsCaused a c)
+caused_later a b c (Ok x) first clean second h = tt
+caused_later a b c (Err e) first clean second h = λ failed. down_later a b c _ _ first clean second (h failed)
 
 -- and so is one before
 pub down_before : (a b c : State) (Q : Trees → Type 0) → Survives b c Q → IsDown a b → IsDown a c

@@ -9,7 +9,11 @@ pub mod Steps
 pub mod Creates
 pub mod Deletes
 pub mod Again
+pub mod Rowed
 pub mod Upserts
+pub mod Updates
+pub mod Inserts
+pub mod Ways
 pub mod Loaded
 pub mod Loads
 pub mod Transactions

@@ -16,13 +16,13 @@ use Rattle.sqlite_schema.specs.declared.command.Conflict.TheVariants.{Abort}
 use Rattle.sqlite.specs.Collation.TheVariants.{Binary}
 use Rattle.sqlite_sql.specs.declared.ops.BinaryOp.TheVariants.{Compare}
 use Rattle.sqlite_sql.specs.declared.ops.CompareOp.TheVariants.{Eq}
-use Rattle.sqlite.specs.Command.TheVariants.{InsertOr, Select, CreateTable, Nothing, Delete}
+use Rattle.sqlite.specs.Command.TheVariants.{Insert, InsertOr, Update, Select, CreateTable, Nothing, Delete}
 use Rattle.sqlite.specs.Compile.{table_defined_by}
 use Rattle.sqlite_tied.specs.Compute.{everything}
 use Rattle.sqlite.specs.Listing.{understood, reads_listing}
 use Rattle.sqlite.proofs.Callers.{IsPlain, command_of, statement_of}
 use Rattle.sql_store.specs.Results.{old_results, results, defined_results, old_schema, both_schema, listed_old, listed_both, key_index, no_schema}
-pub use Rattle.sql_store.specs.Asked.{create_old_text, create_text, upsert_text, delete_text, empty_text}
+pub use Rattle.sql_store.specs.Asked.{create_old_text, create_text, upsert_text, update_text, insert_text, delete_text, empty_text}
 use Rattle.sql_store.specs.Load.{load_text, load_query, old_text, old_query, ids_text, ids_query, old_ids_text, old_ids_query}
 
 abbrev pub probe_text : List ℕ
@@ -98,6 +98,10 @@ upsert_query = plain_query 2 (op2 (Compare Eq Binary) (col 1 0) (col 0 3) ∷ []
 abbrev pub upsert_clause : Upsert
 upsert_clause = record { target = Some (1 ∷ []); update = Some (record { lets = []; body = upsert_query }) }
 
+-- the rows of the key, each with its rowid in front, and with the new value and number
+abbrev pub update_query : Query
+update_query = plain_query 2 (op2 (Compare Eq Binary) (col 1 1) (col 0 0) ∷ []) (col 1 0 ∷ col 1 0 ∷ col 1 1 ∷ col 0 1 ∷ col 0 2 ∷ [])
+
 pub delete_is : command_of (understood both_schema delete_text) ≡ Delete 1 (record { lets = []; body = delete_query })
 unfolding understood everything
 delete_is = refl
@@ -109,6 +113,14 @@ empty_is = refl
 pub upsert_is : command_of (understood both_schema upsert_text) ≡ InsertOr 1 Abort (Values insert_terms 4) (upsert_clause ∷ [])
 unfolding understood everything
 upsert_is = refl
+
+pub update_is : command_of (understood both_schema update_text) ≡ Update 1 (record { lets = []; body = update_query })
+unfolding understood everything
+update_is = refl
+
+pub insert_is : command_of (understood both_schema insert_text) ≡ Insert 1 (Values insert_terms 4)
+unfolding understood everything
+insert_is = refl
 
 pub load_is : command_of (understood both_schema load_text) ≡ Select (record { lets = []; body = load_query }) (codes "k" ∷ codes "v" ∷ codes "n" ∷ [])
 unfolding understood everything
@@ -157,6 +169,14 @@ empty_plain = (refl, refl)
 pub upsert_plain : IsPlain (understood both_schema upsert_text)
 unfolding understood everything
 upsert_plain = (refl, refl)
+
+pub update_plain : IsPlain (understood both_schema update_text)
+unfolding understood everything
+update_plain = (refl, refl)
+
+pub insert_plain : IsPlain (understood both_schema insert_text)
+unfolding understood everything
+insert_plain = (refl, refl)
 
 pub load_plain : IsPlain (understood both_schema load_text) × (reads_listing both_schema load_text ≡ false)
 unfolding understood everything

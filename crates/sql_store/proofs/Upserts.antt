@@ -1,8 +1,6 @@
 -- What an upsert leaves.
-use Rattle.std.proofs.Common.{◌≡◌, ◌≢◌, ◌&&◌, ◌||◌, ◌++◌, ℕ, ℤ, Bool, true, false, not, cond, List, [], ◌∷◌, map, filter, flat_map, Option, None, Some, Ok, Ordering, Less, Equal, Greater, if◌then◌else◌, inl, inr, sym, ap, subst, ◌∙◌, refl, is_eq, true≢false, arith}
-use Rattle.std.specs.Ordering.{is_ne}
-use Rattle.std.proofs.lemmas.Bool.{cases_Bool, false≢true}
-use Rattle.std.proofs.lemmas.Cmp.{tied_itself}
+use Rattle.std.proofs.Common.{◌≡◌, ◌≢◌, ◌&&◌, ◌||◌, ◌++◌, ℕ, ℤ, Bool, true, false, cond, List, [], ◌∷◌, map, filter, flat_map, Option, None, Some, Ok, if◌then◌else◌, inl, inr, sym, ap, subst, ◌∙◌, refl, is_eq, arith}
+use Rattle.std.proofs.lemmas.Bool.{cases_Bool}
 use Rattle.std.proofs.lemmas.List.Sorted.{IsPermutation-map}
 use Rattle.std.specs.List.{list_all}
 use Rattle.std.specs.List.Sorted.{IsPermutation}
@@ -11,11 +9,8 @@ use Rattle.sqlite.specs.declared.types.Value.TheVariants.{Null, Int, Real, Text,
 use Rattle.sqlite.specs.Order.{Row, column}
 use Rattle.sqlite.specs.Command.TheVariants.{InsertOr}
 use Rattle.sqlite.specs.Source.TheVariants.{Values}
-use Rattle.sqlite.specs.Kind.TheVariants.{Integer}
-use Rattle.sqlite.specs.Cast.{cast, cast_row}
-use Rattle.sqlite.specs.Ops.{unary}
 use Rattle.sqlite.specs.Edit.{edit_of}
-use Rattle.sqlite.specs.Rowids.TheVariants.{Chosen, Given}
+use Rattle.sqlite.specs.Rowids.TheVariants.{Given}
 use Rattle.sqlite.specs.Query.{IsAnswer, output, Output}
 use Rattle.sqlite.specs.Program.{overlay}
 use Rattle.sqlite.specs.Collation.TheVariants.{Binary}
@@ -26,49 +21,31 @@ use Rattle.sqlite.specs.Tree.{Trees}
 use Rattle.sqlite.specs.Listing.{understood}
 use Rattle.sqlite.specs.State.{State, mode_of, Executes, ExecutesInside}
 use Rattle.sqlite.proofs.Callers.{statement_of, runs_as, one_step, one_permutation}
-use Rattle.sqlite_sql.specs.Ops.{binary, is_true, from_truth}
+use Rattle.sqlite_sql.specs.Ops.{binary, is_true}
 use Rattle.sqlite_sql.specs.Term.{holds, Env}
 use Rattle.sqlite_sql.specs.declared.ops.BinaryOp.TheVariants.{Compare}
 use Rattle.sqlite_sql.specs.declared.ops.CompareOp.TheVariants.{Eq}
 use Rattle.sqlite_schema.specs.declared.command.Conflict.TheVariants.{Abort}
 use Rattle.sqlite_schema.specs.declared.schema.Keys.TheVariants.{Enforced}
-use Rattle.sqlite_schema.specs.declared.schema.Constraint.TheVariants.{Unique}
-use Rattle.sqlite_schema.specs.Rules.{Fits, equal, differ, passes}
+use Rattle.sqlite_schema.specs.Rules.{Fits, equal}
 use Rattle.sqlite_value.specs.Order.{value_cmp}
 use Rattle.sqlite_value.specs.Keys.{first_key}
-use Rattle.sqlite_value.proofs.OrderLemmas.{value_cmp_total, value_cmp-apart}
-use Rattle.sqlite_trees.specs.Tree.{rowid, has_rowid, put_row, without_rowid}
-use Rattle.sqlite_rules.specs.Edit.{next_rowid, is_taken, are_fresh, with_rowid, left_by, edited, put_all}
+use Rattle.sqlite_value.proofs.OrderLemmas.{value_cmp-apart}
+use Rattle.sqlite_trees.specs.Tree.{has_rowid}
+use Rattle.sqlite_rules.specs.Edit.{next_rowid, are_fresh, left_by, edited, put_all}
 use Rattle.sqlite_rules.specs.Keys.{AreConflicts, conflicts}
 use Rattle.sqlite_rules.specs.Calls.{ids_of}
 use Rattle.sqlite_rules.specs.Lists.{Has}
-use Rattle.sqlite_rules.proofs.ListLemmas.{all_has, some_from, has_filtered, has_kept}
-use Rattle.sqlite_rules.proofs.TableLemmas.{has_put, put_all_keeps}
+use Rattle.sqlite_rules.proofs.ListLemmas.{all_has}
 use Rattle.sql_store.specs.Laid.{put}
-use Rattle.txn_names.proofs.Names.{same_label}
 use Rattle.sql_store.specs.Results.{results, both_schema}
-use Rattle.sql_store.specs.Table.{is_key, id_of, map_of, table_of, AreApart, IsReady, Makes}
+use Rattle.sql_store.specs.Table.{is_key, id_of, table_of, AreApart, IsReady, Makes}
 use Rattle.sql_store.proofs.Texts.{upsert_text, upsert_is, upsert_plain, upsert_query, upsert_clause, insert_terms}
 use Rattle.sql_store.proofs.Creates.{went, same_value}
-use Rattle.sql_store.proofs.Again.{put_again}
 use Rattle.sql_store.proofs.Deletes.{told, equal_key}
+use Rattle.sql_store.proofs.Rowed.{row_of, key_is, other_id, PutsIn, cast_new, new_is, added_in, changed_in}
 use Rattle.sql_store.proofs.Steps.{kept_by}
-use Rattle.sql_store.proofs.Tables.{own_id, same_row, has_own, id_found, ids_tied, filter_same, rows_without, map_removed, map_added, apart_kept, apart_put}
-
-either : (b : Bool) (x : Value) → cond b x x ≡ x
-either true x = refl
-either false x = refl
-
-cast_null : cast Integer Null ≡ Null
-unfolding unary
-cast_null = either _ Null
-
-cast_int : (v : ℤ) → cast Integer (Int v) ≡ Int v
-unfolding unary
-cast_int v = either _ (Int v)
-
-abbrev row_of : ℤ → List ℕ → ℤ → ℤ → Row
-row_of id key value number = Int id ∷ Text key ∷ Int value ∷ Int number ∷ []
+use Rattle.sql_store.proofs.Tables.{own_id, has_own}
 
 -- ---- what a row meets
 
@@ -85,41 +62,6 @@ none_met : (id : ℤ) (key : List ℕ) (value number : ℤ) (rows : List Row) �
 none_met id key value number rows a r has = elim (cases_Bool (is_key key (column r 1))) [
   | inl e ↦ absurd (a.complete r has (meets id key value number r ∙ e))
   | inr e ↦ e
-]
-
--- ---- rows with one key are one row
-
-key_is : (key : List ℕ) (v : Value) → is_key key v ≡ true → v ≡ Text key
-key_is key Null e = absurd (false≢true e)
-key_is key (Int n) e = absurd (false≢true e)
-key_is key (Real x) e = absurd (false≢true e)
-key_is key (Text t) e = ap (λ l. Text l) (same_label t key e)
-key_is key (Blob b) e = absurd (false≢true e)
-
-same_id : (a b : ℤ) → differ (Int a) (Int b) ≡ false → a ≡ b
-unfolding binary
-same_id a b e = ids_tied a b (go (value_cmp (Int a) (Int b)) e)
-  where
-    go : (o : Ordering) → is_true (from_truth (Some (is_ne o))) ≡ false → is_eq o ≡ true
-    go Less e = absurd (true≢false e)
-    go Equal e = refl
-    go Greater e = absurd (true≢false e)
-
-own_text : (key : List ℕ) → equal Binary (Text key) (Text key) ≡ true
-unfolding binary
-own_text key = told _ ∙ ap is_eq (tied_itself value_cmp_total (Text key))
-
-unless : (b : Bool) → not b && true ≡ true → b ≡ false
-unless true e = absurd (false≢true e)
-unless false e = refl
-
-same_key : (key : List ℕ) (db : Trees) (a b : Row) → Fits both_schema db → Has (db 2) a → Has (db 2) b → column a 1 ≡ Text key → column b 1 ≡ Text key
-    → column a 0 ≡ Int (id_of a) → column b 0 ≡ Int (id_of b) → id_of b ≡ id_of a
-unfolding first_key
-same_key key db a b fits has_a has_b key_a key_b own_a own_b = elim (cases_Bool (differ (column b 0) (column a 0))) [
-  | inl e ↦ absurd (true≢false (sym (some_from (λ other. (equal Binary (column other 1) (column a 1) && true) && differ (column other 0) (column a 0)) (db 2) b has_b (rw (key_a, key_b, own_text key) e))
-      ∙ unless _ (all_has (λ r. passes Unique both_schema db results r ≡ true) (db 2) a (fits.rules Unique (λ e. absurd cc)).1.0 has_a)))
-  | inr e ↦ same_id (id_of b) (id_of a) (rw (own_a, own_b) at e)
 ]
 
 -- ---- the row that is met gets the value
@@ -156,9 +98,6 @@ no_row : (id : ℤ) (rows : List Row) → ((r : Row) → Has rows r → has_rowi
 no_row id [] none = refl
 no_row id (r ∷ rows) none = rw (none r (inl refl)) (no_row id rows (λ q has. none q (inr has)))
 
-other_id : (a : Row) (id : ℤ) → column a 0 ≡ Int (id_of a) → id_of a ≢ id → has_rowid id a ≡ false
-other_id a id own other = elim (cases_Bool (has_rowid id a)) [ inl e ↦ absurd (other (id_found a id own e)) | inr e ↦ e ]
-
 -- one row has the rowid
 one_row : (rows : List Row) (r : Row) → AreApart rows → Has rows r → filter (has_rowid (id_of r)) rows ≡ r ∷ []
 one_row [] r h has = absurd has
@@ -167,22 +106,7 @@ one_row (x ∷ rows) r h (inl e) =
     subst (λ (y : Row). filter (has_rowid (id_of y)) (x ∷ rows) ≡ y ∷ []) (sym e) (rw (has_own x h.0, no_row (id_of x) rows none))
 one_row (x ∷ rows) r h (inr has) = rw (other_id x (id_of r) h.0 (λ e. all_has (λ y. id_of y ≢ id_of x) rows r h.1 has (sym e))) (one_row rows r h.2 has)
 
-denied : (b : Bool) → not b ≡ true → b ≡ false
-denied true e = absurd (false≢true e)
-denied false e = refl
-
-untaken : (rows : List Row) (new : Row) → is_taken rows new ≡ false → (r : Row) → Has rows r → is_eq (value_cmp (rowid r) (rowid new)) ≡ false
-untaken rows new free r has = elim (cases_Bool (is_eq (value_cmp (rowid r) (rowid new)))) [
-  | inl e ↦ absurd (true≢false (sym (some_from (λ x. is_eq (value_cmp (rowid x) (rowid new))) rows r has e) ∙ free))
-  | inr e ↦ e
-]
-
 -- ---- the statement
-
-pub record PutsIn (key : List ℕ) (value number : ℤ) (old new : Trees) : Type 0 where
-  pub others : new 0 ≡ old 0
-  pub apart : AreApart (new 2)
-  pub table : map_of (new 2) ≡ put (map_of (old 2)) key (Some (value, number))
 
 module _ (limit : Option ℕ) (key : List ℕ) (value number : ℤ) (db : Trees) (apart : AreApart (db 2)) where
   abbrev task : Task
@@ -191,28 +115,16 @@ module _ (limit : Option ℕ) (key : List ℕ) (value number : ℤ) (db : Trees)
   abbrev new : Row
   new = row_of (next_rowid (db 2)) key value number
 
-  abbrev numbered : Value → Value → Value → Row
-  numbered id v n = with_rowid Chosen (db 2) (id ∷ Text key ∷ v ∷ n ∷ [])
-
-  cast_new : (id : ℤ) → cast_row results (row_of id key value number) ≡ row_of id key value number
-  cast_new id = rw (cast_int id, cast_int value, cast_int number)
-
   -- no row is met
   added : (one : Written) → ((r : Row) → Has (db 2) r → is_key key (column r 1) ≡ false) → Puts task new db (Ok one) → PutsIn key value number db one.trees
   added one none h =
       let put_it = went h in
       let edit = edit_of db results [] Given 0 (new ∷ []) in
       let step = one_step both_schema Enforced db put_it.0 edit refl put_it.1 in
-      let news : edit.news ≡ new ∷ [] = ap (λ (r : Row). r ∷ []) (cast_new (next_rowid (db 2))) in
+      let news : edit.news ≡ new ∷ [] = ap (λ (r : Row). r ∷ []) (cast_new key value number db apart (next_rowid (db 2))) in
       let trees : one.trees ≡ put_it.0 = ap (λ (w : Written). w.trees) (same_value put_it.2) in
-      let rows : one.trees 2 ≡ put_row new (db 2) = ap (λ (t : Trees). t 2) trees ∙ step.rows ∙ ap (put_all (db 2)) news in
-      let fresh : is_taken (db 2) new ≡ false = unless _ (subst (λ all. are_fresh (db 2) all ≡ true) news step.fresh) in
-      let other = untaken (db 2) new fresh in
-      record {
-        others = ap (λ (t : Trees). t 0) trees ∙ step.tables.0 (λ e. absurd (omega (arith, e)));
-        apart = subst AreApart (sym rows) (apart_put new (db 2) refl (λ r has e. true≢false (sym (has_own r (own_id (db 2) r apart has)) ∙ subst (λ id. has_rowid id r ≡ false) (sym e) (other r has))) apart);
-        table = ap map_of rows ∙ map_added key value number new refl refl refl (db 2) none other;
-      }
+      added_in key value number db apart (next_rowid (db 2)) one.trees (ap (λ (t : Trees). t 0) trees ∙ step.tables.0 (λ e. absurd (omega (arith, e))))
+      (ap (λ (t : Trees). t 2) trees ∙ step.rows ∙ ap (put_all (db 2)) news) (subst (λ all. are_fresh (db 2) all ≡ true) news step.fresh) none
 
   -- a row is met
   updated : (r : Row) (one : Written) → Has (db 2) r → is_key key (column r 1) ≡ true → Resolves task new db (column r 0 ∷ []) upsert_clause.update (Ok one) → PutsIn key value number db one.trees
@@ -230,44 +142,16 @@ module _ (limit : Option ℕ) (key : List ℕ) (value number : ℤ) (db : Trees)
       let rows : queried.0 ≡ (Int id ∷ row_of id key value number) ∷ [] = one_permutation _ queried.0 same ∙ rw (own, key_r) in
       let edit = edit_of db results (ids_of queried.0) Given 1 queried.0 in
       let step = one_step both_schema Enforced db wrote.0 edit refl wrote.1 in
-      let made : edit ≡ record { table = results; gone = id ∷ []; news = row_of id key value number ∷ [] } = ap (λ all. edit_of db results (ids_of all) Given 1 all) rows ∙ rw (cast_new id) in
+      let made : edit ≡ record { table = results; gone = id ∷ []; news = row_of id key value number ∷ [] } = ap (λ all. edit_of db results (ids_of all) Given 1 all) rows ∙ rw (cast_new key value number db apart id) in
       let trees : one.trees ≡ wrote.0 = ap (λ (w : Written). w.trees) (same_value wrote.2) in
-      changed r one.trees has is (ap (λ (t : Trees). t 0) trees ∙ step.tables.0 (λ e. absurd (omega (arith, e)))) (ap (λ (t : Trees). t 2) trees ∙ step.rows ∙ ap (edited db) made) (subst (Fits both_schema) (sym trees) step.fits) (ap (λ e. are_fresh (left_by db e) e.news) (sym made) ∙ step.fresh)
-    where
-      changed : (r : Row) (next : Trees) → Has (db 2) r → is_key key (column r 1) ≡ true → next 0 ≡ db 0 → next 2 ≡ put_row (row_of (id_of r) key value number) (without_rowid (id_of r) (db 2)) → Fits both_schema next
-          → are_fresh (without_rowid (id_of r) (db 2)) (row_of (id_of r) key value number ∷ []) ≡ true → PutsIn key value number db next
-      changed r next has is others rows fits fresh =
-          let row = row_of (id_of r) key value number in
-          let left = without_rowid (id_of r) (db 2) in
-          let there = subst (λ all. Has all row) (sym rows) (has_put row left) in
-          let was = λ (q : Row) (in_left : Has left q). has_filtered (λ x. not (has_rowid (id_of r) x)) (db 2) q in_left in
-          let apart_id = λ (q : Row) (in_left : Has left q) (e : id_of q ≡ id_of r). true≢false (sym (has_own q (own_id (db 2) q apart (was q in_left).0)) ∙ subst (λ i. has_rowid i q ≡ false) (sym e) (denied _ (was q in_left).1)) in
-          let free : (q : Row) → Has left q → is_key key (column q 1) ≡ false = λ q in_left. elim (cases_Bool (is_key key (column q 1))) [
-            | inl e ↦ absurd (apart_id q in_left (same_key key next row q fits there (subst (λ all. Has all q) (sym rows) (put_all_keeps (row ∷ []) left q fresh in_left)) refl (key_is key (column q 1) e) refl (own_id (db 2) q apart (was q in_left).0)))
-            | inr e ↦ e
-          ] in
-          let gone : (q : Row) → Has (db 2) q → has_rowid (id_of r) q ≡ true → is_key key (column q 1) ≡ true = λ q in_db e.
-          subst (λ (x : Row). is_key key (column x 1) ≡ true) (sym (same_row (db 2) q r apart in_db has (id_found q (id_of r) (own_id (db 2) q apart in_db) e))) is in
-          let goes : (q : Row) → Has (db 2) q → has_rowid (id_of r) q ≡ is_key key (column q 1) = λ q in_db. elim (cases_Bool (has_rowid (id_of r) q)) [
-            | inl e ↦ e ∙ sym (gone q in_db e)
-            | inr e ↦ e ∙ sym (free q (has_kept (λ x. not (has_rowid (id_of r) x)) (db 2) q in_db (rw e)))
-          ] in
-          let without : left ≡ rows_without key (db 2) = filter_same _ _ (db 2) (λ q in_db. ap not (goes q in_db)) in
-          record {
-            others = others;
-            apart = subst AreApart (sym rows) (apart_put row left refl apart_id (apart_kept _ (db 2) apart));
-            table = ap map_of rows ∙ map_added key value number row refl refl refl left free (untaken left row (unless _ fresh)) ∙ ap (λ m. put m key (Some (value, number))) (ap map_of without ∙ map_removed key (db 2)) ∙ put_again (map_of (db 2)) key None (Some (value, number));
-          }
+      changed_in key value number db apart r one.trees has is (ap (λ (t : Trees). t 0) trees ∙ step.tables.0 (λ e. absurd (omega (arith, e)))) (ap (λ (t : Trees). t 2) trees ∙ step.rows ∙ ap (edited db) made) (subst (Fits both_schema) (sym trees) step.fits) (ap (λ e. are_fresh (left_by db e) e.news) (sym made) ∙ step.fresh)
 
   tried : (rows : List Row) (top : ℤ) (out : Written × ℤ) → rows ≡ (Null ∷ Text key ∷ Int value ∷ Int number ∷ []) ∷ [] → TriesEach task Abort (upsert_clause ∷ []) rows top (nothing db) (Ok out)
       → PutsIn key value number db out.0.trees
   tried rows top out is h =
       let one = went (subst (λ all. TriesEach task Abort (upsert_clause ∷ []) all top (nothing db) (Ok out)) is h) in
-      subst (PutsIn key value number db) (sym (ap (λ (p : Written × ℤ). p.0.trees) (same_value one.2))) (judged one.0 (subst (λ (r : Row). Tries task Abort (upsert_clause ∷ []) r db (Ok one.0)) new_is one.1))
+      subst (PutsIn key value number db) (sym (ap (λ (p : Written × ℤ). p.0.trees) (same_value one.2))) (judged one.0 (subst (λ (r : Row). Tries task Abort (upsert_clause ∷ []) r db (Ok one.0)) (new_is key value number db apart) one.1))
     where
-      new_is : numbered (cast Integer Null) (cast Integer (Int value)) (cast Integer (Int number)) ≡ new
-      new_is = ap (λ id. numbered id (cast Integer (Int value)) (cast Integer (Int number))) cast_null ∙ ap (λ v. numbered Null v (cast Integer (Int number))) (cast_int value) ∙ ap (numbered Null (Int value)) (cast_int number)
-
       put_there : (one : Written) (found : List Row) → Clears task Abort new db found (Ok one) → Puts task new db (Ok one)
       put_there one [] h = h
       put_there one (x ∷ more) h = h

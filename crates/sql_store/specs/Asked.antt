@@ -1,5 +1,5 @@
 -- What a store asked of its connection, and what it was answered, whatever the database has.
-use Rattle.std.specs.Prelude.{◌≡◌, ℕ, ℤ, false, true, List, [], ◌∷◌, ◌++◌, map, codes, Option, Some, None, Ok, Err}
+use Rattle.std.specs.Prelude.{◌≡◌, ◌⊎◌, ◌<◌, ℕ, ℤ, false, true, List, [], ◌∷◌, ◌++◌, map, codes, Option, Some, None, Result, Ok, Err, IsTrue}
 use Rattle.sqlite.specs.declared.types.Value.TheVariants.{Text, Int}
 use Rattle.sqlite.specs.declared.error.Error.{Error}
 use Rattle.sqlite.specs.Order.{Row as Values}
@@ -8,6 +8,7 @@ use Rattle.sqlite.specs.Held.{Held, state}
 use Rattle.sqlite.specs.State.{Shown, Shows, IsUnchanged, ExecutesInside}
 use Rattle.txn_names.specs.declared.change.Change.{Change}
 use Rattle.durable_top.specs.declared.store.Row.{Row}
+use Rattle.sql_store.specs.Faults.{breaks_rule}
 use Rattle.sql_store.specs.Load.{load_text, old_text}
 use Rattle.sql_store.specs.Reading.{told, seen, seen_old}
 
@@ -20,36 +21,75 @@ create_text = codes "CREATE TABLE IF NOT EXISTS results2 (k TEXT NOT NULL PRIMAR
 abbrev pub upsert_text : List ℕ
 upsert_text = codes "INSERT INTO results2 (k, v, n) VALUES (?1, ?2, ?3) ON CONFLICT (k) DO UPDATE SET v = excluded.v, n = excluded.n"
 
+abbrev pub update_text : List ℕ
+update_text = codes "UPDATE results2 SET v = ?2, n = ?3 WHERE k = ?1"
+
+abbrev pub insert_text : List ℕ
+insert_text = codes "INSERT INTO results2 (k, v, n) VALUES (?1, ?2, ?3)"
+
 abbrev pub delete_text : List ℕ
 delete_text = codes "DELETE FROM results2 WHERE k = ?1"
 
 abbrev pub empty_text : List ℕ
 empty_text = codes "DELETE FROM results"
 
--- the statement that gives a key this value under a number, or takes its row away, and its parameters
-abbrev pub text_for : Option ℤ → List ℕ
-text_for None = delete_text
-text_for (Some value) = upsert_text
-
-abbrev pub params_for : ℤ → List ℕ → Option ℤ → Values
-params_for number key None = Text key ∷ []
-params_for number key (Some value) = Text key ∷ Int value ∷ Int number ∷ []
+-- the parameters of the statements that give a key this value under a number
+abbrev pub params_for : ℤ → List ℕ → ℤ → Values
+params_for number key value = Text key ∷ Int value ∷ Int number ∷ []
 
 abbrev pub params_of : Row → Values
-params_of r = params_for r.commit r.key (Some r.value)
+params_of r = params_for r.commit r.key r.value
 
 module _ {S : Type 0} (g : Ghosts S) where
-  -- the statement was executed in a transaction
-  abbrev pub Executed : List ℕ → Values → Held S → Held S → Type 0
-  Executed text params old new = (count : ℕ) × ExecutesInside 0 text params (state g old) (state g new) (Ok count)
+  -- the statement was executed in a transaction, and this was its answer
+  abbrev pub Answered : List ℕ → Values → Held S → Held S → Result ℕ Error → Type 0
+  Answered text params old new = ExecutesInside 0 text params (state g old) (state g new)
 
-  -- the statement of each change was executed, in turn
+  -- it was executed without an error
+  abbrev pub Executed : List ℕ → Values → Held S → Held S → Type 0
+  Executed text params old new = (count : ℕ) × Answered text params old new (Ok count)
+
+  -- the update met a row of the key
+  abbrev pub Updated : Values → Held S → Held S → Type 0
+  Updated params old new = (count : ℕ) × (0 < count) × Answered update_text params old new (Ok count)
+
+  -- the update met no row, or the insert was refused since it would have broken a rule of the table
+  abbrev pub IsLeft : Values → Held S → Held S → Type 0
+  IsLeft params old new =
+      Answered update_text params old new (Ok 0)
+      ⊎ ((e : Error) × IsTrue (breaks_rule e) × Answered insert_text params old new (Err e))
+
+  -- A row was put: by an update that met one, by an insert, or by the upsert where one of these left it to that.
+  abbrev pub PutsRow : Values → Held S → Held S → Type 0
+  PutsRow params old new =
+      Updated params old new
+      ⊎ (Executed insert_text params old new
+      ⊎ ((next : Held S) × IsLeft params old next × Executed upsert_text params next new))
+
+  -- the update, the insert, or the upsert to which one of them left the row gave the error
+  abbrev pub PutGives : Values → Held S → Held S → Error → Type 0
+  PutGives params old new e =
+      Answered update_text params old new (Err e)
+      ⊎ (((breaks_rule e ≡ false) × Answered insert_text params old new (Err e))
+      ⊎ ((next : Held S) × IsLeft params old next × Answered upsert_text params next new (Err e)))
+
+  -- the key was given its value under the number, or its row was deleted
+  abbrev pub MakesChange : ℤ → List ℕ → Option ℤ → Held S → Held S → Type 0
+  MakesChange number key None old new = Executed delete_text (Text key ∷ []) old new
+  MakesChange number key (Some value) old new = PutsRow (params_for number key value) old new
+
+  -- a statement that was to do so gave the error
+  abbrev pub FailsToChange : ℤ → List ℕ → Option ℤ → Held S → Held S → Error → Type 0
+  FailsToChange number key None old new e = Answered delete_text (Text key ∷ []) old new (Err e)
+  FailsToChange number key (Some value) old new e = PutGives (params_for number key value) old new e
+
+  -- each change was made, in turn
   abbrev pub ExecutedEach : ℤ → List Change → Held S → Held S → Type 0
   ExecutedEach number [] old new = new ≡ old
   ExecutedEach number (c ∷ more) old new =
-      (next : Held S) × Executed (text_for c.value) (params_for number c.key c.value) old next × ExecutedEach number more next new
+      (next : Held S) × MakesChange number c.key c.value old next × ExecutedEach number more next new
 
-  -- the statements of the changes before one of them were executed in a transaction that was begun, and its statement gave the error
+  -- the changes before one of them were made in a transaction that was begun, and a statement of that one gave the error
   pub record ChangeGives (number : ℤ) (changes : List Change) (old : Held S) (e : Error) : Type 0 where
     pub before : List Change
     pub change : Change
@@ -58,9 +98,9 @@ module _ {S : Type 0} (g : Ghosts S) where
     pub last : Held S
     pub left : Held S
     pub executed : ExecutedEach number before old last
-    pub gives : ExecutesInside 0 (text_for change.value) (params_for number change.key change.value) (state g last) (state g left) (Err e)
+    pub gives : FailsToChange number change.key change.value last left e
 
-  -- a transaction was begun, the statement of each change was executed in it, and it was committed
+  -- a transaction was begun, each change was made in it, and it was committed
   pub record Transacted (number : ℤ) (changes : List Change) (old new : Held S) : Type 0 where
     pub outside : old.in_transaction ≡ false
     pub last : Held S

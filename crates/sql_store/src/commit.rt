@@ -63,7 +63,7 @@ fn commit_under<S: Alter>(
     if numbers.reserve(changes.len()).is_err() {
         return Err(StoreFault::Memory);
     }
-    match store_changes(conn, number, changes) {
+    match store_changes(conn, numbers, number, changes) {
         Ok(()) => {
             numbers.change(number, changes);
             Ok(())

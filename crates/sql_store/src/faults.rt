@@ -2,7 +2,7 @@
 ghost use Rattle.std.specs.Prelude.{◌≡◌, ◌⊎◌};
 ghost use Rattle.sqlite.specs.Held.{state};
 ghost use Rattle.sqlite.specs.State.{HasCleanDisk, Survives, KeepsCommit, IsUnchanged};
-ghost use Rattle.sql_store.specs.Faults.{fault_of, HasFailed};
+ghost use Rattle.sql_store.specs.Faults.{breaks_rule, fault_of, HasFailed};
 ghost use Rattle.sql_store.specs.Kept.{IsSettled, Spares};
 
 use crate::statements::probe;
@@ -22,6 +22,16 @@ pub(crate) fn fault_of(error: Error) -> StoreFault
         ) => StoreFault::Failed,
         Error::SqliteFailure(ErrorCode::OutOfMemory) => StoreFault::Memory,
         _ => StoreFault::Refused,
+    }
+}
+
+/// Whether the statement would have broken a rule of its table, as an insert where the key has a row.
+pub(crate) fn breaks_rule(error: Error) -> bool
+    ensures { result ≡ breaks_rule error }
+{
+    match error {
+        Error::SqliteFailure(ErrorCode::ConstraintViolation(_)) => true,
+        _ => false,
     }
 }
 

@@ -10,6 +10,7 @@ mod inside;
 mod load;
 mod memory;
 mod open;
+mod puts;
 mod reading;
 mod schema;
 mod statements;

@@ -26,7 +26,8 @@ fn of_key(key: &Key) -> [ValueRef<'_>; 1]
     [ValueRef::Text(key.as_bytes())]
 }
 
-fn of_row(row: &Row) -> [ValueRef<'_>; 3]
+/// The key, the value and the number of the row, as the parameters of a statement.
+pub(crate) fn of_row(row: &Row) -> [ValueRef<'_>; 3]
     ensures { bound result ≡ Text row.now.key ∷ Int row.now.value ∷ Int row.now.commit ∷ [] }
 {
     [

@@ -1,33 +1,47 @@
 //! Changes of the table in one transaction.
-ghost use Rattle.std.specs.Prelude.{◌≡◌, ◌<◌, ◌⊎◌, length, false, true, Some, None, Err, OnOk, OnErr, IfErr, IsTrue, IsErrOf};
+ghost use Rattle.std.specs.Prelude.{◌≡◌, ◌<◌, ◌⊎◌, length, false, true, Some, None, OnOk, OnErr, IfErr, IsTrue, IsErrOf};
 ghost use Rattle.sqlite.specs.Held.{state};
-ghost use Rattle.sqlite.specs.State.{HasCleanDisk, Survives, KeepsCommit, ExecutesInside};
+ghost use Rattle.sqlite.specs.State.{HasCleanDisk, Survives, KeepsCommit};
 ghost use Rattle.durable_top.specs.Numbered.{under};
 ghost use Rattle.sql_store.specs.Table.{Makes, IsReady};
 ghost use Rattle.sql_store.specs.Writes.{MakesAll, Stores, IsStored};
 ghost use Rattle.sql_store.specs.Faults.{fault_of, IsCaused, HasFailed};
-ghost use Rattle.sql_store.specs.Asked.{text_for, params_for, Executed, ExecutedEach, ChangeGives, Transacted, Committed};
+ghost use Rattle.sql_store.specs.Asked.{MakesChange, FailsToChange, ExecutedEach, ChangeGives, Transacted, Committed};
 ghost use Rattle.sql_store.specs.Refusals.{CannotWrite};
 
 use crate::faults::{fault_of, settle};
-use crate::statements::{put, remove};
-use durable_top::{Row, StoreFault};
+use crate::puts::put_either;
+use crate::statements::remove;
+use durable_top::{NumberTable, Row, StoreFault};
 use sqlite::{Alter, Connection, Error, ErrorCode, Transaction};
 use txn_names::Change;
 
-/// Gives the key the value of the change under this number, or takes its row away.
-fn make<S: Alter>(tx: &mut Transaction<'_, S>, number: i64, change: &Change) -> Result<(), Error>
+/// Gives the key the value of the change under this number, or takes its row away. The numbers say whether the key
+/// is likely to have a row.
+fn make<S: Alter>(
+    tx: &mut Transaction<'_, S>,
+    numbers: &NumberTable,
+    number: i64,
+    change: &Change,
+) -> Result<(), Error>
     ensures same_reference { tx.new.conn.ghost_name ≡ tx.old.conn.ghost_name }
     ensures made { HasCleanDisk (state S.Store tx.new.conn.now) → IsTrue (state S.Store tx.old.conn.now).in_transaction → OnOk result (Makes change.now.key (under number change.now.value) (state S.Store tx.old.conn.now) (state S.Store tx.new.conn.now)) }
     ensures kept { HasCleanDisk (state S.Store tx.new.conn.now) → IsTrue (state S.Store tx.old.conn.now).in_transaction → KeepsCommit (state S.Store tx.old.conn.now) (state S.Store tx.new.conn.now) }
     ensures survives { Survives (state S.Store tx.old.conn.now) (state S.Store tx.new.conn.now) (λ _. ⊥) }
     ensures cause { HasCleanDisk (state S.Store tx.new.conn.now) → IsTrue (state S.Store tx.old.conn.now).in_transaction → IfErr result (IsCaused (state S.Store tx.old.conn.now) (state S.Store tx.new.conn.now)) }
-    ensures refused { HasCleanDisk (state S.Store tx.new.conn.now) → IsTrue (state S.Store tx.old.conn.now).in_transaction → IfErr result (λ e. ExecutesInside 0 (text_for change.now.value) (params_for number change.now.key change.now.value) (state S.Store tx.old.conn.now) (state S.Store tx.new.conn.now) (Err e)) }
-    ensures asked { HasCleanDisk (state S.Store tx.new.conn.now) → IsTrue (state S.Store tx.old.conn.now).in_transaction → OnOk result (Executed S.Store (text_for change.now.value) (params_for number change.now.key change.now.value) tx.old.conn.now tx.new.conn.now) }
+    ensures refused { HasCleanDisk (state S.Store tx.new.conn.now)
+        → IsTrue (state S.Store tx.old.conn.now).in_transaction
+        → IfErr result (FailsToChange S.Store number change.now.key change.now.value
+        tx.old.conn.now tx.new.conn.now) }
+    ensures asked { HasCleanDisk (state S.Store tx.new.conn.now)
+        → IsTrue (state S.Store tx.old.conn.now).in_transaction
+        → OnOk result (MakesChange S.Store number change.now.key change.now.value
+        tx.old.conn.now tx.new.conn.now) }
 {
     match change.value {
-        Some(value) => put(
+        Some(value) => put_either(
             tx,
+            numbers.number(&change.key).is_some(),
             &Row {
                 key: change.key,
                 value,
@@ -41,6 +55,7 @@ fn make<S: Alter>(tx: &mut Transaction<'_, S>, number: i64, change: &Change) -> 
 /// Makes the changes one after another.
 fn make_all<S: Alter>(
     tx: &mut Transaction<'_, S>,
+    numbers: &NumberTable,
     number: i64,
     changes: &[Change],
 ) -> Result<(), Error>
@@ -56,7 +71,7 @@ fn make_all<S: Alter>(
     ensures asked { HasCleanDisk (state S.Store tx.new.conn.now) → OnOk result (ExecutedEach S.Store number changes.now tx.old.conn.now tx.new.conn.now) }
 {
     for change in changes {
-        make(tx, number, change)?;
+        make(tx, numbers, number, change)?;
     }
     Ok(())
 }
@@ -64,6 +79,7 @@ fn make_all<S: Alter>(
 /// Commits the changes, of which there are some, in one transaction.
 fn commit_some<S: Alter>(
     conn: &mut Connection<S>,
+    numbers: &NumberTable,
     number: i64,
     changes: &[Change],
 ) -> Result<(), Error>
@@ -78,7 +94,7 @@ fn commit_some<S: Alter>(
     ensures asked { HasCleanDisk (state S.Store conn.new) → OnOk result (Transacted S.Store number changes.now conn.old conn.new) }
 {
     let mut tx = conn.transaction();
-    make_all(&mut tx, number, changes)?;
+    make_all(&mut tx, numbers, number, changes)?;
     tx.commit()?;
     Ok(())
 }
@@ -86,6 +102,7 @@ fn commit_some<S: Alter>(
 /// Commits the changes, of which there are some, in one transaction, where none is open.
 pub(crate) fn write_all<S: Alter>(
     conn: &mut Connection<S>,
+    numbers: &NumberTable,
     number: i64,
     changes: &[Change],
 ) -> Result<(), Error>
@@ -98,7 +115,7 @@ pub(crate) fn write_all<S: Alter>(
     ensures asked { HasCleanDisk (state S.Store conn.new) → OnOk result (Committed S.Store number changes.now conn.old conn.new) }
 {
     if conn.is_autocommit() {
-        commit_some(conn, number, changes)
+        commit_some(conn, numbers, number, changes)
     } else {
         Err(Error::SqliteFailure(ErrorCode::TransactionState))
     }
@@ -107,6 +124,7 @@ pub(crate) fn write_all<S: Alter>(
 /// Commits the changes in one transaction, or tells why not.
 pub(crate) fn store_changes<S: Alter>(
     conn: &mut Connection<S>,
+    numbers: &NumberTable,
     number: i64,
     changes: &[Change],
 ) -> Result<(), StoreFault>
@@ -119,7 +137,7 @@ pub(crate) fn store_changes<S: Alter>(
     ensures refused { HasCleanDisk (state S.Store conn.new) → IsErrOf result StoreFault.Refused → CannotWrite S.Store number changes.now conn.old conn.new }
     ensures asked { HasCleanDisk (state S.Store conn.new) → OnOk result (Committed S.Store number changes.now conn.old conn.new) }
 {
-    match write_all(conn, number, changes) {
+    match write_all(conn, numbers, number, changes) {
         Ok(()) => Ok(()),
         Err(error) => Err(settle(conn, fault_of(error))),
     }

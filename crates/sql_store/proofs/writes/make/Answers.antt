@@ -6,7 +6,7 @@ pub returns-in-Some-clause-asked : goal.returns-in-Some-clause-asked
 returns-in-Some-clause-asked g c clean inside =
     let fits : SFits w64 c.in-Some.value = search rules in
     let counted : SFits w64 c.args.number = c.ranges.number in
-    let asked = simp to_z-of_z at (c.put.ensures.asked clean inside) in
+    let asked = simp to_z-of_z at (c.put_either.ensures.asked clean inside) in
     rw c.in-Some.is asked
 
 pub returns-in-None-clause-asked : goal.returns-in-None-clause-asked
@@ -16,7 +16,7 @@ pub returns-in-Some-clause-refused : goal.returns-in-Some-clause-refused
 returns-in-Some-clause-refused g c clean inside =
     let fits : SFits w64 c.in-Some.value = search rules in
     let counted : SFits w64 c.args.number = c.ranges.number in
-    let gave = simp to_z-of_z at (c.put.ensures.refused clean inside) in
+    let gave = simp to_z-of_z at (c.put_either.ensures.refused clean inside) in
     rw c.in-Some.is gave
 
 pub returns-in-None-clause-refused : goal.returns-in-None-clause-refused

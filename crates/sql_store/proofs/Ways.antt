@@ -1,0 +1,138 @@
+-- What stands behind a statement that left a row to the next one.
+use Rattle.std.proofs.Common.{◌≡◌, inl, inr, ℕ, ℤ, true, false, List, [], ◌∷◌, Option, Some, Result, Ok, Err, OnOk, IfErr, refl, sym, ap, subst, ◌∙◌}
+use Rattle.std.specs.Prelude.{IsTrue}
+use Rattle.std.proofs.lemmas.Bool.{cases_Bool, false≢true}
+use Rattle.sqlite.specs.declared.types.Value.TheVariants.{Int, Text}
+use Rattle.sqlite.specs.declared.error.Error.{Error}
+use Rattle.sqlite.specs.Order.{Row as Values}
+use Rattle.sqlite.specs.Effect.{Database}
+use Rattle.sqlite.specs.Held.{Held, state}
+use Rattle.sqlite.specs.Store.{Ghosts}
+use Rattle.sqlite.specs.State.{State, KeepsCommit, Executes, ExecutesInside, ExecutesIn, IsNotRun, RunsAlone, RunsCommand, IsUnchanged, Fails, shows_rows}
+use Rattle.sqlite_resolve.specs.declared.compiled.Compiled.{Compiled}
+use Rattle.sqlite_trees.specs.declared.error.StoreError.TheVariants as cause
+use Rattle.sql_store.specs.Asked.{Executed, IsLeft, PutsRow, PutGives}
+use Rattle.sql_store.specs.Faults.{breaks_rule}
+use Rattle.sql_store.specs.Laid.{put}
+use Rattle.sql_store.specs.Table.{map_of, table_of, AreApart, IsReady, Makes}
+use Rattle.sql_store.proofs.Texts.{upsert_text, update_text, insert_text}
+use Rattle.sql_store.proofs.Steps.{kept_by, on_ok_then}
+use Rattle.sql_store.proofs.Composed.{keeps_then}
+use Rattle.sql_store.proofs.Updates.{updates, renews}
+use Rattle.sql_store.proofs.Inserts.{adds}
+use Rattle.sql_store.proofs.Upserts.{enters}
+
+-- ---- a rule that would have been broken
+
+fails_apart : (old new : State) (P : Type 0) (e : Error) → breaks_rule e ≡ true → Fails old new P e → ⊥
+fails_apart old new P e breaks (cause.OutOfMemory, same, why, back, tells) = false≢true (subst (λ x. breaks_rule x ≡ true) same breaks)
+fails_apart old new P e breaks (cause.Io, same, why, back, tells) = false≢true (subst (λ x. breaks_rule x ≡ true) same breaks)
+fails_apart old new P e breaks (cause.Corrupt, same, why, back, tells) = false≢true (subst (λ x. breaks_rule x ≡ true) same breaks)
+fails_apart old new P e breaks (cause.Full, same, why, back, tells) = false≢true (subst (λ x. breaks_rule x ≡ true) same breaks)
+fails_apart old new P e breaks (cause.Broken, same, why, back, tells) = false≢true (subst (λ x. breaks_rule x ≡ true) same breaks)
+fails_apart old new P e breaks (cause.Unstorable, same, why, back, tells) = false≢true (subst (λ x. breaks_rule x ≡ true) same breaks)
+
+command_stands : (old new : State) (sql : List ℕ) (c : Compiled) (params : Values) (e : Error) → breaks_rule e ≡ true → RunsCommand old new sql c params (Err e) → IsUnchanged old new
+command_stands old new sql c params e breaks (inl h) = h.1
+command_stands old new sql c params e breaks (inr h) = absurd (fails_apart old new _ e breaks h)
+
+alone_stands : (old new : State) (sql : List ℕ) (c : Compiled) (params : Values) (e : Error) → breaks_rule e ≡ true → RunsAlone false old new sql c params (Err e) → IsUnchanged old new
+alone_stands old new sql c params e breaks h = elim (cases_Bool (shows_rows false c)) [
+  | inl shows ↦ (rw shows at h).1
+  | inr runs ↦ command_stands old new sql c params e breaks (rw runs at h)
+]
+
+not_run_stands : (old new : State) (sql : List ℕ) (params : Values) (e : Error) → breaks_rule e ≡ true → IsNotRun old new sql params e → IsUnchanged old new
+unfolding IsNotRun
+not_run_stands old new sql params e breaks (inl h) = h.1
+not_run_stands old new sql params e breaks (inr h) = absurd (fails_apart old new ⊥ e breaks h)
+
+executes_stands : (sql : List ℕ) (params : Values) (old new : State) (e : Error) → breaks_rule e ≡ true → Executes sql params old new (Err e) → IsUnchanged old new
+unfolding ExecutesIn
+executes_stands sql params old new e breaks (inl h) = not_run_stands old new sql params e breaks h
+executes_stands sql params old new e breaks (inr h) = alone_stands old new sql h.0 _ e breaks h.2
+
+-- the transaction stands, and what is in it
+pub stands : (sql : List ℕ) (params : Values) (old new : State) (e : Error) → breaks_rule e ≡ true → ExecutesInside 0 sql params old new (Err e) → IsUnchanged old new
+stands sql params old new e breaks (inl h) = executes_stands sql params old new e breaks h.0
+stands sql params old new e breaks (inr h) = h.2
+
+-- ---- the table is as it was
+
+pub record Passes (old new : State) : Type 0 where
+  pub was_open : IsTrue old.is_open
+  pub inside : IsTrue new.in_transaction
+  pub kept : KeepsCommit old new
+  pub ready : IsReady old.now → IsReady new.now
+  pub table : IsReady old.now → table_of new.now ≡ table_of old.now
+  pub others : IsReady old.now → new.now.trees 0 ≡ old.now.trees 0
+
+passes_unchanged : (old new : State) → IsTrue old.in_transaction → KeepsCommit old new → IsUnchanged old new → Passes old new
+passes_unchanged old new inside kept same = record {
+  was_open = same.0.was_open;
+  inside = same.0.mode ∙ inside;
+  kept = kept;
+  ready = λ ready. subst IsReady (sym same.0.now_is) ready;
+  table = λ ready. ap table_of same.0.now_is;
+  others = λ ready. ap (λ (d : Database). d.trees 0) same.0.now_is;
+}
+
+passes_none : (old new : State) (key : List ℕ) (value number : ℤ) → ExecutesInside 0 update_text (Text key ∷ Int value ∷ Int number ∷ []) old new (Ok 0) → Passes old new
+passes_none old new key value number h =
+    let done = λ (ready : IsReady old.now). updates old new key value number 0 ready h.0 in
+    record {
+      was_open = h.1.was_open;
+      inside = h.1.mode;
+      kept = kept_by update_text (Text key ∷ Int value ∷ Int number ∷ []) old new (Ok 0) h;
+      ready = λ ready. record { schema = (done ready).schema; apart = subst AreApart (sym ((done ready).none refl).1) ready.apart };
+      table = λ ready. ap map_of ((done ready).none refl).1;
+      others = λ ready. ((done ready).none refl).0;
+    }
+
+makes_after : (a b c : State) (key : List ℕ) (entry : Option (ℤ × ℤ)) → Passes a b → Makes key entry b c → Makes key entry a c
+makes_after a b c key entry first it = record {
+  was_open = first.was_open;
+  inside = it.inside;
+  kept = keeps_then a b c first.kept it.kept;
+  ready = λ ready. it.ready (first.ready ready);
+  table = λ ready. it.table (first.ready ready) ∙ ap (λ m. put m key entry) (first.table ready);
+  others = λ ready. it.others (first.ready ready) ∙ first.others ready;
+}
+
+-- ---- a row is put
+
+module _ {S : Type 0} (g : Ghosts S) (key : List ℕ) (value number : ℤ) where
+  abbrev params : Values
+  params = Text key ∷ Int value ∷ Int number ∷ []
+
+  -- what left the row to the upsert left the table as it was
+  passes : (old new : Held S) → IsTrue (state g old).in_transaction → IsLeft g params old new → Passes (state g old) (state g new)
+  passes old new inside (inl h) = passes_none (state g old) (state g new) key value number h
+  passes old new inside (inr (e, breaks, h)) =
+      passes_unchanged (state g old) (state g new) inside (kept_by insert_text params (state g old) (state g new) (Err e) h) (stands insert_text params (state g old) (state g new) e breaks h)
+
+  pub left_inside : (old new : Held S) → IsTrue (state g old).in_transaction → IsLeft g params old new → IsTrue (state g new).in_transaction
+  left_inside old new inside h = (passes old new inside h).inside
+
+  -- whichever statement put it, the change is made
+  pub makes_put : (old new : Held S) → IsTrue (state g old).in_transaction → PutsRow g params old new → Makes key (Some (value, number)) (state g old) (state g new)
+  makes_put old new inside (inl (count, met, h)) = renews (state g old) (state g new) key value number count met h
+  makes_put old new inside (inr (inl (count, h))) = adds (state g old) (state g new) key value number count h
+  makes_put old new inside (inr (inr (next, was_left, (count, h)))) =
+      makes_after (state g old) (state g next) (state g new) key (Some (value, number)) (passes old next inside was_left) (enters (state g next) (state g new) key value number count h)
+
+  -- where one of them gave an error, nothing is committed
+  pub keeps_put : (old new : Held S) (e : Error) → IsTrue (state g old).in_transaction → PutGives g params old new e → KeepsCommit (state g old) (state g new)
+  keeps_put old new e inside (inl h) = kept_by update_text params (state g old) (state g new) (Err e) h
+  keeps_put old new e inside (inr (inl h)) = kept_by insert_text params (state g old) (state g new) (Err e) h.1
+  keeps_put old new e inside (inr (inr (next, was_left, h))) =
+      keeps_then (state g old) (state g next) (state g new) (passes old next inside was_left).kept (kept_by upsert_text params (state g next) (state g new) (Err e) h)
+
+  -- what the upsert to which the row was left answers
+  pub puts_left : (r : Result (Unit {0}) Error) (old next new : Held S) → IsLeft g params old next → OnOk r (Executed g upsert_text params next new) → OnOk r (PutsRow g params old new)
+  puts_left r old next new was_left h = on_ok_then r (λ ran. inr (inr (next, was_left, ran))) h
+
+  pub gives_left : (r : Result (Unit {0}) Error) (old next new : Held S) → IsLeft g params old next → IfErr r (λ e. ExecutesInside 0 upsert_text params (state g next) (state g new) (Err e))
+      → IfErr r (PutGives g params old new)
+  gives_left (Ok x) old next new was_left h = tt
+  gives_left (Err e) old next new was_left h = inr (inr (next, was_left, h))

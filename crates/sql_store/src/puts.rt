@@ -1,0 +1,122 @@
+//! A row is put by the statement that is likely to serve, and by the upsert where that one leaves it.
+ghost use Rattle.std.specs.Prelude.{◌≡◌, Some, OnOk, IfErr, IsTrue};
+ghost use Rattle.sqlite.specs.Values.{bound};
+ghost use Rattle.sqlite.specs.declared.types.Value.TheVariants.{Text, Int};
+ghost use Rattle.sqlite.specs.Held.{state};
+ghost use Rattle.sqlite.specs.State.{HasCleanDisk, Survives, KeepsCommit};
+ghost use Rattle.sql_store.specs.Table.{Makes};
+ghost use Rattle.sql_store.specs.Faults.{IsCaused};
+ghost use Rattle.sql_store.specs.Asked.{update_text, insert_text, params_of, Answered, PutsRow, PutGives};
+
+use crate::faults::breaks_rule;
+use crate::statements::{of_row, put};
+use durable_top::Row;
+use sqlite::{Alter, Error, Transaction};
+
+// Gives the key of the row its value and its number where it has a row, and answers how many rows it has.
+fn update<S: Alter>(tx: &mut Transaction<'_, S>, row: &Row) -> Result<usize, Error>
+    ensures same_reference { tx.new.conn.ghost_name ≡ tx.old.conn.ghost_name }
+    ensures runs { HasCleanDisk (state S.Store tx.new.conn.now)
+        → IsTrue (state S.Store tx.old.conn.now).in_transaction
+        → Answered S.Store update_text (params_of row.now) tx.old.conn.now tx.new.conn.now result }
+    ensures survives { Survives (state S.Store tx.old.conn.now) (state S.Store tx.new.conn.now) (λ _. ⊥) }
+{
+    tx.execute(
+        "UPDATE results2 SET v = ?2, n = ?3 WHERE k = ?1",
+        &of_row(row),
+    )
+}
+
+// Adds the row, whose key has none.
+fn insert<S: Alter>(tx: &mut Transaction<'_, S>, row: &Row) -> Result<usize, Error>
+    ensures same_reference { tx.new.conn.ghost_name ≡ tx.old.conn.ghost_name }
+    ensures runs { HasCleanDisk (state S.Store tx.new.conn.now)
+        → IsTrue (state S.Store tx.old.conn.now).in_transaction
+        → Answered S.Store insert_text (params_of row.now) tx.old.conn.now tx.new.conn.now result }
+    ensures survives { Survives (state S.Store tx.old.conn.now) (state S.Store tx.new.conn.now) (λ _. ⊥) }
+{
+    tx.execute(
+        "INSERT INTO results2 (k, v, n) VALUES (?1, ?2, ?3)",
+        &of_row(row),
+    )
+}
+
+// Puts the row of a key that is likely to have one.
+fn put_known<S: Alter>(tx: &mut Transaction<'_, S>, row: &Row) -> Result<(), Error>
+    ensures same_reference { tx.new.conn.ghost_name ≡ tx.old.conn.ghost_name }
+    ensures survives { Survives (state S.Store tx.old.conn.now) (state S.Store tx.new.conn.now) (λ _. ⊥) }
+    ensures cause { HasCleanDisk (state S.Store tx.new.conn.now)
+        → IsTrue (state S.Store tx.old.conn.now).in_transaction
+        → IfErr result (IsCaused (state S.Store tx.old.conn.now) (state S.Store tx.new.conn.now)) }
+    ensures refused { HasCleanDisk (state S.Store tx.new.conn.now)
+        → IsTrue (state S.Store tx.old.conn.now).in_transaction
+        → IfErr result (PutGives S.Store (params_of row.now) tx.old.conn.now tx.new.conn.now) }
+    ensures asked { HasCleanDisk (state S.Store tx.new.conn.now)
+        → IsTrue (state S.Store tx.old.conn.now).in_transaction
+        → OnOk result (PutsRow S.Store (params_of row.now) tx.old.conn.now tx.new.conn.now) }
+{
+    match update(tx, row) {
+        Ok(0) => put(tx, row),
+        Ok(_) => Ok(()),
+        Err(error) => Err(error),
+    }
+}
+
+// Puts the row of a key that is likely to have none.
+fn put_new<S: Alter>(tx: &mut Transaction<'_, S>, row: &Row) -> Result<(), Error>
+    ensures same_reference { tx.new.conn.ghost_name ≡ tx.old.conn.ghost_name }
+    ensures survives { Survives (state S.Store tx.old.conn.now) (state S.Store tx.new.conn.now) (λ _. ⊥) }
+    ensures cause { HasCleanDisk (state S.Store tx.new.conn.now)
+        → IsTrue (state S.Store tx.old.conn.now).in_transaction
+        → IfErr result (IsCaused (state S.Store tx.old.conn.now) (state S.Store tx.new.conn.now)) }
+    ensures refused { HasCleanDisk (state S.Store tx.new.conn.now)
+        → IsTrue (state S.Store tx.old.conn.now).in_transaction
+        → IfErr result (PutGives S.Store (params_of row.now) tx.old.conn.now tx.new.conn.now) }
+    ensures asked { HasCleanDisk (state S.Store tx.new.conn.now)
+        → IsTrue (state S.Store tx.old.conn.now).in_transaction
+        → OnOk result (PutsRow S.Store (params_of row.now) tx.old.conn.now tx.new.conn.now) }
+{
+    match insert(tx, row) {
+        Ok(_) => Ok(()),
+        Err(error) => {
+            if breaks_rule(error) {
+                put(tx, row)
+            } else {
+                Err(error)
+            }
+        }
+    }
+}
+
+/// Gives the key of the row its value and its number, whether or not it has a row. That it is likely to have one
+/// says only which statement is tried first.
+pub(crate) fn put_either<S: Alter>(
+    tx: &mut Transaction<'_, S>,
+    is_likely: bool,
+    row: &Row,
+) -> Result<(), Error>
+    ensures same_reference { tx.new.conn.ghost_name ≡ tx.old.conn.ghost_name }
+    ensures made { HasCleanDisk (state S.Store tx.new.conn.now)
+        → IsTrue (state S.Store tx.old.conn.now).in_transaction
+        → OnOk result (Makes row.now.key (Some (row.now.value, row.now.commit))
+        (state S.Store tx.old.conn.now) (state S.Store tx.new.conn.now)) }
+    ensures kept { HasCleanDisk (state S.Store tx.new.conn.now)
+        → IsTrue (state S.Store tx.old.conn.now).in_transaction
+        → KeepsCommit (state S.Store tx.old.conn.now) (state S.Store tx.new.conn.now) }
+    ensures survives { Survives (state S.Store tx.old.conn.now) (state S.Store tx.new.conn.now) (λ _. ⊥) }
+    ensures cause { HasCleanDisk (state S.Store tx.new.conn.now)
+        → IsTrue (state S.Store tx.old.conn.now).in_transaction
+        → IfErr result (IsCaused (state S.Store tx.old.conn.now) (state S.Store tx.new.conn.now)) }
+    ensures refused { HasCleanDisk (state S.Store tx.new.conn.now)
+        → IsTrue (state S.Store tx.old.conn.now).in_transaction
+        → IfErr result (PutGives S.Store (params_of row.now) tx.old.conn.now tx.new.conn.now) }
+    ensures asked { HasCleanDisk (state S.Store tx.new.conn.now)
+        → IsTrue (state S.Store tx.old.conn.now).in_transaction
+        → OnOk result (PutsRow S.Store (params_of row.now) tx.old.conn.now tx.new.conn.now) }
+{
+    if is_likely {
+        put_known(tx, row)
+    } else {
+        put_new(tx, row)
+    }
+}
