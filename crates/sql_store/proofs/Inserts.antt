@@ -20,7 +20,7 @@ use Rattle.sql_store.specs.Results.{results, both_schema}
 use Rattle.sql_store.specs.Table.{table_of, AreApart, IsReady, Makes}
 use Rattle.sql_store.proofs.Texts.{insert_text, insert_is, insert_plain, insert_terms}
 use Rattle.sql_store.proofs.Creates.{went, same_value}
-use Rattle.sql_store.proofs.Rowed.{row_of, PutsIn, new_is, had_none, added_in}
+use Rattle.sql_store.proofs.Putting.{row_of, PutsIn, new_is, had_none, added_in}
 use Rattle.sql_store.proofs.Steps.{kept_by}
 
 -- the row is added, and no row had its key

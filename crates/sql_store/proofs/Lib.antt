@@ -9,7 +9,7 @@ pub mod Steps
 pub mod Creates
 pub mod Deletes
 pub mod Again
-pub mod Rowed
+pub mod Putting
 pub mod Upserts
 pub mod Updates
 pub mod Inserts

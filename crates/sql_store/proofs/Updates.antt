@@ -41,7 +41,7 @@ use Rattle.sql_store.specs.Table.{is_key, id_of, table_of, AreApart, IsReady, Ma
 use Rattle.sql_store.proofs.Texts.{update_text, update_is, update_plain, update_query}
 use Rattle.sql_store.proofs.Creates.{went, same_value}
 use Rattle.sql_store.proofs.Deletes.{equal_key}
-use Rattle.sql_store.proofs.Rowed.{row_of, key_is, same_key, denied, untaken, PutsIn, cast_new, changed_in}
+use Rattle.sql_store.proofs.Putting.{row_of, key_is, same_key, denied, untaken, PutsIn, cast_new, changed_in}
 use Rattle.sql_store.proofs.Steps.{kept_by}
 use Rattle.sql_store.proofs.Tables.{own_id, has_permuted, has_mapped, rows_with}
 

@@ -43,7 +43,7 @@ use Rattle.sql_store.specs.Table.{is_key, id_of, table_of, AreApart, IsReady, Ma
 use Rattle.sql_store.proofs.Texts.{upsert_text, upsert_is, upsert_plain, upsert_query, upsert_clause, insert_terms}
 use Rattle.sql_store.proofs.Creates.{went, same_value}
 use Rattle.sql_store.proofs.Deletes.{told, equal_key}
-use Rattle.sql_store.proofs.Rowed.{row_of, key_is, other_id, PutsIn, cast_new, new_is, added_in, changed_in}
+use Rattle.sql_store.proofs.Putting.{row_of, key_is, other_id, PutsIn, cast_new, new_is, added_in, changed_in}
 use Rattle.sql_store.proofs.Steps.{kept_by}
 use Rattle.sql_store.proofs.Tables.{own_id, has_own}
 

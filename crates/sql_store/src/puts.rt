@@ -55,11 +55,9 @@ fn put_known<S: Alter>(tx: &mut Transaction<'_, S>, row: &Row) -> Result<(), Err
         → IsTrue (state S.Store tx.old.conn.now).in_transaction
         → OnOk result (PutsRow S.Store (params_of row.now) tx.old.conn.now tx.new.conn.now) }
 {
-    match update(tx, row) {
-        Ok(0) => put(tx, row),
-        Ok(_) => Ok(()),
-        Err(error) => Err(error),
-    }
+    let count = update(tx, row)?;
+    let is_left = count == 0;
+    if is_left { put(tx, row) } else { Ok(()) }
 }
 
 // Puts the row of a key that is likely to have none.

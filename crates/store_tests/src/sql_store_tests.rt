@@ -1,4 +1,5 @@
 //! Stores over databases in memory and over files that stop. Real files are for the tests of the program.
+mod hints;
 mod stops;
 
 use durable_top::{Row, StoreFault, TopStore};

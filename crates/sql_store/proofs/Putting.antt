@@ -35,11 +35,11 @@ either : (b : Bool) (x : Value) → cond b x x ≡ x
 either true x = refl
 either false x = refl
 
-pub cast_null : cast Integer Null ≡ Null
+cast_null : cast Integer Null ≡ Null
 unfolding unary
 cast_null = either _ Null
 
-pub cast_int : (v : ℤ) → cast Integer (Int v) ≡ Int v
+cast_int : (v : ℤ) → cast Integer (Int v) ≡ Int v
 unfolding unary
 cast_int v = either _ (Int v)
 
@@ -68,7 +68,7 @@ own_text : (key : List ℕ) → equal Binary (Text key) (Text key) ≡ true
 unfolding binary
 own_text key = told _ ∙ ap is_eq (tied_itself value_cmp_total (Text key))
 
-pub unless : (b : Bool) → not b && true ≡ true → b ≡ false
+unless : (b : Bool) → not b && true ≡ true → b ≡ false
 unless true e = absurd (false≢true e)
 unless false e = refl
 
