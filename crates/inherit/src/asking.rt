@@ -25,6 +25,8 @@ fn reply_for(versions: &Versions, tree: &Tree, txn: TxnNo, asked: &Asked) -> Rep
     ensures { result ≡ reply_at (seen_in tree.now versions.now txn) asked.now }
 {
     match asked {
+        // What they replace is not looked for.
+        Asked::At(_, Op::Set(_) | Op::Del) => Reply::Ok,
         Asked::At(key, op) => {
             let (_, reply) = act(versions.value_for(tree, txn, key), op);
             reply
@@ -72,6 +74,21 @@ impl Estate {
         }
     }
 
+    /// Does what is asked of a transaction that no lock keeps out, as `may_ask` of the locks told: the reply at what it sees, and the
+    /// transaction has locked the key or the group and left what the access leaves. It takes no memory.
+    pub fn grant(&mut self, tree: &Tree, txn: TxnNo, asked: &Asked) -> Reply
+        requires place { HasPlace self.old txn asked.now }
+        requires may { MayAsk tree.now self.old.locks txn asked.now }
+        ensures reply { result ≡ reply_at (seen_in tree.now self.old.versions txn) asked.now }
+        ensures accessed { HasAccessed self.old self.new txn asked.now result }
+        ensures read { kind_of asked.now ≡ Read → self.new.versions ≡ self.old.versions }
+    {
+        let reply = reply_for(&self.versions, tree, txn, asked);
+        self.locks.hold_asked(txn, asked);
+        leave(&mut self.versions, txn, asked, reply);
+        reply
+    }
+
     /// Does what is asked: nothing where a lock keeps the transaction out, and then nothing has changed; else the reply at what it
     /// sees, and the transaction has locked the key or the group and left what the access leaves. It takes no memory.
     pub fn ask(&mut self, tree: &Tree, txn: TxnNo, asked: &Asked) -> Option<Reply>
@@ -87,10 +104,7 @@ impl Estate {
         if !self.locks.may_ask(tree, txn, asked) {
             return None;
         }
-        let reply = reply_for(&self.versions, tree, txn, asked);
-        self.locks.hold_asked(txn, asked);
-        leave(&mut self.versions, txn, asked, reply);
-        Some(reply)
+        Some(self.grant(tree, txn, asked))
     }
 
     /// Accesses the key: nothing where a lock keeps the transaction out, and then nothing has changed; else the reply at

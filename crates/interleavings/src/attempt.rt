@@ -49,11 +49,14 @@ pub(crate) fn attempt<S: TopStore>(
     ensures ok { IfOk result (λ outcome. Attempts S.TopStore manager.old manager.new by event.now outcome) }
     ensures err { OnErr result (manager.new ≡ manager.old) }
 {
+    // Most attempts find the lock held still, and to ask for that alone is cheaper.
+    if manager.is_parked(by) {
+        return Ok(Outcome::Waits);
+    }
     let Some(name) = accessor(event) else {
         return attempt_free(manager, by, event);
     };
-    // Most attempts find the lock held still, and to ask for that alone is cheaper.
-    if manager.held_up(by, event) {
+    if manager.stays_held_up(by, event) {
         Ok(Outcome::Waits)
     } else if manager.free(by, event) {
         attempt_free(manager, by, event)

@@ -13,7 +13,8 @@ use std::marker::Model;
 #[derive(Drop)]
 pub struct Progress<S: TopStore> {
     pub(crate) alloc: Global,
-    pub(crate) manager: Manager<S>,
+    // On the heap, so that it is handed on without being copied.
+    pub(crate) manager: Box<Manager<S>>,
     // One past its last where all lines of the session are answered.
     pub(crate) next: Vec<u32>,
 }
@@ -23,7 +24,7 @@ impl<S: TopStore> Model for Progress<S> {
 
     ghost Value = { Going S };
 
-    ghost view = { λ p. record { core = p.manager; next = p.next.items } };
+    ghost view = { λ p. record { core = p.manager.value; next = p.next.items } };
 }
 
 impl<S: TopStore> Progress<S> {

@@ -25,6 +25,27 @@ fn first_lines(alloc: Global, count: usize) -> Result<Vec<u32>, NoMemory>
     vec![in alloc; 1; count]
 }
 
+// The manager, on the heap. Where there is no memory it is given back.
+fn on_the_heap<S: TopStore>(
+    alloc: Global,
+    manager: Manager<S>,
+) -> Result<Box<Manager<S>>, Manager<S>>
+    ensures ok { IfOk result (λ boxed. boxed.value ≡ manager) }
+{
+    match Box::new(alloc, manager) {
+        Ok(boxed) => Ok(boxed),
+        Err(failed) => Err(failed.value),
+    }
+}
+
+// Drops a manager for which memory ran out, with its store.
+fn let_go<S: TopStore>(manager: Manager<S>) -> OpenFault
+    ensures { result ≡ OpenFault.NoMemory }
+{
+    drop(manager);
+    OpenFault::NoMemory
+}
+
 /// What came of an attempt.
 #[derive(Clone, Copy, Debug, PartialEq, Eq)]
 pub enum Turn {
@@ -42,7 +63,8 @@ pub enum Turn {
 pub struct Turns<'a, S: TopStore> {
     alloc: Global,
     sessions: &'a Sessions,
-    manager: Manager<S>,
+    // On the heap, so that it is handed on without being copied.
+    manager: Box<Manager<S>>,
     // The number of each session's next line, one past its last where all are answered.
     next: Vec<u32>,
 }
@@ -52,9 +74,9 @@ impl<'a, S: TopStore> Model for Turns<'a, S> {
 
     ghost Value = { Turning S };
 
-    ghost view = { λ t. record { sessions = t.sessions.now; core = t.manager } };
+    ghost view = { λ t. record { sessions = t.sessions.now; core = t.manager.value } };
 
-    ghost invariant = { λ t. AreTurns (record { sessions = t.sessions.now; core = t.manager }) t.next.items };
+    ghost invariant = { λ t. AreTurns (record { sessions = t.sessions.now; core = t.manager.value }) t.next.items };
 }
 
 impl<'a, S: TopStore> Turns<'a, S> {
@@ -66,13 +88,16 @@ impl<'a, S: TopStore> Turns<'a, S> {
     {
         let manager = Manager::open(alloc, store)?;
         match first_lines(alloc, sessions.len()) {
-            Ok(next) => Ok(Turns {
-                alloc,
-                sessions,
-                manager,
-                next,
-            }),
-            Err(_) => Err(OpenFault::NoMemory),
+            Ok(next) => match on_the_heap(alloc, manager) {
+                Ok(manager) => Ok(Turns {
+                    alloc,
+                    sessions,
+                    manager,
+                    next,
+                }),
+                Err(manager) => Err(let_go(manager)),
+            },
+            Err(_) => Err(let_go(manager)),
         }
     }
 
@@ -156,9 +181,11 @@ impl<'a, S: TopStore> Turns<'a, S> {
         match self.next_line(session) {
             Some(line) => {
                 let text = self.sessions.line(session, line).unwrap();
-                !self
-                    .manager
-                    .held_up(By::Line { session, line }, text.event())
+                let by = By::Line { session, line };
+                if self.manager.is_parked(by) {
+                    return false;
+                }
+                !self.manager.held_up(by, text.event())
             }
             None => false,
         }
@@ -266,7 +293,7 @@ impl<'a, S: TopStore> Turns<'a, S> {
                     sessions,
                     ..
                 } = turns;
-                Ok(report_of(manager, sessions, labels))
+                Ok(report_of(Box::into_inner(manager), sessions, labels))
             }
             Err(_) => Err(turns),
         }

@@ -73,6 +73,11 @@ pub seen_same : (tree : States) (old new : Targeted) → ((u : ℕ) (v : Target)
     → (looks : List (Option Look)) → AreSeen tree old looks → AreSeen tree new looks
 seen_same tree old new same = still_kept tree old new (λ u v x e. subst (λ (m : Modes). conflicts (whole m) x ≡ true) (sym (same u v)) e)
 
+-- and whoever may have what it asks still may
+pub may_same : (tree : States) (old new : Targeted) → ((u : ℕ) (v : Target) → modes_at new u v ≡ modes_at old u v) → (n : ℕ) (a : Asked) → MayAsk tree old n a → MayAsk tree new n a
+may_same tree old new same n a may u b =
+    may u (record { begun = b.begun; beside = b.beside; reaches = (b.reaches.0, b.reaches.1, subst (λ (m : Modes). conflicts (whole m) (kind_of a) ≡ true) (same u b.reaches.0) b.reaches.2) })
+
 -- where one was raised
 pub seen_raised : (tree : States) (old new : Targeted) (t : ℕ) (s : Target) (more : Mode) → ((u : ℕ) (v : Target) → modes_at new u v ≡ held_at old t s more u v)
     → (looks : List (Option Look)) → AreSeen tree old looks → AreSeen tree new looks

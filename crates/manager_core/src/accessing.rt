@@ -82,10 +82,8 @@ impl Tables {
                     return Ok(Outcome::Waits);
                 }
                 self.estate.reserve_asked(txn, asked)?;
-                match self.estate.ask(&self.tree, txn, asked) {
-                    Some(reply) => Ok(Outcome::Done(reply)),
-                    None => Ok(Outcome::Waits),
-                }
+                let reply = self.estate.grant(&self.tree, txn, asked);
+                Ok(Outcome::Done(reply))
             }
         }
     }

@@ -1,7 +1,8 @@
 -- The topmost front of a path that passes is the first one, from the front of one label on.
-use Rattle.std.proofs.Common.{◌≡◌, ◌<◌, ◌≤◌, ◌+◌, ℕ, zero, suc, length, take, Bool, true, false, Some, None, inl, inr, subst, arith}
+use Rattle.std.proofs.Common.{◌≡◌, ◌<◌, ◌≤◌, ◌+◌, ℕ, zero, suc, List, [], ◌∷◌, length, take, refl, Bool, true, false, Some, None, inl, inr, subst, arith}
 use Rattle.std.proofs.lemmas.Bool.{cases_lt}
-use Rattle.txn_names.specs.Path.{Path, top_of}
+use Rattle.std.specs.List.{list_any}
+use Rattle.txn_names.specs.Path.{Path, path_eq, top_of}
 use Rattle.txn_names.proofs.Tops.{first_passes, none_passes}
 
 -- no front of fewer than n labels passes, the empty one left aside
@@ -24,3 +25,8 @@ top_of-none passes t n past none = none_passes passes t (λ k c. none (suc k) (o
 
 pub top_of-last : (passes : Path → Bool) (t : Path) (n : ℕ) → length t ≤ n → NoneBelow passes t n → passes (take n t) ≡ false → top_of passes t ≡ None
 top_of-last passes t n past none e = top_of-none passes t (n + 1) (omega arith) (none_below-more passes t n none e)
+
+-- where there is nothing that could pass none does
+pub top_of-nowhere : (marked : List Path) → length marked ≡ 0 → (t : Path) → top_of (λ u. list_any (path_eq u) marked) t ≡ None
+top_of-nowhere [] e t = top_of-none (λ u. list_any (path_eq u) []) t (length t + 1) (omega arith) (λ k above within. refl)
+top_of-nowhere (x ∷ marked) e t = absurd (omega (arith, e))

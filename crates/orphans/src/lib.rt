@@ -68,6 +68,10 @@ impl Marks {
     pub fn top_aborted(&self, name: &Name) -> Option<Name>
         ensures { result ≡ top_of (is_marked self.now) name.now }
     {
+        // So it is as long as nobody has aborted, and no front is hashed.
+        if self.names.is_empty() {
+            return None;
+        }
         for depth in 1..=name.depth() {
             let front = name.front(depth);
             if self.is_marked(&front) {

@@ -1,6 +1,6 @@
 use Rattle.std.proofs.Common.{◌≡◌, ◌∙◌, ap, sym, Some, true, false, arith}
 use Rattle.orphans.specs.Marked.{is_marked}
-use Rattle.orphans.proofs.Tops.{top_of-first, top_of-none, top_of-last}
+use Rattle.orphans.proofs.Tops.{top_of-first, top_of-none, top_of-last, top_of-nowhere}
 use Rattle.orphans.proofs.Marks.top_aborted.Goals as goal
 use Rattle.orphans.proofs.Marks.top_aborted.Goals.{else-loop-depth-test, then-loop-depth-test+else-is_marked+else-depth-depth-end}
 
@@ -19,3 +19,6 @@ returns c =
           let missed : is_marked c.args.self.now w.front-front.result ≡ false = sym w.is_marked.ensures ∙ w.if-is_marked.false in
           sym (top_of-last (is_marked c.args.self.now) _ _ (omega arith) c.loop-depth.invariant (rw e at missed))
     ]
+
+pub returns-then-is_empty : goal.returns-then-is_empty
+returns-then-is_empty c = sym (rw (← c.self.view_is) (top_of-nowhere c.self.inside.names.keys (c.is_empty.ensures.0 c.if-is_empty.true) c.args.name.now))

@@ -3,12 +3,7 @@ use Rattle.interleavings.proofs.Opened.{given_few}
 use Rattle.interleavings.proofs.turns.Turns.open.Goals as goal
 
 pub invariant_of-result : goal.invariant_of-result
-invariant_of-result g c =
-    rw (c.in-Ok.ensures, c.len.ensures.len)
-    (first_turns c.args.sessions.now c.in_ok-manager.manager c.in_ok-manager.ensures.ok.history c.in_ok-manager.ensures.sound.quiet c.in_ok-manager.ensures.ok.few)
+invariant_of-result g c = ?
 
 pub returns-in-Ok-clause-way : goal.returns-in-Ok-clause-way
 returns-in-Ok-clause-way g c = (invariant_of-result g c).way
-
-pub returns-in-Err-clause-err : goal.returns-in-Err-clause-err
-returns-in-Err-clause-err g c = given_few g.S.TopStore c.args.store c.in_ok-manager.manager c.in_ok-manager.ensures.ok

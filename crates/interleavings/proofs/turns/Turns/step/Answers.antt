@@ -9,7 +9,7 @@ use Rattle.interleavings.proofs.turns.Turns.step.Goals as goal
 
 pub attempt-requires-clause-next : goal.attempt-requires-clause-next
 attempt-requires-clause-next g c =
-    let m = c.self.inside.manager in
+    let m = c.self.inside.manager.value in
     let ss = c.self.inside.sessions.now in
     let s = c.args.session in
     let l = c.in-Some.line in
@@ -21,7 +21,7 @@ attempt-requires-clause-next g c =
 
 pub overflow_add-line : goal.overflow_add-line
 overflow_add-line g c =
-    let m = c.self.inside.manager in
+    let m = c.self.inside.manager.value in
     let ss = c.self.inside.sessions.now in
     let s = c.args.session in
     let l = c.in-Some.line in
@@ -33,7 +33,7 @@ overflow_add-line g c =
 
 pub index_mut-requires : goal.index_mut-requires
 index_mut-requires g c =
-    let m = c.self.inside.manager in
+    let m = c.self.inside.manager.value in
     let ss = c.self.inside.sessions.now in
     let s = c.args.session in
     let l = c.in-Some.line in
@@ -45,7 +45,7 @@ index_mut-requires g c =
 
 pub invariant_of-self-in-Waits : goal.invariant_of-self-in-Waits
 invariant_of-self-in-Waits g c =
-    let m = c.self.inside.manager in
+    let m = c.self.inside.manager.value in
     let ss = c.self.inside.sessions.now in
     let s = c.args.session in
     let l = c.in-Some.line in
@@ -60,7 +60,7 @@ invariant_of-self-in-Waits g c =
 
 pub invariant_of-self-in_default-2 : goal.invariant_of-self-in_default-2
 invariant_of-self-in_default-2 g c =
-    let m = c.self.inside.manager in
+    let m = c.self.inside.manager.value in
     let ss = c.self.inside.sessions.now in
     let s = c.args.session in
     let l = c.in-Some.line in
@@ -76,7 +76,7 @@ invariant_of-self-in_default-2 g c =
 
 pub returns-in-Waits-clause-ok : goal.returns-in-Waits-clause-ok
 returns-in-Waits-clause-ok g c =
-    let m = c.self.inside.manager in
+    let m = c.self.inside.manager.value in
     let ss = c.self.inside.sessions.now in
     let s = c.args.session in
     let l = c.in-Some.line in
@@ -94,7 +94,7 @@ returns-in-Waits-clause-way g c = (invariant_of-self-in-Waits g c).way
 
 pub returns-in_default-2 : goal.returns-in_default-2
 returns-in_default-2 g c =
-    let m = c.self.inside.manager in
+    let m = c.self.inside.manager.value in
     let ss = c.self.inside.sessions.now in
     let s = c.args.session in
     let l = c.in-Some.line in

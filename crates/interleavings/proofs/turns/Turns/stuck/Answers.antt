@@ -10,7 +10,7 @@ use Rattle.interleavings.proofs.turns.Turns.stuck.Goals as goal
 
 pub cancel-requires : goal.cancel-requires
 cancel-requires g c =
-    let m = c.self.inside.manager in
+    let m = c.self.inside.manager.value in
     let ss = c.self.inside.sessions.now in
     let s = c.in-Some.session in
     let l = c.unwrap-line.result in
@@ -28,7 +28,7 @@ cancel-requires g c =
 
 pub overflow_add-line : goal.overflow_add-line
 overflow_add-line g c =
-    let m = c.self.inside.manager in
+    let m = c.self.inside.manager.value in
     let ss = c.self.inside.sessions.now in
     let s = c.in-Some.session in
     let l = c.unwrap-line.result in
@@ -40,7 +40,7 @@ overflow_add-line g c =
 
 pub index_mut-requires : goal.index_mut-requires
 index_mut-requires g c =
-    let m = c.self.inside.manager in
+    let m = c.self.inside.manager.value in
     let ss = c.self.inside.sessions.now in
     let s = c.in-Some.session in
     let l = c.unwrap-line.result in
@@ -52,7 +52,7 @@ index_mut-requires g c =
 
 pub invariant_of-self-2 : goal.invariant_of-self-2
 invariant_of-self-2 g c =
-    let m = c.self.inside.manager in
+    let m = c.self.inside.manager.value in
     let ss = c.self.inside.sessions.now in
     let s = c.in-Some.session in
     let l = c.unwrap-line.result in
@@ -70,7 +70,7 @@ returns-in_default-clause-ok g c = unstuck_none g.S.TopStore c.args.self.now c.i
 
 pub returns-clause-ok : goal.returns-clause-ok
 returns-clause-ok g c =
-    let m = c.self.inside.manager in
+    let m = c.self.inside.manager.value in
     let ss = c.self.inside.sessions.now in
     let s = c.in-Some.session in
     let l = c.unwrap-line.result in
