@@ -16,7 +16,7 @@ use Rattle.txn_cells.proofs.ByKey.{among_left, among_one, among_put, any-without
 use Rattle.txn_cells.proofs.Puts.{none_from, on_number}
 use Rattle.txn_cells.proofs.Zipped.{content-put, content-taken, empty_as_none, found-remove, found-set, found_at, holds-put, holds-taken, listed, still, zip-insert}
 
-pub length-zip : {X : Type 0} (ns : List ℕ) (cs : List X) → length cs ≡ length ns → length (zip ns cs) ≡ length ns
+pub length-zip : {K X : Type 0} (ns : List K) (cs : List X) → length cs ≡ length ns → length (zip ns cs) ≡ length ns
 length-zip [] cs same = refl
 length-zip (n ∷ ns) [] same = absurd (omega (arith, same))
 length-zip (n ∷ ns) (c ∷ cs) same = ap suc (length-zip ns cs (omega (arith, same)))

@@ -1,10 +1,10 @@
 -- The lists of keys by number: one more at the end, and one changed.
-use Rattle.std.proofs.Common.{◌≡◌, ◌+◌, ◌<◌, ◌≤◌, ℕ, zero, suc, true, false, cond, nat_eq, List, [], ◌∷◌, ◌++◌, length, set, refl, sym, ap, subst, ◌∙◌, arith}
+use Rattle.std.proofs.Common.{◌≡◌, ◌+◌, ◌<◌, ◌≤◌, ℕ, zero, suc, cond, nat_eq, List, [], ◌∷◌, ◌++◌, length, set, refl, sym, ap, subst, ◌∙◌, arith}
 use Rattle.std.proofs.lemmas.Bool.{eq-eqb, false≢true, ne_eqb}
-use Rattle.txn_cells.specs.Kept.{Lists, busy_in, keys_at, one_busy}
+use Rattle.txn_cells.specs.Kept.{Listed, Lists, busy_in, listed_at, one_busy}
 use Rattle.txn_cells.proofs.Puts.{on_number}
 
-pub keys_grown : (lists : Lists) (u : ℕ) → keys_at (lists ++ [] ∷ []) u ≡ keys_at lists u
+pub keys_grown : (lists : Lists) (u : ℕ) → listed_at (lists ++ [] ∷ []) u ≡ listed_at lists u
 keys_grown [] zero = refl
 keys_grown [] (suc u) = refl
 keys_grown (keys ∷ lists) zero = refl
@@ -14,7 +14,7 @@ pub busy_grown : (lists : Lists) → busy_in (lists ++ [] ∷ []) ≡ busy_in li
 busy_grown [] = refl
 busy_grown (keys ∷ lists) = ap (λ (n : ℕ). one_busy keys + n) (busy_grown lists)
 
-pub keys_past : (lists : Lists) (u : ℕ) → length lists ≤ u → keys_at lists u ≡ []
+pub keys_past : (lists : Lists) (u : ℕ) → length lists ≤ u → listed_at lists u ≡ []
 keys_past [] u past = refl
 keys_past (keys ∷ lists) zero past = absurd (omega (arith, past))
 keys_past (keys ∷ lists) (suc u) past = keys_past lists u (omega (arith, past))
@@ -27,21 +27,21 @@ both_more a b =
     (λ e. sym (eq-eqb (suc a) (suc b) (ap suc e)))
     (λ e. sym (ne_eqb (suc a) (suc b) (λ same. false≢true (sym e ∙ eq-eqb a b (omega (arith, same))))))
 
-pub keys-set : (lists : Lists) (i : ℕ) (keys : List (List ℕ)) → i < length lists → (u : ℕ) → keys_at (set lists i keys) u ≡ cond (nat_eq i u) keys (keys_at lists u)
+pub keys-set : (lists : Lists) (i : ℕ) (keys : Listed) → i < length lists → (u : ℕ) → listed_at (set lists i keys) u ≡ cond (nat_eq i u) keys (listed_at lists u)
 keys-set [] i keys within u = absurd (omega (arith, within))
 keys-set (x ∷ lists) zero keys within zero = refl
-keys-set (x ∷ lists) zero keys within (suc u) = ap (λ b. cond b keys (keys_at lists u)) (sym (ne_eqb zero (suc u) (λ e. omega (arith, e))))
+keys-set (x ∷ lists) zero keys within (suc u) = ap (λ b. cond b keys (listed_at lists u)) (sym (ne_eqb zero (suc u) (λ e. omega (arith, e))))
 keys-set (x ∷ lists) (suc i) keys within zero = ap (λ b. cond b keys x) (sym (ne_eqb (suc i) zero (λ e. omega (arith, e))))
-keys-set (x ∷ lists) (suc i) keys within (suc u) = keys-set lists i keys (omega (arith, within)) u ∙ ap (λ b. cond b keys (keys_at lists u)) (both_more i u)
+keys-set (x ∷ lists) (suc i) keys within (suc u) = keys-set lists i keys (omega (arith, within)) u ∙ ap (λ b. cond b keys (listed_at lists u)) (both_more i u)
 
-pub busy-set : (lists : Lists) (i : ℕ) (keys : List (List ℕ)) → i < length lists → busy_in (set lists i keys) + one_busy (keys_at lists i) ≡ busy_in lists + one_busy keys
+pub busy-set : (lists : Lists) (i : ℕ) (keys : Listed) → i < length lists → busy_in (set lists i keys) + one_busy (listed_at lists i) ≡ busy_in lists + one_busy keys
 busy-set [] i keys within = absurd (omega (arith, within))
 busy-set (x ∷ lists) zero keys within = omega arith
 busy-set (x ∷ lists) (suc i) keys within = let rest = busy-set lists i keys (omega (arith, within)) in omega (arith, rest)
 
 -- ---- how many are busy
 
-one_at_most : (keys : List (List ℕ)) → one_busy keys ≤ 1
+one_at_most : (keys : Listed) → one_busy keys ≤ 1
 one_at_most [] = omega arith
 one_at_most (k ∷ ks) = omega arith
 
@@ -49,23 +49,30 @@ pub busy_at_most : (lists : Lists) → busy_in lists ≤ length lists
 busy_at_most [] = omega arith
 busy_at_most (keys ∷ lists) = let rest = busy_at_most lists in let one = one_at_most keys in omega (arith, rest, one)
 
-pub none_busy_in : (keys : List (List ℕ)) → nat_eq (length keys) 0 ≡ true → one_busy keys ≡ 0
+pub none_busy_in : (listed : Listed) → length listed ≡ 0 → one_busy listed ≡ 0
 none_busy_in [] e = refl
-none_busy_in (k ∷ ks) e = absurd (false≢true (sym (ne_eqb (length (k ∷ ks)) 0 (λ (none : length (k ∷ ks) ≡ 0). omega (arith, none))) ∙ e))
+none_busy_in (x ∷ xs) e = absurd (omega (arith, e))
 
-pub one_busy_in : (keys : List (List ℕ)) → nat_eq (length keys) 0 ≡ false → one_busy keys ≡ 1
-one_busy_in [] e = absurd (false≢true (sym e))
-one_busy_in (k ∷ ks) e = refl
+pub one_busy_in : (listed : Listed) → 0 < length listed → one_busy listed ≡ 1
+one_busy_in [] some = absurd (omega (arith, some))
+one_busy_in (x ∷ xs) some = refl
 
-pub busy_with_one : (keys : List (List ℕ)) (k : List ℕ) → one_busy (keys ++ k ∷ []) ≡ 1
+pub busy_with_one : (keys : Listed) (k : List ℕ × ℕ) → one_busy (keys ++ k ∷ []) ≡ 1
 busy_with_one [] k = refl
 busy_with_one (x ∷ keys) k = refl
 
 -- the list at a place has one key more
-pub keys-push : (lists : Lists) (i : ℕ) (now : List (List ℕ)) (k : List ℕ) → i < length lists → now ≡ keys_at lists i ++ k ∷ []
-    → (u : ℕ) → keys_at (set lists i now) u ≡ cond (nat_eq i u) (keys_at lists u ++ k ∷ []) (keys_at lists u)
+pub keys-push : (lists : Lists) (i : ℕ) (now : Listed) (k : List ℕ × ℕ) → i < length lists → now ≡ listed_at lists i ++ k ∷ []
+    → (u : ℕ) → listed_at (set lists i now) u ≡ cond (nat_eq i u) (listed_at lists u ++ k ∷ []) (listed_at lists u)
 keys-push lists i now k within is u =
     keys-set lists i now within u
-    ∙ on_number i u (λ b. cond b now (keys_at lists u) ≡ cond b (keys_at lists u ++ k ∷ []) (keys_at lists u))
-    (λ e. subst (λ (v : ℕ). now ≡ keys_at lists v ++ k ∷ []) e is)
+    ∙ on_number i u (λ b. cond b now (listed_at lists u) ≡ cond b (listed_at lists u ++ k ∷ []) (listed_at lists u))
+    (λ e. subst (λ (v : ℕ). now ≡ listed_at lists v ++ k ∷ []) e is)
+    (λ _. refl)
+
+-- where there are no keys there are none to take
+pub none_to_take : (lists : Lists) (t u : ℕ) → listed_at lists t ≡ [] → listed_at lists u ≡ cond (nat_eq t u) [] (listed_at lists u)
+none_to_take lists t u none =
+    on_number t u (λ b. listed_at lists u ≡ cond b [] (listed_at lists u))
+    (λ e. subst (λ (v : ℕ). listed_at lists v ≡ []) e none)
     (λ _. refl)

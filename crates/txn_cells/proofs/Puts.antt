@@ -1,5 +1,5 @@
 -- What stands at each key after what stands at one has changed.
-use Rattle.std.proofs.Common.{◌≡◌, ℕ, Bool, true, false, cond, nat_eq, ◌&&◌, List, [], Option, Some, None, unwrap_or, is_some, refl, ap, subst, ◌∙◌, true≢false}
+use Rattle.std.proofs.Common.{◌≡◌, ℕ, Bool, true, false, cond, nat_eq, ◌&&◌, List, [], Option, Some, None, unwrap_or, is_some, refl, sym, ap, subst, ◌∙◌, true≢false}
 use Rattle.std.specs.Prelude.{Result, Ok, Err, OnErr, OnOk, is_err}
 use Rattle.std.specs.Map.{lookup}
 use Rattle.std.proofs.lemmas.Bool.{eqb-true, false≢true}
@@ -72,3 +72,11 @@ module _ {V : Type 0} (table : AtKeys V) (k : List ℕ) (none : lookup (label_eq
 pub at_ok : {A E : Type 0} {Q : Type 0} (r : Result A E) → OnOk r Q → is_err r ≡ false → Q
 at_ok (Ok x) q e = q
 at_ok (Err x) q e = absurd (true≢false e)
+
+-- where nothing is kept at a key an empty list there is as none
+pub held_empty : {V : Type 0} (kept : AtKeys V) (k : List ℕ) → is_some (lookup (label_eq k) kept) ≡ false
+    → (q : List ℕ) → unwrap_or (cond (label_eq k q) (Some []) (lookup (label_eq q) kept)) [] ≡ held_at kept q
+held_empty kept k none q =
+    on_label k q (λ b. unwrap_or (cond b (Some []) (lookup (label_eq q) kept)) [] ≡ held_at kept q)
+    (λ e. subst (λ (p : List ℕ). [] ≡ held_at kept p) e (sym (ap (λ o. unwrap_or o []) (none_from (lookup (label_eq k) kept) none))))
+    (λ _. refl)

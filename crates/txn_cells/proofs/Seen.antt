@@ -2,7 +2,7 @@
 use Rattle.std.proofs.Common.{◌≡◌, ◌+◌, ◌<◌, ℕ, zero, suc, Bool, true, false, cond, not, nat_eq, ◌&&◌, ◌||◌, List, [], ◌∷◌, ◌++◌, length, Option, Some, None, unwrap_or, is_some, refl, sym, ap, ◌∙◌, arith}
 use Rattle.std.specs.Prelude.{◌↔◌}
 use Rattle.std.specs.List.{list_any}
-use Rattle.std.specs.Map.{lookup}
+use Rattle.std.specs.Map.{lookup, keys_of}
 use Rattle.std.proofs.lemmas.Bool.{eq-eqb, eqb-true, ne_eqb}
 use Rattle.txn_names.specs.Path.{label_eq}
 use Rattle.txn_names.proofs.Names.{on_label}
@@ -18,8 +18,8 @@ module _ {V : Type 0} (kept : AtKeys V) where
   none_below : (t u : ℕ) (lists : Lists) → u < t → lookup (nat_eq u) (seen_from t lists kept) ≡ None
   none_below t u [] below = refl
   none_below t u ([] ∷ lists) below = none_below (suc t) u lists (omega (arith, below))
-  none_below t u ((k ∷ ks) ∷ lists) below =
-      ap (λ b. cond b (Some (cells_of kept t (k ∷ ks))) (lookup (nat_eq u) (seen_from (suc t) lists kept))) (ne_eqb u t (λ e. omega (arith, below, e)))
+  none_below t u ((e ∷ es) ∷ lists) below =
+      ap (λ b. cond b (Some (cells_of kept t (keys_of (e ∷ es)))) (lookup (nat_eq u) (seen_from (suc t) lists kept))) (ne_eqb u t (λ same. omega (arith, below, same)))
       ∙ none_below (suc t) u lists (omega (arith, below))
 
   -- the cells of u are at the keys of its list
@@ -27,12 +27,12 @@ module _ {V : Type 0} (kept : AtKeys V) where
   cells_seen t i u [] e = refl
   cells_seen t zero u ([] ∷ lists) e = ap (λ o. unwrap_or o []) (none_below (suc t) u lists (omega (arith, e)))
   cells_seen t (suc i) u ([] ∷ lists) e = cells_seen (suc t) i u lists (omega (arith, e))
-  cells_seen t zero u ((k ∷ ks) ∷ lists) e =
+  cells_seen t zero u ((x ∷ xs) ∷ lists) e =
       let same : u ≡ t = omega (arith, e) in
-      ap (λ b. unwrap_or (cond b (Some (cells_of kept t (k ∷ ks))) (lookup (nat_eq u) (seen_from (suc t) lists kept))) []) (eq-eqb u t same)
-      ∙ ap (λ (n : ℕ). cells_of kept n (k ∷ ks)) (sym same)
-  cells_seen t (suc i) u ((k ∷ ks) ∷ lists) e =
-      ap (λ b. unwrap_or (cond b (Some (cells_of kept t (k ∷ ks))) (lookup (nat_eq u) (seen_from (suc t) lists kept))) []) (ne_eqb u t (λ same. omega (arith, same, e)))
+      ap (λ b. unwrap_or (cond b (Some (cells_of kept t (keys_of (x ∷ xs)))) (lookup (nat_eq u) (seen_from (suc t) lists kept))) []) (eq-eqb u t same)
+      ∙ ap (λ (n : ℕ). cells_of kept n (keys_of (x ∷ xs))) (sym same)
+  cells_seen t (suc i) u ((x ∷ xs) ∷ lists) e =
+      ap (λ b. unwrap_or (cond b (Some (cells_of kept t (keys_of (x ∷ xs)))) (lookup (nat_eq u) (seen_from (suc t) lists kept))) []) (ne_eqb u t (λ same. omega (arith, same, e)))
       ∙ cells_seen (suc t) i u lists (omega (arith, e))
 
   -- what is found at a key of them
@@ -46,12 +46,12 @@ module _ {V : Type 0} (kept : AtKeys V) where
   none_seen : (t : ℕ) (lists : Lists) → busy_in lists ≡ 0 → seen_from t lists kept ≡ []
   none_seen t [] e = refl
   none_seen t ([] ∷ lists) e = none_seen (suc t) lists (omega (arith, e))
-  none_seen t ((k ∷ ks) ∷ lists) e = absurd (omega (arith, e))
+  none_seen t ((x ∷ xs) ∷ lists) e = absurd (omega (arith, e))
 
   none_busy : (t : ℕ) (lists : Lists) → seen_from t lists kept ≡ [] → busy_in lists ≡ 0
   none_busy t [] e = refl
   none_busy t ([] ∷ lists) e = let rest = none_busy (suc t) lists e in omega (arith, rest)
-  none_busy t ((k ∷ ks) ∷ lists) e = let long = ap length e in absurd (omega (arith, long))
+  none_busy t ((x ∷ xs) ∷ lists) e = let long = ap length e in absurd (omega (arith, long))
 
   -- nothing is seen if and only if nobody is busy
   pub seen_nothing : (lists : Lists) → (nat_eq (busy_in lists) 0 ≡ true) ↔ (seen lists kept ≡ nothing)

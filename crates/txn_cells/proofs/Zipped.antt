@@ -1,5 +1,6 @@
 -- What a look-up finds in rising numbers beside what belongs to each.
-use Rattle.std.proofs.Common.{◌≡◌, ℕ, zero, suc, ◌<◌, ◌≤◌, Bool, true, false, cond, not, nat_eq, ◌&&◌, ◌||◌, List, [], ◌∷◌, length, get_or, set, Option, Some, None, unwrap_or, is_some, refl, sym, ap, subst, ◌∙◌, arith}
+use Rattle.std.proofs.Common.{◌≡◌, ℕ, zero, suc, ◌<◌, ◌≤◌, Bool, true, false, cond, not, nat_eq, ◌&&◌, ◌||◌, List, [], ◌∷◌, ◌++◌, length, get_or, set, Option, Some, None, unwrap_or, is_some, refl, sym, ap, subst, ◌∙◌, arith}
+use Rattle.std.specs.Prelude.{slice_get}
 use Rattle.std.specs.List.{insert, list_any, remove, zip}
 use Rattle.std.specs.Map.{lookup}
 use Rattle.std.proofs.lemmas.Bool.{eq-eqb, false≢true, ne_eqb}
@@ -117,3 +118,15 @@ empty_as_none held t u none =
     on_number t u (λ b. cond b None (content_of held u) ≡ content_of held u)
     (λ e. subst (λ (v : ℕ). None ≡ content_of held v) e (sym (ap (λ o. unwrap_or o None) (none_from (lookup (nat_eq t) held) none))))
     (λ _. refl)
+
+pub zip-push : {K X : Type 0} (ks : List K) (xs : List X) (k : K) (x : X) → length xs ≡ length ks → zip (ks ++ k ∷ []) (xs ++ x ∷ []) ≡ zip ks xs ++ (k, x) ∷ []
+zip-push [] [] k x same = refl
+zip-push [] (y ∷ ys) k x same = absurd (omega (arith, same))
+zip-push (j ∷ ks) [] k x same = absurd (omega (arith, same))
+zip-push (j ∷ ks) (y ∷ ys) k x same = ap (λ es. (j, y) ∷ es) (zip-push ks ys k x (omega (arith, same)))
+
+pub zip-get : {K X : Type 0} (ks : List K) (xs : List X) (i : ℕ) (k : K) (x : X) → slice_get ks i ≡ Some k → slice_get xs i ≡ Some x → slice_get (zip ks xs) i ≡ Some (k, x)
+zip-get [] xs i k x at is = absurd (false≢true (ap is_some at))
+zip-get (j ∷ ks) [] i k x at is = absurd (false≢true (ap is_some is))
+zip-get (j ∷ ks) (y ∷ ys) zero k x at is = ap (λ a. Some (a, y)) (ap (λ o. unwrap_or o k) at) ∙ ap (λ b. Some (k, b)) (ap (λ o. unwrap_or o x) is)
+zip-get (j ∷ ks) (y ∷ ys) (suc i) k x at is = zip-get ks ys i k x at is

@@ -1,10 +1,10 @@
 -- Cells as callers see them: for each transaction that has any, a list of its keys, each with what stands there. And as they
 -- are kept: at each key the transactions with a place there, each with what it has, and beside that the keys of each
--- transaction, at its number.
+-- transaction, at its number, each with its place among all keys.
 use Rattle.std.specs.Prelude.{◌≡◌, ◌+◌, ℕ, suc, Bool, true, false, nat_eq, List, [], ◌∷◌, Option, Some, None, is_some, unwrap_or, slice_get, map}
-use Rattle.std.specs.List.{list_any}
+use Rattle.std.specs.List.{AllByRecursion, list_any}
 use Rattle.std.specs.List.Sorted.{IsStrictlyIncreasing}
-use Rattle.std.specs.Map.{lookup}
+use Rattle.std.specs.Map.{lookup, keys_of}
 use Rattle.txn_names.specs.Path.{label_eq}
 
 -- ---- as callers see them
@@ -76,28 +76,46 @@ place_kept kept t k = holds (held_at kept k) t
 abbrev pub content_kept : {V : Type 0} → AtKeys V → ℕ → List ℕ → Option V
 content_kept kept t k = content_of (held_at kept k) t
 
+-- what stands at a place among the keys stands there still
+abbrev pub StayAt : List (List ℕ) → List (List ℕ) → Type 0
+StayAt old new = (p : ℕ) (k : List ℕ) → slice_get old p ≡ Some k → slice_get new p ≡ Some k
+
 -- ---- by transaction
 
--- the keys of each transaction, at its number
+-- the keys of one transaction, each with its place among all keys
+abbrev pub Listed : Type 0
+Listed = List (List ℕ × ℕ)
+
+-- of each transaction, at its number
 abbrev pub Lists : Type 0
-Lists = List (List (List ℕ))
+Lists = List Listed
+
+abbrev pub listed_at : Lists → ℕ → Listed
+listed_at lists t = unwrap_or (slice_get lists t) []
 
 abbrev pub keys_at : Lists → ℕ → List (List ℕ)
-keys_at lists t = unwrap_or (slice_get lists t) []
+keys_at lists t = keys_of (listed_at lists t)
 
 -- 1 for a list with keys
-abbrev pub one_busy : List (List ℕ) → ℕ
+abbrev pub one_busy : Listed → ℕ
 one_busy [] = 0
-one_busy (k ∷ ks) = 1
+one_busy (e ∷ es) = 1
 
 -- how many transactions have keys
 abbrev pub busy_in : Lists → ℕ
 busy_in [] = 0
-busy_in (keys ∷ lists) = one_busy keys + busy_in lists
+busy_in (listed ∷ lists) = one_busy listed + busy_in lists
 
 -- at each key those have a place that list it
 abbrev pub AreListed : {V : Type 0} → AtKeys V → Lists → Type 0
 AreListed kept lists = (u : ℕ) (q : List ℕ) → place_kept kept u q ≡ list_any (label_eq q) (keys_at lists u)
+
+-- each stands among the keys at its place
+abbrev pub AreAt : List (List ℕ) → Listed → Type 0
+AreAt keys listed = AllByRecursion (λ e. slice_get keys e.1 ≡ Some e.0) listed
+
+abbrev pub ArePlaced : {V : Type 0} → AtKeys V → Lists → Type 0
+ArePlaced kept lists = (u : ℕ) → AreAt (keys_of kept) (listed_at lists u)
 
 -- ---- what is seen of what is kept
 
@@ -109,7 +127,7 @@ cells_of kept t keys = map (λ k. (k, content_kept kept t k)) keys
 abbrev pub seen_from : {V : Type 0} → ℕ → Lists → AtKeys V → Table V
 seen_from t [] kept = []
 seen_from t ([] ∷ lists) kept = seen_from (suc t) lists kept
-seen_from t ((k ∷ ks) ∷ lists) kept = (t, cells_of kept t (k ∷ ks)) ∷ seen_from (suc t) lists kept
+seen_from t ((e ∷ es) ∷ lists) kept = (t, cells_of kept t (keys_of (e ∷ es))) ∷ seen_from (suc t) lists kept
 
 abbrev pub seen : {V : Type 0} → Lists → AtKeys V → Table V
 seen lists kept = seen_from 0 lists kept

@@ -1,8 +1,9 @@
 //! The keys of each transaction.
 ghost use Rattle.std.specs.Prelude.{◌≡◌, ◌≤◌, ◌<◌, ◌++◌, ◌∷◌, [], nat_eq, length, slice_get, IsFalse, IsOk, IsTrue, OnErr, OnOk, ℕ, if◌then◌else◌};
 ghost use Rattle.std.specs.List.{IsDistinct, list_any};
+ghost use Rattle.std.specs.Map.{keys_of};
 ghost use Rattle.txn_names.specs.Path.{label_eq};
-ghost use Rattle.txn_cells.specs.Kept.{busy_in, keys_at};
+ghost use Rattle.txn_cells.specs.Kept.{busy_in, keys_at, listed_at};
 
 use serial_spec::NoMemory;
 use std::alloc::{AllocError, Global};
@@ -11,22 +12,24 @@ use std::mem;
 use txn_names::Key;
 use txn_tree::TxnNo;
 
-/// Keys, each once.
+/// Keys, each once, and the place of each among all keys.
 #[derive(Drop)]
 pub(crate) struct KeyList {
     keys: Vec<Key>,
+    places: Vec<usize>,
 }
 
 impl Model for KeyList {
-    ghost use Rattle.std.specs.Prelude.{List, ℕ};
-    ghost use Rattle.std.specs.List.{IsDistinct};
+    ghost use Rattle.std.specs.Prelude.{◌≡◌, length};
+    ghost use Rattle.std.specs.List.{IsDistinct, zip};
     ghost use Rattle.txn_names.specs.Path.{label_eq};
+    ghost use Rattle.txn_cells.specs.Kept.{Listed};
 
-    ghost Value = { List (List ℕ) };
+    ghost Value = { Listed };
 
-    ghost view = { λ l. l.keys.items };
+    ghost view = { λ l. zip l.keys.items l.places.items };
 
-    ghost invariant = { λ l. IsDistinct label_eq l.keys.items };
+    ghost invariant = { λ l. IsDistinct label_eq l.keys.items × (length l.places.items ≡ length l.keys.items) };
 }
 
 impl KeyList {
@@ -35,31 +38,44 @@ impl KeyList {
     {
         KeyList {
             keys: Vec::new(alloc),
+            places: Vec::new(alloc),
         }
     }
 
-    fn is_empty(&self) -> bool
-        ensures { result ≡ nat_eq (length self.now) 0 }
+    pub(crate) fn len(&self) -> usize
+        ensures { result ≡ length self.now }
     {
-        self.keys.is_empty()
+        self.keys.len()
     }
 
-    pub(crate) fn as_slice(&self) -> &[Key]
-        ensures same { result.now ≡ self.now }
-        ensures once { IsDistinct label_eq self.now }
+    fn keys(&self) -> &[Key]
+        ensures same { result.now ≡ keys_of self.now }
+        ensures once { IsDistinct label_eq result.now }
     {
         self.keys.as_slice()
     }
 
-    fn add(&mut self, key: &Key) -> Result<(), NoMemory>
-        requires { IsFalse (list_any (label_eq key.now) self.old) }
-        ensures ok { OnOk result (self.new ≡ self.old ++ key.now ∷ []) }
+    /// The key at an index, with its place.
+    pub(crate) fn get(&self, index: usize) -> Option<(Key, usize)>
+        ensures { result ≡ slice_get self.now index }
+    {
+        if index < self.keys.len() {
+            Some((self.keys[index], self.places[index]))
+        } else {
+            None
+        }
+    }
+
+    fn add(&mut self, key: &Key, place: usize) -> Result<(), NoMemory>
+        requires { IsFalse (list_any (label_eq key.now) (keys_of self.old)) }
+        ensures ok { OnOk result (self.new ≡ self.old ++ (key.now, place) ∷ []) }
         ensures err { OnErr result (self.new ≡ self.old) }
     {
-        match self.keys.push(*key) {
-            Ok(()) => Ok(()),
-            Err(_) => Err(AllocError),
-        }
+        self.places.reserve(1)?;
+        self.keys.reserve(1)?;
+        self.keys.push(*key).unwrap();
+        self.places.push(place).unwrap();
+        Ok(())
     }
 }
 
@@ -105,14 +121,31 @@ impl KeyLists {
         ensures once { IsDistinct label_eq result.now }
     {
         match self.lists.get(txn.place() as usize) {
-            Some(list) => list.as_slice(),
+            Some(list) => list.keys(),
             None => &[],
         }
     }
 
+    /// How many keys the transaction has.
+    pub(crate) fn count(&self, txn: TxnNo) -> usize
+        ensures { result ≡ length (listed_at self.now txn) }
+    {
+        match self.lists.get(txn.place() as usize) {
+            Some(list) => list.len(),
+            None => 0,
+        }
+    }
+
+    /// The transaction's key at an index, with its place.
+    pub(crate) fn get(&self, txn: TxnNo, index: usize) -> Option<(Key, usize)>
+        ensures { result ≡ slice_get (listed_at self.now txn) index }
+    {
+        self.lists.get(txn.place() as usize)?.get(index)
+    }
+
     // Gives each number up to the transaction's a list, empty as yet.
     fn grow(&mut self, txn: TxnNo) -> Result<(), NoMemory>
-        ensures lists { (u : ℕ) → keys_at self.new u ≡ keys_at self.old u }
+        ensures lists { (u : ℕ) → listed_at self.new u ≡ listed_at self.old u }
         ensures ok { OnOk result (txn < length self.new) }
     {
         let place = txn.place() as usize;
@@ -125,34 +158,34 @@ impl KeyLists {
     }
 
     // Adds a key to a list that is there.
-    fn add_at(&mut self, place: usize, key: &Key) -> Result<(), NoMemory>
-        requires within { place < length self.old }
-        requires fresh { IsFalse (list_any (label_eq key.now) (keys_at self.old place)) }
-        ensures ok { OnOk result ((u : ℕ) → keys_at self.new u ≡ (if nat_eq place u then keys_at self.old u ++ key.now ∷ [] else keys_at self.old u)) }
-        ensures err { OnErr result ((u : ℕ) → keys_at self.new u ≡ keys_at self.old u) }
+    fn add_at(&mut self, list: usize, key: &Key, place: usize) -> Result<(), NoMemory>
+        requires within { list < length self.old }
+        requires fresh { IsFalse (list_any (label_eq key.now) (keys_at self.old list)) }
+        ensures ok { OnOk result ((u : ℕ) → listed_at self.new u ≡ (if nat_eq list u then listed_at self.old u ++ (key.now, place) ∷ [] else listed_at self.old u)) }
+        ensures err { OnErr result ((u : ℕ) → listed_at self.new u ≡ listed_at self.old u) }
     {
-        let first = self.lists[place].is_empty();
-        self.lists[place].add(key)?;
+        let first = self.lists[list].len() == 0;
+        self.lists[list].add(key, place)?;
         if first {
             self.busy += 1;
         }
         Ok(())
     }
 
-    /// Adds a key to the transaction's list. If memory runs out, each list has the keys that it had.
-    pub(crate) fn add(&mut self, txn: TxnNo, key: &Key) -> Result<(), NoMemory>
+    /// Adds a key that stands at a place to the transaction's list. If memory runs out, each list has the keys that it had.
+    pub(crate) fn add(&mut self, txn: TxnNo, key: &Key, place: usize) -> Result<(), NoMemory>
         requires fresh { IsFalse (list_any (label_eq key.now) (keys_at self.old txn)) }
-        ensures ok { OnOk result ((u : ℕ) → keys_at self.new u ≡ (if nat_eq txn u then keys_at self.old u ++ key.now ∷ [] else keys_at self.old u)) }
-        ensures err { OnErr result ((u : ℕ) → keys_at self.new u ≡ keys_at self.old u) }
+        ensures ok { OnOk result ((u : ℕ) → listed_at self.new u ≡ (if nat_eq txn u then listed_at self.old u ++ (key.now, place) ∷ [] else listed_at self.old u)) }
+        ensures err { OnErr result ((u : ℕ) → listed_at self.new u ≡ listed_at self.old u) }
     {
         self.grow(txn)?;
-        self.add_at(txn.place() as usize, key)
+        self.add_at(txn.place() as usize, key, place)
     }
 
     /// Takes the transaction's list out. Its number has no keys then. It takes no memory.
     pub(crate) fn take(&mut self, txn: TxnNo) -> KeyList
-        ensures taken { result ≡ keys_at self.old txn }
-        ensures lists { (u : ℕ) → keys_at self.new u ≡ (if nat_eq txn u then [] else keys_at self.old u) }
+        ensures taken { result ≡ listed_at self.old txn }
+        ensures lists { (u : ℕ) → listed_at self.new u ≡ (if nat_eq txn u then [] else listed_at self.old u) }
     {
         let place = txn.place() as usize;
         let empty = KeyList::new(self.alloc);
@@ -160,7 +193,7 @@ impl KeyLists {
             return empty;
         }
         let taken = mem::replace(&mut self.lists[place], empty);
-        if !taken.is_empty() {
+        if taken.len() > 0 {
             self.busy -= 1;
         }
         taken

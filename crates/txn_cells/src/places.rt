@@ -1,14 +1,15 @@
-//! What stands at each key.
-ghost use Rattle.std.specs.Prelude.{◌≡◌, ◌&&◌, not, nat_eq, false, length, [], IsFalse, IsOk, IsTrue, IfOk, IfSome, OnErr, OnOk, List, ℕ, if◌then◌else◌, Some, None};
+//! What is held at each key.
+ghost use Rattle.std.specs.Prelude.{◌≡◌, ◌&&◌, not, nat_eq, false, length, slice_get, [], IsFalse, IsOk, IsTrue, IfOk, IfSome, OnErr, OnOk, List, ℕ, if◌then◌else◌, Some, None};
 ghost use Rattle.std.specs.List.{list_any};
 ghost use Rattle.std.specs.List.Sorted.{IsStrictlyIncreasing};
-ghost use Rattle.std.specs.Map.{lookup};
+ghost use Rattle.std.specs.Map.{keys_of};
 ghost use Rattle.txn_names.specs.Path.{label_eq};
 ghost use Rattle.txn_cells.specs.Cells.{handed_up, is_it, with_place};
-ghost use Rattle.txn_cells.specs.Kept.{content_kept, place_kept, stands};
+ghost use Rattle.txn_cells.specs.Kept.{AreAt, StayAt, content_kept, held_at, place_kept, stands};
 
 use crate::holders::Holders;
 use crate::inherit::Inherit;
+use crate::key_lists::KeyList;
 use indexmap::IndexMap;
 use serial_spec::NoMemory;
 use std::alloc::{AllocError, Global};
@@ -16,7 +17,7 @@ use std::marker::Model;
 use txn_names::Key;
 use txn_tree::TxnNo;
 
-/// The places at each key. A key stays when its last place goes.
+/// What is held at each key. A key stays when its last holder goes, and so stands at one place among all keys for good.
 #[derive(Drop)]
 pub(crate) struct Places<V: Inherit> {
     alloc: Global,
@@ -71,39 +72,44 @@ impl<V: Inherit> Places<V> {
         }
     }
 
-    // Makes the first place at a key.
-    fn add_key(&mut self, txn: TxnNo, key: &Key) -> Result<bool, NoMemory>
-        requires { lookup (label_eq key.now) self.old ≡ None }
-        ensures made { IfOk result (λ made. IsTrue made) }
-        ensures contents { (u : ℕ) → (q : List ℕ) → content_kept self.new u q ≡ content_kept self.old u q }
-        ensures ok { OnOk result ((u : ℕ) → (q : List ℕ) → place_kept self.new u q ≡ with_place (place_kept self.old) txn key.now u q) }
-        ensures err { OnErr result (self.new ≡ self.old) }
+    /// The place of the key among all keys. One that is not among them yet goes last, with no holders.
+    pub(crate) fn place_for(&mut self, key: &Key) -> Result<usize, NoMemory>
+        ensures held { (q : List ℕ) → held_at self.new q ≡ held_at self.old q }
+        ensures place { IfOk result (λ p. slice_get (keys_of self.new) p ≡ Some key.now) }
+        ensures stay { StayAt (keys_of self.old) (keys_of self.new) }
+        ensures succeeds { (u : ℕ) → IsTrue (place_kept self.old u key.now) → IsOk result }
     {
-        let mut holders = Holders::new(self.alloc);
-        let made = holders.add(txn)?;
-        match self.holders.insert(*key, holders) {
-            Ok(_) => Ok(made),
+        if let Some(place) = self.holders.get_index_of(key) {
+            return Ok(place);
+        }
+        let place = self.holders.len();
+        match self.holders.insert(*key, Holders::new(self.alloc)) {
+            Ok(_) => Ok(place),
             Err(_) => Err(AllocError),
         }
     }
 
-    /// Makes an empty place for the transaction, if it has none, and tells whether it had none.
-    pub(crate) fn add(&mut self, txn: TxnNo, key: &Key) -> Result<bool, NoMemory>
+    /// Makes an empty place for the transaction, if it has none, at the key that stands at this place, and tells whether it
+    /// had none.
+    pub(crate) fn add(&mut self, txn: TxnNo, key: &Key, place: usize) -> Result<bool, NoMemory>
+        requires at { slice_get (keys_of self.old) place ≡ Some key.now }
+        ensures keys { keys_of self.new ≡ keys_of self.old }
         ensures made { IfOk result (λ made. made ≡ not (place_kept self.old txn key.now)) }
         ensures contents { (u : ℕ) → (q : List ℕ) → content_kept self.new u q ≡ content_kept self.old u q }
         ensures ok { OnOk result ((u : ℕ) → (q : List ℕ) → place_kept self.new u q ≡ with_place (place_kept self.old) txn key.now u q) }
         ensures err { OnErr result ((u : ℕ) → (q : List ℕ) → place_kept self.new u q ≡ place_kept self.old u q) }
         ensures succeeds { IsTrue (place_kept self.old txn key.now) → IsOk result }
     {
-        match self.holders.get_mut(key) {
+        match self.holders.get_index_mut(place) {
             Some(holders) => holders.add(txn),
-            None => self.add_key(txn, key),
+            None => Ok(false),
         }
     }
 
     /// Sets what the transaction has at the key. It takes no memory.
     pub(crate) fn set(&mut self, txn: TxnNo, key: &Key, value: V)
         requires { IsTrue (place_kept self.old txn key.now) }
+        ensures keys { keys_of self.new ≡ keys_of self.old }
         ensures contents { (u : ℕ) → (q : List ℕ) →
             content_kept self.new u q ≡ (if nat_eq txn u && label_eq key.now q then Some value else content_kept self.old u q) }
         ensures places { (u : ℕ) → (q : List ℕ) → place_kept self.new u q ≡ place_kept self.old u q }
@@ -113,30 +119,37 @@ impl<V: Inherit> Places<V> {
         }
     }
 
-    /// Takes the child out of those at the key. Its parent, if there is one, inherits what it had there. It takes no memory.
-    pub(crate) fn hand_up(&mut self, key: &Key, child: TxnNo, parent: Option<TxnNo>)
+    /// Takes the child out of those at the key that stands at this place. Its parent, if there is one, inherits what it had
+    /// there. It takes no memory.
+    pub(crate) fn hand_up(&mut self, key: &Key, place: usize, child: TxnNo, parent: Option<TxnNo>)
+        requires at { slice_get (keys_of self.old) place ≡ Some key.now }
         requires other { IfSome parent (λ p. IsFalse (nat_eq child p)) }
         requires place { IfSome parent (λ p. IsTrue (place_kept self.old p key.now)) }
+        ensures keys { keys_of self.new ≡ keys_of self.old }
         ensures contents { (u : ℕ) → (q : List ℕ) →
             content_kept self.new u q ≡ (if label_eq key.now q then handed_up V.inherited (content_kept self.old) child parent u q else content_kept self.old u q) }
         ensures places { (u : ℕ) → (q : List ℕ) → place_kept self.new u q ≡ (not (nat_eq child u && label_eq key.now q) && place_kept self.old u q) }
     {
-        if let Some(holders) = self.holders.get_mut(key) {
+        if let Some(holders) = self.holders.get_index_mut(place) {
             holders.hand_up(child, parent);
         }
     }
 
-    /// Does so at each of these keys.
-    pub(crate) fn hand_up_at(&mut self, keys: &[Key], child: TxnNo, parent: &Option<TxnNo>)
+    /// Does so at each key of the list.
+    pub(crate) fn hand_up_all(&mut self, list: &KeyList, child: TxnNo, parent: &Option<TxnNo>)
+        requires at { AreAt (keys_of self.old) list.now }
         requires other { IfSome parent.now (λ p. IsFalse (nat_eq child p)) }
-        requires places { IfSome parent.now (λ p. (q : List ℕ) → IsTrue (list_any (label_eq q) keys.now) → IsTrue (place_kept self.old p q)) }
+        requires places { IfSome parent.now (λ p. (q : List ℕ) → IsTrue (list_any (label_eq q) (keys_of list.now)) → IsTrue (place_kept self.old p q)) }
+        ensures keys { keys_of self.new ≡ keys_of self.old }
         ensures contents { (u : ℕ) → (q : List ℕ) →
-            content_kept self.new u q ≡ (if list_any (label_eq q) keys.now then handed_up V.inherited (content_kept self.old) child parent.now u q else content_kept self.old u q) }
+            content_kept self.new u q ≡ (if list_any (label_eq q) (keys_of list.now) then handed_up V.inherited (content_kept self.old) child parent.now u q else content_kept self.old u q) }
         ensures places { (u : ℕ) → (q : List ℕ) →
-            place_kept self.new u q ≡ (not (nat_eq child u && list_any (label_eq q) keys.now) && place_kept self.old u q) }
+            place_kept self.new u q ≡ (not (nat_eq child u && list_any (label_eq q) (keys_of list.now)) && place_kept self.old u q) }
     {
-        for key in keys {
-            self.hand_up(key, child, *parent);
+        for index in 0..list.len() {
+            if let Some(entry) = list.get(index) {
+                self.hand_up(&entry.0, entry.1, child, *parent);
+            }
         }
     }
 }

@@ -1,10 +1,11 @@
 //! What all transactions have, by transaction and by key.
-ghost use Rattle.std.specs.Prelude.{◌≡◌, ◌&&◌, ◌↔◌, nat_eq, not, IsFalse, IsOk, IsTrue, IfSome, OnErr, OnOk, List, ℕ, if◌then◌else◌, false, Some, None};
+ghost use Rattle.std.specs.Prelude.{◌≡◌, ◌&&◌, ◌↔◌, nat_eq, not, slice_get, IsFalse, IsOk, IsTrue, IfSome, OnErr, OnOk, List, ℕ, if◌then◌else◌, false, Some, None};
 ghost use Rattle.std.specs.List.{IsDistinct, list_any};
 ghost use Rattle.std.specs.List.Sorted.{IsStrictlyIncreasing};
+ghost use Rattle.std.specs.Map.{keys_of};
 ghost use Rattle.txn_names.specs.Path.{label_eq};
 ghost use Rattle.txn_cells.specs.Cells.{IsTowards, handed_up, is_it, is_under, nothing, with_childs, with_place};
-ghost use Rattle.txn_cells.specs.Kept.{AreListed, content, content_kept, has_place, keys_at, place_kept, stands};
+ghost use Rattle.txn_cells.specs.Kept.{AreListed, ArePlaced, content, content_kept, has_place, listed_at, place_kept, stands};
 
 use crate::inherit::Inherit;
 use crate::key_lists::KeyLists;
@@ -24,16 +25,45 @@ pub struct CellTable<V: Inherit> {
 }
 
 impl<V: Inherit> Model for CellTable<V> {
-    ghost use Rattle.txn_cells.specs.Kept.{AreListed, Table, seen};
+    ghost use Rattle.txn_cells.specs.Kept.{AreListed, ArePlaced, Table, seen};
 
     ghost Value = { Table V };
 
     ghost view = { λ t. seen t.keys t.places };
 
-    ghost invariant = { λ t. AreListed t.places t.keys };
+    ghost invariant = { λ t. AreListed t.places t.keys × ArePlaced t.places t.keys };
 }
 
-// Makes a place, if there is none. The keys of others stay in their order.
+// Makes a place, if there is none, at the key that stands at this place. The keys of others stay in their order.
+fn make_place_at<V: Inherit>(
+    places: &mut Places<V>,
+    keys: &mut KeyLists,
+    txn: TxnNo,
+    key: &Key,
+    place: usize,
+) -> Result<(), NoMemory>
+    requires listed { AreListed places.old keys.old }
+    requires placed { ArePlaced places.old keys.old }
+    requires at { slice_get (keys_of places.old) place ≡ Some key.now }
+    ensures listed { AreListed places.new keys.new }
+    ensures placed { ArePlaced places.new keys.new }
+    ensures contents { (u : ℕ) → (q : List ℕ) → content_kept places.new u q ≡ content_kept places.old u q }
+    ensures ok { OnOk result ((u : ℕ) → (q : List ℕ) → place_kept places.new u q ≡ with_place (place_kept places.old) txn key.now u q) }
+    ensures err { OnErr result ((u : ℕ) → (q : List ℕ) → place_kept places.new u q ≡ place_kept places.old u q) }
+    ensures succeeds { IsTrue (place_kept places.old txn key.now) → IsOk result }
+    ensures others { (u : ℕ) → (u ≡ txn → ⊥) → listed_at keys.new u ≡ listed_at keys.old u }
+{
+    if !places.add(txn, key, place)? {
+        return Ok(());
+    }
+    let listed = keys.add(txn, key, place);
+    if listed.is_err() {
+        places.hand_up(key, place, txn, None);
+    }
+    listed
+}
+
+// Makes a place, if there is none.
 fn make_place<V: Inherit>(
     places: &mut Places<V>,
     keys: &mut KeyLists,
@@ -41,21 +71,16 @@ fn make_place<V: Inherit>(
     key: &Key,
 ) -> Result<(), NoMemory>
     requires listed { AreListed places.old keys.old }
+    requires placed { ArePlaced places.old keys.old }
     ensures listed { AreListed places.new keys.new }
+    ensures placed { ArePlaced places.new keys.new }
     ensures contents { (u : ℕ) → (q : List ℕ) → content_kept places.new u q ≡ content_kept places.old u q }
     ensures ok { OnOk result ((u : ℕ) → (q : List ℕ) → place_kept places.new u q ≡ with_place (place_kept places.old) txn key.now u q) }
     ensures err { OnErr result ((u : ℕ) → (q : List ℕ) → place_kept places.new u q ≡ place_kept places.old u q) }
     ensures succeeds { IsTrue (place_kept places.old txn key.now) → IsOk result }
-    ensures others { (u : ℕ) → (u ≡ txn → ⊥) → keys_at keys.new u ≡ keys_at keys.old u }
 {
-    if !places.add(txn, key)? {
-        return Ok(());
-    }
-    let listed = keys.add(txn, key);
-    if listed.is_err() {
-        places.hand_up(key, txn, None);
-    }
-    listed
+    let place = places.place_for(key)?;
+    make_place_at(places, keys, txn, key, place)
 }
 
 // The parent, if there is one and it is not the child.
@@ -78,16 +103,19 @@ fn make_places<V: Inherit>(
     parent: TxnNo,
 ) -> Result<(), NoMemory>
     requires listed { AreListed places.old keys.old }
+    requires placed { ArePlaced places.old keys.old }
     requires other { child ≡ parent → ⊥ }
     ensures listed { AreListed places.new keys.new }
+    ensures placed { ArePlaced places.new keys.new }
     ensures contents { (u : ℕ) → (q : List ℕ) → content_kept places.new u q ≡ content_kept places.old u q }
     ensures ok { OnOk result ((u : ℕ) → (q : List ℕ) → place_kept places.new u q ≡ with_childs (place_kept places.old) child parent u q) }
     ensures err { OnErr result (IsTowards (place_kept places.old) (place_kept places.new) child parent) }
     ensures succeeds { ((q : List ℕ) → IsTrue (place_kept places.old child q) → IsTrue (place_kept places.old parent q)) → IsOk result }
 {
-    for index in 0..keys.keys(child).len() {
-        let key = keys.keys(child)[index];
-        make_place(places, keys, parent, &key)?;
+    for index in 0..keys.count(child) {
+        if let Some(entry) = keys.get(child, index) {
+            make_place_at(places, keys, parent, &entry.0, entry.1)?;
+        }
     }
     Ok(())
 }
@@ -216,6 +244,6 @@ impl<V: Inherit> CellTable<V> {
     {
         let keys = self.keys.take(child);
         let heir = heir(child, parent);
-        self.places.hand_up_at(keys.as_slice(), child, &heir);
+        self.places.hand_up_all(&keys, child, &heir);
     }
 }

@@ -1,16 +1,16 @@
-use Rattle.std.proofs.Common.{◌≡◌, ℕ, Bool, true, false, List, [], ◌∷◌, ◌++◌, refl, ap, sym, ◌∙◌, arith, rules, if◌then◌else◌}
+use Rattle.std.proofs.Common.{◌≡◌, ℕ, Bool, true, false, [], ◌∷◌, ◌++◌, refl, ap, sym, ◌∙◌, arith, rules, if◌then◌else◌}
 use Rattle.std.specs.Prelude.{is_ok}
-use Rattle.txn_cells.specs.Kept.{Lists, busy_in, keys_at}
+use Rattle.txn_cells.specs.Kept.{Listed, Lists, busy_in, listed_at}
 use Rattle.txn_cells.proofs.Lists.{busy_grown, keys_grown}
 use Rattle.txn_cells.proofs.key_lists.KeyLists.grow.Goals as goal
 
 -- whether or not there was memory
-keys_after : (b : Bool) (lists now : Lists) (new : List (List ℕ)) → new ≡ [] → now ≡ (if b then lists ++ new ∷ [] else lists) → (u : ℕ) → keys_at now u ≡ keys_at lists u
-keys_after true lists now new none is u = ap (λ (x : Lists). keys_at x u) (is ∙ ap (λ (ks : List (List ℕ)). lists ++ ks ∷ []) none) ∙ keys_grown lists u
-keys_after false lists now new none is u = ap (λ (x : Lists). keys_at x u) is
+keys_after : (b : Bool) (lists now : Lists) (new : Listed) → new ≡ [] → now ≡ (if b then lists ++ new ∷ [] else lists) → (u : ℕ) → listed_at now u ≡ listed_at lists u
+keys_after true lists now new none is u = ap (λ (x : Lists). listed_at x u) (is ∙ ap (λ (ks : Listed). lists ++ ks ∷ []) none) ∙ keys_grown lists u
+keys_after false lists now new none is u = ap (λ (x : Lists). listed_at x u) is
 
-busy_after : (b : Bool) (lists now : Lists) (new : List (List ℕ)) → new ≡ [] → now ≡ (if b then lists ++ new ∷ [] else lists) → busy_in now ≡ busy_in lists
-busy_after true lists now new none is = ap (λ (x : Lists). busy_in x) (is ∙ ap (λ (ks : List (List ℕ)). lists ++ ks ∷ []) none) ∙ busy_grown lists
+busy_after : (b : Bool) (lists now : Lists) (new : Listed) → new ≡ [] → now ≡ (if b then lists ++ new ∷ [] else lists) → busy_in now ≡ busy_in lists
+busy_after true lists now new none is = ap (λ (x : Lists). busy_in x) (is ∙ ap (λ (ks : Listed). lists ++ ks ∷ []) none) ∙ busy_grown lists
 busy_after false lists now new none is = ap (λ (x : Lists). busy_in x) is
 
 pub loop-self-init : goal.loop-self-init

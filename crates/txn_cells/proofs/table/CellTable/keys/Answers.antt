@@ -6,5 +6,5 @@ use Rattle.txn_cells.proofs.table.CellTable.keys.Goals as goal
 
 pub returns-clause-each : goal.returns-clause-each
 returns-clause-each g c =
-    let i = c.self.invariant in
+    let i = c.self.invariant.0 in
     rw (sym c.self.view_is) (λ q. seen_place c.self.inside.places c.self.inside.keys i c.args.txn q ∙ i c.args.txn q ∙ ap (list_any (label_eq q)) (sym c.keys.ensures.same))

@@ -8,13 +8,13 @@ pub returns-clause-contents : goal.returns-clause-contents
 returns-clause-contents g c =
     let t = c.self.inside in
     let m = c.make_places in
-    rw (sym c.self.view_is) (λ u q. seen_content m.new.places m.new.keys m.ensures.listed u q ∙ m.ensures.contents u q ∙ sym (seen_content t.places t.keys c.self.invariant u q))
+    rw (sym c.self.view_is) (λ u q. seen_content m.new.places m.new.keys m.ensures.listed u q ∙ m.ensures.contents u q ∙ sym (seen_content t.places t.keys c.self.invariant.0 u q))
 
 pub returns-clause-ok : goal.returns-clause-ok
 returns-clause-ok g c =
     let t = c.self.inside in
     let m = c.make_places in
-    let was = seen_place t.places t.keys c.self.invariant in
+    let was = seen_place t.places t.keys c.self.invariant.0 in
     let is = seen_place m.new.places m.new.keys m.ensures.listed in
     rw (sym c.self.view_is)
     (on_ok_weaker m.result
@@ -25,7 +25,7 @@ pub returns-clause-err : goal.returns-clause-err
 returns-clause-err g c =
     let t = c.self.inside in
     let m = c.make_places in
-    let was = seen_place t.places t.keys c.self.invariant in
+    let was = seen_place t.places t.keys c.self.invariant.0 in
     let is = seen_place m.new.places m.new.keys m.ensures.listed in
     rw (sym c.self.view_is)
     (on_err_weaker m.result
@@ -36,5 +36,5 @@ pub returns-clause-succeeds : goal.returns-clause-succeeds
 returns-clause-succeeds g c =
     let t = c.self.inside in
     let m = c.make_places in
-    let was = seen_place t.places t.keys c.self.invariant in
+    let was = seen_place t.places t.keys c.self.invariant.0 in
     rw (sym c.self.view_is) (λ all. m.ensures.succeeds (λ q there. sym (was c.args.parent q) ∙ all q (was c.args.child q ∙ there)))

@@ -7,21 +7,21 @@ use Rattle.txn_cells.proofs.table.CellTable.set.Goals as goal
 pub set-requires : goal.set-requires
 set-requires g c =
     let t = c.self.inside in
-    sym (seen_place t.places t.keys c.self.invariant c.args.txn c.args.key.now) ∙ (rw (sym c.self.view_is) at c.requires.place)
+    sym (seen_place t.places t.keys c.self.invariant.0 c.args.txn c.args.key.now) ∙ (rw (sym c.self.view_is) at c.requires.place)
 
 pub returns-clause-contents : goal.returns-clause-contents
 returns-clause-contents g c =
     let t = c.self.inside in
-    let listed : AreListed c.set.new.self t.keys = λ u q. c.set.ensures.places u q ∙ c.self.invariant u q in
+    let listed : AreListed c.set.new.self t.keys = λ u q. c.set.ensures.places u q ∙ c.self.invariant.0 u q in
     rw (sym c.self.view_is)
     (λ u q.
     seen_content c.set.new.self t.keys listed u q
     ∙ c.set.ensures.contents u q
-    ∙ ap (λ o. if nat_eq c.args.txn u && label_eq c.args.key.now q then Some c.args.value else o) (sym (seen_content t.places t.keys c.self.invariant u q)))
+    ∙ ap (λ o. if nat_eq c.args.txn u && label_eq c.args.key.now q then Some c.args.value else o) (sym (seen_content t.places t.keys c.self.invariant.0 u q)))
 
 pub returns-clause-places : goal.returns-clause-places
 returns-clause-places g c =
     let t = c.self.inside in
-    let listed : AreListed c.set.new.self t.keys = λ u q. c.set.ensures.places u q ∙ c.self.invariant u q in
+    let listed : AreListed c.set.new.self t.keys = λ u q. c.set.ensures.places u q ∙ c.self.invariant.0 u q in
     rw (sym c.self.view_is)
-    (λ u q. seen_place c.set.new.self t.keys listed u q ∙ c.set.ensures.places u q ∙ sym (seen_place t.places t.keys c.self.invariant u q))
+    (λ u q. seen_place c.set.new.self t.keys listed u q ∙ c.set.ensures.places u q ∙ sym (seen_place t.places t.keys c.self.invariant.0 u q))
