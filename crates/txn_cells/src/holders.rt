@@ -57,8 +57,10 @@ impl<V: Inherit> Holders<V> {
     }
 
     pub(crate) fn marked(&self) -> &[TxnNo]
-        ensures all { (u : ℕ) → IsTrue (stands V.outstanding (content_of self.now u)) → IsTrue (list_any (nat_eq u) result.now) }
-        ensures places { (u : ℕ) → IsTrue (list_any (nat_eq u) result.now) → IsTrue (holds self.now u) }
+        ensures all { (u : ℕ) → IsTrue (stands V.outstanding (content_of self.now u)) →
+            IsTrue (list_any (nat_eq u) result.now) }
+        ensures places { (u : ℕ) → IsTrue (list_any (nat_eq u) result.now) →
+            IsTrue (holds self.now u) }
         ensures rising { IsStrictlyIncreasing result.now }
     {
         self.marked.as_slice()
@@ -110,7 +112,8 @@ impl<V: Inherit> Holders<V> {
     /// Sets what the transaction has. It takes no memory.
     pub(crate) fn set(&mut self, txn: TxnNo, value: V)
         requires { IsTrue (holds self.old txn) }
-        ensures contents { (u : ℕ) → content_of self.new u ≡ (if nat_eq txn u then Some value else content_of self.old u) }
+        ensures contents { (u : ℕ) → content_of self.new u ≡ (if nat_eq txn u then Some value
+            else content_of self.old u) }
         ensures places { (u : ℕ) → holds self.new u ≡ holds self.old u }
     {
         if let Ok(place) = find(self.numbers.as_slice(), txn) {
@@ -124,7 +127,8 @@ impl<V: Inherit> Holders<V> {
     // Takes the transaction out, and gives what it had.
     fn remove(&mut self, txn: TxnNo) -> Option<V>
         ensures had { result ≡ content_of self.old txn }
-        ensures contents { (u : ℕ) → content_of self.new u ≡ (if nat_eq txn u then None else content_of self.old u) }
+        ensures contents { (u : ℕ) → content_of self.new u ≡ (if nat_eq txn u then None
+            else content_of self.old u) }
         ensures places { (u : ℕ) → holds self.new u ≡ (not (nat_eq txn u) && holds self.old u) }
     {
         match find(self.numbers.as_slice(), txn) {
@@ -142,7 +146,10 @@ impl<V: Inherit> Holders<V> {
         requires other { IfSome parent (λ p. IsFalse (nat_eq child p)) }
         requires place { IfSome parent (λ p. IsTrue (holds self.old p)) }
         ensures contents { (u : ℕ) → content_of self.new u
-            ≡ (if nat_eq child u then None else if is_it parent u then merged V.inherited (content_of self.old child) (content_of self.old u) else content_of self.old u) }
+            ≡ (if nat_eq child u then None
+            else if is_it parent u
+            then merged V.inherited (content_of self.old child) (content_of self.old u)
+            else content_of self.old u) }
         ensures places { (u : ℕ) → holds self.new u ≡ (not (nat_eq child u) && holds self.old u) }
     {
         let had = self.remove(child);

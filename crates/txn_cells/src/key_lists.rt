@@ -161,7 +161,9 @@ impl KeyLists {
     fn add_at(&mut self, list: usize, key: &Key, place: usize) -> Result<(), NoMemory>
         requires within { list < length self.old }
         requires fresh { IsFalse (list_any (label_eq key.now) (keys_at self.old list)) }
-        ensures ok { OnOk result ((u : ℕ) → listed_at self.new u ≡ (if nat_eq list u then listed_at self.old u ++ (key.now, place) ∷ [] else listed_at self.old u)) }
+        ensures ok { OnOk result ((u : ℕ) → listed_at self.new u ≡
+            (if nat_eq list u then listed_at self.old u ++ (key.now, place) ∷ []
+            else listed_at self.old u)) }
         ensures err { OnErr result ((u : ℕ) → listed_at self.new u ≡ listed_at self.old u) }
     {
         let first = self.lists[list].len() == 0;
@@ -175,7 +177,9 @@ impl KeyLists {
     /// Adds a key that stands at a place to the transaction's list. If memory runs out, each list has the keys that it had.
     pub(crate) fn add(&mut self, txn: TxnNo, key: &Key, place: usize) -> Result<(), NoMemory>
         requires fresh { IsFalse (list_any (label_eq key.now) (keys_at self.old txn)) }
-        ensures ok { OnOk result ((u : ℕ) → listed_at self.new u ≡ (if nat_eq txn u then listed_at self.old u ++ (key.now, place) ∷ [] else listed_at self.old u)) }
+        ensures ok { OnOk result ((u : ℕ) → listed_at self.new u ≡
+            (if nat_eq txn u then listed_at self.old u ++ (key.now, place) ∷ []
+            else listed_at self.old u)) }
         ensures err { OnErr result ((u : ℕ) → listed_at self.new u ≡ listed_at self.old u) }
     {
         self.grow(txn)?;
@@ -185,7 +189,8 @@ impl KeyLists {
     /// Takes the transaction's list out. Its number has no keys then. It takes no memory.
     pub(crate) fn take(&mut self, txn: TxnNo) -> KeyList
         ensures taken { result ≡ listed_at self.old txn }
-        ensures lists { (u : ℕ) → listed_at self.new u ≡ (if nat_eq txn u then [] else listed_at self.old u) }
+        ensures lists { (u : ℕ) → listed_at self.new u ≡ (if nat_eq txn u then []
+            else listed_at self.old u) }
     {
         let place = txn.place() as usize;
         let empty = KeyList::new(self.alloc);

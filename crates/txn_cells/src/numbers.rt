@@ -19,9 +19,11 @@ pub(crate) fn find(numbers: &[TxnNo], txn: TxnNo) -> Result<usize, usize>
 /// Puts the number among them, if it is not there yet. There is room for it.
 pub(crate) fn put_in(numbers: &mut Vec<TxnNo>, txn: TxnNo)
     requires rising { IsStrictlyIncreasing numbers.old.items }
-    requires room { IsFalse (list_any (nat_eq txn) numbers.old.items) → length numbers.old.items < vec_capacity numbers.old }
+    requires room { IsFalse (list_any (nat_eq txn) numbers.old.items) →
+        length numbers.old.items < vec_capacity numbers.old }
     ensures rising { IsStrictlyIncreasing numbers.new.items }
-    ensures each { (u : ℕ) → list_any (nat_eq u) numbers.new.items ≡ (nat_eq txn u || list_any (nat_eq u) numbers.old.items) }
+    ensures each { (u : ℕ) → list_any (nat_eq u) numbers.new.items
+        ≡ (nat_eq txn u || list_any (nat_eq u) numbers.old.items) }
     ensures capacity { vec_capacity numbers.old ≤ vec_capacity numbers.new }
 {
     if let Err(place) = find(numbers.as_slice(), txn) {

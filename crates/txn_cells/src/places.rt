@@ -62,8 +62,10 @@ impl<V: Inherit> Places<V> {
 
     /// Those of them whose content_kept stands out, and maybe more of them.
     pub(crate) fn marked(&self, key: &Key) -> &[TxnNo]
-        ensures all { (u : ℕ) → IsTrue (stands V.outstanding (content_kept self.now u key.now)) → IsTrue (list_any (nat_eq u) result.now) }
-        ensures places { (u : ℕ) → IsTrue (list_any (nat_eq u) result.now) → IsTrue (place_kept self.now u key.now) }
+        ensures all { (u : ℕ) → IsTrue (stands V.outstanding (content_kept self.now u key.now)) →
+            IsTrue (list_any (nat_eq u) result.now) }
+        ensures places { (u : ℕ) → IsTrue (list_any (nat_eq u) result.now) →
+            IsTrue (place_kept self.now u key.now) }
         ensures rising { IsStrictlyIncreasing result.now }
     {
         match self.holders.get(key) {
@@ -95,9 +97,12 @@ impl<V: Inherit> Places<V> {
         requires at { slice_get (keys_of self.old) place ≡ Some key.now }
         ensures keys { keys_of self.new ≡ keys_of self.old }
         ensures made { IfOk result (λ made. made ≡ not (place_kept self.old txn key.now)) }
-        ensures contents { (u : ℕ) → (q : List ℕ) → content_kept self.new u q ≡ content_kept self.old u q }
-        ensures ok { OnOk result ((u : ℕ) → (q : List ℕ) → place_kept self.new u q ≡ with_place (place_kept self.old) txn key.now u q) }
-        ensures err { OnErr result ((u : ℕ) → (q : List ℕ) → place_kept self.new u q ≡ place_kept self.old u q) }
+        ensures contents { (u : ℕ) → (q : List ℕ) → content_kept self.new u q
+            ≡ content_kept self.old u q }
+        ensures ok { OnOk result ((u : ℕ) → (q : List ℕ) → place_kept self.new u q
+            ≡ with_place (place_kept self.old) txn key.now u q) }
+        ensures err { OnErr result ((u : ℕ) → (q : List ℕ) → place_kept self.new u q
+            ≡ place_kept self.old u q) }
         ensures succeeds { IsTrue (place_kept self.old txn key.now) → IsOk result }
     {
         match self.holders.get_index_mut(place) {
@@ -111,8 +116,10 @@ impl<V: Inherit> Places<V> {
         requires { IsTrue (place_kept self.old txn key.now) }
         ensures keys { keys_of self.new ≡ keys_of self.old }
         ensures contents { (u : ℕ) → (q : List ℕ) →
-            content_kept self.new u q ≡ (if nat_eq txn u && label_eq key.now q then Some value else content_kept self.old u q) }
-        ensures places { (u : ℕ) → (q : List ℕ) → place_kept self.new u q ≡ place_kept self.old u q }
+            content_kept self.new u q ≡ (if nat_eq txn u && label_eq key.now q then Some value
+            else content_kept self.old u q) }
+        ensures places { (u : ℕ) → (q : List ℕ) → place_kept self.new u q
+            ≡ place_kept self.old u q }
     {
         if let Some(holders) = self.holders.get_mut(key) {
             holders.set(txn, value);
@@ -127,8 +134,12 @@ impl<V: Inherit> Places<V> {
         requires place { IfSome parent (λ p. IsTrue (place_kept self.old p key.now)) }
         ensures keys { keys_of self.new ≡ keys_of self.old }
         ensures contents { (u : ℕ) → (q : List ℕ) →
-            content_kept self.new u q ≡ (if label_eq key.now q then handed_up V.inherited (content_kept self.old) child parent u q else content_kept self.old u q) }
-        ensures places { (u : ℕ) → (q : List ℕ) → place_kept self.new u q ≡ (not (nat_eq child u && label_eq key.now q) && place_kept self.old u q) }
+            content_kept self.new u q ≡
+            (if label_eq key.now q
+            then handed_up V.inherited (content_kept self.old) child parent u q
+            else content_kept self.old u q) }
+        ensures places { (u : ℕ) → (q : List ℕ) → place_kept self.new u q
+            ≡ (not (nat_eq child u && label_eq key.now q) && place_kept self.old u q) }
     {
         if let Some(holders) = self.holders.get_index_mut(place) {
             holders.hand_up(child, parent);
@@ -139,12 +150,18 @@ impl<V: Inherit> Places<V> {
     pub(crate) fn hand_up_all(&mut self, list: &KeyList, child: TxnNo, parent: &Option<TxnNo>)
         requires at { AreAt (keys_of self.old) list.now }
         requires other { IfSome parent.now (λ p. IsFalse (nat_eq child p)) }
-        requires places { IfSome parent.now (λ p. (q : List ℕ) → IsTrue (list_any (label_eq q) (keys_of list.now)) → IsTrue (place_kept self.old p q)) }
+        requires places { IfSome parent.now (λ p. (q : List ℕ) →
+            IsTrue (list_any (label_eq q) (keys_of list.now)) → IsTrue (place_kept self.old p q)) }
         ensures keys { keys_of self.new ≡ keys_of self.old }
         ensures contents { (u : ℕ) → (q : List ℕ) →
-            content_kept self.new u q ≡ (if list_any (label_eq q) (keys_of list.now) then handed_up V.inherited (content_kept self.old) child parent.now u q else content_kept self.old u q) }
+            content_kept self.new u q ≡
+            (if list_any (label_eq q) (keys_of list.now)
+            then handed_up V.inherited (content_kept self.old) child parent.now u q
+            else content_kept self.old u q) }
         ensures places { (u : ℕ) → (q : List ℕ) →
-            place_kept self.new u q ≡ (not (nat_eq child u && list_any (label_eq q) (keys_of list.now)) && place_kept self.old u q) }
+            place_kept self.new u q
+            ≡ (not (nat_eq child u && list_any (label_eq q) (keys_of list.now))
+            && place_kept self.old u q) }
     {
         for index in 0..list.len() {
             if let Some(entry) = list.get(index) {

@@ -47,9 +47,12 @@ fn make_place_at<V: Inherit>(
     requires at { slice_get (keys_of places.old) place ≡ Some key.now }
     ensures listed { AreListed places.new keys.new }
     ensures placed { ArePlaced places.new keys.new }
-    ensures contents { (u : ℕ) → (q : List ℕ) → content_kept places.new u q ≡ content_kept places.old u q }
-    ensures ok { OnOk result ((u : ℕ) → (q : List ℕ) → place_kept places.new u q ≡ with_place (place_kept places.old) txn key.now u q) }
-    ensures err { OnErr result ((u : ℕ) → (q : List ℕ) → place_kept places.new u q ≡ place_kept places.old u q) }
+    ensures contents { (u : ℕ) → (q : List ℕ) → content_kept places.new u q
+        ≡ content_kept places.old u q }
+    ensures ok { OnOk result ((u : ℕ) → (q : List ℕ) → place_kept places.new u q
+        ≡ with_place (place_kept places.old) txn key.now u q) }
+    ensures err { OnErr result ((u : ℕ) → (q : List ℕ) → place_kept places.new u q
+        ≡ place_kept places.old u q) }
     ensures succeeds { IsTrue (place_kept places.old txn key.now) → IsOk result }
     ensures others { (u : ℕ) → (u ≡ txn → ⊥) → listed_at keys.new u ≡ listed_at keys.old u }
 {
@@ -74,9 +77,12 @@ fn make_place<V: Inherit>(
     requires placed { ArePlaced places.old keys.old }
     ensures listed { AreListed places.new keys.new }
     ensures placed { ArePlaced places.new keys.new }
-    ensures contents { (u : ℕ) → (q : List ℕ) → content_kept places.new u q ≡ content_kept places.old u q }
-    ensures ok { OnOk result ((u : ℕ) → (q : List ℕ) → place_kept places.new u q ≡ with_place (place_kept places.old) txn key.now u q) }
-    ensures err { OnErr result ((u : ℕ) → (q : List ℕ) → place_kept places.new u q ≡ place_kept places.old u q) }
+    ensures contents { (u : ℕ) → (q : List ℕ) → content_kept places.new u q
+        ≡ content_kept places.old u q }
+    ensures ok { OnOk result ((u : ℕ) → (q : List ℕ) → place_kept places.new u q
+        ≡ with_place (place_kept places.old) txn key.now u q) }
+    ensures err { OnErr result ((u : ℕ) → (q : List ℕ) → place_kept places.new u q
+        ≡ place_kept places.old u q) }
     ensures succeeds { IsTrue (place_kept places.old txn key.now) → IsOk result }
 {
     let place = places.place_for(key)?;
@@ -107,10 +113,13 @@ fn make_places<V: Inherit>(
     requires other { child ≡ parent → ⊥ }
     ensures listed { AreListed places.new keys.new }
     ensures placed { ArePlaced places.new keys.new }
-    ensures contents { (u : ℕ) → (q : List ℕ) → content_kept places.new u q ≡ content_kept places.old u q }
-    ensures ok { OnOk result ((u : ℕ) → (q : List ℕ) → place_kept places.new u q ≡ with_childs (place_kept places.old) child parent u q) }
+    ensures contents { (u : ℕ) → (q : List ℕ) → content_kept places.new u q
+        ≡ content_kept places.old u q }
+    ensures ok { OnOk result ((u : ℕ) → (q : List ℕ) → place_kept places.new u q
+        ≡ with_childs (place_kept places.old) child parent u q) }
     ensures err { OnErr result (IsTowards (place_kept places.old) (place_kept places.new) child parent) }
-    ensures succeeds { ((q : List ℕ) → IsTrue (place_kept places.old child q) → IsTrue (place_kept places.old parent q)) → IsOk result }
+    ensures succeeds { ((q : List ℕ) → IsTrue (place_kept places.old child q) →
+        IsTrue (place_kept places.old parent q)) → IsOk result }
 {
     for index in 0..keys.count(child) {
         if let Some(entry) = keys.get(child, index) {
@@ -213,8 +222,10 @@ impl<V: Inherit> CellTable<V> {
 
     // Drops the cells of the transaction.
     fn drop_one(&mut self, txn: TxnNo)
-        ensures contents { (u : ℕ) → (q : List ℕ) → content self.new u q ≡ (if nat_eq txn u then None else content self.old u q) }
-        ensures places { (u : ℕ) → (q : List ℕ) → has_place self.new u q ≡ (not (nat_eq txn u) && has_place self.old u q) }
+        ensures contents { (u : ℕ) → (q : List ℕ) → content self.new u q ≡
+            (if nat_eq txn u then None else content self.old u q) }
+        ensures places { (u : ℕ) → (q : List ℕ) → has_place self.new u q
+            ≡ (not (nat_eq txn u) && has_place self.old u q) }
     {
         self.hand_up(txn, None);
     }
