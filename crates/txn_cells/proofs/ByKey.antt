@@ -1,4 +1,4 @@
--- The holders of a key: rising numbers.
+-- Rising numbers: the holders of a key, and which of them are marked.
 use Rattle.std.proofs.Common.{◌≡◌, ℕ, zero, suc, ◌<◌, ◌≤◌, Bool, true, false, cond, not, nat_eq, ◌&&◌, ◌||◌, filter, List, [], ◌∷◌, length, get_or, Some, unwrap_or, is_some, Result, Ok, Err, inl, inr, refl, sym, ap, subst, ◌∙◌, arith}
 use Rattle.std.specs.Prelude.{insert, remove, slice_get, slice_index_or}
 use Rattle.std.specs.List.{list_any, IsDistinct, AllByRecursion}

@@ -91,36 +91,6 @@ none_left old child among each u q =
     (λ e. subst (λ (v : ℕ). (not (true && among q) && old v q) ≡ false) e (ap (λ b. not (true && among q) && b) (each q) ∙ not_itself (among q)))
     (λ _. refl)
 
--- ---- at one key
-
-none_merged : {V : Type 0} (inherited : V → Option V → V) (x y : Bool) (childs own : Option V) → childs ≡ None → own ≡ None → cond x None (cond y (merged inherited childs own) own) ≡ None
-none_merged inherited true y childs own e f = refl
-none_merged inherited false true childs own e f = ap (λ o. merged inherited o own) e ∙ f
-none_merged inherited false false childs own e f = f
-
--- where nobody has anything at the key nothing changes
-pub none_up : {V : Type 0} (inherited : V → Option V → V) (had : ℕ → List ℕ → Option V) (child : ℕ) (parent : Option ℕ) (k : List ℕ) → ((u : ℕ) → had u k ≡ None)
-    → (u : ℕ) (q : List ℕ) → had u q ≡ cond (label_eq k q) (handed_up inherited had child parent u q) (had u q)
-none_up inherited had child parent k none u q =
-    on_label k q (λ b. had u q ≡ cond b (handed_up inherited had child parent u q) (had u q))
-    (λ e. subst (λ (p : List ℕ). had u p ≡ handed_up inherited had child parent u p) e
-    (none u ∙ sym (none_merged inherited (nat_eq child u) (is_it parent u) (had child k) (had u k) (none child) (none u))))
-    (λ _. refl)
-
-pub none_out : (place : ℕ → List ℕ → Bool) (child : ℕ) (k : List ℕ) → ((u : ℕ) → place u k ≡ false) → (u : ℕ) (q : List ℕ) → place u q ≡ (not (nat_eq child u && label_eq k q) && place u q)
-none_out place child k none u q =
-    on_label k q (λ b. place u q ≡ (not (nat_eq child u && b) && place u q))
-    (λ e. subst (λ (p : List ℕ). place u p ≡ (not (nat_eq child u && true) && place u p)) e (by (nat_eq child u) (place u k) (none u)))
-    (λ _. by_none (nat_eq child u) (place u q))
-  where
-    by : (t h : Bool) → h ≡ false → h ≡ (not (t && true) && h)
-    by true h e = e
-    by false h e = refl
-
-    by_none : (t h : Bool) → h ≡ (not (t && false) && h)
-    by_none true h = refl
-    by_none false h = refl
-
 -- the parent has a place at the next key
 pub parents_there : (old now : ℕ → List ℕ → Bool) (child : ℕ) (keys : List (List ℕ)) (n : ℕ) (k : List ℕ) (parent : Option ℕ) → IfSome parent (λ p. IsFalse (nat_eq child p))
     → IfSome parent (λ p. (q : List ℕ) → IsTrue (list_any (label_eq q) keys) → IsTrue (old p q))

@@ -32,9 +32,6 @@ at_push : (keys : List (List ℕ)) (es : Listed) (e : List ℕ × ℕ) → AreAt
 at_push keys [] e at is = (is, tt)
 at_push keys (x ∷ es) e at is = (at.0, at_push keys es e at.1 is)
 
-pub stay_same : (old new : List (List ℕ)) → new ≡ old → StayAt old new
-stay_same old new same p k at = ap (λ (ks : List (List ℕ)). slice_get ks p) same ∙ at
-
 module _ (lists now : Lists) (t : ℕ) where
   -- ---- one key more
 
