@@ -181,11 +181,12 @@ impl<'a, S: TopStore> Turns<'a, S> {
         match self.next_line(session) {
             Some(line) => {
                 let text = self.sessions.line(session, line).unwrap();
+                let due = text.event();
                 let by = By::Line { session, line };
                 if self.manager.is_parked(by) {
                     return false;
                 }
-                !self.manager.held_up(by, text.event())
+                !self.manager.held_up(by, due)
             }
             None => false,
         }

@@ -1,9 +1,10 @@
 use Rattle.interleavings.proofs.Numbers.{first_turns}
-use Rattle.interleavings.proofs.Opened.{given_few}
 use Rattle.interleavings.proofs.turns.Turns.open.Goals as goal
 
 pub invariant_of-result : goal.invariant_of-result
-invariant_of-result g c = ?
+invariant_of-result g c =
+    rw (c.in-Ok-on_the_heap.ensures.ok, c.in-Ok.ensures, c.len.ensures.len)
+    (first_turns c.args.sessions.now c.in_ok-manager.manager c.in_ok-manager.ensures.ok.history c.in_ok-manager.ensures.sound.quiet c.in_ok-manager.ensures.ok.few)
 
-pub returns-in-Ok-clause-way : goal.returns-in-Ok-clause-way
-returns-in-Ok-clause-way g c = (invariant_of-result g c).way
+pub returns-in-Ok-on_the_heap-clause-way : goal.returns-in-Ok-on_the_heap-clause-way
+returns-in-Ok-on_the_heap-clause-way g c = (invariant_of-result g c).way

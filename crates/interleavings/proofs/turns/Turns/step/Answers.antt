@@ -17,7 +17,7 @@ attempt-requires-clause-next g c =
     let number = rw (← c.self.view_is) at c.next_line.ensures in
     let told = next_told ss m.history s l (sym number ∙ c.in-Some.is) event
     (sym c.line.ensures ∙ ap option_copied c.unwrap-text.ensures ∙ ap (λ (e : Event). Some e) (sym c.event.ensures.value)) in
-    free_or_waits g.S.TopStore ss m m c.self.inside.next.items c.self.invariant s event told.0 l told.1
+    rw c.deref_mut.ensures.value (free_or_waits g.S.TopStore ss m m c.self.inside.next.items c.self.invariant s event told.0 l told.1)
 
 pub overflow_add-line : goal.overflow_add-line
 overflow_add-line g c =
@@ -55,7 +55,8 @@ invariant_of-self-in-Waits g c =
     (sym c.line.ensures ∙ ap option_copied c.unwrap-text.ensures ∙ ap (λ (e : Event). Some e) (sym c.event.ensures.value)) in
     let o = c.in_ok-attempt.field-0 in
     let new = c.attempt.new.manager in
-    let made = subst (λ n. Attempts g.S.TopStore m new (Line s n) event o) told.1 c.in_ok-attempt.ensures.ok in
+    let tried = subst (λ old. Attempts g.S.TopStore old new (Line s l) event o) c.deref_mut.ensures.value c.in_ok-attempt.ensures.ok in
+    let made = subst (λ n. Attempts g.S.TopStore m new (Line s n) event o) told.1 tried in
     turns_parked g.S.TopStore ss m new c.self.inside.next.items c.self.invariant s event told.0 o made c.in-Waits.is
 
 pub invariant_of-self-in_default-2 : goal.invariant_of-self-in_default-2
@@ -70,7 +71,8 @@ invariant_of-self-in_default-2 g c =
     (sym c.line.ensures ∙ ap option_copied c.unwrap-text.ensures ∙ ap (λ (e : Event). Some e) (sym c.event.ensures.value)) in
     let o = c.in_ok-attempt.field-0 in
     let new = c.attempt.new.manager in
-    let made = subst (λ n. Attempts g.S.TopStore m new (Line s n) event o) told.1 c.in_ok-attempt.ensures.ok in
+    let tried = subst (λ old. Attempts g.S.TopStore old new (Line s l) event o) c.deref_mut.ensures.value c.in_ok-attempt.ensures.ok in
+    let made = subst (λ n. Attempts g.S.TopStore m new (Line s n) event o) told.1 tried in
     turns_answered g.S.TopStore ss m new c.self.inside.next.items c.self.invariant s event told.0 o made c.in_default-2.not-Waits l told.1
     (session_there ss m.history s event told.0) (length-set c.self.inside.next.items s (l + 1))
 
@@ -86,7 +88,8 @@ returns-in-Waits-clause-ok g c =
     (sym c.line.ensures ∙ ap option_copied c.unwrap-text.ensures ∙ ap (λ (e : Event). Some e) (sym c.event.ensures.value)) in
     let o = c.in_ok-attempt.field-0 in
     let new = c.attempt.new.manager in
-    let made = subst (λ n. Attempts g.S.TopStore m new (Line s n) event o) told.1 c.in_ok-attempt.ensures.ok in
+    let tried = subst (λ old. Attempts g.S.TopStore old new (Line s l) event o) c.deref_mut.ensures.value c.in_ok-attempt.ensures.ok in
+    let made = subst (λ n. Attempts g.S.TopStore m new (Line s n) event o) told.1 tried in
     rw (← c.self.view_is) (stepped_parked g.S.TopStore ss m new c.self.inside.next.items c.self.invariant s event told.0 o made c.in-Waits.is)
 
 pub returns-in-Waits-clause-way : goal.returns-in-Waits-clause-way
@@ -104,7 +107,8 @@ returns-in_default-2 g c =
     (sym c.line.ensures ∙ ap option_copied c.unwrap-text.ensures ∙ ap (λ (e : Event). Some e) (sym c.event.ensures.value)) in
     let o = c.in_ok-attempt.field-0 in
     let new = c.attempt.new.manager in
-    let made = subst (λ n. Attempts g.S.TopStore m new (Line s n) event o) told.1 c.in_ok-attempt.ensures.ok in
+    let tried = subst (λ old. Attempts g.S.TopStore old new (Line s l) event o) c.deref_mut.ensures.value c.in_ok-attempt.ensures.ok in
+    let made = subst (λ n. Attempts g.S.TopStore m new (Line s n) event o) told.1 tried in
     record {
       ok = rw (← c.self.view_is) (stepped_answered g.S.TopStore ss m new c.self.inside.next.items c.self.invariant s event told.0 o made c.in_default-2.not-Waits);
       way = (invariant_of-self-in_default-2 g c).way;

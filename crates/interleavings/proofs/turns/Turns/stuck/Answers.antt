@@ -21,10 +21,10 @@ cancel-requires g c =
     let tells = rw (← c.self.view_is) at c.in-Some.ensures in
     let must : MustGiveUp m.rows ss m.history s event = record { left = told.0; stuck = tells.1.stuck } in
     let way = c.self.invariant.way in
-    record {
+    rw c.deref_mut.ensures.value (record {
       may = subst (λ n. CanGiveUp m.history (Line s n) event) (sym told.1)
           (next_can_give_up m.rows ss m.history (legal_allowed m.rows m.history way.legal) way.in_turn s event told.0 (must.stuck.none_goes_on s event told.0));
-    }
+    })
 
 pub overflow_add-line : goal.overflow_add-line
 overflow_add-line g c =
@@ -62,7 +62,7 @@ invariant_of-self-2 g c =
     (sym c.line.ensures ∙ ap option_copied c.unwrap-text.ensures ∙ ap (λ (e : Event). Some e) (sym c.event.ensures.value)) in
     let tells = rw (← c.self.view_is) at c.in-Some.ensures in
     let must : MustGiveUp m.rows ss m.history s event = record { left = told.0; stuck = tells.1.stuck } in
-    turns_stuck ss m c.cancel.new.self c.self.inside.next.items c.self.invariant s l event must told.1 c.in_ok-cancel.ensures.ok
+    turns_stuck ss m c.cancel.new.self c.self.inside.next.items c.self.invariant s l event must told.1 (rw c.deref_mut.ensures.value at c.in_ok-cancel.ensures.ok)
     (length-set c.self.inside.next.items s (l + 1))
 
 pub returns-in_default-clause-ok : goal.returns-in_default-clause-ok
@@ -80,4 +80,4 @@ returns-clause-ok g c =
     (sym c.line.ensures ∙ ap option_copied c.unwrap-text.ensures ∙ ap (λ (e : Event). Some e) (sym c.event.ensures.value)) in
     let tells = rw (← c.self.view_is) at c.in-Some.ensures in
     let must : MustGiveUp m.rows ss m.history s event = record { left = told.0; stuck = tells.1.stuck } in
-    rw (← c.self.view_is) (unstuck ss m c.cancel.new.self c.self.inside.next.items c.self.invariant s l event must told.1 c.in_ok-cancel.ensures.ok g.S.TopStore)
+    rw (← c.self.view_is) (unstuck ss m c.cancel.new.self c.self.inside.next.items c.self.invariant s l event must told.1 (rw c.deref_mut.ensures.value at c.in_ok-cancel.ensures.ok) g.S.TopStore)

@@ -18,5 +18,5 @@ returns-then-is_empty-clause-none c =
     let log = c.args.log.now in
     let nobody : length c.args.self.now.waits.waits ≡ 0 = rw (← c.self.view_is) (eqb-true (length c.self.inside.waits.waits) 0 (sym c.is_empty.ensures ∙ c.if-is_empty.true)) in
     λ out.
-        nobody_waits log.rows log.entries c.args.self.now c.requires.allowed c.requires.are nobody c.args.by c.args.name.now c.args.asked.now
-        (waits_own log.entries c.args.by c.args.name.now c.args.asked.now out.can)
+    nobody_waits log.rows log.entries c.args.self.now c.requires.allowed c.requires.are nobody c.args.by c.args.name.now c.args.asked.now
+    (waits_own log.entries c.args.by c.args.name.now c.args.asked.now out.can)
