@@ -25,7 +25,7 @@ fn reply_for(versions: &Versions, tree: &Tree, txn: TxnNo, asked: &Asked) -> Rep
     ensures { result ≡ reply_at (seen_in tree.now versions.now txn) asked.now }
 {
     match asked {
-        // What they replace is not looked for.
+        // A set and a del are replied Ok whatever stands there, so that no value is looked for.
         Asked::At(_, Op::Set(_) | Op::Del) => Reply::Ok,
         Asked::At(key, op) => {
             let (_, reply) = act(versions.value_for(tree, txn, key), op);

@@ -49,7 +49,7 @@ pub(crate) fn attempt<S: TopStore>(
     ensures ok { IfOk result (λ outcome. Attempts S.TopStore manager.old manager.new by event.now outcome) }
     ensures err { OnErr result (manager.new ≡ manager.old) }
 {
-    // Most attempts find the lock held still, and to ask for that alone is cheaper.
+    // A line that waits is mostly kept out still, and to ask for that alone is cheaper.
     if manager.is_parked(by) {
         return Ok(Outcome::Waits);
     }

@@ -38,7 +38,7 @@ fn on_the_heap<S: TopStore>(
     }
 }
 
-// Drops a manager for which memory ran out, with its store.
+// Drops the manager, with its store, where memory ran out.
 fn let_go<S: TopStore>(manager: Manager<S>) -> OpenFault
     ensures { result ≡ OpenFault.NoMemory }
 {

@@ -2,13 +2,10 @@
 ghost use Rattle.std.specs.Prelude.{◌≡◌, ◌⊎◌, IfSome};
 ghost use Rattle.manager_core.specs.Looked.{HasSeen};
 
-use serial_spec::{Asked, By};
+use serial_spec::{Asked, By, MOST_SESSIONS};
 use std::alloc::Global;
 use std::marker::Model;
 use txn_tree::TxnNo;
-
-/// Of so many sessions it is kept what was seen. An access by a line of another session is looked at anew each time.
-const SESSIONS: usize = 64;
 
 /// An access that was seen kept out: by the number of its transaction, and what it asks.
 #[derive(Clone, Copy)]
@@ -17,8 +14,8 @@ pub(crate) struct Look {
     pub(crate) asked: Asked,
 }
 
-/// For each session the access of it that was last seen kept out. Locks only rise until a transaction ends (Moss 1981), so that it
-/// is kept out still as long as none has ended since.
+/// For each session, of `MOST_SESSIONS` at most, the access of it that was last seen kept out. Locks only rise until a transaction
+/// ends (Moss 1981), so that it is kept out still as long as none has ended since.
 #[derive(Drop)]
 pub(crate) struct Looks {
     seen: Vec<Option<Look>>,
@@ -48,7 +45,7 @@ impl Looks {
         ensures { (l : Look) → HasSeen self.new l → HasSeen self.old l }
     {
         if self.seen.is_empty() {
-            let _ = self.seen.resize(SESSIONS, None);
+            let _ = self.seen.resize(MOST_SESSIONS, None);
         }
     }
 
@@ -70,7 +67,7 @@ impl Looks {
         }
     }
 
-    /// An access by this line was seen kept out. Where memory runs out it is not kept.
+    /// Keeps, for the session of this line, that the access was seen kept out. Where memory runs out nothing is kept.
     pub(crate) fn put(&mut self, by: By, txn: TxnNo, asked: &Asked)
         ensures { (l : Look) → HasSeen self.new l
             → HasSeen self.old l ⊎ (l ≡ record { txn = txn; asked = asked.now }) }
@@ -84,7 +81,7 @@ impl Looks {
         }
     }
 
-    /// Nothing was seen any more, since something may have been let go.
+    /// Forgets all that was seen, since a lock may have been let go.
     pub(crate) fn clear(&mut self)
         ensures { (l : Look) → HasSeen self.new l → ⊥ }
     {

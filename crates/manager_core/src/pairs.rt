@@ -87,7 +87,7 @@ fn is_own_branch(tree: &Tree, txn: TxnNo, blocker: TxnNo) -> bool
     }
 }
 
-// Whether each of them is.
+// Whether each of the blockers is seen to be alone in its branch.
 fn are_own_branches(tree: &Tree, txn: TxnNo, blockers: &[TxnNo]) -> bool
     ensures { IsTrue result → AreOwnBranches tree.now txn blockers.now }
 {
@@ -159,9 +159,8 @@ pub(crate) fn all_alone(tree: &Tree, txn: TxnNo, all: Option<&[TxnNo]>) -> bool
     }
 }
 
-/// Whether the access waits for the other, as `waits_for` tells it, where these are all who may keep it from being answered, if one
-/// list has them: for many others they are asked for once. So is whether each of them is known to be alone in its branch: then most
-/// are told by the list alone.
+/// Tells what `waits_for` tells. `all` is everybody who may keep the access from being answered, if one list has them, and `alone`
+/// whether each of these is known to be alone in its branch. A caller that asks about many others finds both once.
 #[inline(always)]
 pub(crate) fn waits_for_among(
     tree: &Tree,
@@ -231,11 +230,12 @@ fn is_waited_for_itself(
     ensures { ByLocks tree.now locks.now (λ keeps.
         result ≡ (is_some (wait_of waits.now blocker) && is_held_up tree.now keeps wait.now blocker blocker)) }
 {
-    // Few wait, and a look at the locks costs more.
+    // Whether it waits is asked first: few do, and a look at the locks costs more.
     waits.of(blocker).is_some() && is_held_up(tree, locks, wait, blocker, blocker)
 }
 
-// The same, by a look at each of those who may keep it from being answered, who are all alone in their branches.
+// Adds the pairs of this one that waits, by a look at each of those who may keep it from being answered, who are all alone in
+// their branches.
 fn add_pairs_by_blockers(
     tree: &Tree,
     locks: &TargetLocks,
@@ -260,7 +260,7 @@ fn add_pairs_by_blockers(
     }
 }
 
-// The same, by the shorter of the two ways.
+// Adds the pairs of this one that waits, by the shorter of the two ways.
 fn add_pairs_of(
     tree: &Tree,
     locks: &TargetLocks,

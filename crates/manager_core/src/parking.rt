@@ -76,7 +76,7 @@ impl Tables {
         self.estate.locks().may_ask(&self.tree, txn, asked)
     }
 
-    // Whether the access was seen kept out by this line, and nothing has ended since.
+    // Whether this is the access that was last seen kept out for the line's session. What was seen is forgotten when a transaction ends.
     fn was_kept_out(&self, by: By, txn: TxnNo, asked: &Asked) -> bool
         ensures { IsTrue result → MayAsk self.now.tree self.now.estate.locks txn asked.now → ⊥ }
     {
@@ -86,7 +86,7 @@ impl Tables {
         }
     }
 
-    // The number of the transaction, if an access by this line was seen kept out and it is of this transaction.
+    // The number of the transaction, if the access last seen kept out for the line's session is of it.
     fn number_seen(&self, by: By, name: &Name) -> Option<TxnNo>
         ensures { IfSome result (IsNumberOf self.now.tree name.now) }
     {
@@ -96,7 +96,7 @@ impl Tables {
         if *seen == *name { Some(txn) } else { None }
     }
 
-    // The number of the transaction, if it has begun. Of an access that was seen kept out it is not looked up.
+    // The number of the transaction, if it has begun. Where its access was seen kept out, the name is not looked up.
     fn number_by(&self, by: By, name: &Name) -> Option<TxnNo>
         ensures number { IfSome result (IsNumberOf self.now.tree name.now) }
         ensures begun { IfNone result (IsTrue (is_absent_in self.now.tree name.now)) }
@@ -114,7 +114,7 @@ impl Tables {
         ensures some { IfSome result (WaitsOn log.now.rows log.now.entries self.now.tree by name.now asked.now) }
         ensures none { IfNone result (IsKeptOut log.now.rows log.now.entries by (event_of name.now asked.now) → ⊥) }
     {
-        // Then no name need be looked up, as for most lines.
+        // Where nobody waits no name need be looked up.
         if self.waits.is_empty() {
             return None;
         }
@@ -160,7 +160,7 @@ impl Tables {
         !self.may(txn, asked)
     }
 
-    /// The same. That it is kept out is remembered, until a transaction ends.
+    /// As `is_kept_out`. Where the access is kept out, that is remembered until a transaction ends.
     pub(crate) fn stays_out(&mut self, log: &Log, by: By, name: &Name, asked: &Asked) -> bool
         requires allowed { AreAllowed log.now.rows log.now.entries }
         requires are { AreTablesOf log.now.rows log.now.entries self.old }

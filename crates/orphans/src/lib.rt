@@ -68,7 +68,7 @@ impl Marks {
     pub fn top_aborted(&self, name: &Name) -> Option<Name>
         ensures { result ≡ top_of (is_marked self.now) name.now }
     {
-        // So it is as long as nobody has aborted, and no front is hashed.
+        // As long as nobody has aborted nothing is marked, and no front need be hashed.
         if self.names.is_empty() {
             return None;
         }

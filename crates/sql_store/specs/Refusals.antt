@@ -68,7 +68,7 @@ module _ {S : Type 0} (g : Ghosts S) where
   CannotLoad old new = IsTrue old.in_transaction
       ⊎ (WasRefused (QueryGives load_text old) new ⊎ ((answer : List Values) × Fetched g old new answer × AreNoRows answer))
 
-  -- the statement of a change was refused in the transaction
+  -- a statement of a change was refused in the transaction
   abbrev pub CannotWrite : ℤ → List Change → Held S → Held S → Type 0
   CannotWrite number changes old new =
       IsTrue old.in_transaction ⊎ WasRefused (λ left e. ChangeGives g number changes (record old { in_transaction = true }) e) new

@@ -100,7 +100,7 @@ fn commit_counted<S: Alter>(
     }
 }
 
-/// The same. A store that has failed is not asked.
+/// Makes the changes in one transaction, under the next number. A store that has failed is not asked.
 pub(crate) fn commit_unless<S: Alter>(
     has_failed: bool,
     conn: &mut Connection<S>,

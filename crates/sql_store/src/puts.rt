@@ -13,7 +13,7 @@ use crate::statements::{of_row, put};
 use durable_top::Row;
 use sqlite::{Alter, Error, Transaction};
 
-// Gives the key of the row its value and its number where it has a row, and answers how many rows it has.
+// Gives the key of the row its value and its number where it has a row, and answers how many rows it met.
 fn update<S: Alter>(tx: &mut Transaction<'_, S>, row: &Row) -> Result<usize, Error>
     ensures same_reference { tx.new.conn.ghost_name ≡ tx.old.conn.ghost_name }
     ensures runs { HasCleanDisk (state S.Store tx.new.conn.now)
@@ -27,7 +27,7 @@ fn update<S: Alter>(tx: &mut Transaction<'_, S>, row: &Row) -> Result<usize, Err
     )
 }
 
-// Adds the row, whose key has none.
+// Adds the row. Where its key has one already, that is refused.
 fn insert<S: Alter>(tx: &mut Transaction<'_, S>, row: &Row) -> Result<usize, Error>
     ensures same_reference { tx.new.conn.ghost_name ≡ tx.old.conn.ghost_name }
     ensures runs { HasCleanDisk (state S.Store tx.new.conn.now)

@@ -39,6 +39,7 @@ impl<V: Inherit> Model for Holders<V> {
 }
 
 impl<V: Inherit> Holders<V> {
+    /// Nobody has a place. It takes no memory yet.
     pub(crate) fn new(alloc: Global) -> Self
         ensures { result ≡ [] }
     {
@@ -49,6 +50,7 @@ impl<V: Inherit> Holders<V> {
         }
     }
 
+    /// The transactions that have a place, each once, rising.
     pub(crate) fn numbers(&self) -> &[TxnNo]
         ensures each { (u : ℕ) → list_any (nat_eq u) result.now ≡ holds self.now u }
         ensures rising { IsStrictlyIncreasing result.now }
@@ -56,6 +58,7 @@ impl<V: Inherit> Holders<V> {
         self.numbers.as_slice()
     }
 
+    /// Of these all whose content stands out, and maybe some whose content did once.
     pub(crate) fn marked(&self) -> &[TxnNo]
         ensures all { (u : ℕ) → IsTrue (stands V.outstanding (content_of self.now u)) →
             IsTrue (list_any (nat_eq u) result.now) }

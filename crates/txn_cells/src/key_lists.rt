@@ -42,6 +42,7 @@ impl KeyList {
         }
     }
 
+    /// How many keys the list has.
     pub(crate) fn len(&self) -> usize
         ensures { result ≡ length self.now }
     {
@@ -79,7 +80,7 @@ impl KeyList {
     }
 }
 
-/// The list of each transaction, at its number, and how many of the lists have keys. A number past all has none.
+/// The list of each transaction, at its number, and how many of the lists have keys. A number past the last list has no keys.
 #[derive(Drop)]
 pub(crate) struct KeyLists {
     alloc: Global,
@@ -99,6 +100,7 @@ impl Model for KeyLists {
 }
 
 impl KeyLists {
+    /// No transaction has keys. It takes no memory yet.
     pub(crate) fn new(alloc: Global) -> Self
         ensures { result ≡ [] }
     {
@@ -116,6 +118,7 @@ impl KeyLists {
         self.busy == 0
     }
 
+    /// The keys of the transaction.
     pub(crate) fn keys(&self, txn: TxnNo) -> &[Key]
         ensures same { result.now ≡ keys_at self.now txn }
         ensures once { IsDistinct label_eq result.now }

@@ -33,6 +33,7 @@ impl<V: Inherit> Model for Places<V> {
 }
 
 impl<V: Inherit> Places<V> {
+    /// No key has places. It takes no memory yet.
     pub(crate) fn new(alloc: Global) -> Self
         ensures { result ≡ [] }
     {
@@ -60,7 +61,7 @@ impl<V: Inherit> Places<V> {
         }
     }
 
-    /// Those of them whose content_kept stands out, and maybe more of them.
+    /// Transactions that have a place at the key: all whose content there stands out, and maybe some whose content did once.
     pub(crate) fn marked(&self, key: &Key) -> &[TxnNo]
         ensures all { (u : ℕ) → IsTrue (stands V.outstanding (content_kept self.now u key.now)) →
             IsTrue (list_any (nat_eq u) result.now) }
@@ -91,8 +92,8 @@ impl<V: Inherit> Places<V> {
         }
     }
 
-    /// Makes an empty place for the transaction, if it has none, at the key that stands at this place, and tells whether it
-    /// had none.
+    /// Makes an empty place for the transaction, if it has none, at the key that has this index among all keys, and tells whether
+    /// it had none.
     pub(crate) fn add(&mut self, txn: TxnNo, key: &Key, place: usize) -> Result<bool, NoMemory>
         requires at { slice_get (keys_of self.old) place ≡ Some key.now }
         ensures keys { keys_of self.new ≡ keys_of self.old }
@@ -126,7 +127,7 @@ impl<V: Inherit> Places<V> {
         }
     }
 
-    /// Takes the child out of those at the key that stands at this place. Its parent, if there is one, inherits what it had
+    /// Takes the child out of those at the key that has this index among all keys. Its parent, if there is one, inherits what it had
     /// there. It takes no memory.
     pub(crate) fn hand_up(&mut self, key: &Key, place: usize, child: TxnNo, parent: Option<TxnNo>)
         requires at { slice_get (keys_of self.old) place ≡ Some key.now }
@@ -146,7 +147,7 @@ impl<V: Inherit> Places<V> {
         }
     }
 
-    /// Does so at each key of the list.
+    /// Hands up what the child has at each key of the list, as `hand_up` does at one.
     pub(crate) fn hand_up_all(&mut self, list: &KeyList, child: TxnNo, parent: &Option<TxnNo>)
         requires at { AreAt (keys_of self.old) list.now }
         requires other { IfSome parent.now (λ p. IsFalse (nat_eq child p)) }

@@ -34,7 +34,7 @@ impl<V: Inherit> Model for CellTable<V> {
     ghost invariant = { λ t. AreListed t.places t.keys × ArePlaced t.places t.keys };
 }
 
-// Makes a place, if there is none, at the key that stands at this place. The keys of others stay in their order.
+// Makes a place, if there is none, at the key that has this index among all keys. The list of each other transaction stays as it is.
 fn make_place_at<V: Inherit>(
     places: &mut Places<V>,
     keys: &mut KeyLists,
@@ -141,7 +141,7 @@ impl<V: Inherit> CellTable<V> {
         }
     }
 
-    /// Whether no transaction has been given cells that it has still. Then nobody has a place or anything else at any key.
+    /// Whether no transaction has a place at any key. Then nobody has anything at any key.
     pub fn is_empty(&self) -> bool
         ensures { IsTrue result ↔ (self.now ≡ nothing) }
     {
@@ -166,7 +166,7 @@ impl<V: Inherit> CellTable<V> {
     }
 
     /// Transactions that have a place at the key, each once, in the order in which they began: all those whose content there
-    /// stands out, and maybe some whose content did once. It goes to no other.
+    /// stands out, and maybe some whose content did once. No other transaction is looked at.
     pub fn standing_out(&self, key: &Key) -> &[TxnNo]
         ensures all { (u : ℕ) → IsTrue (stands V.outstanding (content self.now u key.now)) → IsTrue (list_any (nat_eq u) result.now) }
         ensures places { (u : ℕ) → IsTrue (list_any (nat_eq u) result.now) → IsTrue (has_place self.now u key.now) }
@@ -230,7 +230,7 @@ impl<V: Inherit> CellTable<V> {
         self.hand_up(txn, None);
     }
 
-    /// Drops the cells of the transaction and of all below it. It goes to no other transaction, and takes no memory.
+    /// Drops the cells of the transaction and of all below it. No other is looked at, and it takes no memory.
     pub fn drop_under(&mut self, tree: &Tree, txn: TxnNo)
         ensures contents { (u : ℕ) → (q : List ℕ) → content self.new u q ≡ (if is_under tree.now txn u then None else content self.old u q) }
         ensures places { (u : ℕ) → (q : List ℕ) → has_place self.new u q ≡ (not (is_under tree.now txn u) && has_place self.old u q) }

@@ -59,7 +59,8 @@ impl<S: TopStore> Manager<S> {
         self.tables.is_parked(&self.log, by)
     }
 
-    /// The same as `held_up`. Of an access that is kept out it is remembered until a transaction ends, so that to ask again costs one look.
+    /// Tells what `held_up` tells, and remembers an access that is kept out until a transaction ends, so that to ask again costs
+    /// one look.
     pub fn stays_held_up(&mut self, by: By, event: &Event) -> bool
         ensures out { IsTrue result ↔ IsKeptOut self.old.rows self.old.history by event.now }
         ensures same { self.new ≡ self.old }

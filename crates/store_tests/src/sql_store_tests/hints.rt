@@ -5,7 +5,7 @@ use std::alloc::Global;
 use std::process::Abort;
 use std::rt::HostRuntime;
 
-/// A row goes where the row goes whose key it names.
+/// A row names a key in `p`. Where the row of that key is deleted, it is deleted too.
 const GOES: &str =
     "CREATE TABLE results2 (k TEXT NOT NULL PRIMARY KEY, v INTEGER NOT NULL, n INTEGER NOT NULL, p TEXT DEFAULT 'a' REFERENCES results2 (k) ON DELETE CASCADE) STRICT";
 
@@ -34,7 +34,7 @@ fn follows(
     followed
 }
 
-// An update of `b` meets no row.
+// An update of `b` meets no row. A trial run refuses one growth, and so stands in the way of one of two stores.
 #[test]
 fn a_row_that_has_gone_is_put(rt: HostRuntime) {
     let first = follows(
@@ -56,7 +56,7 @@ fn a_row_that_has_gone_is_put(rt: HostRuntime) {
     assert!(rt; first || second);
 }
 
-// An insert of `a` meets a row.
+// An insert of `a` meets a row. Two stores, as above.
 #[test]
 fn a_row_that_has_come_is_changed(rt: HostRuntime) {
     let first = follows(&rt, rt.alloc(), COMES, "a=1:1 b=2:1", "a a=7", "a=7:2");
