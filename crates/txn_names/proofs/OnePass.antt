@@ -1,17 +1,17 @@
 -- A name read in one pass: labels that are cut off bytes, one after another.
-use Rattle.std.proofs.Common.{◌≡◌, ℕ, zero, suc, ◌+◌, ◌-◌, ◌<◌, ◌≤◌, Bool, true, false, List, [], ◌∷◌, ◌++◌, length, take, drop, get_or, set, nat_lt, Ok, Err, refl, sym, ap, ◌∙◌, subst, arith, true≢false, replicate}
+use Rattle.std.proofs.Common.{◌≡◌, ℕ, zero, suc, ◌+◌, ◌<◌, ◌≤◌, Bool, true, false, List, [], ◌∷◌, ◌++◌, length, take, drop, get_or, nat_lt, Ok, Err, refl, sym, ap, ◌∙◌, subst, arith, true≢false, append_assoc, append-nil, length-append}
 use Rattle.std.specs.List.{list_all, list_any, AllByRecursion}
 use Rattle.std.proofs.lemmas.Bool.Decides.{nat_tests}
-use Rattle.std.proofs.lemmas.List.{drop-set-lt}
-use Rattle.std.proofs.Math.Seq.{drop-cons}
+use Rattle.std.proofs.lemmas.List.{take_at}
 use Rattle.txn_names.specs.Path.{Path}
 use Rattle.txn_names.specs.Text.{IsLabel, IsName, is_label_byte, spelled_name}
 use Rattle.txn_names.specs.Reading.{onto, pieces, is_empty, is_long, is_name_byte, name_of}
 use Rattle.txn_names.specs.Cutting.{HasOtherFirst, onto_all}
 use Rattle.txn_names.specs.declared.name.NameFault.TheVariants as name
 use Rattle.txn_names.proofs.Pieces.{plain}
-use Rattle.txn_names.proofs.Valid.{first, second, labels, mid, some}
-use Rattle.txn_names.proofs.ReadBack.{label_no_slash, name_of-spelled, spelled_pieces}
+use Rattle.txn_names.specs.Fields.{some, spelled_pieces}
+use Rattle.txn_names.proofs.Valid.{first, second, labels, mid}
+use Rattle.txn_names.proofs.ReadBack.{label_no_slash, name_of-spelled}
 
 -- ---- bytes of a label at the front
 
@@ -56,14 +56,6 @@ pub all_more : (xs : Path) (x : List ℕ) → AllByRecursion IsLabel xs → IsLa
 all_more [] x all h = (h, tt)
 all_more (y ∷ xs) x all h = (all.0, all_more xs x all.1 h)
 
-pub blank_more : (xs : Path) (d : ℕ) (x : List ℕ) → d < 16 → length xs ≡ 16 → drop d xs ≡ replicate (16 - d) [] → drop (d + 1) (set xs d x) ≡ replicate (16 - (d + 1)) []
-blank_more xs d x h w e =
-    let next : suc d ≡ d + 1 = omega arith in
-    let less : 16 - d ≡ suc (16 - (d + 1)) = omega (arith, h) in
-    let rest : get_or xs d [] ∷ drop (suc d) xs ≡ [] ∷ replicate (16 - (d + 1)) [] = sym (drop-cons xs d [] (omega (arith, h, w))) ∙ e ∙ ap (λ n. replicate n []) less in
-    let tail : drop (suc d) xs ≡ replicate (16 - (d + 1)) [] = cc in
-    drop-set-lt (d + 1) xs d x (omega arith) ∙ ap (λ n. drop n xs) (sym next) ∙ tail
-
 -- ---- names, and what is none
 
 pub named : (bs : List ℕ) (n : Path) → n ≡ pieces bs → IsName n → Ok n ≡ name_of bs
@@ -78,3 +70,20 @@ deep_by bs false d e n l not =
 pub deep : (bs : List ℕ) → list_any is_empty (pieces bs) ≡ false → list_all is_name_byte bs ≡ true → list_any is_long (pieces bs) ≡ false → (IsName (pieces bs) → ⊥) → name_of bs ≡ Err name.Deep
 deep bs e n l not =
     let d : nat_lt 16 (length (pieces bs)) ≡ true = deep_by bs (nat_lt 16 (length (pieces bs))) refl e n l not in rw (e, n, l, d) refl
+
+-- ---- pieces one after another
+
+-- the pieces before this one, and this
+pub next_piece : (done : Path) (piece : List ℕ) (more whole : Path) (d : ℕ) → length done ≡ d → done ++ piece ∷ more ≡ whole → take (d + 1) whole ≡ done ++ piece ∷ []
+next_piece done piece more whole d m e =
+    ap (take (d + 1)) (sym e ∙ sym (append_assoc done (piece ∷ []) more))
+    ∙ take_at (done ++ piece ∷ []) more (d + 1) (omega (arith, m, length-append done (piece ∷ [])))
+
+-- labels that are all pieces
+pub whole_name : (bs : List ℕ) (d : ℕ) → d ≤ 16 → length (take d (pieces bs)) ≡ d → AllByRecursion IsLabel (take d (pieces bs)) → take d (pieces bs) ++ [] ≡ pieces bs → (d ≡ length (pieces bs)) × IsName (pieces bs)
+whole_name bs d h m all e =
+    let same : take d (pieces bs) ≡ pieces bs = sym (append-nil (take d (pieces bs))) ∙ e in
+    let many : length (pieces bs) ≡ d = ap (λ (p : Path). length p) (sym same) ∙ m in (
+      sym many,
+      record { some = some bs; short = omega (arith, many, h); labels = subst (AllByRecursion IsLabel) same all },
+    )
