@@ -4,6 +4,7 @@ ghost use Rattle.std.specs.Option.{option_map};
 ghost use Rattle.std.specs.List.{AllByRecursion};
 ghost use Rattle.txn_names.specs.Groups.{has};
 ghost use Rattle.txn_names.specs.Text.{IsKey};
+ghost use Rattle.serial_spec.specs.Changes.{AreRising, overlay};
 ghost use Rattle.serial_spec.specs.Rows.{IsRising, value_in};
 ghost use Rattle.serial_spec.specs.Serial.{put, reply_at};
 ghost use Rattle.serial_spec.specs.Sums.{sum_in};
@@ -11,10 +12,11 @@ ghost use Rattle.serial_spec.specs.declared.target.Asked.TheVariants.{Over};
 ghost use Rattle.serial_spec.specs.Places.{matching, part, rank, sum_rows};
 
 use crate::NoMemory;
+use crate::changing::change_rows;
 use crate::operation::Reply;
 use std::alloc::Global;
 use std::marker::Model;
-use txn_names::{Group, Key};
+use txn_names::{Change, Group, Key};
 
 /// A table of keys and their values, in the byte order of the keys.
 #[derive(Drop)]
@@ -37,7 +39,7 @@ impl Model for PlainTable {
 }
 
 // How many rows have keys below this one, which is its place.
-fn place_of(rows: &[(Key, i64)], key: &Key) -> usize
+pub(crate) fn place_of(rows: &[(Key, i64)], key: &Key) -> usize
     requires { IsRising rows.now }
     ensures place { result ≡ rank rows.now key.now }
     ensures within { result ≤ length rows.now }
@@ -45,7 +47,7 @@ fn place_of(rows: &[(Key, i64)], key: &Key) -> usize
     rows.partition_point(|row| row.0 < *key)
 }
 
-fn value_at(rows: &[(Key, i64)], place: usize, key: &Key) -> Option<i64>
+pub(crate) fn value_at(rows: &[(Key, i64)], place: usize, key: &Key) -> Option<i64>
     ensures { result ≡ matching (slice_get rows.now place) key.now }
 {
     match rows.get(place) {
@@ -115,6 +117,18 @@ impl PlainTable {
                 Ok(())
             }
         }
+    }
+
+    /// Makes rising changes, for which there is room, in one pass. It takes no memory. A row moves twice at most, however many
+    /// rows are put before it, and once more for each row before it that is taken out. No row moves where each change is at
+    /// a key that has a row and keeps one.
+    pub fn change(&mut self, changes: &[Change])
+        requires rising { AreRising changes.now }
+        requires room { length changes.now ≤ self.old.room }
+        ensures values { value_in self.new.rows ≡ overlay changes.now (value_in self.old.rows) }
+        ensures room { self.old.room ≤ self.new.room + length changes.now }
+    {
+        change_rows(&mut self.rows, changes);
     }
 
     // Gives the key a value.
