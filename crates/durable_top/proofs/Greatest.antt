@@ -1,6 +1,7 @@
 -- The greatest number of a table, and what changes make of it.
 use Rattle.std.proofs.Common.{zero, suc, is_some, true≢false, ◌⊎◌, ◌≡◌, inl, inr, ℕ, ◌+◌, ◌<◌, ℤ, pos, ◌≤ℤ◌, ◌<ℤ◌, Bool, true, false, cond, List, [], ◌∷◌, ◌++◌, length, take, map, get_or, Option, Some, None, IfSome, refl, sym, ap, subst, ◌∙◌, arith}
 use Rattle.std.proofs.lemmas.Int.{ints}
+use Rattle.std.specs.Prelude.{slice_get}
 use Rattle.std.proofs.lemmas.List.{take_more}
 use Rattle.std.specs.Cmp.Lexicographic.{slice_cmp, nat_list_eq_equiv, texts_ties}
 use Rattle.std.specs.declared.cmp.Ordering.TheVariants.{Less}
@@ -12,7 +13,7 @@ use Rattle.txn_names.proofs.Names.{label_eq_self, same_label}
 use Rattle.txn_names.specs.declared.change.Change.{Change}
 use Rattle.serial_spec.specs.Changes.{change_at, AreRising}
 use Rattle.serial_spec.specs.History.{or_else}
-use Rattle.serial_spec.specs.Rows.{Rows, value_in, IsRising}
+use Rattle.serial_spec.specs.Rows.{Rows, value_in}
 use Rattle.serial_spec.specs.Serial.{Map, put}
 use Rattle.durable_top.specs.Numbers.{Has, number_or, renumbered, IsKept, IsTopIn, IsTopOf, HasValue}
 use Rattle.durable_top.proofs.Tables.{last_change}
@@ -23,23 +24,6 @@ pub all_has : {X : Type 0} (P : X → Type 0) (xs : List X) (x : X) → AllByRec
 all_has P [] x all h = absurd h
 all_has P (y ∷ xs) x all (inl same) = subst P (sym same) all.0
 all_has P (y ∷ xs) x all (inr later) = all_has P xs x all.1 later
-
-all_push : {X : Type 0} (P : X → Type 0) (xs : List X) (x : X) → AllByRecursion P xs → P x → AllByRecursion P (xs ++ x ∷ [])
-all_push P [] x all here = (here, tt)
-all_push P (y ∷ xs) x all here = (all.0, all_push P xs x all.1 here)
-
-all_weaker : {X : Type 0} (P Q : X → Type 0) (xs : List X) → ((x : X) → P x → Q x) → AllByRecursion P xs → AllByRecursion Q xs
-all_weaker P Q [] f all = tt
-all_weaker P Q (y ∷ xs) f all = (f y all.0, all_weaker P Q xs f all.1)
-
-has_left : {X : Type 0} (xs ys : List X) (x : X) → Has xs x → Has (xs ++ ys) x
-has_left [] ys x h = absurd h
-has_left (y ∷ xs) ys x (inl same) = inl same
-has_left (y ∷ xs) ys x (inr later) = inr (has_left xs ys x later)
-
-has_last : {X : Type 0} (xs : List X) (x : X) → Has (xs ++ x ∷ []) x
-has_last [] x = inl refl
-has_last (y ∷ xs) x = inr (has_last xs x)
 
 pub has_at : {X : Type 0} (xs : List X) (i : ℕ) (x : X) → i < length xs → x ≡ get_or xs i x → Has xs x
 has_at [] i x h e = absurd (omega (arith, h))
@@ -53,27 +37,13 @@ has_mapped f (y ∷ xs) x (inr later) = inr (has_mapped f xs x later)
 
 -- ---- rows
 
-next_is : (rows : Rows) (i : ℕ) (r : List ℕ × ℤ) → i < length rows → r ≡ get_or rows i r → take (i + 1) rows ≡ take i rows ++ r ∷ []
-next_is rows i r within at = take_more rows i r within ∙ ap (λ x. take i rows ++ x ∷ []) (sym at)
-
--- one more row, below the greatest so far
-pub top_below : (rows : Rows) (i : ℕ) (r : List ℕ × ℤ) (top : ℤ) → i < length rows → r ≡ get_or rows i r
-    → IsTopOf (take i rows) top → r.1 ≤ℤ top → IsTopOf (take (i + 1) rows) top
-top_below rows i r top within at h below = subst (λ rs. IsTopOf rs top) (sym (next_is rows i r within at)) (record {
-  least = h.least;
-  bounds = all_push (λ r. r.1 ≤ℤ top) (take i rows) r h.bounds below;
-  met = elim h.met [ inl nil ↦ inl nil | inr it ↦ inr (it.0, has_left (take i rows) (r ∷ []) it.0 it.1, it.2) ];
-})
-
--- and one above it
-pub top_above : (rows : Rows) (i : ℕ) (r : List ℕ × ℤ) (top : ℤ) → i < length rows → r ≡ get_or rows i r
-    → IsTopOf (take i rows) top → top ≤ℤ r.1 → IsTopOf (take (i + 1) rows) r.1
-top_above rows i r top within at h above = subst (λ rs. IsTopOf rs r.1) (sym (next_is rows i r within at)) (record {
-  least = let least = h.least in omega (arith, ints);
-  bounds = all_push (λ q. q.1 ≤ℤ r.1) (take i rows) r
-      (all_weaker (λ q. q.1 ≤ℤ top) (λ q. q.1 ≤ℤ r.1) (take i rows) (λ q low. omega (arith, ints)) h.bounds) (omega (arith, ints));
-  met = inr (r, has_last (take i rows) r, refl);
-})
+-- one more row, with the greater of its number and the greatest of those before it
+pub bounds_more : (rows : Rows) (i : ℕ) (before top : ℤ) → i < length rows → AllByRecursion (λ r. r.1 ≤ℤ before) (take i rows) → before ≤ℤ top
+    → IfSome (slice_get rows i) (λ r. r.1 ≤ℤ top) → AllByRecursion (λ r. r.1 ≤ℤ top) (take (suc i) rows)
+bounds_more [] i before top within all above here = tt
+bounds_more (r ∷ rows) zero before top within all above here = (here, tt)
+bounds_more (r ∷ rows) (suc i) before top within all above here =
+    (let low = all.0 in omega (arith, ints), bounds_more rows i before top (omega arith) all.1 above here)
 
 number_had : (rows : Rows) (k : List ℕ) (P : ℤ → Type 0) → ((r : List ℕ × ℤ) → Has rows r → P r.1) → IfSome (value_in rows k) P
 number_had [] k P each = tt
@@ -89,23 +59,12 @@ unequal a b e = texts_ties a b ∙ ap is_eq e
 unequal_back : (a b : List ℕ) → slice_cmp nat_cmp a b ≡ Less → label_eq b a ≡ false
 unequal_back a b e = nat_list_eq_equiv.symm b a ∙ unequal a b e
 
--- where keys rise, each row is found by its key
-row_found : (rows : Rows) (r : List ℕ × ℤ) → IsRising rows → Has rows r → value_in rows r.0 ≡ Some r.1
-row_found [] r rising has = absurd has
-row_found (x ∷ rows) r rising (inl e) =
-    subst (λ (q : List ℕ × ℤ). value_in (x ∷ rows) q.0 ≡ Some q.1) (sym e)
-    (ap (λ b. cond b (Some x.1) (value_in rows x.0)) (label_eq_self x.0))
-row_found (x ∷ rows) r rising (inr has) =
-    let less = all_has (λ q. slice_cmp nat_cmp x.0 q ≡ Less) (map (λ r. r.0) rows) r.0 rising.0 (has_mapped (λ (q : List ℕ × ℤ). q.0) rows r has) in
-    ap (λ b. cond b (Some x.1) (value_in rows r.0)) (unequal x.0 r.0 less) ∙ row_found rows r rising.1 has
-
 -- of rows whose numbers are not below 0
-pub top_by : (rows : Rows) (top : ℤ) → IsRising rows → ((k : List ℕ) → IfSome (value_in rows k) (λ n. pos 0 ≤ℤ n))
-    → IsTopOf rows top → IsTopIn (value_in rows) top
-top_by rows top rising least h = record {
+pub top_by : (rows : Rows) (top : ℤ) → ((k : List ℕ) → IfSome (value_in rows k) (λ n. pos 0 ≤ℤ n)) → IsTopOf rows top → IsTopIn (value_in rows) top
+top_by rows top least h = record {
   least = h.least;
   bounds = λ k. go (value_in rows k) (least k) (number_had rows k (λ n. n ≤ℤ top) (λ r has. all_has (λ x. x.1 ≤ℤ top) rows r h.bounds has));
-  met = elim h.met [ inl nil ↦ inl nil | inr it ↦ inr (it.0.0, row_found rows it.0 rising it.1 ∙ ap (λ n. Some n) it.2) ];
+  met = h.met;
 }
   where
     go : (o : Option ℤ) → IfSome o (λ n. pos 0 ≤ℤ n) → IfSome o (λ n. n ≤ℤ top) → IfSome o (λ n. (pos 0 ≤ℤ n) × (n ≤ℤ top))

@@ -2,3 +2,4 @@ pub mod Ordered
 pub mod Tables
 pub mod Greatest
 pub mod Numbering
+pub mod Entries

@@ -120,9 +120,9 @@ entries_from_0 (r ∷ rows) least k = go (label_eq r.key k) (entries_from_0 rows
 
 -- the greatest number of these rows' numbers, from those of a table
 pub top_of_rows : (rows : List Row) (numbers : Rows) (top : ℤ) → AreNumbered rows → value_in numbers ≡ value_in (numbers_in rows)
-    → IsRising numbers → IsTopOf numbers top → IsTopIn (value_in numbers) top
-top_of_rows rows numbers top least is rising h =
-    top_by numbers top rising (λ k. subst (λ (m : Map). IfSome (m k) (λ n. pos 0 ≤ℤ n)) (sym (is ∙ numbers_in_rows rows)) (entries_from_0 rows least k)) h
+    → IsTopOf numbers top → IsTopIn (value_in numbers) top
+top_of_rows rows numbers top least is h =
+    top_by numbers top (λ k. subst (λ (m : Map). IfSome (m k) (λ n. pos 0 ≤ℤ n)) (sym (is ∙ numbers_in_rows rows)) (entries_from_0 rows least k)) h
 
 -- where keys rise, each row is found by its key
 entry_found : (rows : List Row) (r : Row) → IsRising (plain rows) → Has rows r → entries_in rows r.key ≡ Some (r.value, r.commit)

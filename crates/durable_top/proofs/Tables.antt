@@ -47,6 +47,19 @@ first_put m key v none = λ i k. on_label key k (λ b. cond b (Some v) (m k) ≡
     apart (Some w) = refl
     apart None = refl
 
+-- and one that has a value keeps it
+pub first_kept : (m : Map) (key : List ℕ) (v : ℤ) → is_some (m key) ≡ true → m ≡ with_first m key v
+first_kept m key v some = λ i k. on_label key k (λ b. m k ≡ or_else (m k) (cond b (Some v) None)) (λ same. here (m k) (m key) (ap m same) some) (λ _. apart (m k)) i
+  where
+    here : (x y : Option ℤ) → y ≡ x → is_some y ≡ true → x ≡ or_else x (Some v)
+    here None None e n = absurd cc
+    here None (Some w) e n = absurd cc
+    here (Some w) y e n = refl
+
+    apart : (x : Option ℤ) → x ≡ or_else x None
+    apart (Some w) = refl
+    apart None = refl
+
 -- one more row, from the first on
 pub plain_more : (table : Rows) (rows : List Row) (i : ℕ) (r : Row) → plain rows ≡ take i table → slice_get table i ≡ Some (r.key, r.value)
     → plain (rows ++ r ∷ []) ≡ take (i + 1) table

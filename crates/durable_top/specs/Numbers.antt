@@ -6,7 +6,7 @@ use Rattle.txn_names.specs.declared.change.Change.{Change}
 use Rattle.txn_names.specs.Path.{label_eq}
 use Rattle.serial_spec.specs.Changes.{change_at}
 use Rattle.serial_spec.specs.History.{or_else}
-use Rattle.serial_spec.specs.Rows.{Rows}
+use Rattle.serial_spec.specs.Rows.{Rows, value_in}
 use Rattle.serial_spec.specs.Serial.{Map}
 use Rattle.durable_top.specs.declared.store.Row.{Row}
 
@@ -38,11 +38,11 @@ abbrev pub Has : {X : Type 0} → List X → X → Type 0
 Has [] x = ⊥
 Has (y ∷ ys) x = (x ≡ y) ⊎ Has ys x
 
--- the same of rows
+-- no number of these rows is above this one, which is 0 or the number of a key
 pub record IsTopOf (rows : Rows) (top : ℤ) : Type 0 where
   pub least : pos 0 ≤ℤ top
   pub bounds : AllByRecursion (λ r. r.1 ≤ℤ top) rows
-  pub met : (top ≡ pos 0) ⊎ ((r : List ℕ × ℤ) × Has rows r × (r.1 ≡ top))
+  pub met : (top ≡ pos 0) ⊎ ((k : List ℕ) × (value_in rows k ≡ Some top))
 
 -- one of the changes gives a value
 abbrev pub HasValue : List Change → Type 0

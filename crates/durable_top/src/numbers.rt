@@ -1,35 +1,37 @@
 //! The numbers of a table beside its values, and the greatest of them.
-ghost use Rattle.std.specs.Prelude.{◌≡◌, ◌≤◌, ◌<◌, ◌+◌, ◌≤ℤ◌, ◌<ℤ◌, ◌+ℤ◌, pos, [], ℤ, None, length, IfOk, IfSome, OnOk, OnErr, IsOk, IsFalse, IsTrue, ◌↔◌};
+ghost use Rattle.std.specs.Prelude.{◌≡◌, ◌⊎◌, ◌≤◌, ◌<◌, ◌+◌, ◌≤ℤ◌, ◌<ℤ◌, ◌+ℤ◌, pos, [], ℕ, ℤ, List, None, Some, length, slice_get, IfOk, IfSome, OnOk, OnErr, IsOk, IsFalse, IsTrue, ◌↔◌};
 ghost use Rattle.std.specs.Option.{option_map};
 ghost use Rattle.serial_spec.specs.Changes.{AreRising};
-ghost use Rattle.serial_spec.specs.Rows.{IsRising, value_in};
+ghost use Rattle.serial_spec.specs.Rows.{value_in};
 ghost use Rattle.serial_spec.specs.Serial.{put};
+ghost use Rattle.indexmap.specs.IndexMap.{spare};
 ghost use Rattle.durable_top.specs.Numbered.{AreNumbered, entries_in, last_number, numbers_of};
-ghost use Rattle.durable_top.specs.Numbers.{IsKept, IsTopIn, IsTopOf, HasValue, numbers_in, renumbered};
+ghost use Rattle.durable_top.specs.Numbers.{IsKept, IsTopIn, IsTopOf, HasValue, numbers_in, renumbered, with_first};
 
-use crate::rows::put_first;
 use crate::store::Row;
-use serial_spec::{NoMemory, PlainTable};
-use std::alloc::Global;
+use indexmap::IndexMap;
+use serial_spec::NoMemory;
+use std::alloc::{AllocError, Global};
 use std::marker::Model;
 use txn_names::{Change, Key};
 
 /// What number each key has, and the greatest of them, 0 where there is none.
 #[derive(Drop)]
 pub struct NumberTable {
-    numbers: PlainTable,
+    numbers: IndexMap<Key, i64>,
     top: i64,
 }
 
 impl Model for NumberTable {
+    ghost use Rattle.indexmap.specs.IndexMap.{spare};
     ghost use Rattle.serial_spec.specs.Rows.{value_in};
     ghost use Rattle.durable_top.specs.Numbers.{IsTopIn, Numbers};
 
     ghost Value = { Numbers };
 
-    ghost view = { λ m. record { rows = m.numbers.rows; room = m.numbers.room; top = m.top } };
+    ghost view = { λ m. record { rows = m.numbers.entries; room = spare m.numbers; top = m.top } };
 
-    ghost invariant = { λ m. IsTopIn (value_in m.numbers.rows) m.top };
+    ghost invariant = { λ m. IsTopIn (value_in m.numbers.entries) m.top };
 }
 
 /// The number above this one, where an i64 holds it.
@@ -41,50 +43,79 @@ pub fn next_number(top: i64) -> Option<i64>
     top.checked_add(1)
 }
 
-// The greatest number of the table, 0 where there is none.
-fn top_in(numbers: &PlainTable) -> i64
-    ensures top { IsTopOf numbers.now.rows result }
-    ensures rising { IsRising numbers.now.rows }
+// The key's number.
+fn number_in(numbers: &IndexMap<Key, i64>, key: &Key) -> Option<i64>
+    ensures { result ≡ value_in numbers.now.entries key.now }
 {
-    numbers.has_rising_rows();
+    numbers.get(key).copied()
+}
+
+// The greater of this number and the one at the place.
+fn greater_at(numbers: &IndexMap<Key, i64>, place: usize, top: i64) -> i64
+    requires { place < length numbers.now.entries }
+    ensures least { top ≤ℤ result }
+    ensures bound { IfSome (slice_get numbers.now.entries place) (λ e. e.1 ≤ℤ result) }
+    ensures met { (result ≡ top) ⊎ ((k : List ℕ) × (value_in numbers.now.entries k ≡ Some result)) }
+{
+    let (_, number) = numbers.get_index(place).unwrap();
+    if *number > top { *number } else { top }
+}
+
+// The greatest of the numbers, 0 where there is none.
+fn top_in(numbers: &IndexMap<Key, i64>) -> i64
+    ensures { IsTopOf numbers.now.entries result }
+{
     let mut top = 0;
-    for row in numbers.rows() {
-        if row.1 > top {
-            top = row.1;
-        }
+    for place in 0..numbers.len() {
+        top = greater_at(numbers, place, top);
     }
     top
 }
 
-// The numbers of these rows. Of several rows with one key the first counts.
-fn numbers_from(alloc: Global, rows: &[Row]) -> Result<PlainTable, NoMemory>
-    ensures { IfOk result (λ numbers. value_in numbers.rows ≡ value_in (numbers_in rows.now)) }
+// Gives the row's key its number where it has none.
+fn put_first(numbers: &mut IndexMap<Key, i64>, row: &Row) -> Result<(), NoMemory>
+    ensures { OnOk result (value_in numbers.new.entries
+        ≡ with_first (value_in numbers.old.entries) row.now.key row.now.commit) }
 {
-    let mut numbers = PlainTable::new(alloc);
+    if number_in(numbers, &row.key).is_some() {
+        return Ok(());
+    }
+    match numbers.insert(row.key, row.commit) {
+        Ok(_) => Ok(()),
+        Err(_) => Err(AllocError),
+    }
+}
+
+// The numbers of these rows. Of several rows with one key the first counts.
+fn numbers_from(alloc: Global, rows: &[Row]) -> Result<IndexMap<Key, i64>, NoMemory>
+    ensures { IfOk result (λ numbers. value_in numbers.entries ≡ value_in (numbers_in rows.now)) }
+{
+    let mut numbers = IndexMap::new(alloc);
     for row in rows {
-        put_first(&mut numbers, &row.key, row.commit)?;
+        put_first(&mut numbers, row)?;
     }
     Ok(numbers)
 }
 
 // Makes a change under the number, for which there is room.
-fn put_reserved(numbers: &mut PlainTable, number: i64, change: &Change)
-    requires { 0 < numbers.old.room }
-    ensures put { value_in numbers.new.rows
-        ≡ put (value_in numbers.old.rows) change.now.key (option_map (λ _. number) change.now.value) }
-    ensures room { numbers.old.room ≤ numbers.new.room + 1 }
+fn put_reserved(numbers: &mut IndexMap<Key, i64>, number: i64, change: &Change)
+    requires { 0 < spare numbers.old }
+    ensures put { value_in numbers.new.entries
+        ≡ put (value_in numbers.old.entries) change.now.key (option_map (λ _. number) change.now.value) }
+    ensures room { spare numbers.old ≤ spare numbers.new + 1 }
 {
-    let renumbered = match change.value {
-        Some(_) => Some(number),
-        None => None,
-    };
-    numbers.put(&change.key, renumbered).unwrap();
+    if change.value.is_some() {
+        numbers.insert(change.key, number).unwrap();
+    } else {
+        let _ = numbers.swap_remove(&change.key);
+    }
 }
 
 // Makes the changes under the number, for which there is room.
-fn renumber(numbers: &mut PlainTable, number: i64, changes: &[Change])
-    requires { length changes.now ≤ numbers.old.room }
-    ensures { value_in numbers.new.rows ≡ renumbered number changes.now (value_in numbers.old.rows) }
+fn renumber(numbers: &mut IndexMap<Key, i64>, number: i64, changes: &[Change])
+    requires { length changes.now ≤ spare numbers.old }
+    ensures { value_in numbers.new.entries
+        ≡ renumbered number changes.now (value_in numbers.old.entries) }
 {
     for change in changes {
         put_reserved(numbers, number, change);
@@ -104,11 +135,11 @@ fn has_value(changes: &[Change]) -> bool
 }
 
 // Whether one of the changes is at a key that has this number.
-fn is_changed(numbers: &PlainTable, number: i64, changes: &[Change]) -> bool
-    ensures { IsFalse result → IsKept (value_in numbers.now.rows) number changes.now }
+fn is_changed(numbers: &IndexMap<Key, i64>, number: i64, changes: &[Change]) -> bool
+    ensures { IsFalse result → IsKept (value_in numbers.now.entries) number changes.now }
 {
     for change in changes {
-        if numbers.get(&change.key) == Some(number) {
+        if number_in(numbers, &change.key) == Some(number) {
             return true;
         }
     }
@@ -122,7 +153,7 @@ impl NumberTable {
         ensures top { result.top ≡ pos 0 }
     {
         NumberTable {
-            numbers: PlainTable::new(alloc),
+            numbers: IndexMap::new(alloc),
             top: 0,
         }
     }
@@ -142,7 +173,7 @@ impl NumberTable {
     pub fn number(&self, key: &Key) -> Option<i64>
         ensures { result ≡ value_in self.now.rows key.now }
     {
-        self.numbers.get(key)
+        number_in(&self.numbers, key)
     }
 
     /// No number is below 0. The call does nothing: it tells the prover so.

@@ -1,8 +1,7 @@
 //! Rows and changes over one plain table.
-ghost use Rattle.std.specs.Prelude.{◌≡◌, ◌<◌, ◌≤◌, ◌+◌, ◌↔◌, ℕ, length, IfOk, IsOk, IsTrue, OnErr, OnOk};
-ghost use Rattle.serial_spec.specs.Changes.{overlay};
+ghost use Rattle.std.specs.Prelude.{◌≡◌, ◌≤◌, ◌↔◌, ℕ, length, IfOk, IsOk, IsTrue, OnErr, OnOk};
+ghost use Rattle.serial_spec.specs.Changes.{AreRising, overlay};
 ghost use Rattle.serial_spec.specs.Rows.{IsRising, value_in};
-ghost use Rattle.serial_spec.specs.Serial.{put};
 ghost use Rattle.durable_top.specs.Numbered.{AreNumbered};
 ghost use Rattle.durable_top.specs.Store.{plain};
 ghost use Rattle.durable_top.specs.Numbers.{with_first};
@@ -42,7 +41,7 @@ pub fn are_numbered(rows: &[Row]) -> bool
 }
 
 // Gives the key this value where it has none.
-pub(crate) fn put_first(table: &mut PlainTable, key: &Key, value: i64) -> Result<(), NoMemory>
+fn put_first(table: &mut PlainTable, key: &Key, value: i64) -> Result<(), NoMemory>
     ensures { OnOk result
         (value_in table.new.rows ≡ with_first (value_in table.old.rows) key.now value) }
 {
@@ -63,25 +62,15 @@ pub fn table_of(alloc: Global, rows: &[Row]) -> Result<PlainTable, NoMemory>
     Ok(table)
 }
 
-// Makes a change for which there is room.
-fn put_reserved(table: &mut PlainTable, change: &Change)
-    requires { 0 < table.old.room }
-    ensures put { value_in table.new.rows ≡ put (value_in table.old.rows) change.now.key change.now.value }
-    ensures room { table.old.room ≤ table.new.room + 1 }
-{
-    table.put(&change.key, change.value).unwrap();
-}
-
-/// Makes the changes in the table, the first of them first. It takes memory only where the changes may outgrow the table's
-/// room; if memory runs out, the only error, the rows are as before.
+/// Makes rising changes in the table. It takes memory only where they may outgrow the table's room; if memory runs out, the only
+/// error, the rows are as before.
 pub(crate) fn change(table: &mut PlainTable, changes: &[Change]) -> Result<(), NoMemory>
+    requires { AreRising changes.now }
     ensures ok { OnOk result (value_in table.new.rows ≡ overlay changes.now (value_in table.old.rows)) }
     ensures err { OnErr result (table.new.rows ≡ table.old.rows) }
     ensures succeeds { length changes.now ≤ table.old.room → IsOk result }
 {
     table.reserve(changes.len())?;
-    for change in changes {
-        put_reserved(table, change);
-    }
+    table.change(changes);
     Ok(())
 }

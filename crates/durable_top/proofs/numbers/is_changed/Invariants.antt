@@ -4,4 +4,4 @@ use Rattle.durable_top.specs.Numbers.{IsKept}
 use Rattle.durable_top.proofs.numbers.is_changed.Given as goal
 
 abbrev pub invariant-loop-change : goal.invariant-loop-change
-invariant-loop-change l = IsKept (value_in l.numbers.rows) l.number (take l.change-index l.changes)
+invariant-loop-change l = IsKept (value_in l.numbers.entries) l.number (take l.change-index l.changes)

@@ -15,5 +15,5 @@ loop-change-preserved c =
     let made = c.put_reserved.ensures.put in
     let here = simp to_z-of_z at made in (
       omega (arith, c.loop-change.invariant.0, c.put_reserved.ensures.room),
-      simp to_z-of_z (here ∙ ap (λ m. put m d.key (option_map (λ _. c.args.number) d.value)) before ∙ renumbered_more c.args.number c.args.changes.now c.loop-change.change-index d (value_in c.args.numbers.now.rows) c.loop-change-test.true c.change-item.is),
+      simp to_z-of_z (here ∙ ap (λ m. put m d.key (option_map (λ _. c.args.number) d.value)) before ∙ renumbered_more c.args.number c.args.changes.now c.loop-change.change-index d (value_in c.args.numbers.now.entries) c.loop-change-test.true c.change-item.is),
     )

@@ -1,25 +1,22 @@
-use Rattle.std.proofs.Common.{◌≡◌, ◌<◌, SFits, w64, rules, arith, ◌≤ℤ◌, to_z, length, get_or, subst}
+use Rattle.std.proofs.Common.{◌≡◌, ◌⊎◌, ◌<◌, length, sym, ◌≤ℤ◌, pos, suc, ℕ, ◌+◌, List, Some, inl, inr, rules, arith, subst, take, SFits, w64}
+use Rattle.std.specs.List.{AllByRecursion}
 use Rattle.std.proofs.lemmas.Int.{to_z-of_z, ints}
-use Rattle.serial_spec.specs.Rows.{Rows}
-use Rattle.durable_top.proofs.Greatest.{top_below, top_above}
+use Rattle.serial_spec.specs.Rows.{Rows, value_in}
+use Rattle.durable_top.proofs.Greatest.{bounds_more}
 use Rattle.durable_top.proofs.numbers.top_in.Goals as goal
-use Rattle.durable_top.proofs.numbers.top_in.Goals.{then-row-top, else-row-top}
 
-pub loop-row-preserved : goal.loop-row-preserved
-loop-row-preserved c =
-    let rows = c.args.numbers.now.rows in
-    let row = c.row-item.result in
-    let i = c.loop-row.row-index in
-    let within : i < length rows = subst (λ (rs : Rows). i < length rs) c.rows-row-items.ensures c.loop-row-test.true in
-    let at : row ≡ get_or rows i row = subst (λ (rs : Rows). row ≡ get_or rs i row) c.rows-row-items.ensures c.row-item.is in
-    let fits : SFits w64 row.1 = search rules in
-    elim c.if-row-top.branch [
-      | then-row-top w ↦
-          let test = simp to_z-of_z at w.if-row-top.true in
-          let above : to_z w64 c.loop-row.top-bits ≤ℤ row.1 = grind (arith, ints) in
-          rw w.top-is (simp to_z-of_z (top_above rows i row _ within at c.loop-row.invariant above))
-      | else-row-top w ↦
-          let test = simp to_z-of_z at w.if-row-top.false in
-          let below : row.1 ≤ℤ to_z w64 c.loop-row.top-bits = grind (arith, ints) in
-          rw w.top-is (top_below rows i row _ within at c.loop-row.invariant below)
-    ]
+pub loop-place-preserved : goal.loop-place-preserved
+loop-place-preserved c =
+    let es : Rows = c.args.numbers.now.entries in
+    let fits : SFits w64 c.greater_at-top.result = search rules in
+    let was = c.loop-place.invariant in
+    let least = was.least in
+    let above = c.greater_at-top.ensures.least in
+    let next : suc c.loop-place.place ≡ c.loop-place.place + 1 = omega arith in
+    let within : c.loop-place.place < length es = omega (arith, c.len-place-end.ensures.len, c.loop-place-test.true) in
+    let bounds = bounds_more es c.loop-place.place _ c.greater_at-top.result within was.bounds above c.greater_at-top.ensures.bound in
+    simp to_z-of_z (record {
+      least = omega (arith, ints);
+      bounds = subst (λ n. AllByRecursion (λ r. r.1 ≤ℤ c.greater_at-top.result) (take n es)) next bounds;
+      met = elim c.greater_at-top.ensures.met [ inl same ↦ subst (λ n. (n ≡ pos 0) ⊎ ((k : List ℕ) × (value_in es k ≡ Some n))) (sym same) was.met | inr it ↦ inr it ];
+    })
