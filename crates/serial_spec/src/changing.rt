@@ -13,6 +13,9 @@ ghost use Rattle.serial_spec.specs.Serial.{put};
 use crate::table::{place_of, value_at};
 use txn_names::{Change, Key};
 
+/// So many rows are put one by one, since an insertion moves the rows behind it at a fraction of the cost.
+const FEW: usize = 8;
+
 /// A gap among rows: how many rows stand in front of it, and how many places it has. What stands in these counts for nothing.
 #[derive(Clone, Copy)]
 struct Gap {
@@ -41,14 +44,17 @@ fn widened(rows: &mut Vec<(Key, i64)>, gap: Gap, left: usize, row: &(Key, i64)) 
 }
 
 // Moves the rows from this place to the gap behind it, and gives the row the last place of the gap.
-fn put_in_gap(rows: &mut [(Key, i64)], gap: Gap, place: usize, row: &(Key, i64)) -> Gap
-    requires within { gap.front + gap.len ≤ length rows.old }
+fn put_in_gap(rows: &mut Vec<(Key, i64)>, gap: Gap, place: usize, row: &(Key, i64)) -> Gap
+    requires within { gap.front + gap.len ≤ length rows.old.items }
     requires place { place ≤ gap.front }
     requires some { 0 < gap.len }
     ensures front { result.front ≡ place }
+    ensures behind { (q : List ℕ) → slice_cmp nat_cmp q row.now.0 ≡ Less
+        → IsBehind rows.new.items result q }
     ensures left { result.len + 1 ≡ gap.len }
-    ensures rows { around rows.new result ≡ insert (around rows.old gap) place row.now }
-    ensures len { length rows.new ≡ length rows.old }
+    ensures rows { around rows.new.items result ≡ insert (around rows.old.items gap) place row.now }
+    ensures len { length rows.new.items ≡ length rows.old.items }
+    ensures capacity { vec_capacity rows.old ≤ vec_capacity rows.new }
 {
     rows.copy_within(place..gap.front, place + gap.len);
     rows[place + gap.len - 1] = *row;
@@ -115,7 +121,7 @@ fn take_at(rows: &mut Vec<(Key, i64)>, gap: Gap, place: usize) -> Gap
     }
 }
 
-// Puts the row at this place, where there is none of its key. Where there is no gap and no other change is left, it needs none.
+// Puts the row at this place, where there is none of its key. For the last few changes no gap is made.
 fn insert_at(
     rows: &mut Vec<(Key, i64)>,
     gap: Gap,
@@ -127,17 +133,18 @@ fn insert_at(
     requires place { place ≤ gap.front }
     requires some { 0 < left }
     requires room { HasRoom rows.old.items (vec_capacity rows.old) gap left }
-    ensures front { result.front ≡ place }
-    ensures room { left ≤ result.len + 1 }
+    ensures behind { (q : List ℕ) → slice_cmp nat_cmp q row.now.0 ≡ Less
+        → IsBehind rows.new.items result q }
+    ensures room { HasRoom rows.new.items (vec_capacity rows.new) result (left - 1) }
     ensures within { result.front + result.len ≤ length rows.new.items }
     ensures rows { around rows.new.items result ≡ insert (around rows.old.items gap) place row.now }
     ensures len { length rows.new.items + gap.len ≡ length rows.old.items + result.len + 1 }
     ensures capacity { vec_capacity rows.old ≤ vec_capacity rows.new }
 {
-    if gap.len < left && left == 1 {
+    if gap.len < left && left <= FEW {
         rows.insert(place, *row).unwrap();
         return Gap {
-            front: place,
+            front: rows.len(),
             len: 0,
         };
     }

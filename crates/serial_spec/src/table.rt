@@ -119,8 +119,8 @@ impl PlainTable {
         }
     }
 
-    /// Makes rising changes, for which there is room, in one pass. It takes no memory. A row moves twice at most, however many
-    /// rows are put before it, and once more for each row before it that is taken out. No row moves where each change is at
+    /// Makes rising changes, for which there is room, in one pass. It takes no memory. A row moves eight times at most, however
+    /// many rows are put before it, and once more for each row before it that is taken out. No row moves where each change is at
     /// a key that has a row and keeps one.
     pub fn change(&mut self, changes: &[Change])
         requires rising { AreRising changes.now }

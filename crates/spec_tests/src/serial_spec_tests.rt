@@ -1,11 +1,16 @@
 //! The worked values of operations, that each call can succeed, and a run of nested items.
+ghost use Rattle.std.specs.Prelude.{◌≡◌, IsTrue};
+ghost use Rattle.std.specs.Ordering.{nat_cmp};
+ghost use Rattle.std.specs.Cmp.Lexicographic.{slice_cmp};
+ghost use Rattle.std.specs.declared.cmp.Ordering.TheVariants.{Less};
+
 use serial_spec::{
     Answer, Asked, By, Entry, Event, Item, Kind, Left, Mode, NoMemory, Op, PlainTable, Reply,
     Target, act, act_sum, run_items, sum_of,
 };
 use std::alloc::Global;
 use std::process::Abort;
-use txn_names::{Group, Key, Name};
+use txn_names::{Change, Group, Key, Name};
 
 fn key(rt: &impl Abort, text: &str) -> Key {
     Key::parse(text.as_bytes()).expect(rt, text)
@@ -172,6 +177,42 @@ fn holds_a_hundred_rows(rt: HostRuntime) {
     assert!(rt; table.len() == 99 && copy.len() == 100);
     assert!(rt; is_at(&rt, &copy, 0, "k100", 199) && is_at(&rt, &copy, 99, "k199", 100));
     assert!(rt; get(&rt, &table, "k150").is_none() && get(&rt, &copy, "k150") == Some(149));
+}
+
+fn change_of(rt: &impl Abort, text: &str, value: Option<i64>) -> Change {
+    Change {
+        key: key(rt, text),
+        value,
+    }
+}
+
+fn is_below(first: &Change, second: &Change) -> bool
+    ensures { IsTrue result → slice_cmp nat_cmp first.now.key second.now.key ≡ Less }
+{
+    first.key < second.key
+}
+
+// Makes three rising changes in room for them.
+fn change_three(rt: &impl Abort, table: &mut PlainTable, a: Change, b: Change, c: Change) {
+    table.reserve(3).expect(rt, "memory");
+    assert!(rt; is_below(&a, &b) && is_below(&a, &c) && is_below(&b, &c));
+    table.change(&[a, b, c]);
+}
+
+#[test]
+fn changes_in_one_pass(rt: HostRuntime) {
+    let mut table = table_of(&rt, rt.alloc(), &[("b", 2), ("d", 4), ("f", 6)]);
+    let (first, gone) = (change_of(&rt, "a", Some(1)), change_of(&rt, "d", None));
+    change_three(&rt, &mut table, first, gone, change_of(&rt, "e", Some(5)));
+    for (place, text, value) in [(0, "a", 1), (1, "b", 2), (2, "e", 5), (3, "f", 6)] {
+        assert!(rt; is_at(&rt, &table, place, text, value), "{text}");
+    }
+    let (set, between) = (change_of(&rt, "b", Some(-2)), change_of(&rt, "c", Some(3)));
+    change_three(&rt, &mut table, set, between, change_of(&rt, "g", Some(7)));
+    for (place, text, value) in [(1, "b", -2), (2, "c", 3), (3, "e", 5), (5, "g", 7)] {
+        assert!(rt; is_at(&rt, &table, place, text, value), "{text}");
+    }
+    assert!(rt; table.len() == 6 && get(&rt, &table, "d").is_none());
 }
 
 // A table of these rows.

@@ -4,7 +4,7 @@ use Rattle.std.specs.Prelude.{slice_get}
 use Rattle.serial_spec.specs.Places.{matching, rank}
 use Rattle.serial_spec.specs.Rows.{Rows}
 use Rattle.serial_spec.specs.Gaps.{around}
-use Rattle.serial_spec.proofs.Gaps.{values_removed, values_kept, values_set, values_inserted, rising_after_set, rising_after_insert, rising_after_remove, above_removed, above_set, above_inserted, within_around}
+use Rattle.serial_spec.proofs.Gaps.{values_removed, values_kept, values_set, values_inserted, rising_after_set, rising_after_insert, rising_after_remove, above_removed, above_set}
 use Rattle.serial_spec.proofs.changing.change_one.Goals as goal
 
 pub returns-then-has_row-clause-gapped : goal.returns-then-has_row-clause-gapped
@@ -95,9 +95,7 @@ returns-clause-gapped c =
     }
 
 pub returns-clause-behind : goal.returns-clause-behind
-returns-clause-behind c = λ q less was.
-    above_inserted (around c.args.rows.now.items c.args.gap) (around c.insert_at.new.rows.items c.insert_at.result) c.find-place.result.0 c.insert_at.result.front _ q
-    c.insert_at.ensures.rows (within_around c.args.rows.now.items c.args.gap c.find-place.result.0 c.requires.gapped.within c.find-place.ensures.within) c.insert_at.ensures.front less
+returns-clause-behind c = λ q less was. c.insert_at.ensures.behind q less
 
 pub returns-clause-values : goal.returns-clause-values
 returns-clause-values c =
