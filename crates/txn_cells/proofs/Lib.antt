@@ -8,4 +8,5 @@ mod Placing
 mod Puts
 pub mod Reserving
 mod Seen
+mod Viewed
 mod Zipped

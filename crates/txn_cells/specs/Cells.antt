@@ -1,8 +1,9 @@
 -- Cells as contracts see them, by two functions of a table: `content`, what each transaction, by its number, has at each
 -- key, and `has_place`, where it has a place. A place may be empty: then the transaction has nothing at the key, as where
--- there is no place. How a table is kept is told apart, in Kept, and no contract but of this crate's own parts rests on it.
+-- there is no place. The cells at one key are seen by two functions of the number alone, `content_of` and `holds`. How a
+-- table is kept is told apart, in Kept, and no contract but of this crate's own parts rests on it.
 use Rattle.std.specs.Prelude.{◌≡◌, ℕ, Bool, true, false, nat_eq, ◌&&◌, ◌||◌, if◌then◌else◌, List, Option, Some, None}
-pub use Rattle.txn_cells.specs.Kept.{Table, content, has_place, nothing, stands}
+pub use Rattle.txn_cells.specs.Kept.{Held, Table, content, content_of, has_place, holds, nothing, stands}
 use Rattle.txn_names.specs.Path.{label_eq}
 pub use Rattle.txn_tree.specs.Numbered.{is_front_of, is_under}
 
@@ -35,3 +36,15 @@ handed_up inherited content child parent u q =
     if nat_eq child u then None
     else if is_it parent u then merged inherited (content child q) (content u q)
     else content u q
+
+-- ---- at one key
+
+-- these are what all transactions have at k
+pub record IsAt {V : Type 0} (table : Table V) (k : List ℕ) (held : Held V) : Type 0 where
+  pub places : (u : ℕ) → holds held u ≡ has_place table u k
+  pub contents : (u : ℕ) → content_of held u ≡ content table u k
+
+-- nobody has a place at k, or anything there
+pub record IsBareAt {V : Type 0} (table : Table V) (k : List ℕ) : Type 0 where
+  pub places : (u : ℕ) → has_place table u k ≡ false
+  pub contents : (u : ℕ) → content table u k ≡ None

@@ -2,12 +2,13 @@
 //! dropped without memory.
 #![tactic(auto)]
 
-mod holders;
 mod inherit;
+mod key_cells;
 mod key_lists;
 mod numbers;
 mod places;
 mod table;
 
 pub use inherit::Inherit;
+pub use key_cells::KeyCells;
 pub use table::CellTable;

@@ -1,5 +1,5 @@
 //! What is held at each key.
-ghost use Rattle.std.specs.Prelude.{◌≡◌, ◌&&◌, not, nat_eq, false, length, slice_get, [], IsFalse, IsOk, IsTrue, IfOk, IfSome, OnErr, OnOk, List, ℕ, if◌then◌else◌, Some, None};
+ghost use Rattle.std.specs.Prelude.{◌≡◌, ◌&&◌, not, nat_eq, false, length, slice_get, [], IsFalse, IsOk, IsTrue, IfNone, IfOk, IfSome, OnErr, OnOk, List, ℕ, if◌then◌else◌, Some, None};
 ghost use Rattle.std.specs.List.{list_any};
 ghost use Rattle.std.specs.List.Sorted.{IsStrictlyIncreasing};
 ghost use Rattle.std.specs.Map.{keys_of};
@@ -7,8 +7,8 @@ ghost use Rattle.txn_names.specs.Path.{label_eq};
 ghost use Rattle.txn_cells.specs.Cells.{handed_up, is_it, with_place};
 ghost use Rattle.txn_cells.specs.Kept.{AreAt, StayAt, content_kept, held_at, place_kept, stands};
 
-use crate::holders::Holders;
 use crate::inherit::Inherit;
+use crate::key_cells::KeyCells;
 use crate::key_lists::KeyList;
 use indexmap::IndexMap;
 use serial_spec::NoMemory;
@@ -21,7 +21,7 @@ use txn_tree::TxnNo;
 #[derive(Drop)]
 pub(crate) struct Places<V: Inherit> {
     alloc: Global,
-    holders: IndexMap<Key, Holders<V>>,
+    holders: IndexMap<Key, KeyCells<V>>,
 }
 
 impl<V: Inherit> Model for Places<V> {
@@ -43,36 +43,12 @@ impl<V: Inherit> Places<V> {
         }
     }
 
-    /// What the transaction has at the key.
-    pub(crate) fn get(&self, txn: TxnNo, key: &Key) -> Option<V>
-        ensures { result ≡ content_kept self.now txn key.now }
+    /// What all transactions have at the key, if it is among the keys.
+    pub(crate) fn at(&self, key: &Key) -> Option<&KeyCells<V>>
+        ensures some { IfSome result (λ cells. held_at self.now key.now ≡ cells.now) }
+        ensures none { IfNone result (held_at self.now key.now ≡ []) }
     {
-        self.holders.get(key)?.get(txn)
-    }
-
-    /// Those that have a place at the key, each once, rising.
-    pub(crate) fn holders(&self, key: &Key) -> &[TxnNo]
-        ensures each { (u : ℕ) → list_any (nat_eq u) result.now ≡ place_kept self.now u key.now }
-        ensures rising { IsStrictlyIncreasing result.now }
-    {
-        match self.holders.get(key) {
-            Some(holders) => holders.numbers(),
-            None => &[],
-        }
-    }
-
-    /// Transactions that have a place at the key: all whose content there stands out, and maybe some whose content did once.
-    pub(crate) fn marked(&self, key: &Key) -> &[TxnNo]
-        ensures all { (u : ℕ) → IsTrue (stands V.outstanding (content_kept self.now u key.now)) →
-            IsTrue (list_any (nat_eq u) result.now) }
-        ensures places { (u : ℕ) → IsTrue (list_any (nat_eq u) result.now) →
-            IsTrue (place_kept self.now u key.now) }
-        ensures rising { IsStrictlyIncreasing result.now }
-    {
-        match self.holders.get(key) {
-            Some(holders) => holders.marked(),
-            None => &[],
-        }
+        self.holders.get(key)
     }
 
     /// The place of the key among all keys. One that is not among them yet goes last, with no holders.
@@ -86,7 +62,7 @@ impl<V: Inherit> Places<V> {
             return Ok(place);
         }
         let place = self.holders.len();
-        match self.holders.insert(*key, Holders::new(self.alloc)) {
+        match self.holders.insert(*key, KeyCells::new(self.alloc)) {
             Ok(_) => Ok(place),
             Err(_) => Err(AllocError),
         }
@@ -124,6 +100,22 @@ impl<V: Inherit> Places<V> {
     {
         if let Some(holders) = self.holders.get_mut(key) {
             holders.set(txn, value);
+        }
+    }
+
+    /// Adds this to what the transaction has at the key, as an access of its own. It takes no memory.
+    pub(crate) fn join(&mut self, txn: TxnNo, key: &Key, added: V)
+        requires { IsTrue (place_kept self.old txn key.now) }
+        ensures keys { keys_of self.new ≡ keys_of self.old }
+        ensures contents { (u : ℕ) → (q : List ℕ) →
+            content_kept self.new u q ≡ (if nat_eq txn u && label_eq key.now q
+            then Some (V.joined added (content_kept self.old u q))
+            else content_kept self.old u q) }
+        ensures places { (u : ℕ) → (q : List ℕ) → place_kept self.new u q
+            ≡ place_kept self.old u q }
+    {
+        if let Some(holders) = self.holders.get_mut(key) {
+            holders.join(txn, added);
         }
     }
 

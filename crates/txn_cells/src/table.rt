@@ -1,13 +1,14 @@
 //! What all transactions have, by transaction and by key.
-ghost use Rattle.std.specs.Prelude.{◌≡◌, ◌&&◌, ◌↔◌, nat_eq, not, slice_get, IsFalse, IsOk, IsTrue, IfSome, OnErr, OnOk, List, ℕ, if◌then◌else◌, false, Some, None};
+ghost use Rattle.std.specs.Prelude.{◌≡◌, ◌&&◌, ◌↔◌, nat_eq, not, slice_get, IsFalse, IsOk, IsTrue, IfNone, IfSome, OnErr, OnOk, List, ℕ, if◌then◌else◌, false, Some, None};
 ghost use Rattle.std.specs.List.{IsDistinct, list_any};
 ghost use Rattle.std.specs.List.Sorted.{IsStrictlyIncreasing};
 ghost use Rattle.std.specs.Map.{keys_of};
 ghost use Rattle.txn_names.specs.Path.{label_eq};
-ghost use Rattle.txn_cells.specs.Cells.{IsTowards, handed_up, is_it, is_under, nothing, with_childs, with_place};
+ghost use Rattle.txn_cells.specs.Cells.{IsAt, IsBareAt, IsTowards, handed_up, is_it, is_under, nothing, with_childs, with_place};
 ghost use Rattle.txn_cells.specs.Kept.{AreListed, ArePlaced, content, content_kept, has_place, listed_at, place_kept, stands};
 
 use crate::inherit::Inherit;
+use crate::key_cells::KeyCells;
 use crate::key_lists::KeyLists;
 use crate::places::Places;
 use serial_spec::NoMemory;
@@ -148,11 +149,19 @@ impl<V: Inherit> CellTable<V> {
         self.keys.is_empty()
     }
 
+    /// What all transactions have at the key, found by one look at it. Where there is none nobody has a place there.
+    pub fn at(&self, key: &Key) -> Option<&KeyCells<V>>
+        ensures some { IfSome result (λ cells. IsAt self.now key.now cells.now) }
+        ensures none { IfNone result (IsBareAt self.now key.now) }
+    {
+        self.places.at(key)
+    }
+
     /// What the transaction has at the key.
     pub fn get(&self, txn: TxnNo, key: &Key) -> Option<V>
         ensures { result ≡ content self.now txn key.now }
     {
-        self.places.get(txn, key)
+        self.at(key)?.get(txn)
     }
 
     /// The transactions that have a place at the key, each once, in the order in which they began. No other has anything
@@ -162,7 +171,10 @@ impl<V: Inherit> CellTable<V> {
         ensures rising { IsStrictlyIncreasing result.now }
         ensures elsewhere { (u : ℕ) → IsFalse (has_place self.now u key.now) → content self.now u key.now ≡ None }
     {
-        self.places.holders(key)
+        match self.at(key) {
+            Some(cells) => cells.holders(),
+            None => &[],
+        }
     }
 
     /// Transactions that have a place at the key, each once, in the order in which they began: all those whose content there
@@ -172,7 +184,10 @@ impl<V: Inherit> CellTable<V> {
         ensures places { (u : ℕ) → IsTrue (list_any (nat_eq u) result.now) → IsTrue (has_place self.now u key.now) }
         ensures rising { IsStrictlyIncreasing result.now }
     {
-        self.places.marked(key)
+        match self.at(key) {
+            Some(cells) => cells.standing_out(),
+            None => &[],
+        }
     }
 
     /// Makes a place for the transaction and the key, if there is none, so that it can be set without memory. What any
@@ -218,6 +233,17 @@ impl<V: Inherit> CellTable<V> {
         ensures places { (u : ℕ) → (q : List ℕ) → has_place self.new u q ≡ has_place self.old u q }
     {
         self.places.set(txn, key, value);
+    }
+
+    /// Adds this to what the transaction has at the key, as an access of its own: it has there what `join` makes of the two. It
+    /// takes no memory.
+    pub fn join(&mut self, txn: TxnNo, key: &Key, added: V)
+        requires place { IsTrue (has_place self.old txn key.now) }
+        ensures contents { (u : ℕ) → (q : List ℕ) →
+            content self.new u q ≡ (if nat_eq txn u && label_eq key.now q then Some (V.joined added (content self.old u q)) else content self.old u q) }
+        ensures places { (u : ℕ) → (q : List ℕ) → has_place self.new u q ≡ has_place self.old u q }
+    {
+        self.places.join(txn, key, added);
     }
 
     // Drops the cells of the transaction.

@@ -2,7 +2,7 @@ use Rattle.std.proofs.Common.{ℕ, List, nat_eq, refl, sym, ◌∙◌, true≢fa
 use Rattle.std.specs.List.{list_any}
 use Rattle.std.proofs.lemmas.Bool.{eq-eqb, false≢true, or_left, or_right}
 use Rattle.txn_cells.proofs.Holding.{marked_too, not_there, room_to_mark, set_contents, set_holds, set_same, set_stand}
-use Rattle.txn_cells.proofs.holders.Holders.set.Goals as goal
+use Rattle.txn_cells.proofs.key_cells.KeyCells.set.Goals as goal
 
 pub put_in-requires-clause-room : goal.put_in-requires-clause-room
 put_in-requires-clause-room g c = λ fresh.

@@ -1,6 +1,6 @@
 use Rattle.std.proofs.Common.{sym, ◌∙◌}
 use Rattle.txn_cells.proofs.Holding.{has_content, nothing_had}
-use Rattle.txn_cells.proofs.holders.Holders.get.Goals as goal
+use Rattle.txn_cells.proofs.key_cells.KeyCells.get.Goals as goal
 
 pub returns-in-Ok : goal.returns-in-Ok
 returns-in-Ok g c =

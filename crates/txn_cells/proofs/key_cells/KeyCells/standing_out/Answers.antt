@@ -1,7 +1,7 @@
 use Rattle.std.proofs.Common.{ap, nat_eq, sym, ◌∙◌}
 use Rattle.std.specs.List.{list_any}
 use Rattle.txn_cells.proofs.Zipped.{listed}
-use Rattle.txn_cells.proofs.holders.Holders.marked.Goals as goal
+use Rattle.txn_cells.proofs.key_cells.KeyCells.standing_out.Goals as goal
 
 pub returns-clause-places : goal.returns-clause-places
 returns-clause-places g c =

@@ -1,7 +1,7 @@
 use Rattle.std.proofs.Common.{sym, ◌∙◌}
 use Rattle.txn_cells.proofs.Holding.{has_content, not_there, nothing_had, out_already, taken_among, taken_contents, taken_holds, taken_rising, taken_room, taken_same, taken_stand}
 use Rattle.txn_cells.proofs.Zipped.{empty_as_none}
-use Rattle.txn_cells.proofs.holders.Holders.remove.Goals as goal
+use Rattle.txn_cells.proofs.key_cells.KeyCells.remove.Goals as goal
 
 pub invariant_of-self : goal.invariant_of-self
 invariant_of-self g c =

@@ -6,7 +6,7 @@ use Rattle.std.proofs.lemmas.List.Edits.{length-insert}
 use Rattle.txn_cells.specs.Kept.{holds}
 use Rattle.txn_cells.proofs.Holding.{length-zip, put_held}
 use Rattle.txn_cells.proofs.Zipped.{zip-insert}
-use Rattle.txn_cells.proofs.holders.Holders.insert.Goals as goal
+use Rattle.txn_cells.proofs.key_cells.KeyCells.insert.Goals as goal
 
 pub insert-requires : goal.insert-requires
 insert-requires g c =

@@ -1,4 +1,4 @@
-//! What stands at one key.
+//! What all transactions have at one key.
 ghost use Rattle.std.specs.Prelude.{◌≡◌, ◌≤◌, ◌<◌, ◌&&◌, ◌||◌, not, nat_eq, [], length, slice_get, vec_capacity, IsFalse, IsOk, IsTrue, IfOk, IfSome, OnErr, OnOk, Option, ℕ, if◌then◌else◌, Some, None};
 ghost use Rattle.std.specs.List.{insert, list_any, zip};
 ghost use Rattle.std.specs.List.Sorted.{IsStrictlyIncreasing};
@@ -13,16 +13,16 @@ use std::alloc::Global;
 use std::marker::Model;
 use txn_tree::TxnNo;
 
-/// The numbers of the transactions that have a place at a key, each once, rising; in the same order what each has there;
-/// and, rising too, at least those whose content stands out. There is room to mark all.
+/// What all transactions have at one key. It has the numbers of those that have a place there, each once, rising; in the
+/// same order what each has; and, rising too, at least those whose content stands out. There is room to mark all.
 #[derive(Drop)]
-pub(crate) struct Holders<V: Inherit> {
+pub struct KeyCells<V: Inherit> {
     numbers: Vec<TxnNo>,
     contents: Vec<Option<V>>,
     marked: Vec<TxnNo>,
 }
 
-impl<V: Inherit> Model for Holders<V> {
+impl<V: Inherit> Model for KeyCells<V> {
     ghost use Rattle.std.specs.Prelude.{◌≡◌, ◌≤◌, length, vec_capacity};
     ghost use Rattle.std.specs.List.{zip};
     ghost use Rattle.std.specs.List.Sorted.{IsStrictlyIncreasing};
@@ -38,28 +38,29 @@ impl<V: Inherit> Model for Holders<V> {
         × AreMarked V.outstanding (zip h.numbers.items h.contents.items) h.marked.items };
 }
 
-impl<V: Inherit> Holders<V> {
+impl<V: Inherit> KeyCells<V> {
     /// Nobody has a place. It takes no memory yet.
     pub(crate) fn new(alloc: Global) -> Self
         ensures { result ≡ [] }
     {
-        Holders {
+        KeyCells {
             numbers: Vec::new(alloc),
             contents: Vec::new(alloc),
             marked: Vec::new(alloc),
         }
     }
 
-    /// The transactions that have a place, each once, rising.
-    pub(crate) fn numbers(&self) -> &[TxnNo]
+    /// The transactions that have a place, each once, in the order in which they began. No other has anything here.
+    pub fn holders(&self) -> &[TxnNo]
         ensures each { (u : ℕ) → list_any (nat_eq u) result.now ≡ holds self.now u }
         ensures rising { IsStrictlyIncreasing result.now }
+        ensures elsewhere { (u : ℕ) → IsFalse (holds self.now u) → content_of self.now u ≡ None }
     {
         self.numbers.as_slice()
     }
 
-    /// Of these all whose content stands out, and maybe some whose content did once.
-    pub(crate) fn marked(&self) -> &[TxnNo]
+    /// Of these all whose content stands out, in the same order, and maybe some whose content did once.
+    pub fn standing_out(&self) -> &[TxnNo]
         ensures all { (u : ℕ) → IsTrue (stands V.outstanding (content_of self.now u)) →
             IsTrue (list_any (nat_eq u) result.now) }
         ensures places { (u : ℕ) → IsTrue (list_any (nat_eq u) result.now) →
@@ -70,7 +71,7 @@ impl<V: Inherit> Holders<V> {
     }
 
     /// What the transaction has here.
-    pub(crate) fn get(&self, txn: TxnNo) -> Option<V>
+    pub fn get(&self, txn: TxnNo) -> Option<V>
         ensures { result ≡ content_of self.now txn }
     {
         match find(self.numbers.as_slice(), txn) {
@@ -125,6 +126,17 @@ impl<V: Inherit> Holders<V> {
                 put_in(&mut self.marked, txn);
             }
         }
+    }
+
+    /// Adds this to what the transaction has, as an access of its own. It takes no memory.
+    pub(crate) fn join(&mut self, txn: TxnNo, added: V)
+        requires { IsTrue (holds self.old txn) }
+        ensures contents { (u : ℕ) → content_of self.new u ≡ (if nat_eq txn u
+            then Some (V.joined added (content_of self.old u))
+            else content_of self.old u) }
+        ensures places { (u : ℕ) → holds self.new u ≡ holds self.old u }
+    {
+        self.set(txn, V::join(added, self.get(txn)));
     }
 
     // Takes the transaction out, and gives what it had.

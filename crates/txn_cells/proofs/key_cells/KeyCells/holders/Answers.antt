@@ -1,7 +1,7 @@
 use Rattle.std.proofs.Common.{ap, nat_eq, sym, ◌∙◌}
 use Rattle.std.specs.List.{list_any}
 use Rattle.txn_cells.proofs.Zipped.{listed}
-use Rattle.txn_cells.proofs.holders.Holders.numbers.Goals as goal
+use Rattle.txn_cells.proofs.key_cells.KeyCells.holders.Goals as goal
 
 pub returns-clause-each : goal.returns-clause-each
 returns-clause-each g c =

@@ -3,7 +3,7 @@ use Rattle.std.proofs.lemmas.Bool.{false≢true}
 use Rattle.std.proofs.lemmas.Map.Made.{keys_of-zip}
 use Rattle.txn_cells.proofs.Holding.{has_place_there, length-zip, not_there, put_contents, put_holds}
 use Rattle.txn_cells.proofs.Zipped.{still}
-use Rattle.txn_cells.proofs.holders.Holders.add.Goals as goal
+use Rattle.txn_cells.proofs.key_cells.KeyCells.add.Goals as goal
 
 pub insert-requires-clause-fresh : goal.insert-requires-clause-fresh
 insert-requires-clause-fresh g c =
