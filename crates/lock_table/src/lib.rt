@@ -3,6 +3,7 @@
 
 mod asking;
 mod groups;
+mod key_locks;
 mod locks;
 mod modes;
 mod numbers;
