@@ -133,13 +133,15 @@ impl Versions {
         if txn.place() as usize >= tree.len() {
             return self.base.get(key);
         }
+        let Some(versions) = self.written.at(key) else {
+            return self.base.get(key);
+        };
         let mut at = Some(txn);
         while let Some(above) = at {
-            match self.left(above, key) {
-                Left::Nothing => at = tree.parent_of(above),
-                Left::Absent => return None,
-                Left::Value(value) => return Some(value),
+            if let Some(version) = versions.get(above) {
+                return version.value;
             }
+            at = tree.parent_of(above);
         }
         self.base.get(key)
     }
