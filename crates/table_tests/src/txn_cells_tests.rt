@@ -18,12 +18,20 @@ struct Latest(u32);
 impl Inherit for Latest {
     ghost inherited = { λ child own. child };
 
+    ghost joined = { λ added own. added };
+
     ghost outstanding = { λ value. false };
 
     fn inherit(child: Latest, _own: Option<Latest>) -> Latest
         ensures { result ≡ child }
     {
         child
+    }
+
+    fn join(added: Latest, _own: Option<Latest>) -> Latest
+        ensures { result ≡ added }
+    {
+        added
     }
 
     fn stands_out(self) -> bool
@@ -71,6 +79,17 @@ fn set(rt: &impl Abort, table: &mut CellTable<Latest>, txn: TxnNo, key: &Key, va
     if set_once(table, txn, key, value).is_err() {
         set_once(table, txn, key, value).expect(rt, "memory");
     }
+}
+
+fn join_once(
+    table: &mut CellTable<Latest>,
+    txn: TxnNo,
+    key: &Key,
+    added: Latest,
+) -> Result<(), NoMemory> {
+    table.reserve(txn, key)?;
+    table.join(txn, key, added);
+    Ok(())
 }
 
 fn hand_up_once(
@@ -125,4 +144,26 @@ fn a_parent_has_what_its_children_left(rt: HostRuntime) {
     assert!(rt; has_all(&rt, &table, TxnNo::new(4), Some(Latest(4))));
     table.drop_under(&tree, top);
     assert!(rt; has_all(&rt, &table, TxnNo::new(4), None) && count(&table, top) == 0);
+}
+
+// One look at a key tells what each of two has there, before and after an access of one of them.
+#[test]
+fn one_look_tells_what_all_have(rt: HostRuntime) {
+    let (mut tree, mut table) = (Tree::new(rt.alloc()), CellTable::new(rt.alloc()));
+    let top = begin(&rt, &mut tree, b"a");
+    let txn = child(&rt, &mut tree, 0);
+    write_all(&rt, &mut table, top, 1);
+    write_all(&rt, &mut table, txn, 2);
+    let first = key(&rt, 0);
+    let seen = table.at(&first).expect(&rt, "somebody has a place");
+    assert!(rt; seen.get(top) == Some(Latest(1)) && seen.get(txn) == Some(Latest(2)));
+    assert!(rt; seen.get(TxnNo::new(2)) == None);
+    assert!(rt; seen.holders().len() == 2 && seen.standing_out().is_empty());
+    assert!(rt; table.at(&key(&rt, KEYS)).is_none());
+    if join_once(&mut table, txn, &first, Latest(3)).is_err() {
+        join_once(&mut table, txn, &first, Latest(3)).expect(&rt, "memory");
+    }
+    let seen = table.at(&first).expect(&rt, "somebody has a place");
+    assert!(rt; seen.get(top) == Some(Latest(1)) && seen.get(txn) == Some(Latest(3)));
+    assert!(rt; table.get(txn, &key(&rt, 1)) == Some(Latest(2)));
 }
