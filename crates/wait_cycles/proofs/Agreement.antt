@@ -38,7 +38,7 @@ module _ (pairs : Pairs) where
         | inr later ↦ let p = parted a xs later in (x ∷ p.0, p.1, ap (λ (ys : List ℕ). x ∷ ys) p.2)
       ]
 
-  begun_there : (a : ℕ) (xs : List ℕ) → is_member a xs ≡ true → IsCycle pairs xs → (ys : List ℕ) × IsCycle pairs (a ∷ ys)
+  pub begun_there : (a : ℕ) (xs : List ℕ) → is_member a xs ≡ true → IsCycle pairs xs → (ys : List ℕ) × IsCycle pairs (a ∷ ys)
   begun_there a xs e cycle = let p = parted a xs e in from_behind p.0 a p.1 (subst (λ (ys : List ℕ). IsCycle pairs ys) p.2 cycle)
 
 -- ---- from numbers to names, and back
@@ -164,7 +164,7 @@ module _ (h : History) (names : List Name) (pairs : Pairs) (are : AreWaits h nam
       fresh true e off later = absurd (true≢false (sym (apart_numbered t ts (have t (or_left (path_eq t t) (is_named t ts) (path_eq_self t))) later e) ∙ off))
       fresh false e off later = ap not e
 
-  numbered_cycle : (t : Name) (on : OnCycle h t) → IsCycle pairs (number h t ∷ map (number h) on.0)
+  pub numbered_cycle : (t : Name) (on : OnCycle h t) → IsCycle pairs (number h t ∷ map (number h) on.0)
   numbered_cycle t on = (distinct_numbered (t ∷ on.0) (all_named t on.0 t on.2) on.1, turn_numbered t on.0 t on.2)
 
   agree : Agree h names pairs

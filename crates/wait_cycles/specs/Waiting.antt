@@ -17,6 +17,10 @@ wait_in waits t = find (λ w. nat_eq w.txn t) waits
 abbrev pub wait_of : Waiting → ℕ → Option Wait
 wait_of s t = wait_in s.waits t
 
+-- the transaction's wait stands at this place
+abbrev pub StandsAt : Waiting → ℕ → ℕ → Type 0
+StandsAt s t place = (w : Wait) × (wait_of s t ≡ Some w) × (slice_get s.waits place ≡ Some w)
+
 -- whether there is a wait, of the transaction or of one below it
 abbrev pub is_under_in : States → ℕ → Option Wait → Bool
 is_under_in tree t o = unwrap_or (option_map (λ w. is_under tree t w.txn) o) false

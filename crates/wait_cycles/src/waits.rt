@@ -1,8 +1,8 @@
 //! The accesses that wait.
-ghost use Rattle.std.specs.Prelude.{◌≡◌, ◌+◌, ◌<◌, ◌≤◌, [], ℕ, nat_eq, not, filter, length, slice_get, if◌then◌else◌, IsOk, IsSome, IsTrue, IfSome, OnOk, OnErr, None, Some};
+ghost use Rattle.std.specs.Prelude.{◌≡◌, ◌+◌, ◌<◌, ◌≤◌, [], ℕ, nat_eq, not, filter, length, slice_get, if◌then◌else◌, IsOk, IsSome, IsTrue, IfNone, IfSome, OnOk, OnErr, None, Some};
 ghost use Rattle.std.specs.Option.{option_copied};
 ghost use Rattle.serial_spec.specs.declared.target.Asked.TheVariants.{At, Over};
-ghost use Rattle.wait_cycles.specs.Waiting.{AreOnce, HasJoined, is_under, is_under_in, wait_of};
+ghost use Rattle.wait_cycles.specs.Waiting.{AreOnce, HasJoined, StandsAt, is_under, is_under_in, wait_of};
 
 use crate::records::Records;
 use serial_spec::{Asked, By, NoMemory, Op};
@@ -101,6 +101,15 @@ impl Waits {
     {
         let record = self.records.find(txn)?;
         Some(&record.wait)
+    }
+
+    /// The place at which the transaction's wait stands, if it waits.
+    pub fn place_of(&self, txn: TxnNo) -> Option<usize>
+        ensures some { IfSome result (StandsAt self.now txn) }
+        ensures none { IfNone result (wait_of self.now txn ≡ None) }
+    {
+        let found = self.records.find(txn)?;
+        Some(found.place)
     }
 
     /// A transaction that did not wait waits for an operation at a key. If memory runs out, the only error, all is as before.
