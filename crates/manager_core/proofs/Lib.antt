@@ -36,6 +36,7 @@ pub mod Alone
 pub mod OwnBranches
 pub mod Alike
 pub mod Pairing
+pub mod Walking
 pub mod Suspects
 pub mod Victims
 pub mod Settled

@@ -67,6 +67,10 @@ abbrev pub pairs_of : States → Keeps → List Wait → List Wait → Pairs
 pairs_of tree keeps [] others = []
 pairs_of tree keeps (w ∷ ws) others = pairs_with tree keeps others w ++ pairs_of tree keeps ws others
 
+-- all pairs of those that wait, of which the first waits for the second
+abbrev pub pairs_among : States → Keeps → List Wait → Pairs
+pairs_among tree keeps ws = pairs_of tree keeps ws ws
+
 -- whether it is another, and this access waits for it
 abbrev pub waits_for_other : States → Keeps → Wait → Wait → Bool
 waits_for_other tree keeps w v = not (nat_eq v.txn w.txn) && waits_for_in tree keeps w v.txn

@@ -21,6 +21,7 @@ mod parking;
 mod settling;
 mod tables;
 mod waiting;
+mod walk;
 
 pub use manager::{Manager, Parts};
 pub use outcome::{OpenFault, Outcome};

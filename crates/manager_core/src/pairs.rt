@@ -3,7 +3,8 @@ ghost use Rattle.std.specs.Prelude.{◌≡◌, ◌≤◌, ◌+◌, ◌*◌, ◌&
 ghost use Rattle.std.specs.List.{list_any};
 ghost use Rattle.txn_tree.specs.States.{States};
 ghost use Rattle.wait_cycles.specs.Waiting.{wait_of};
-ghost use Rattle.manager_core.specs.Pairs.{AreAlike, AreLockers, AreOwnBranches, ByLocks, IsAlone, IsOwnBranch, is_held_up, is_in_branch, pairs_of, pairs_with, waits_for_in};
+ghost use Rattle.manager_core.specs.Pairs.{AreAlike, AreLockers, AreOwnBranches, ByLocks, IsAlone, IsOwnBranch, is_held_up, is_in_branch, pairs_among, pairs_with, waits_for_in};
+ghost use Rattle.manager_core.specs.Walks.{IsLonger};
 
 use lock_table::TargetLocks;
 use txn_names::Name;
@@ -205,6 +206,7 @@ fn add_pairs_by_waits(
 )
     requires room { vec_len pairs.old + length waits.now.waits ≤ vec_capacity pairs.old }
     ensures pairs { ByLocks tree.now locks.now (λ keeps. pairs.new.items ≡ pairs.old.items ++ pairs_with tree.now keeps waits.now.waits wait.now) }
+    ensures longer { IsLonger pairs.old.items pairs.new.items }
     ensures len { vec_len pairs.new ≤ vec_len pairs.old + length waits.now.waits }
     ensures capacity { vec_capacity pairs.old ≤ vec_capacity pairs.new }
 {
@@ -249,6 +251,7 @@ fn add_pairs_by_blockers(
     requires room { vec_len pairs.old + length blockers.now ≤ vec_capacity pairs.old }
     ensures pairs { ByLocks tree.now locks.now (λ keeps.
         AreAlike pairs.new.items (pairs.old.items ++ pairs_with tree.now keeps waits.now.waits wait.now)) }
+    ensures longer { IsLonger pairs.old.items pairs.new.items }
     ensures len { vec_len pairs.new ≤ vec_len pairs.old + length blockers.now }
     ensures capacity { vec_capacity pairs.old ≤ vec_capacity pairs.new }
 {
@@ -260,8 +263,8 @@ fn add_pairs_by_blockers(
     }
 }
 
-// Adds the pairs of this one that waits, by the shorter of the two ways.
-fn add_pairs_of(
+/// Adds the pairs of this one that waits, by the shorter of the two ways.
+pub(crate) fn add_pairs_of(
     tree: &Tree,
     locks: &TargetLocks,
     waits: &Waits,
@@ -271,6 +274,7 @@ fn add_pairs_of(
     requires room { vec_len pairs.old + length waits.now.waits ≤ vec_capacity pairs.old }
     ensures pairs { ByLocks tree.now locks.now (λ keeps.
         AreAlike pairs.new.items (pairs.old.items ++ pairs_with tree.now keeps waits.now.waits wait.now)) }
+    ensures longer { IsLonger pairs.old.items pairs.new.items }
     ensures len { vec_len pairs.new ≤ vec_len pairs.old + length waits.now.waits }
     ensures capacity { vec_capacity pairs.old ≤ vec_capacity pairs.new }
 {
@@ -292,7 +296,8 @@ pub(crate) fn collect_pairs(
     pairs: &mut Vec<(TxnNo, TxnNo)>,
 )
     requires room { length waits.now.waits * length waits.now.waits ≤ vec_capacity pairs.old }
-    ensures pairs { ByLocks tree.now locks.now (λ keeps. AreAlike pairs.new.items (pairs_of tree.now keeps waits.now.waits waits.now.waits)) }
+    ensures pairs { ByLocks tree.now locks.now (λ keeps.
+        AreAlike pairs.new.items (pairs_among tree.now keeps waits.now.waits)) }
     ensures len { vec_len pairs.new ≤ length waits.now.waits * length waits.now.waits }
     ensures capacity { vec_capacity pairs.old ≤ vec_capacity pairs.new }
 {

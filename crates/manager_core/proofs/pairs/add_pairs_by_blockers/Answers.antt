@@ -6,6 +6,7 @@ use Rattle.manager_core.specs.Pairs.{Keeps, is_held_up}
 use Rattle.manager_core.proofs.Alike.{MadeBy, all_made, one_passed, one_pushed}
 use Rattle.manager_core.proofs.Alone.{flat_waited_for}
 use Rattle.manager_core.proofs.HeldUp.{keeps_none, left_out_holds_nobody}
+use Rattle.manager_core.proofs.Walking.{longer_pushed}
 use Rattle.manager_core.proofs.pairs.add_pairs_by_blockers.Goals as goal
 use Rattle.manager_core.proofs.pairs.add_pairs_by_blockers.Goals.{then-is_waited_for_itself, else-is_waited_for_itself}
 
@@ -27,6 +28,7 @@ loop-place-preserved c =
                 (sym (c.is_waited_for_itself.ensures keeps tells) ∙ w.if-is_waited_for_itself.true)),
             omega (arith, inv.1, w.push_reserved.ensures.len),
             omega (arith, inv.2, w.push_reserved.ensures.capacity),
+            rw w.push_reserved.ensures.items (longer_pushed c.args.pairs.now.items c.loop-place.pairs.items (wait.txn, u) inv.3),
           )
       | else-is_waited_for_itself w ↦
           rw w.pairs-is (
@@ -35,6 +37,7 @@ loop-place-preserved c =
                 (sym (c.is_waited_for_itself.ensures keeps tells) ∙ w.if-is_waited_for_itself.false),
             omega (arith, inv.1),
             inv.2,
+            inv.3,
           )
     ]
 

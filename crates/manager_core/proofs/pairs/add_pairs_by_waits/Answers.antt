@@ -5,6 +5,7 @@ use Rattle.wait_cycles.specs.declared.waits.Wait.{Wait}
 use Rattle.manager_core.specs.Pairs.{Keeps, pairs_with, waits_for_in}
 use Rattle.serial_spec.proofs.Taking.{take_past}
 use Rattle.manager_core.proofs.HeldUp.{pairs_more}
+use Rattle.manager_core.proofs.Walking.{longer_pushed}
 use Rattle.manager_core.proofs.pairs.add_pairs_by_waits.Goals as goal
 use Rattle.manager_core.proofs.pairs.add_pairs_by_waits.Goals.{in-Some+then-waits_for_among, in-Some+else-waits_for_among, in_default}
 
@@ -29,6 +30,7 @@ loop-place-preserved c =
                 ∙ next keeps w.in-Some.other.now (sym w.in-Some.ensures.wait) true (sym (w.waits_for_among.ensures keeps tells) ∙ w.if-waits_for_among.true),
             omega (arith, inv.1, w.push_reserved.ensures.len),
             omega (arith, inv.2, w.push_reserved.ensures.capacity),
+            rw w.push_reserved.ensures.items (longer_pushed first c.loop-place.pairs.items (wait.txn, w.in-Some.other.now.txn) inv.3),
           )
       | in-Some+else-waits_for_among w ↦
           rw w.pairs-is (
@@ -37,11 +39,13 @@ loop-place-preserved c =
                 ∙ next keeps w.in-Some.other.now (sym w.in-Some.ensures.wait) false (sym (w.waits_for_among.ensures keeps tells) ∙ w.if-waits_for_among.false),
             omega (arith, inv.1),
             inv.2,
+            inv.3,
           )
       | in_default w ↦
           rw w.pairs-is (
             λ keeps tells. inv.0 keeps tells ∙ ap (λ xs. first ++ pairs_with c.args.tree.now keeps xs wait) (sym (take_past vs i (sym w.in_default.ensures.wait))),
             omega (arith, inv.1),
             inv.2,
+            inv.3,
           )
     ]
