@@ -1,15 +1,12 @@
 -- Where an access closes no cycle of waits, told by those pairs alone that it can have added.
-use Rattle.std.proofs.Common.{◌≡◌, ℕ, zero, suc, ◌+◌, nat_eq, Bool, true, false, not, ◌&&◌, List, [], ◌∷◌, take, Option, Some, None, unwrap_or, refl, sym, ap, ◌∙◌, arith}
-use Rattle.std.specs.Prelude.{slice_get}
-use Rattle.std.specs.List.{list_any}
-use Rattle.std.proofs.lemmas.Bool.{and_from, and_parts, eqb-true, false≢true, false_from_ne_true, ltb-true, not-true, not_from_false, or_left, or_right}
-use Rattle.std.proofs.lemmas.Option.{none-some}
-use Rattle.txn_names.specs.Path.{Path, is_front, meet}
-use Rattle.txn_names.proofs.Names.{path_eq_self}
+use Rattle.std.proofs.Common.{◌≡◌, ℕ, zero, suc, ◌+◌, nat_eq, Bool, true, false, not, ◌&&◌, List, [], ◌∷◌, take, Option, Some, None, unwrap_or, inl, inr, subst, refl, sym, ap, ◌∙◌}
+use Rattle.std.specs.Prelude.{map, slice_get}
+use Rattle.std.specs.List.{IsDistinct, list_any}
+use Rattle.std.proofs.lemmas.Bool.{eq-eqb, or_cases, and_from, and_parts, eqb-true, false≢true, false_from_ne_true, not-true, or_left, or_right}
+use Rattle.txn_names.specs.Path.{is_front, path_eq}
+use Rattle.txn_names.proofs.Names.{path_eq_self, same_path}
 use Rattle.txn_tree.specs.States.{States, names}
 use Rattle.txn_tree.specs.Asked.{IsNumberOf, is_absent_in, is_name}
-use Rattle.lock_table.specs.Blocking.{numbers}
-use Rattle.lock_table.proofs.Lists.{witness}
 use Rattle.serial_spec.proofs.Taking.{take_past}
 use Rattle.serial_spec.specs.declared.entry.Answer.TheVariants.{Done, Waits, Refused}
 use Rattle.serial_spec.specs.declared.entry.By.{By}
@@ -23,15 +20,18 @@ use Rattle.serial_spec.specs.History.{Name, History, event_of, is_active}
 use Rattle.serial_spec.specs.Locks.{conflicts, is_blocker, reach}
 use Rattle.serial_spec.specs.Rows.{Rows}
 use Rattle.serial_spec.specs.Legal.{AreAllowed}
-use Rattle.serial_spec.specs.Waits.{Quiet, branch_of, wait_of as wait_by, waits_by, waits_for}
-use Rattle.txn_history.proofs.Theorems.{access_adds_at_key, quiet_stays, unawaited_adds_none, wait_adds_own}
+use Rattle.serial_spec.specs.Waits.{branch_of, number, wait_of as wait_by, waits_by, waits_for}
+use Rattle.txn_history.proofs.Theorems.{access_adds_at_key, quiet_stays, wait_adds_own, wait_closes_own}
+use Rattle.wait_cycles.specs.Cycles.{is_member}
 use Rattle.wait_cycles.specs.Waiting.{AreOnce, wait_of}
+use Rattle.wait_cycles.proofs.Agreement.{numbered_cycle}
 use Rattle.wait_cycles.specs.declared.waits.Wait.{Wait}
 use Rattle.manager_core.specs.declared.outcome.Outcome.{Outcome}
 use Rattle.manager_core.specs.declared.outcome.Outcome.TheVariants as made
 use Rattle.manager_core.specs.Outcomes.{answer_of}
 use Rattle.manager_core.specs.Kept.{AreTablesOf}
-use Rattle.manager_core.specs.Pairs.{ByLocks, Keeps, is_beside, is_held_up, is_beside_it, is_in_branch, passes, waits_by_way_of, waits_for_in, waits_for_other, waits_for_this}
+use Rattle.manager_core.specs.Pairs.{ByLocks, Keeps, is_beside, is_beside_it, is_in_branch, pairs_among, passes, waits_by_way_of}
+use Rattle.manager_core.specs.Walks.{IsOnNoCycle}
 use Rattle.manager_core.specs.State.{entry}
 use Rattle.manager_core.specs.Tables.{Tabled}
 use Rattle.manager_core.specs.Victims.{StaysQuiet}
@@ -40,7 +40,7 @@ use Rattle.manager_core.proofs.Lasting.{is_open}
 use Rattle.manager_core.proofs.Events.{accesses_own, done_at, refused_adds_none, same_asked}
 use Rattle.manager_core.proofs.Locks.{keeps_as, keeps_by, name_at, present, tells}
 use Rattle.manager_core.proofs.Named.{any_got, any_next}
-use Rattle.manager_core.proofs.Pairing.{as_named, tell_waits}
+use Rattle.manager_core.proofs.Pairing.{are_waits, tell_waits}
 
 -- ---- the waits, a place at a time
 
@@ -57,17 +57,6 @@ next_fails p ws i none e = by (slice_get ws i) refl e
     by (Some w) at f = any_next p ws i w at none f
 
 -- ---- who waits, by place and by name
-
--- nobody waits for itself
-no_own : (tree : States) (keeps : Keeps) (w : Wait) → waits_for_in tree keeps w w.txn ≡ false
-no_own tree keeps w = false_from_ne_true _ (λ f.
-    let b = witness (is_held_up tree keeps w w.txn) (numbers tree) f in
-    not_beside (slice_get (names tree) w.txn) (slice_get (names tree) b.0) (and_parts (keeps w.txn w.asked b.0) (is_in_branch tree w.txn b.0 w.txn) b.1).1)
-  where
-    not_beside : (o p : Option Path) → is_beside o p o ≡ true → ⊥
-    not_beside None p e = false≢true e
-    not_beside (Some t) None e = false≢true e
-    not_beside (Some t) (Some b) e = let less = ltb-true (meet t b) (meet t b) e in omega (arith, less)
 
 -- the wait that an entry makes stands at a place
 record IsAt (h : History) (tables : Tabled) (u : Name) (x : Entry) : Type 0 where
@@ -101,46 +90,6 @@ module _ (rows : Rows) (h : History) (tables : Tabled) (are : AreTablesOf rows h
         event = ap (λ (y : Entry). y.event) (sym entry_is) ∙ same.4 ∙ ap (λ y. event_of y w.asked) there;
       }
 
-  -- where one that waits waits for no other by numbers, it waits for nobody by names
-  waits_for_nobody : (t : Name) (n : ℕ) (w : Wait) → IsNumberOf tables.tree t n → wait_of tables.waits n ≡ Some w
-      → list_any (waits_for_other tables.tree (keeps_by h tables.tree) w) tables.waits.waits ≡ false → (u : Name) → waits_for h t u ≡ false
-  waits_for_nobody t n w number kept none u = false_from_ne_true _ (λ f. by (wait_by h t) (wait_by h u) refl refl f f)
-    where
-      found : (x y : Entry) → wait_by h t ≡ Some x → wait_by h u ≡ Some y → waits_for h t u ≡ true → ⊥
-      found x y is_x is_y f =
-          let one = at_place t x is_x in
-          let other = at_place u y is_y in
-          let same : one.wait ≡ w =
-          ap (λ o. unwrap_or o w) (sym one.kept ∙ ap (wait_of tables.waits) (sym (one_number tables.tree t n one.wait.txn number one.name)) ∙ kept) in
-          let for : waits_for_in tables.tree (keeps_by h tables.tree) w other.wait.txn ≡ true =
-          ap (λ (v : Wait). waits_for_in tables.tree (keeps_by h tables.tree) v other.wait.txn) (sym same)
-          ∙ as_named rows h tables are one.wait other.wait.txn t u x y one.name other.name is_x is_y one.event ∙ f in
-          let apart : nat_eq other.wait.txn w.txn ≡ false = false_from_ne_true _ (λ e.
-          false≢true (sym (no_own tables.tree (keeps_by h tables.tree) w) ∙ ap (waits_for_in tables.tree (keeps_by h tables.tree) w) (sym (eqb-true other.wait.txn w.txn e)) ∙ for)) in
-          false≢true (sym none ∙ any_got (waits_for_other tables.tree (keeps_by h tables.tree) w) tables.waits.waits other.place other.wait other.stands
-          (and_from _ _ (not_from_false (nat_eq other.wait.txn w.txn) apart) for))
-
-      by : (o p : Option Entry) → wait_by h t ≡ o → wait_by h u ≡ p → waits_by h t u o p ≡ true → waits_for h t u ≡ true → ⊥
-      by None p is_o is_p f g = false≢true f
-      by (Some x) None is_o is_p f g = false≢true f
-      by (Some x) (Some y) is_o is_p f g = found x y is_o is_p g
-
-  -- where by numbers nobody who waits waits for it, by names nobody does
-  nobody_waits_for : (t : Name) (n : ℕ) → slice_get (names tables.tree) n ≡ Some t
-      → list_any (waits_for_this tables.tree (keeps_by h tables.tree) n) tables.waits.waits ≡ false → (u : Name) → waits_for h u t ≡ false
-  nobody_waits_for t n at none u = false_from_ne_true _ (λ f. by (wait_by h u) (wait_by h t) refl refl f f)
-    where
-      found : (x y : Entry) → wait_by h u ≡ Some x → wait_by h t ≡ Some y → waits_for h u t ≡ true → ⊥
-      found x y is_x is_y f =
-          let one = at_place u x is_x in
-          let for : waits_for_in tables.tree (keeps_by h tables.tree) one.wait n ≡ true = as_named rows h tables are one.wait n u t x y one.name at is_x is_y one.event ∙ f in
-          false≢true (sym none ∙ any_got (waits_for_this tables.tree (keeps_by h tables.tree) n) tables.waits.waits one.place one.wait one.stands for)
-
-      by : (o p : Option Entry) → wait_by h u ≡ o → wait_by h t ≡ p → waits_by h u t o p ≡ true → waits_for h u t ≡ true → ⊥
-      by None p is_o is_p f g = false≢true f
-      by (Some x) None is_o is_p f g = false≢true f
-      by (Some x) (Some y) is_o is_p f g = found x y is_o is_p g
-
   -- where by numbers nobody who waits for what has a key in common with a target waits for another by way of t, by names nobody does
   keeps_nobody_out : (t : Name) (n : ℕ) → slice_get (names tables.tree) n ≡ Some t → (s : Target)
       → list_any (waits_by_way_of tables.tree (keeps_by h tables.tree) tables.waits.waits n s) tables.waits.waits ≡ false
@@ -165,17 +114,6 @@ module _ (rows : Rows) (h : History) (tables : Tabled) (are : AreTablesOf rows h
       false≢true (sym none ∙ any_got (waits_by_way_of tables.tree keeps tables.waits.waits n s) tables.waits.waits there.place there.wait there.stands
       (and_from _ _ (ap (λ b. meets s (target b)) (sym same) ∙ met) (and_from _ _ blocks some))))
 
--- who does not wait by numbers waits for nobody
-waits_not : (rows : Rows) (h : History) (tables : Tabled) → AreTablesOf rows h tables → AreAllowed rows h → (t : Name) (n : ℕ) → IsNumberOf tables.tree t n
-    → wait_of tables.waits n ≡ None → (u : Name) → waits_for h t u ≡ false
-waits_not rows h tables are allowed t n number none u = by (wait_by h t) refl
-  where
-    by : (o : Option Entry) → wait_by h t ≡ o → waits_by h t u o (wait_by h u) ≡ false
-    by None is = refl
-    by (Some x) is =
-        let found = (tell_waits rows h tables allowed are).all t x is in
-        absurd (none-some found.1 (sym none ∙ ap (wait_of tables.waits) (one_number tables.tree t n found.0 number found.2) ∙ found.3))
-
 -- one that never began does not act, so it keeps nobody out, and waits for nobody
 module _ (rows : Rows) (h : History) (tables : Tabled) (are : AreTablesOf rows h tables) (t : Name) (absent : is_absent_in tables.tree t ≡ true) where
   idle : is_active h t ≡ true → ⊥
@@ -190,6 +128,17 @@ module _ (rows : Rows) (h : History) (tables : Tabled) (are : AreTablesOf rows h
       by : (o : Option Entry) → wait_by h t ≡ o → waits_by h t u o (wait_by h u) ≡ false
       by None is = refl
       by (Some x) is = absurd (idle (is_open h t x is).acts)
+
+-- the number of one that is among these is among theirs
+numbered_member : (h : History) (t : Name) (ts : List Name) → list_any (path_eq t) ts ≡ true → is_member (number h t) (map (number h) ts) ≡ true
+numbered_member h t [] e = absurd (false≢true e)
+numbered_member h t (u ∷ ts) e =
+    elim (or_cases (path_eq t u) (list_any (path_eq t) ts) e) [
+      | inl here ↦
+          or_left (nat_eq (number h t) (number h u)) (is_member (number h t) (map (number h) ts))
+          (eq-eqb (number h t) (number h u) (ap (number h) (same_path t u here)))
+      | inr later ↦ or_right (nat_eq (number h t) (number h u)) (is_member (number h t) (map (number h) ts)) (numbered_member h t ts later)
+    ]
 
 -- ---- an entry of an access
 
@@ -215,37 +164,18 @@ module _ (rows : Rows) (h : History) (tables : Tabled) (by : By) (t : Name) (ask
       let nobody = none (keeps_by (e ∷ h) tables.tree) (tells rows (e ∷ h) tables are) in
       access_adds_at_key rows e h allowed t asked r (done_at t asked r) (keeps_nobody_out rows (e ∷ h) tables are allowed once t n at (target asked) nobody) q
 
-  quiet_if_it_waits_for_nobody : (n : ℕ) (w : Wait) → AreOnce tables.waits → IsNumberOf tables.tree t n → wait_of tables.waits n ≡ Some w
-      → (allowed : AreAllowed rows (entry by (event_of t asked) Waits ∷ h)) (are : AreTablesOf rows (entry by (event_of t asked) Waits ∷ h) tables) → Quiet h
-      → list_any (waits_for_other tables.tree (keeps_by (entry by (event_of t asked) Waits ∷ h) tables.tree) w) tables.waits.waits ≡ false → Quiet (entry by (event_of t asked) Waits ∷ h)
-  quiet_if_it_waits_for_nobody n w once number kept allowed are q none =
-      let e : Entry = entry by (event_of t asked) Waits in
-      wait_adds_own rows e h allowed t (accesses_own t asked) refl (waits_for_nobody rows (e ∷ h) tables are allowed once t n w number kept none) q
-
-  quiet_if_nobody_waits_for_it : (n : ℕ) → AreOnce tables.waits → IsNumberOf tables.tree t n
-      → (allowed : AreAllowed rows (entry by (event_of t asked) Waits ∷ h)) (are : AreTablesOf rows (entry by (event_of t asked) Waits ∷ h) tables) → Quiet h
-      → list_any (waits_for_this tables.tree (keeps_by (entry by (event_of t asked) Waits ∷ h) tables.tree) n) tables.waits.waits ≡ false → Quiet (entry by (event_of t asked) Waits ∷ h)
-  quiet_if_nobody_waits_for_it n once number allowed are q none =
-      let e : Entry = entry by (event_of t asked) Waits in
-      unawaited_adds_none rows e h allowed t (accesses_own t asked) refl (nobody_waits_for rows (e ∷ h) tables are allowed once t n (name_at tables.tree t n number) none) q
-
-  -- it needs both for a cycle
-  pub quiet_if_not_between : (n : ℕ) (w : Wait) → AreOnce tables.waits → IsNumberOf tables.tree t n → wait_of tables.waits n ≡ Some w
-      → ByLocks tables.tree tables.estate.locks
-      (λ keeps. (list_any (waits_for_other tables.tree keeps w) tables.waits.waits && list_any (waits_for_this tables.tree keeps n) tables.waits.waits) ≡ false)
+  -- no cycle goes through it
+  pub quiet_if_on_no_cycle : (n : ℕ) → AreOnce tables.waits → IsDistinct path_eq (names tables.tree) → IsNumberOf tables.tree t n
+      → ByLocks tables.tree tables.estate.locks (λ keeps. IsOnNoCycle (pairs_among tables.tree keeps tables.waits.waits) n)
       → StaysQuiet rows (entry by (event_of t asked) Waits) h tables
-  quiet_if_not_between n w once number kept none allowed are q = go (list_any (waits_for_other tables.tree keeps w) tables.waits.waits) refl
-    where
-      keeps : Keeps
-      keeps = keeps_by (entry by (event_of t asked) Waits ∷ h) tables.tree
-
-      go : (b : Bool) → list_any (waits_for_other tables.tree keeps w) tables.waits.waits ≡ b → Quiet (entry by (event_of t asked) Waits ∷ h)
-      go false is = quiet_if_it_waits_for_nobody n w once number kept allowed are q is
-      go true is = quiet_if_nobody_waits_for_it n once number allowed are q
-          (sym (ap (λ b. b && list_any (waits_for_this tables.tree keeps n) tables.waits.waits) is) ∙ none keeps (tells rows (entry by (event_of t asked) Waits ∷ h) tables are))
-
-  pub quiet_if_it_does_not_wait : (n : ℕ) → IsNumberOf tables.tree t n → wait_of tables.waits n ≡ None
-      → StaysQuiet rows (entry by (event_of t asked) Waits) h tables
-  quiet_if_it_does_not_wait n number none allowed are q =
+  quiet_if_on_no_cycle n once distinct at_n none allowed are q =
       let e : Entry = entry by (event_of t asked) Waits in
-      wait_adds_own rows e h allowed t (accesses_own t asked) refl (waits_not rows (e ∷ h) tables are allowed t n number none) q
+      let keeps : Keeps = keeps_by (e ∷ h) tables.tree in
+      let told = are_waits rows (e ∷ h) tables are allowed distinct once in
+      let same : number (e ∷ h) t ≡ n = told.numbered n t (name_at tables.tree t n at_n) in
+      wait_closes_own rows e h allowed t (accesses_own t asked) refl
+      (λ u on through.
+      none keeps (tells rows (e ∷ h) tables are) (number (e ∷ h) u ∷ map (number (e ∷ h)) on.0)
+      (numbered_cycle (e ∷ h) (names tables.tree) (pairs_among tables.tree keeps tables.waits.waits) told u on)
+      (subst (λ (m : ℕ). is_member m (number (e ∷ h) u ∷ map (number (e ∷ h)) on.0) ≡ true) same (numbered_member (e ∷ h) t (u ∷ on.0) through)))
+      q

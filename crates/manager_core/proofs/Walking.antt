@@ -1,8 +1,7 @@
 -- The walk from one that waits: what it lists, and what it tells where it does not come back.
-use Rattle.std.proofs.Common.{◌≡◌, ℕ, zero, suc, ◌+◌, ◌*◌, ◌<◌, ◌≤◌, nat_eq, Bool, true, false, not, ◌&&◌, List, [], ◌∷◌, ◌++◌, length, Option, Some, None, inl, inr, refl, sym, ap, subst, ◌∙◌, is_some, unwrap_or, cond, add-one, arith}
+use Rattle.std.proofs.Common.{◌≡◌, ℕ, zero, suc, ◌+◌, ◌*◌, ◌<◌, ◌≤◌, nat_eq, Bool, true, false, not, ◌&&◌, List, [], ◌∷◌, ◌++◌, length, Some, None, inl, inr, refl, sym, ap, subst, ◌∙◌, is_some, cond, add-one, arith}
 use Rattle.std.specs.Prelude.{slice_get, slice_index_or, IsTrue}
-use Rattle.std.specs.List.{list_any}
-use Rattle.std.proofs.lemmas.Bool.{and_parts, eqb-true, eq-eqb, false≢true, cases_eq, cases_lt, or_cases, or_right}
+use Rattle.std.proofs.lemmas.Bool.{and_parts, eqb-true, false≢true, cases_eq, cases_lt, or_cases, or_right}
 use Rattle.std.proofs.lemmas.List.{get_or-set_other}
 use Rattle.std.proofs.lemmas.List.Sums.{count_by-le-length, sum_by-set}
 use Rattle.std.proofs.Math.Nat.{mul-le-mul_right, suc-mul}
@@ -10,7 +9,7 @@ use Rattle.std.proofs.lemmas.Option.{none-some, same_Some, slice_get_within}
 use Rattle.std.proofs.Math.ListN.{set}
 use Rattle.txn_tree.proofs.Places.{get_front}
 use Rattle.txn_tree.specs.States.{States}
-use Rattle.wait_cycles.specs.Cycles.{Pairs, IsCycle, WaitInTurn, is_member, waits_in}
+use Rattle.wait_cycles.specs.Cycles.{Pairs, WaitInTurn, waits_in}
 use Rattle.wait_cycles.specs.Waiting.{AreOnce, StandsAt, Waiting, wait_in, wait_of}
 use Rattle.wait_cycles.specs.declared.waits.Wait.{Wait}
 use Rattle.wait_cycles.proofs.Agreement.{begun_there}

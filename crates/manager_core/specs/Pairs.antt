@@ -1,5 +1,5 @@
 -- Which of those that wait wait for which, by the numbers of transactions.
-use Rattle.std.specs.Prelude.{◌≡◌, ◌↔◌, ℕ, Bool, false, IsFalse, IsTrue, nat_eq, nat_lt, not, ◌&&◌, List, [], ◌∷◌, ◌++◌, map, filter, slice_get, Option, Some}
+use Rattle.std.specs.Prelude.{◌≡◌, ◌↔◌, ℕ, Bool, false, IsFalse, IsTrue, nat_eq, nat_lt, ◌&&◌, List, [], ◌∷◌, ◌++◌, map, filter, slice_get, Option, Some}
 use Rattle.std.specs.List.{list_any}
 use Rattle.txn_names.specs.Path.{Path, meet}
 use Rattle.txn_tree.specs.States.{States, names}
@@ -70,14 +70,6 @@ pairs_of tree keeps (w ∷ ws) others = pairs_with tree keeps others w ++ pairs_
 -- all pairs of those that wait, of which the first waits for the second
 abbrev pub pairs_among : States → Keeps → List Wait → Pairs
 pairs_among tree keeps ws = pairs_of tree keeps ws ws
-
--- whether it is another, and this access waits for it
-abbrev pub waits_for_other : States → Keeps → Wait → Wait → Bool
-waits_for_other tree keeps w v = not (nat_eq v.txn w.txn) && waits_for_in tree keeps w v.txn
-
--- whether this access waits for u
-abbrev pub waits_for_this : States → Keeps → ℕ → Wait → Bool
-waits_for_this tree keeps u w = waits_for_in tree keeps w u
 
 -- whether it is in the branch by which b parts from t
 abbrev pub is_beside_it : States → ℕ → ℕ → Wait → Bool

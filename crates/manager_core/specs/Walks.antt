@@ -1,5 +1,5 @@
 -- The walk from one that waits to those for whom it waits, and on from each of them.
-use Rattle.std.specs.Prelude.{◌≡◌, ℕ, Bool, true, false, not, IsTrue, List, length, slice_get, slice_index_or, Some, count_by}
+use Rattle.std.specs.Prelude.{◌≡◌, ℕ, Bool, false, not, IsTrue, List, slice_get, slice_index_or, Some, count_by}
 use Rattle.wait_cycles.specs.Cycles.{Pairs, IsCycle, is_member, waits_in}
 use Rattle.wait_cycles.specs.declared.waits.Wait.{Wait}
 

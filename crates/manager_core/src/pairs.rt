@@ -136,8 +136,8 @@ fn waits_for_listed(tree: &Tree, locks: &TargetLocks, wait: &Wait, other: TxnNo)
     false
 }
 
-/// Those who may keep the access from being answered, and maybe others, where one list has them all.
-pub(crate) fn lockers<'a>(locks: &'a TargetLocks, wait: &Wait) -> Option<&'a [TxnNo]>
+// Those who may keep the access from being answered, and maybe others, where one list has them all.
+fn lockers<'a>(locks: &'a TargetLocks, wait: &Wait) -> Option<&'a [TxnNo]>
     ensures { IfSome result (λ all. (tree : States) → AreLockers tree locks.now wait.now all.now) }
 {
     let target = wait.asked.target();
@@ -150,8 +150,8 @@ pub(crate) fn lockers<'a>(locks: &'a TargetLocks, wait: &Wait) -> Option<&'a [Tx
     Some(locks.list_at(&target, 0))
 }
 
-/// Whether they stand in one list, and each of them is seen to be alone in the branch by which it parts from the transaction.
-pub(crate) fn all_alone(tree: &Tree, txn: TxnNo, all: Option<&[TxnNo]>) -> bool
+// Whether they stand in one list, and each of them is seen to be alone in the branch by which it parts from the transaction.
+fn all_alone(tree: &Tree, txn: TxnNo, all: Option<&[TxnNo]>) -> bool
     ensures { IsTrue result → IfSome all.entry (λ us. AreOwnBranches tree.now txn us.now) }
 {
     match all {
@@ -160,10 +160,11 @@ pub(crate) fn all_alone(tree: &Tree, txn: TxnNo, all: Option<&[TxnNo]>) -> bool
     }
 }
 
-/// Tells what `waits_for` tells. `all` is everybody who may keep the access from being answered, if one list has them, and `alone`
-/// whether each of these is known to be alone in its branch. A caller that asks about many others finds both once.
+// Whether the access waits for the other: that, or one that it is in the branch of, has to end or to go on before one that
+// keeps the access from being answered can. `all` is everybody who may keep the access from being answered, if one list has them,
+// and `alone` whether each of these is known to be alone in its branch. A caller that asks about many others finds both once.
 #[inline(always)]
-pub(crate) fn waits_for_among(
+fn waits_for_among(
     tree: &Tree,
     locks: &TargetLocks,
     wait: &Wait,
@@ -186,14 +187,6 @@ pub(crate) fn waits_for_among(
     } else {
         is_held_up_by_any(tree, locks, wait, other, holders)
     }
-}
-
-/// Whether the access waits for the other: that, or one that it is in the branch of, has to end or to go on before one that
-/// keeps the access from being answered can.
-pub(crate) fn waits_for(tree: &Tree, locks: &TargetLocks, wait: &Wait, other: TxnNo) -> bool
-    ensures { ByLocks tree.now locks.now (λ keeps. result ≡ waits_for_in tree.now keeps wait.now other) }
-{
-    waits_for_among(tree, locks, wait, other, lockers(locks, wait), false)
 }
 
 // Adds the pairs of this one that waits, by a look at each that waits.

@@ -2,7 +2,7 @@
 //!
 //! Each step looks for pairs of which the first waits for the second only where the step itself can have added one. All pairs
 //! together are as many as those that wait, squared, and most steps add none.
-ghost use Rattle.std.specs.Prelude.{◌≡◌, ◌≤◌, ◌+◌, ◌*◌, ◌∷◌, ◌&&◌, length, slice_get, IfSome, IsFalse, IsTrue};
+ghost use Rattle.std.specs.Prelude.{◌≡◌, ◌≤◌, ◌+◌, ◌*◌, ◌∷◌, ◌&&◌, length, slice_get, IsFalse, IsTrue};
 ghost use Rattle.std.specs.List.{list_any};
 ghost use Rattle.serial_spec.specs.declared.entry.By.{By};
 ghost use Rattle.serial_spec.specs.declared.target.Asked.{Asked};
@@ -14,7 +14,7 @@ ghost use Rattle.serial_spec.specs.Waits.{Quiet};
 ghost use Rattle.wait_cycles.specs.Waiting.{AreOnce};
 ghost use Rattle.manager_core.specs.Kept.{AreTablesOf};
 ghost use Rattle.manager_core.specs.Outcomes.{answer_of};
-ghost use Rattle.manager_core.specs.Pairs.{AreLockers, AreOwnBranches, ByLocks, IsNobodysWay, is_beside_it, passes, waits_by_way_of, waits_for_other, waits_for_this};
+ghost use Rattle.manager_core.specs.Pairs.{ByLocks, IsNobodysWay, is_beside_it, passes, waits_by_way_of};
 ghost use Rattle.manager_core.specs.State.{entry};
 ghost use Rattle.manager_core.specs.Tables.{rows_in};
 ghost use Rattle.manager_core.specs.Victims.{Breaks, StaysQuiet};
@@ -24,89 +24,13 @@ use crate::breaker::Breaker;
 use crate::breaking::break_cycles;
 use crate::log::Log;
 use crate::outcome::Outcome;
-use crate::pairs::{all_alone, is_alone, is_in_branch, lockers, waits_for, waits_for_among};
+use crate::pairs::{is_alone, is_in_branch};
 use crate::tables::Tables;
 use lock_table::TargetLocks;
 use serial_spec::{Asked, Event, Target};
 use txn_names::Name;
 use txn_tree::{Tree, TxnNo};
 use wait_cycles::{Wait, Waits};
-
-// Whether another waits at this place, for which the access waits.
-fn waits_for_one_at(
-    tree: &Tree,
-    locks: &TargetLocks,
-    waits: &Waits,
-    wait: &Wait,
-    all: Option<&[TxnNo]>,
-    alone: bool,
-    place: usize,
-) -> bool
-    requires all { IfSome all (λ us. AreLockers tree.now locks.now wait.now us.now) }
-    requires alone { IsTrue alone → IfSome all (λ us. AreOwnBranches tree.now wait.now.txn us.now) }
-    ensures { ByLocks tree.now locks.now (λ keeps.
-        result ≡ passes (waits_for_other tree.now keeps wait.now) (slice_get waits.now.waits place)) }
-{
-    match waits.at(place) {
-        Some(other) => {
-            other.txn != wait.txn && waits_for_among(tree, locks, wait, other.txn, all, alone)
-        }
-        None => false,
-    }
-}
-
-// Whether the access, which waits, waits for any other that waits.
-fn waits_for_any(tree: &Tree, locks: &TargetLocks, waits: &Waits, wait: &Wait) -> bool
-    ensures result { ByLocks tree.now locks.now (λ keeps. result ≡ list_any (waits_for_other tree.now keeps wait.now) waits.now.waits) }
-    ensures once { AreOnce waits.now }
-{
-    let all = lockers(locks, wait);
-    let alone = all_alone(tree, wait.txn, all);
-    for place in 0..waits.len() {
-        if waits_for_one_at(tree, locks, waits, wait, all, alone, place) {
-            return true;
-        }
-    }
-    false
-}
-
-// Whether an access waits at this place, and it waits for the transaction.
-fn waits_for_it_at(
-    tree: &Tree,
-    locks: &TargetLocks,
-    waits: &Waits,
-    txn: TxnNo,
-    place: usize,
-) -> bool
-    ensures { ByLocks tree.now locks.now (λ keeps. result ≡ passes (waits_for_this tree.now keeps txn) (slice_get waits.now.waits place)) }
-{
-    match waits.at(place) {
-        Some(wait) => waits_for(tree, locks, wait, txn),
-        None => false,
-    }
-}
-
-// Whether any access that waits waits for the transaction.
-fn is_waited_for(tree: &Tree, locks: &TargetLocks, waits: &Waits, txn: TxnNo) -> bool
-    ensures result { ByLocks tree.now locks.now (λ keeps. result ≡ list_any (waits_for_this tree.now keeps txn) waits.now.waits) }
-    ensures once { AreOnce waits.now }
-{
-    for place in 0..waits.len() {
-        if waits_for_it_at(tree, locks, waits, txn, place) {
-            return true;
-        }
-    }
-    false
-}
-
-// Whether the access, which waits, waits for another that waits, and another waits for it.
-fn is_between(tree: &Tree, locks: &TargetLocks, waits: &Waits, wait: &Wait, txn: TxnNo) -> bool
-    ensures result { ByLocks tree.now locks.now (λ keeps.
-        result ≡ (list_any (waits_for_other tree.now keeps wait.now) waits.now.waits && list_any (waits_for_this tree.now keeps txn) waits.now.waits)) }
-    ensures once { AreOnce waits.now }
-{
-    waits_for_any(tree, locks, waits, wait) && is_waited_for(tree, locks, waits, txn)
-}
 
 // Whether one waits at this place that is in the branch by which the blocker parts from the transaction.
 fn is_beside_at(tree: &Tree, waits: &Waits, txn: TxnNo, blocker: TxnNo, place: usize) -> bool
@@ -195,13 +119,20 @@ fn is_way_of_any(
 }
 
 // Whether the access that was entered last may have closed a cycle of waits. One that began to wait adds pairs of its own
-// transaction alone, and a cycle of these needs one whose first it is and one whose second it is: so it closes none unless it
-// waits for another that waits, and another waits for it. One that was answered adds pairs of those alone whom its lock keeps
-// out of what has a key in common with it, and those that wait in its branch: so it closes none unless there are both. One that was refused adds no
-// pair. It takes no memory.
-fn may_close_cycle(tables: &Tables, name: &Name, asked: &Asked, outcome: &Outcome) -> bool
-    ensures { IsFalse result → (rows : Rows) (h : History) (by : By) →
+// transaction alone, and no cycle stood before: so it closes none unless one goes through its transaction. One that was answered
+// adds pairs of those alone whom its lock keeps out of what has a key in common with it, and those that wait in its branch: so it
+// closes none unless there are both. One that was refused adds no pair. It takes no memory.
+fn may_close_cycle(
+    tables: &Tables,
+    breaker: &mut Breaker,
+    name: &Name,
+    asked: &Asked,
+    outcome: &Outcome,
+) -> bool
+    requires { length tables.now.waits.waits * length tables.now.waits.waits ≤ breaker.old }
+    ensures quiet { IsFalse result → (rows : Rows) (h : History) (by : By) →
         StaysQuiet rows (entry by (event_of name.now asked.now) (answer_of outcome.now)) h tables.now }
+    ensures room { breaker.old ≤ breaker.new }
 {
     let Some(txn) = tables.tree.no_of(name) else {
         return false;
@@ -209,10 +140,11 @@ fn may_close_cycle(tables: &Tables, name: &Name, asked: &Asked, outcome: &Outcom
     let (tree, locks, waits) = (&tables.tree, tables.estate.locks(), &tables.waits);
     match outcome {
         Outcome::Done(_) => is_way_of_any(tree, locks, waits, txn, &asked.target()),
-        Outcome::Waits => match waits.of(txn) {
-            Some(wait) => is_between(tree, locks, waits, wait, txn),
-            None => false,
-        },
+        Outcome::Waits => {
+            tree.has_distinct_names();
+            waits.has_each_once();
+            breaker.comes_back(tree, locks, waits, txn)
+        }
         Outcome::Refused(_) => false,
     }
 }
@@ -248,7 +180,7 @@ pub(crate) fn settle(
 {
     let Request { by, name, asked } = request;
     log.add(*by, event_of(name, asked), outcome);
-    if may_close_cycle(tables, name, asked, outcome) {
+    if may_close_cycle(tables, breaker, name, asked, outcome) {
         break_cycles(log, tables, breaker);
     }
 }

@@ -1,5 +1,5 @@
-use Rattle.std.proofs.Common.{◌≡◌, ◌≤◌, ◌<◌, ◌+◌, ◌*◌, true, false, length, sym, ap, subst, ◌∙◌, Some, arith}
-use Rattle.std.specs.Prelude.{slice_index_or, vec_len}
+use Rattle.std.proofs.Common.{◌≡◌, ◌<◌, true, false, length, sym, ap, subst, ◌∙◌, Some, arith}
+use Rattle.std.specs.Prelude.{slice_index_or}
 use Rattle.std.proofs.lemmas.Option.{get_or_from_slice_get, slice_get-get_or, slice_get_within}
 use Rattle.manager_core.proofs.Walking.{marked_before, marked_now, nobodys, one_marked}
 use Rattle.manager_core.proofs.walk.go_on_from.Goals as goal
@@ -23,7 +23,7 @@ returns-then-index-clause-gone_on c keeps tells gone =
     let at = slice_get-get_or marks place c.index.result.now within ∙ ap Some (sym c.index.ensures ∙ c.if-index.true) in (
       gone,
       marked_before c.args.tree.now keeps c.args.waits.now c.has_each_once.ensures marks c.args.pairs.now.items c.args.txn place there
-      (get_or_from_slice_get marks place true false at) gone,
+          (get_or_from_slice_get marks place true false at) gone,
     )
 
 pub index_mut-requires : goal.index_mut-requires

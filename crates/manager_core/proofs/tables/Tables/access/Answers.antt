@@ -1,8 +1,8 @@
-use Rattle.std.proofs.Common.{is_some, refl, sym, ap, ◌∙◌}
-use Rattle.std.proofs.lemmas.Bool.{false≢true, true≢false}
+use Rattle.std.proofs.Common.{refl, sym, ◌∙◌}
+use Rattle.std.proofs.lemmas.Bool.{true≢false}
 use Rattle.serial_spec.specs.Locks.{mode_of}
 use Rattle.serial_spec.specs.Targets.{kind_of, target}
-use Rattle.manager_core.proofs.Reaching.{comes_done, comes_waits, kept_by_lock, left_by_name, modes_by_name}
+use Rattle.manager_core.proofs.Reaching.{comes_done, kept_by_lock, left_by_name, modes_by_name}
 use Rattle.manager_core.specs.Tables.{Tabled, HasOtherRoom}
 use Rattle.manager_core.proofs.Looked.{may_same, seen_more, seen_raised, seen_same}
 use Rattle.manager_core.proofs.tables.Tables.access.Goals as goal
