@@ -31,12 +31,7 @@ pub mod OneWait
 pub mod KeptOut
 pub mod Lines
 pub mod Branches
-pub mod HeldUp
-pub mod Alone
-pub mod OwnBranches
-pub mod Alike
 pub mod Pairing
-pub mod Walking
 pub mod Suspects
 pub mod Victims
 pub mod Settled

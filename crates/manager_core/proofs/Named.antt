@@ -8,19 +8,6 @@ use Rattle.std.proofs.lemmas.List.Folds.{list_any_more}
 use Rattle.std.proofs.lemmas.List.Sums.{sum_by-cons}
 use Rattle.std.proofs.lemmas.Option.{get_or_from_slice_get, slice_get_within}
 
--- where the one at a place passes some do
-pub any_got : {X : Type 0} (p : X → Bool) (xs : List X) (i : ℕ) (x : X) → slice_get xs i ≡ Some x → p x ≡ true → list_any p xs ≡ true
-any_got p [] i x at e = cc
-any_got p (y ∷ ys) zero x at e = let same : y ≡ x = cc in or_left (p y) (list_any p ys) (ap p same ∙ e)
-any_got p (y ∷ ys) (suc i) x at e = or_right (p y) (list_any p ys) (any_got p ys i x at e)
-
--- a place further
-pub any_next : {X : Type 0} (p : X → Bool) (xs : List X) (i : ℕ) (x : X) → slice_get xs i ≡ Some x → list_any p (take i xs) ≡ false → p x ≡ false
-    → list_any p (take (i + 1) xs) ≡ false
-any_next p xs i x at none e =
-    list_any_more p xs i x (slice_get_within xs i x at)
-    ∙ ap (λ b. b || p (get_or xs i x)) none ∙ ap p (get_or_from_slice_get xs i x x at) ∙ e
-
 -- what is left from a place on
 pub drop_at_place : {X : Type 0} (xs : List X) (i : ℕ) (x : X) → slice_get xs i ≡ Some x → drop i xs ≡ x ∷ drop (i + 1) xs
 drop_at_place xs i x at =

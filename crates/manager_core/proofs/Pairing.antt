@@ -30,14 +30,14 @@ use Rattle.wait_cycles.specs.Waiting.{AreOnce, Waiting, wait_of}
 use Rattle.wait_cycles.specs.declared.waits.Wait.{Wait}
 use Rattle.txn_tree.proofs.Places.{get_front, get_pushed}
 use Rattle.manager_core.specs.Kept.{AreTablesOf, wait_of_any}
-use Rattle.manager_core.specs.Pairs.{Keeps, is_beside, is_held_up, is_in_branch, pairs_of, pairs_with, waits_for_in}
+use Rattle.wait_graph.specs.Edges.{Keeps, is_beside, is_held_up, is_in_branch, edges_of, edges_from, waits_for_in}
 use Rattle.manager_core.specs.Tables.{Tabled, wait_by as kept_by, wait_for}
 use Rattle.manager_core.proofs.Blocking.{any_named}
 use Rattle.manager_core.proofs.Branches.{in_branch}
 use Rattle.manager_core.proofs.Lasting.{is_open}
 use Rattle.manager_core.proofs.Events.{blocks_at}
 use Rattle.manager_core.proofs.Locks.{any_numbered, keeps_as, keeps_by}
-use Rattle.manager_core.proofs.Named.{any_got}
+use Rattle.wait_graph.proofs.Passing.{any_got}
 
 -- ---- numbers
 
@@ -110,7 +110,7 @@ module _ (tree : States) (keeps : Keeps) (a b : ℕ) where
   row_of : Wait → Bool → Wait → List Wait → Pairs
   row_of w t x xs = map (λ v. (w.txn, v.txn)) (cond t (x ∷ filter (λ v. waits_for_in tree keeps w v.txn) xs) (filter (λ v. waits_for_in tree keeps w v.txn) xs))
 
-  in_row : (w : Wait) (others : List Wait) → list_any is_it (pairs_with tree keeps others w) ≡ true → IsInRow w others
+  in_row : (w : Wait) (others : List Wait) → list_any is_it (edges_from tree keeps others w) ≡ true → IsInRow w others
   unfolding is_it IsInRow row_of
   in_row w [] e = absurd (false≢true e)
   in_row w (x ∷ xs) e = by (in_row w xs) (waits_for_in tree keeps w x.txn) refl e
@@ -118,10 +118,10 @@ module _ (tree : States) (keeps : Keeps) (a b : ℕ) where
       further : IsInRow w xs → IsInRow w (x ∷ xs)
       further r = (r.0, r.1, suc r.2, r.3, r.4, r.5)
 
-      by : (list_any is_it (pairs_with tree keeps xs w) ≡ true → IsInRow w xs) → (t : Bool) → waits_for_in tree keeps w x.txn ≡ t
+      by : (list_any is_it (edges_from tree keeps xs w) ≡ true → IsInRow w xs) → (t : Bool) → waits_for_in tree keeps w x.txn ≡ t
           → list_any is_it (row_of w t x xs) ≡ true → IsInRow w (x ∷ xs)
       by rest true is f =
-          elim (or_cases (is_it (w.txn, x.txn)) (list_any is_it (pairs_with tree keeps xs w)) f) [
+          elim (or_cases (is_it (w.txn, x.txn)) (list_any is_it (edges_from tree keeps xs w)) f) [
             | inl here ↦
                 let p = and_parts (nat_eq w.txn a) (nat_eq x.txn b) here in
                 (eqb-true w.txn a p.0, x, 0, refl, eqb-true x.txn b p.1, is)
@@ -129,11 +129,11 @@ module _ (tree : States) (keeps : Keeps) (a b : ℕ) where
           ]
       by rest false is f = further (rest f)
 
-  in_rows : (ws others : List Wait) → list_any is_it (pairs_of tree keeps ws others) ≡ true → IsMade tree keeps ws others a b
+  in_rows : (ws others : List Wait) → list_any is_it (edges_of tree keeps ws others) ≡ true → IsMade tree keeps ws others a b
   unfolding IsInRow
   in_rows [] others e = absurd (false≢true e)
   in_rows (x ∷ ws) others e =
-      elim (or_cases _ _ (sym (list_any-append is_it (pairs_with tree keeps others x) (pairs_of tree keeps ws others)) ∙ e)) [
+      elim (or_cases _ _ (sym (list_any-append is_it (edges_from tree keeps others x) (edges_of tree keeps ws others)) ∙ e)) [
         | inl here ↦
             let r = in_row x others here in
             record { w = x; i = 0; first = refl; w_is = r.0; v = r.1; j = r.2; second = r.3; v_is = r.4; waiting = r.5 }
@@ -143,7 +143,7 @@ module _ (tree : States) (keeps : Keeps) (a b : ℕ) where
       ]
 
   row_made : (w : Wait) (others : List Wait) (j : ℕ) (v : Wait) → slice_get others j ≡ Some v → w.txn ≡ a → v.txn ≡ b → waits_for_in tree keeps w v.txn ≡ true
-      → list_any is_it (pairs_with tree keeps others w) ≡ true
+      → list_any is_it (edges_from tree keeps others w) ≡ true
   unfolding is_it row_of
   row_made w [] j v at is_a is_b e = absurd (false≢true (ap is_some at))
   row_made w (x ∷ xs) zero v at is_a is_b e =
@@ -156,22 +156,22 @@ module _ (tree : States) (keeps : Keeps) (a b : ℕ) where
       and_true {p} {q} x y = ap (λ c. c && q) x ∙ y
   row_made w (x ∷ xs) (suc j) v at is_a is_b e = by (row_made w xs j v at is_a is_b e) (waits_for_in tree keeps w x.txn)
     where
-      by : list_any is_it (pairs_with tree keeps xs w) ≡ true → (t : Bool) → list_any is_it (row_of w t x xs) ≡ true
+      by : list_any is_it (edges_from tree keeps xs w) ≡ true → (t : Bool) → list_any is_it (row_of w t x xs) ≡ true
       by rest true = or_right (is_it (w.txn, x.txn)) _ rest
       by rest false = rest
 
-  rows_made : (ws others : List Wait) → IsMade tree keeps ws others a b → list_any is_it (pairs_of tree keeps ws others) ≡ true
+  rows_made : (ws others : List Wait) → IsMade tree keeps ws others a b → list_any is_it (edges_of tree keeps ws others) ≡ true
   rows_made ws others m = by ws m.i m.first
     where
-      by : (xs : List Wait) (i : ℕ) → slice_get xs i ≡ Some m.w → list_any is_it (pairs_of tree keeps xs others) ≡ true
+      by : (xs : List Wait) (i : ℕ) → slice_get xs i ≡ Some m.w → list_any is_it (edges_of tree keeps xs others) ≡ true
       by [] i at = absurd (false≢true (ap is_some at))
       by (x ∷ xs) zero at =
           let same : x ≡ m.w = ap (λ o. unwrap_or o x) at in
-          list_any-append is_it (pairs_with tree keeps others x) (pairs_of tree keeps xs others)
-          ∙ or_left _ _ (ap (λ (y : Wait). list_any is_it (pairs_with tree keeps others y)) same ∙ row_made m.w others m.j m.v m.second m.w_is m.v_is m.waiting)
+          list_any-append is_it (edges_from tree keeps others x) (edges_of tree keeps xs others)
+          ∙ or_left _ _ (ap (λ (y : Wait). list_any is_it (edges_from tree keeps others y)) same ∙ row_made m.w others m.j m.v m.second m.w_is m.v_is m.waiting)
       by (x ∷ xs) (suc i) at =
-          list_any-append is_it (pairs_with tree keeps others x) (pairs_of tree keeps xs others)
-          ∙ or_right (list_any is_it (pairs_with tree keeps others x)) _ (by xs i at)
+          list_any-append is_it (edges_from tree keeps others x) (edges_of tree keeps xs others)
+          ∙ or_right (list_any is_it (edges_from tree keeps others x)) _ (by xs i at)
 
 -- ---- the waits that stand
 
@@ -312,7 +312,7 @@ module _ (rows : Rows) (h : History) (tables : Tabled) (are : AreTablesOf rows h
 
   -- the pairs are those of the definitions
   pub are_waits : AreAllowed rows h → IsDistinct path_eq (names tables.tree) → AreOnce tables.waits
-      → AreWaits h (names tables.tree) (pairs_of tables.tree (keeps_by h tables.tree) tables.waits.waits tables.waits.waits)
+      → AreWaits h (names tables.tree) (edges_of tables.tree (keeps_by h tables.tree) tables.waits.waits tables.waits.waits)
   unfolding is_it
   are_waits allowed distinct once_each = record { numbered = numbered; sound = sound; whole = whole }
     where
@@ -324,7 +324,7 @@ module _ (rows : Rows) (h : History) (tables : Tabled) (are : AreTablesOf rows h
           place_is (begun h) (once (reverse (begun h)) (subst (λ (ns : List Name). IsDistinct path_eq ns) are.in_tree.begun distinct)) a t
           (ap (λ ns. slice_get ns a) (sym are.in_tree.begun) ∙ at)
 
-      sound : (a b : ℕ) → IsTrue (waits_in (pairs_of tree keeps waits.waits waits.waits) a b)
+      sound : (a b : ℕ) → IsTrue (waits_in (edges_of tree keeps waits.waits waits.waits) a b)
           → (t : Name) × (u : Name) × (slice_get (names tree) a ≡ Some t) × (slice_get (names tree) b ≡ Some u) × IsTrue (waits_for h t u)
       sound a b e =
           let m = in_rows tree keeps a b waits.waits waits.waits e in
@@ -338,7 +338,7 @@ module _ (rows : Rows) (h : History) (tables : Tabled) (are : AreTablesOf rows h
           )
 
       made : (t u : Name) (e f : Entry) → wait_by h t ≡ Some e → wait_by h u ≡ Some f → IsTrue (waits_for h t u)
-          → (a : ℕ) × (b : ℕ) × (slice_get (names tree) a ≡ Some t) × (slice_get (names tree) b ≡ Some u) × IsTrue (waits_in (pairs_of tree keeps waits.waits waits.waits) a b)
+          → (a : ℕ) × (b : ℕ) × (slice_get (names tree) a ≡ Some t) × (slice_get (names tree) b ≡ Some u) × IsTrue (waits_in (edges_of tree keeps waits.waits waits.waits) a b)
       made t u e f is_e is_f for =
           let one = tell.all t e is_e in
           let other = tell.all u f is_f in
@@ -371,18 +371,18 @@ module _ (rows : Rows) (h : History) (tables : Tabled) (are : AreTablesOf rows h
           )
 
       whole : (t u : Name) → IsTrue (waits_for h t u)
-          → (a : ℕ) × (b : ℕ) × (slice_get (names tree) a ≡ Some t) × (slice_get (names tree) b ≡ Some u) × IsTrue (waits_in (pairs_of tree keeps waits.waits waits.waits) a b)
+          → (a : ℕ) × (b : ℕ) × (slice_get (names tree) a ≡ Some t) × (slice_get (names tree) b ≡ Some u) × IsTrue (waits_in (edges_of tree keeps waits.waits waits.waits) a b)
       whole t u e = by (wait_by h t) (wait_by h u) refl refl e
         where
           by : (o p : Option Entry) → wait_by h t ≡ o → wait_by h u ≡ p → IsTrue (waits_by h t u o p)
-              → (a : ℕ) × (b : ℕ) × (slice_get (names tree) a ≡ Some t) × (slice_get (names tree) b ≡ Some u) × IsTrue (waits_in (pairs_of tree keeps waits.waits waits.waits) a b)
+              → (a : ℕ) × (b : ℕ) × (slice_get (names tree) a ≡ Some t) × (slice_get (names tree) b ≡ Some u) × IsTrue (waits_in (edges_of tree keeps waits.waits waits.waits) a b)
           by None p is_o is_p f = absurd (false≢true f)
           by (Some x) None is_o is_p f = absurd (false≢true f)
           by (Some x) (Some y) is_o is_p f = made t u x y is_o is_p e
 
 -- so the numbers on cycles tell of those of the definitions
 pub agreed : (rows : Rows) (h : History) (tables : Tabled) → AreTablesOf rows h tables → AreAllowed rows h → IsDistinct path_eq (names tables.tree) → AreOnce tables.waits
-    → Agree h (names tables.tree) (pairs_of tables.tree (keeps_by h tables.tree) tables.waits.waits tables.waits.waits)
+    → Agree h (names tables.tree) (edges_of tables.tree (keeps_by h tables.tree) tables.waits.waits tables.waits.waits)
 agreed rows h tables are allowed distinct once_each =
-    cycles_agree h (names tables.tree) (pairs_of tables.tree (keeps_by h tables.tree) tables.waits.waits tables.waits.waits)
+    cycles_agree h (names tables.tree) (edges_of tables.tree (keeps_by h tables.tree) tables.waits.waits tables.waits.waits)
     (are_waits rows h tables are allowed distinct once_each)

@@ -30,8 +30,8 @@ use Rattle.manager_core.specs.declared.outcome.Outcome.{Outcome}
 use Rattle.manager_core.specs.declared.outcome.Outcome.TheVariants as made
 use Rattle.manager_core.specs.Outcomes.{answer_of}
 use Rattle.manager_core.specs.Kept.{AreTablesOf}
-use Rattle.manager_core.specs.Pairs.{ByLocks, Keeps, is_beside, is_beside_it, is_in_branch, pairs_among, passes, waits_by_way_of}
-use Rattle.manager_core.specs.Walks.{IsOnNoCycle}
+use Rattle.wait_graph.specs.Edges.{ByLocks, Keeps, is_beside, is_beside_it, is_in_branch, edges_among, passes, waits_by_way_of}
+use Rattle.wait_graph.specs.Walks.{IsOnNoCycle}
 use Rattle.manager_core.specs.State.{entry}
 use Rattle.manager_core.specs.Tables.{Tabled}
 use Rattle.manager_core.specs.Victims.{StaysQuiet}
@@ -39,22 +39,8 @@ use Rattle.manager_core.proofs.Branches.{in_branch}
 use Rattle.manager_core.proofs.Lasting.{is_open}
 use Rattle.manager_core.proofs.Events.{accesses_own, done_at, refused_adds_none, same_asked}
 use Rattle.manager_core.proofs.Locks.{keeps_as, keeps_by, name_at, present, tells}
-use Rattle.manager_core.proofs.Named.{any_got, any_next}
+use Rattle.wait_graph.proofs.Passing.{any_got}
 use Rattle.manager_core.proofs.Pairing.{are_waits, tell_waits}
-
--- ---- the waits, a place at a time
-
-pub here_passes : (p : Wait → Bool) (ws : List Wait) (i : ℕ) → passes p (slice_get ws i) ≡ true → list_any p ws ≡ true
-here_passes p [] i e = absurd (false≢true e)
-here_passes p (w ∷ ws) zero e = or_left (p w) (list_any p ws) e
-here_passes p (w ∷ ws) (suc i) e = or_right (p w) (list_any p ws) (here_passes p ws i e)
-
-pub next_fails : (p : Wait → Bool) (ws : List Wait) (i : ℕ) → list_any p (take i ws) ≡ false → passes p (slice_get ws i) ≡ false → list_any p (take (i + 1) ws) ≡ false
-next_fails p ws i none e = by (slice_get ws i) refl e
-  where
-    by : (o : Option Wait) → slice_get ws i ≡ o → passes p o ≡ false → list_any p (take (i + 1) ws) ≡ false
-    by None at f = ap (list_any p) (take_past ws i at) ∙ none
-    by (Some w) at f = any_next p ws i w at none f
 
 -- ---- who waits, by place and by name
 
@@ -166,7 +152,7 @@ module _ (rows : Rows) (h : History) (tables : Tabled) (by : By) (t : Name) (ask
 
   -- no cycle goes through it
   pub quiet_if_on_no_cycle : (n : ℕ) → AreOnce tables.waits → IsDistinct path_eq (names tables.tree) → IsNumberOf tables.tree t n
-      → ByLocks tables.tree tables.estate.locks (λ keeps. IsOnNoCycle (pairs_among tables.tree keeps tables.waits.waits) n)
+      → ByLocks tables.tree tables.estate.locks (λ keeps. IsOnNoCycle (edges_among tables.tree keeps tables.waits.waits) n)
       → StaysQuiet rows (entry by (event_of t asked) Waits) h tables
   quiet_if_on_no_cycle n once distinct at_n none allowed are q =
       let e : Entry = entry by (event_of t asked) Waits in
@@ -176,6 +162,6 @@ module _ (rows : Rows) (h : History) (tables : Tabled) (by : By) (t : Name) (ask
       wait_closes_own rows e h allowed t (accesses_own t asked) refl
       (λ u on through.
       none keeps (tells rows (e ∷ h) tables are) (number (e ∷ h) u ∷ map (number (e ∷ h)) on.0)
-      (numbered_cycle (e ∷ h) (names tables.tree) (pairs_among tables.tree keeps tables.waits.waits) told u on)
+      (numbered_cycle (e ∷ h) (names tables.tree) (edges_among tables.tree keeps tables.waits.waits) told u on)
       (subst (λ (m : ℕ). is_member m (number (e ∷ h) u ∷ map (number (e ∷ h)) on.0) ≡ true) same (numbered_member (e ∷ h) t (u ∷ on.0) through)))
       q

@@ -29,7 +29,8 @@ use Rattle.manager_core.proofs.Kept.{backed_over}
 use Rattle.manager_core.proofs.Tabled.{tables_aborted}
 use Rattle.manager_core.proofs.Lasting.{unless_close, wait_aborted}
 use Rattle.manager_core.proofs.WaitTables.{waits_dropped}
-use Rattle.manager_core.proofs.Named.{any_next, counted_at}
+use Rattle.wait_graph.proofs.Passing.{any_next}
+use Rattle.manager_core.proofs.Named.{counted_at}
 use Rattle.manager_core.proofs.Blocking.{any_named, all_named}
 
 -- ---- the first of them

@@ -7,16 +7,16 @@ ghost use Rattle.manager_core.specs.Kept.{AreTablesOf};
 ghost use Rattle.manager_core.specs.Tables.{HasOtherRoom, rows_in};
 ghost use Rattle.manager_core.specs.Victims.{Breaks};
 
-use crate::breaker::Breaker;
 use crate::log::Log;
 use crate::outcome::Outcome;
 use crate::tables::Tables;
 use serial_spec::{By, Event, NoMemory};
 use std::alloc::AllocError;
 use txn_names::Name;
+use wait_graph::CycleSearch;
 
 // The transaction that is aborted next, if a cycle of waits stands. There is room to look for it.
-fn next_victim(_log: &Log, tables: &Tables, breaker: &mut Breaker) -> Option<Name>
+fn next_victim(_log: &Log, tables: &Tables, breaker: &mut CycleSearch) -> Option<Name>
     requires allowed { AreAllowed _log.now.rows _log.now.entries }
     requires are { AreTablesOf _log.now.rows _log.now.entries tables.now }
     requires room { length tables.now.waits.waits * length tables.now.waits.waits ≤ breaker.old }
@@ -52,7 +52,7 @@ fn abort_victim(log: &mut Log, tables: &mut Tables, name: &Name)
 
 /// Aborts the last begun of those that lie on a cycle of waits, until no cycle is left. It takes no memory: there is room to
 /// abort all that wait, and to look for them.
-pub(crate) fn break_cycles(log: &mut Log, tables: &mut Tables, breaker: &mut Breaker)
+pub(crate) fn break_cycles(log: &mut Log, tables: &mut Tables, breaker: &mut CycleSearch)
     requires allowed { AreAllowed log.old.rows log.old.entries }
     requires are { AreTablesOf log.old.rows log.old.entries tables.old }
     requires room { length tables.old.waits.waits ≤ log.old.room }
@@ -71,7 +71,7 @@ pub(crate) fn break_cycles(log: &mut Log, tables: &mut Tables, breaker: &mut Bre
 pub(crate) fn reserve_step(
     log: &mut Log,
     tables: &mut Tables,
-    breaker: &mut Breaker,
+    breaker: &mut CycleSearch,
 ) -> Result<(), NoMemory>
     ensures rows { log.new.rows ≡ log.old.rows }
     ensures entries { log.new.entries ≡ log.old.entries }

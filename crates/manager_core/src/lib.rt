@@ -5,7 +5,6 @@
 mod aborting;
 mod accessing;
 mod beginning;
-mod breaker;
 mod breaking;
 mod changes;
 mod closing;
@@ -16,12 +15,10 @@ mod log;
 mod looks;
 mod manager;
 mod outcome;
-mod pairs;
 mod parking;
 mod settling;
 mod tables;
 mod waiting;
-mod walk;
 
 pub use manager::{Manager, Parts};
 pub use outcome::{OpenFault, Outcome};

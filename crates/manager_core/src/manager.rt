@@ -14,7 +14,6 @@ ghost use Rattle.manager_core.specs.State.{entry};
 mod asking;
 mod parked;
 
-use crate::breaker::Breaker;
 use crate::changes::are_taken;
 use crate::log::Log;
 use crate::outcome::{OpenFault, Outcome};
@@ -24,6 +23,7 @@ use serial_spec::{By, Entry, Event, MOST_ROWS, NoMemory, PlainTable, Refusal, Re
 use std::alloc::Global;
 use std::marker::Model;
 use txn_names::Name;
+use wait_graph::CycleSearch;
 
 /// What the opening gave.
 #[derive(Drop)]
@@ -41,7 +41,7 @@ pub(crate) struct AtOpening {
 pub struct Manager<S: TopStore> {
     log: Log,
     tables: Tables,
-    breaker: Breaker,
+    breaker: CycleSearch,
     store: S,
     opened: AtOpening,
 }
@@ -123,7 +123,7 @@ impl<S: TopStore> Manager<S> {
         Ok(Manager {
             log,
             tables: Tables::new(alloc, table),
-            breaker: Breaker::new(alloc),
+            breaker: CycleSearch::new(alloc),
             store,
             opened: AtOpening {
                 given: rows,

@@ -2,121 +2,27 @@
 //!
 //! Each step looks for pairs of which the first waits for the second only where the step itself can have added one. All pairs
 //! together are as many as those that wait, squared, and most steps add none.
-ghost use Rattle.std.specs.Prelude.{◌≡◌, ◌≤◌, ◌+◌, ◌*◌, ◌∷◌, ◌&&◌, length, slice_get, IsFalse, IsTrue};
-ghost use Rattle.std.specs.List.{list_any};
+ghost use Rattle.std.specs.Prelude.{◌≡◌, ◌≤◌, ◌+◌, ◌*◌, ◌∷◌, length, IsFalse};
 ghost use Rattle.serial_spec.specs.declared.entry.By.{By};
 ghost use Rattle.serial_spec.specs.declared.target.Asked.{Asked};
-ghost use Rattle.serial_spec.specs.Targets.{target};
 ghost use Rattle.serial_spec.specs.History.{History, event_of};
 ghost use Rattle.serial_spec.specs.Legal.{AreAllowed};
 ghost use Rattle.serial_spec.specs.Rows.{Rows};
 ghost use Rattle.serial_spec.specs.Waits.{Quiet};
-ghost use Rattle.wait_cycles.specs.Waiting.{AreOnce};
 ghost use Rattle.manager_core.specs.Kept.{AreTablesOf};
 ghost use Rattle.manager_core.specs.Outcomes.{answer_of};
-ghost use Rattle.manager_core.specs.Pairs.{ByLocks, IsNobodysWay, is_beside_it, passes, waits_by_way_of};
 ghost use Rattle.manager_core.specs.State.{entry};
 ghost use Rattle.manager_core.specs.Tables.{rows_in};
 ghost use Rattle.manager_core.specs.Victims.{Breaks, StaysQuiet};
 
 use crate::accessing::Request;
-use crate::breaker::Breaker;
 use crate::breaking::break_cycles;
 use crate::log::Log;
 use crate::outcome::Outcome;
-use crate::pairs::{is_alone, is_in_branch};
 use crate::tables::Tables;
-use lock_table::TargetLocks;
-use serial_spec::{Asked, Event, Target};
+use serial_spec::{Asked, Event};
 use txn_names::Name;
-use txn_tree::{Tree, TxnNo};
-use wait_cycles::{Wait, Waits};
-
-// Whether one waits at this place that is in the branch by which the blocker parts from the transaction.
-fn is_beside_at(tree: &Tree, waits: &Waits, txn: TxnNo, blocker: TxnNo, place: usize) -> bool
-    ensures { result ≡ passes (is_beside_it tree.now txn blocker) (slice_get waits.now.waits place) }
-{
-    match waits.at(place) {
-        Some(other) => is_in_branch(tree, txn, blocker, other.txn),
-        None => false,
-    }
-}
-
-// Whether any that waits is in the branch by which the blocker parts from the transaction.
-#[tactic(auto, using(crate::proofs::Suspects::here_passes, crate::proofs::Suspects::next_fails))]
-fn is_any_beside(tree: &Tree, waits: &Waits, txn: TxnNo, blocker: TxnNo) -> bool
-    ensures result { result ≡ list_any (is_beside_it tree.now txn blocker) waits.now.waits }
-    ensures once { AreOnce waits.now }
-{
-    for place in 0..waits.len() {
-        if is_beside_at(tree, waits, txn, blocker, place) {
-            return true;
-        }
-    }
-    false
-}
-
-// Whether the transaction keeps the access, which waits, from being answered, and one that waits is in its branch.
-fn is_in_the_way(tree: &Tree, locks: &TargetLocks, waits: &Waits, txn: TxnNo, wait: &Wait) -> bool
-    ensures { ByLocks tree.now locks.now (λ keeps.
-        result ≡ (keeps wait.now.txn wait.now.asked txn && list_any (is_beside_it tree.now wait.now.txn txn) waits.now.waits)) }
-{
-    locks.blocks_asked(tree, txn, wait.txn, &wait.asked)
-        && is_any_beside(tree, waits, wait.txn, txn)
-}
-
-// Whether an access waits at this place, for what has a key in common with the target, and for another by way of the transaction.
-fn waits_by_way_of_it_at(
-    tree: &Tree,
-    locks: &TargetLocks,
-    waits: &Waits,
-    txn: TxnNo,
-    target: &Target,
-    place: usize,
-) -> bool
-    ensures { ByLocks tree.now locks.now (λ keeps.
-        result ≡ passes (waits_by_way_of tree.now keeps waits.now.waits txn target.now) (slice_get waits.now.waits place)) }
-{
-    match waits.at(place) {
-        Some(wait) => {
-            target.meets(&wait.asked.target()) && is_in_the_way(tree, locks, waits, txn, wait)
-        }
-        None => false,
-    }
-}
-
-// Whether the transaction is top-level without descendants, and does not wait. Then no other is in its branch, so that nobody waits
-// for another by way of it.
-#[tactic(auto, using(crate::proofs::Alone::nobodys_way))]
-fn is_nobodys_way(tree: &Tree, waits: &Waits, txn: TxnNo) -> bool
-    ensures { IsTrue result → IsNobodysWay tree.now waits.now.waits txn }
-{
-    is_alone(tree, txn) && waits.of(txn).is_none()
-}
-
-// Whether any access that waits for what has a key in common with the target waits for another by way of the transaction.
-fn is_way_of_any(
-    tree: &Tree,
-    locks: &TargetLocks,
-    waits: &Waits,
-    txn: TxnNo,
-    target: &Target,
-) -> bool
-    ensures result { ByLocks tree.now locks.now (λ keeps.
-        result ≡ list_any (waits_by_way_of tree.now keeps waits.now.waits txn target.now) waits.now.waits) }
-    ensures once { AreOnce waits.now }
-{
-    if is_nobodys_way(tree, waits, txn) {
-        waits.has_each_once();
-        return false;
-    }
-    for place in 0..waits.len() {
-        if waits_by_way_of_it_at(tree, locks, waits, txn, target, place) {
-            return true;
-        }
-    }
-    false
-}
+use wait_graph::{CycleSearch, any_edge_by_way_of};
 
 // Whether the access that was entered last may have closed a cycle of waits. One that began to wait adds pairs of its own
 // transaction alone, and no cycle stood before: so it closes none unless one goes through its transaction. One that was answered
@@ -124,7 +30,7 @@ fn is_way_of_any(
 // closes none unless there are both. One that was refused adds no pair. It takes no memory.
 fn may_close_cycle(
     tables: &Tables,
-    breaker: &mut Breaker,
+    breaker: &mut CycleSearch,
     name: &Name,
     asked: &Asked,
     outcome: &Outcome,
@@ -139,7 +45,7 @@ fn may_close_cycle(
     };
     let (tree, locks, waits) = (&tables.tree, tables.estate.locks(), &tables.waits);
     match outcome {
-        Outcome::Done(_) => is_way_of_any(tree, locks, waits, txn, &asked.target()),
+        Outcome::Done(_) => any_edge_by_way_of(tree, locks, waits, txn, &asked.target()),
         Outcome::Waits => {
             tree.has_distinct_names();
             waits.has_each_once();
@@ -164,7 +70,7 @@ fn event_of(name: &Name, asked: &Asked) -> Event
 pub(crate) fn settle(
     log: &mut Log,
     tables: &mut Tables,
-    breaker: &mut Breaker,
+    breaker: &mut CycleSearch,
     request: &Request,
     outcome: &Outcome,
 )

@@ -13,10 +13,10 @@ returns-in_default-clause-quiet c =
 pub returns-in-Done-clause-quiet : goal.returns-in-Done-clause-quiet
 returns-in-Done-clause-quiet c =
     let m : Tabled = record { tree = c.tables.inside.tree; marks = c.tables.inside.marks; estate = c.tables.inside.estate; waits = c.tables.inside.waits } in
-    let told = rw (c.locks-locks.ensures, c.target.ensures) at c.is_way_of_any.ensures.result in
+    let told = rw (c.locks-locks.ensures, c.target.ensures) at c.any_edge_by_way_of.ensures.result in
     rw (← c.tables.view_is, c.in-Done.is)
     (λ none rows h by.
-    quiet_if_it_is_in_nobodys_way rows h m by c.args.name.now c.args.asked.now c.in-Done.field-0 c.in-Some.txn c.is_way_of_any.ensures.once c.in-Some.ensures.number (λ keeps tells. sym (told keeps tells) ∙ none))
+    quiet_if_it_is_in_nobodys_way rows h m by c.args.name.now c.args.asked.now c.in-Done.field-0 c.in-Some.txn c.any_edge_by_way_of.ensures.once c.in-Some.ensures.number (λ keeps tells. sym (told keeps tells) ∙ none))
 
 pub returns-in-Waits-clause-quiet : goal.returns-in-Waits-clause-quiet
 returns-in-Waits-clause-quiet c =

@@ -1,0 +1,6 @@
+pub mod Passing
+pub mod HeldUp
+pub mod Alone
+pub mod OwnBranches
+pub mod Alike
+pub mod Walking

@@ -1,0 +1,90 @@
+//! The search for cycles of waits and for a victim on one, in room that was made before.
+ghost use Rattle.std.specs.Prelude.{◌≡◌, ◌≤◌, ◌*◌, ℕ, List, length, IfNone, IfSome, IsFalse, IsOk, OnOk};
+ghost use Rattle.wait_cycles.specs.Cycles.{IsCycle, IsLastOn};
+ghost use Rattle.wait_graph.specs.Edges.{ByLocks, edges_among};
+ghost use Rattle.wait_graph.specs.Walks.{IsOnNoCycle};
+
+use crate::edges::collect_edges;
+use crate::walk::comes_back;
+use lock_table::TargetLocks;
+use serial_spec::NoMemory;
+use std::alloc::{AllocError, Global};
+use std::marker::Model;
+use txn_tree::{Tree, TxnNo};
+use wait_cycles::{Waits, Work};
+
+/// Room in which cycles of waits are looked for without memory.
+#[derive(Drop)]
+pub struct CycleSearch {
+    edges: Vec<(TxnNo, TxnNo)>,
+    marks: Vec<bool>,
+    work: Work,
+}
+
+impl Model for CycleSearch {
+    ghost use Rattle.std.specs.Prelude.{◌*◌, ℕ, min, vec_capacity};
+
+    // For how many edges there is room, and for the marks of so many that wait, squared.
+    ghost Value = { ℕ };
+
+    ghost view = { λ b. min (vec_capacity b.edges) (min (vec_capacity b.marks * vec_capacity b.marks) b.work) };
+}
+
+impl CycleSearch {
+    /// Room for no edges. It takes no memory yet.
+    pub fn new(alloc: Global) -> CycleSearch
+        ensures { result ≡ 0 }
+    {
+        CycleSearch {
+            edges: Vec::new(alloc),
+            marks: Vec::new(alloc),
+            work: Work::new(alloc),
+        }
+    }
+
+    /// Makes room for the edges among so many that wait. The only error is that there is no memory for them, or that they are more
+    /// than can be counted. Then there is no less room than before.
+    pub fn reserve(&mut self, waiting: usize) -> Result<(), NoMemory>
+        ensures ok { OnOk result (waiting * waiting ≤ self.new) }
+        ensures kept { self.old ≤ self.new }
+    {
+        let Some(edges) = waiting.checked_mul(waiting) else {
+            return Err(AllocError);
+        };
+        self.edges.clear();
+        self.edges.reserve(edges)?;
+        self.marks.clear();
+        self.marks.reserve(waiting)?;
+        self.work.reserve(edges)
+    }
+
+    /// Whether the walk that begins at the transaction, and goes on from each that it reaches to those for whom that one waits,
+    /// comes back to the transaction. If it does not, no cycle of waits goes through it.
+    pub fn comes_back(
+        &mut self,
+        tree: &Tree,
+        locks: &TargetLocks,
+        waits: &Waits,
+        txn: TxnNo,
+    ) -> bool
+        requires { length waits.now.waits * length waits.now.waits ≤ self.old }
+        ensures none { IsFalse result → ByLocks tree.now locks.now (λ keeps.
+            IsOnNoCycle (edges_among tree.now keeps waits.now.waits) txn) }
+        ensures room { self.old ≤ self.new }
+    {
+        comes_back(tree, locks, waits, txn, &mut self.marks, &mut self.edges)
+    }
+
+    /// The last begun of those that lie on a cycle of waits, if there is a cycle.
+    pub fn victim(&mut self, tree: &Tree, locks: &TargetLocks, waits: &Waits) -> Option<TxnNo>
+        requires { length waits.now.waits * length waits.now.waits ≤ self.old }
+        ensures some { IfSome result (λ txn.
+            ByLocks tree.now locks.now (λ keeps. IsLastOn (edges_among tree.now keeps waits.now.waits) txn)) }
+        ensures none { IfNone result (ByLocks tree.now locks.now (λ keeps.
+            (xs : List ℕ) → IsCycle (edges_among tree.now keeps waits.now.waits) xs → ⊥)) }
+        ensures room { self.old ≤ self.new }
+    {
+        collect_edges(tree, locks, waits, &mut self.edges);
+        self.work.victim(&self.edges)
+    }
+}

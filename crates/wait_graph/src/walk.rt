@@ -1,0 +1,90 @@
+//! The walk from one that waits to those for whom it waits, and on from each of them: whether it comes back.
+ghost use Rattle.std.specs.Prelude.{◌≡◌, ◌≤◌, ◌+◌, ◌*◌, ℕ, false, IsFalse, length, slice_index_or, vec_len, vec_capacity};
+ghost use Rattle.wait_graph.specs.Edges.{ByLocks, edges_among};
+ghost use Rattle.wait_graph.specs.Walks.{AreGoneOn, AreListed, IsLonger, IsOnNoCycle, unmarked};
+
+use crate::edges::add_edges_from;
+use lock_table::TargetLocks;
+use txn_tree::{Tree, TxnNo};
+use wait_cycles::Waits;
+
+// A mark for each place among the waits, none of which is set.
+fn clear_marks(marks: &mut Vec<bool>, waits: &Waits)
+    requires { length waits.now.waits ≤ vec_capacity marks.old }
+    ensures none { (place : ℕ) → IsFalse (slice_index_or marks.new.items place false) }
+    ensures len { length marks.new.items ≡ length waits.now.waits }
+    ensures capacity { vec_capacity marks.old ≤ vec_capacity marks.new }
+{
+    marks.clear();
+    for _ in 0..waits.len() {
+        marks.push_reserved(false);
+    }
+}
+
+// Adds the edges of the transaction's wait and marks its place, unless that is marked: then they were added. There is room for
+// the edges of one wait a place that is not marked.
+fn go_on_from(
+    tree: &Tree,
+    locks: &TargetLocks,
+    waits: &Waits,
+    txn: TxnNo,
+    marks: &mut Vec<bool>,
+    edges: &mut Vec<(TxnNo, TxnNo)>,
+)
+    requires marks { length marks.old.items ≡ length waits.now.waits }
+    requires room { vec_len edges.old + unmarked marks.old.items * length waits.now.waits ≤ vec_capacity edges.old }
+    ensures gone_on { ByLocks tree.now locks.now (λ keeps.
+        AreGoneOn (edges_among tree.now keeps waits.now.waits) waits.now.waits marks.old.items edges.old.items
+        → AreGoneOn (edges_among tree.now keeps waits.now.waits) waits.now.waits marks.new.items edges.new.items
+        × AreListed (edges_among tree.now keeps waits.now.waits) edges.new.items txn) }
+    ensures longer { IsLonger edges.old.items edges.new.items }
+    ensures marks { length marks.new.items ≡ length marks.old.items }
+    ensures marks_capacity { vec_capacity marks.old ≤ vec_capacity marks.new }
+    ensures len { vec_len edges.new + unmarked marks.new.items * length waits.now.waits
+        ≤ vec_len edges.old + unmarked marks.old.items * length waits.now.waits }
+    ensures capacity { vec_capacity edges.old ≤ vec_capacity edges.new }
+{
+    waits.has_each_once();
+    let Some(place) = waits.place_of(txn) else {
+        return;
+    };
+    if marks[place] {
+        return;
+    }
+    if let Some(wait) = waits.at(place) {
+        marks[place] = true;
+        add_edges_from(tree, locks, waits, wait, edges);
+    }
+}
+
+/// Whether the walk that begins at the transaction, and goes on from each that it reaches to those for whom that one waits, comes
+/// back to the transaction. If it does not, no cycle of waits goes through it. Each is gone on from once. It takes no memory.
+pub(crate) fn comes_back(
+    tree: &Tree,
+    locks: &TargetLocks,
+    waits: &Waits,
+    txn: TxnNo,
+    marks: &mut Vec<bool>,
+    edges: &mut Vec<(TxnNo, TxnNo)>,
+) -> bool
+    requires marks { length waits.now.waits ≤ vec_capacity marks.old }
+    requires room { length waits.now.waits * length waits.now.waits ≤ vec_capacity edges.old }
+    ensures none { IsFalse result → ByLocks tree.now locks.now (λ keeps.
+        IsOnNoCycle (edges_among tree.now keeps waits.now.waits) txn) }
+    ensures marks_capacity { vec_capacity marks.old ≤ vec_capacity marks.new }
+    ensures capacity { vec_capacity edges.old ≤ vec_capacity edges.new }
+{
+    clear_marks(marks, waits);
+    edges.clear();
+    go_on_from(tree, locks, waits, txn, marks, edges);
+    let mut place = 0;
+    while place < edges.len() {
+        let (_, reached) = edges[place];
+        if reached == txn {
+            return true;
+        }
+        go_on_from(tree, locks, waits, reached, marks, edges);
+        place += 1;
+    }
+    false
+}
