@@ -10,7 +10,8 @@ use Rattle.serial_spec.specs.declared.entry.Refusal.{Refusal}
 use Rattle.serial_spec.specs.declared.entry.Refusal.TheVariants.{Unknown, Done as HasCommitted, Orphan, Waiting, Full}
 use Rattle.serial_spec.specs.declared.event.When.{When}
 use Rattle.serial_spec.specs.declared.event.When.TheVariants.{Begun, Done as Ended}
-use Rattle.serial_spec.specs.declared.event.Event.TheVariants.{After}
+use Rattle.serial_spec.specs.declared.event.Event.TheVariants.{Abort, Access, After, Begin, Commit, Sum}
+use Rattle.serial_spec.specs.declared.target.Asked.TheVariants.{At, Over}
 use Rattle.serial_spec.specs.declared.entry.Answer.{Answer}
 use Rattle.serial_spec.specs.declared.entry.Answer.TheVariants.{Done, Waits}
 use Rattle.serial_spec.specs.declared.entry.Entry.{Entry}
@@ -25,7 +26,7 @@ use Rattle.serial_spec.specs.Legal.{AreAllowed}
 use Rattle.manager_core.specs.Kept.{AreTablesOf}
 use Rattle.manager_core.specs.Lines.{IsWaitOf, waiting_access}
 use Rattle.lock_table.specs.ByAsked.{MayAsk}
-use Rattle.manager_core.specs.Parking.{IsKeptOut, IsParked, WaitsOn, come_by}
+use Rattle.manager_core.specs.Parking.{IsKeptOut, IsParked, NobodyWaits, WaitsOn, come_by}
 use Rattle.manager_core.proofs.Locks.{may_as}
 use Rattle.manager_core.proofs.OneWait.{only_event}
 use Rattle.manager_core.proofs.Pairing.{tell_waits}
@@ -165,6 +166,16 @@ nobody_waits rows h tables allowed are nobody by t asked waits =
     none : (ws : List Wait) → length ws ≡ 0 → (n : ℕ) (w : Wait) → wait_in ws n ≡ Some w → ⊥
     none [] e n w is = true≢false (sym (ap is_some is))
     none (x ∷ ws) e n w is = omega (arith, e)
+
+-- nor does any other
+pub none_waits : (rows : Rows) (h : History) (tables : Tabled) → AreAllowed rows h → AreTablesOf rows h tables → length tables.waits.waits ≡ 0
+    → NobodyWaits h
+none_waits rows h tables allowed are nobody by (Access t k o) waits = nobody_waits rows h tables allowed are nobody by t (At k o) waits
+none_waits rows h tables allowed are nobody by (Sum t g) waits = nobody_waits rows h tables allowed are nobody by t (Over g) waits
+none_waits rows h tables allowed are nobody by (Begin t) waits = waits
+none_waits rows h tables allowed are nobody by (Commit t) waits = waits
+none_waits rows h tables allowed are nobody by (Abort t) waits = waits
+none_waits rows h tables allowed are nobody by (After t when) waits = waits
 
 -- ---- whether an access waits by a line
 

@@ -39,6 +39,10 @@ pub record IsKeptOut (rows : Rows) (h : History) (by : By) (event : Event) : Typ
   pub can : CanGiveUp h by event
   pub none : answer rows h by event ≡ None
 
+-- no access waits by any line
+abbrev pub NobodyWaits : History → Type 0
+NobodyWaits h = (by : By) (event : Event) → IsWaitOf h by event → ⊥
+
 -- whatever the line may be attempted with, it is kept out
 abbrev pub IsParked : Rows → History → By → Type 0
 IsParked rows h by = (event : Event) → IsFree h by event ⊎ IsWaitOf h by event → IsKeptOut rows h by event

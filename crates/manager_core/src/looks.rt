@@ -1,5 +1,5 @@
 //! Accesses that were seen kept out, by session.
-ghost use Rattle.std.specs.Prelude.{◌≡◌, ◌⊎◌, IfSome};
+ghost use Rattle.std.specs.Prelude.{◌≡◌, ◌⊎◌, option_copied, IfSome};
 ghost use Rattle.manager_core.specs.Looked.{HasSeen};
 
 use serial_spec::{Asked, By, MOST_SESSIONS};
@@ -15,10 +15,11 @@ pub(crate) struct Look {
 }
 
 /// For each session, of `MOST_SESSIONS` at most, the access of it that was last seen kept out. Locks only rise until a transaction
-/// ends (Moss 1981), so that it is kept out still as long as none has ended since.
+/// ends (Moss 1981), so that it is kept out still as long as none has ended since. The number of its transaction is kept longer.
 #[derive(Drop)]
 pub(crate) struct Looks {
     seen: Vec<Option<Look>>,
+    last: Vec<Option<TxnNo>>,
 }
 
 impl Model for Looks {
@@ -37,6 +38,7 @@ impl Looks {
     {
         Looks {
             seen: Vec::new(alloc),
+            last: Vec::new(alloc),
         }
     }
 
@@ -49,21 +51,38 @@ impl Looks {
         }
     }
 
-    /// The access of the line's session that was last seen kept out.
-    pub(crate) fn at(&self, by: By) -> Option<Look>
-        ensures { IfSome result (HasSeen self.now) }
+    // Keeps the number of the transaction for the session, where memory is left.
+    fn put_last(&mut self, session: u32, txn: TxnNo)
+        ensures { self.new ≡ self.old }
+    {
+        if self.last.is_empty() {
+            let _ = self.last.resize(MOST_SESSIONS, None);
+        }
+        let place = session as usize;
+        if place < self.last.len() {
+            self.last[place] = Some(txn);
+        }
+    }
+
+    /// The access of the line's session that was last seen kept out, where no transaction has ended since.
+    pub(crate) fn at(&self, by: By) -> Option<&Look>
+        ensures { IfSome (option_copied result) (HasSeen self.now) }
     {
         match by {
-            By::Line { session, .. } => *self.seen.get(session as usize)?,
+            By::Line { session, .. } => match self.seen.get(session as usize) {
+                Some(Some(look)) => Some(look),
+                _ => None,
+            },
             _ => None,
         }
     }
 
-    /// The transaction of that access.
-    pub(crate) fn txn_at(&self, by: By) -> Option<TxnNo> {
-        match self.at(by) {
-            Some(look) => Some(look.txn),
-            None => None,
+    /// The transaction of the access of the line's session that was last seen kept out, also where one has ended since. No clause
+    /// says which it is, so that whoever asks compares its name.
+    pub(crate) fn last_txn(&self, by: By) -> Option<TxnNo> {
+        match by {
+            By::Line { session, .. } => *self.last.get(session as usize)?,
+            _ => None,
         }
     }
 
@@ -74,6 +93,7 @@ impl Looks {
     {
         self.make_room();
         if let By::Line { session, .. } = by {
+            self.put_last(session, txn);
             let place = session as usize;
             if place < self.seen.len() {
                 self.seen[place] = Some(Look { txn, asked: *asked });

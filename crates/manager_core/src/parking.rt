@@ -11,7 +11,7 @@ ghost use Rattle.serial_spec.specs.Rows.{Rows};
 ghost use Rattle.serial_spec.specs.Waits.{same_line};
 ghost use Rattle.manager_core.specs.Kept.{AreTablesOf};
 ghost use Rattle.manager_core.specs.Lines.{IsWaitOf};
-ghost use Rattle.manager_core.specs.Parking.{IsKeptOut, IsParked, WaitsOn, come_by};
+ghost use Rattle.manager_core.specs.Parking.{IsKeptOut, IsParked, NobodyWaits, WaitsOn, come_by};
 
 use crate::deciding::is_full_for;
 use crate::log::Log;
@@ -21,6 +21,7 @@ use crate::waiting::same_line;
 use serial_spec::{Asked, By, Refusal, When};
 use txn_names::Name;
 use txn_tree::TxnNo;
+use wait_cycles::Wait;
 
 // Whether a condition holds, by the cause that would refuse an abort.
 fn come_by(cause: Option<Refusal>, when: When) -> bool
@@ -37,15 +38,15 @@ fn come_by(cause: Option<Refusal>, when: When) -> bool
 }
 
 // Whether a wait is for this access, and by this line.
-fn is_of(wait: (By, Asked), by: By, asked: &Asked) -> bool
-    ensures { IsTrue result ↔ (IsTrue (same_line wait.0 by) × (wait.1 ≡ asked.now)) }
+fn is_of(wait: &Wait, by: By, asked: &Asked) -> bool
+    ensures { IsTrue result ↔ (IsTrue (same_line wait.now.by by) × (wait.now.asked ≡ asked.now)) }
 {
-    same_line(wait.0, by) && wait.1 == *asked
+    same_line(wait.by, by) && wait.asked == *asked
 }
 
 // Whether what was seen is this access of the transaction with this number.
-fn is_look(look: Look, txn: TxnNo, asked: &Asked) -> bool
-    ensures { IsTrue result → (look.txn ≡ txn) × (look.asked ≡ asked.now) }
+fn is_look(look: &Look, txn: TxnNo, asked: &Asked) -> bool
+    ensures { IsTrue result → (look.now.txn ≡ txn) × (look.now.asked ≡ asked.now) }
 {
     look.txn == txn && look.asked == *asked
 }
@@ -62,7 +63,7 @@ impl Tables {
     fn waits_by(&self, txn: TxnNo, by: By, asked: &Asked) -> bool
         ensures { (t : Path) → IsNumberOf self.now.tree t txn → (rows : Rows) (h : History) → AreAllowed rows h → AreTablesOf rows h self.now → IsTrue result ↔ IsWaitOf h by (event_of t asked.now) }
     {
-        match self.waiting_access_at(txn) {
+        match self.waits.of(txn) {
             Some(wait) => is_of(wait, by, asked),
             None => false,
         }
@@ -86,12 +87,21 @@ impl Tables {
         }
     }
 
+    /// Whether nobody waits, so that no line is one by which an access waits.
+    pub(crate) fn nobody_waits(&self, _log: &Log) -> bool
+        requires allowed { AreAllowed _log.now.rows _log.now.entries }
+        requires are { AreTablesOf _log.now.rows _log.now.entries self.now }
+        ensures { IsTrue result → NobodyWaits _log.now.entries }
+    {
+        self.waits.is_empty()
+    }
+
     // The number of the transaction, if the access last seen kept out for the line's session is of it.
     fn number_seen(&self, by: By, name: &Name) -> Option<TxnNo>
         ensures { IfSome result (IsNumberOf self.now.tree name.now) }
     {
         self.tree.has_distinct_names();
-        let txn = self.looks.txn_at(by)?;
+        let txn = self.looks.last_txn(by)?;
         let seen = self.tree.name_of(txn)?;
         if *seen == *name { Some(txn) } else { None }
     }
@@ -138,8 +148,7 @@ impl Tables {
         self.tree.has_distinct_names();
         match self.looks.at(by) {
             Some(look) => {
-                let Look { txn, asked } = look;
-                self.waits_by(txn, by, &asked) && !is_full_for(log, &asked)
+                self.waits_by(look.txn, by, &look.asked) && !is_full_for(log, &look.asked)
             }
             None => false,
         }

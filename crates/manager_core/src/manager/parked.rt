@@ -3,7 +3,7 @@ ghost use Rattle.std.specs.Prelude.{◌≡◌, ◌↔◌, ◌∷◌, IfOk, OnErr
 ghost use Rattle.serial_spec.specs.declared.event.Event.TheVariants.{After};
 ghost use Rattle.serial_spec.specs.declared.entry.Answer.TheVariants.{Stuck};
 ghost use Rattle.manager_core.specs.Lines.{CanGiveUp, IsFree, IsWaitOf};
-ghost use Rattle.manager_core.specs.Parking.{Awaited, IsKeptOut, IsParked};
+ghost use Rattle.manager_core.specs.Parking.{Awaited, IsKeptOut, IsParked, NobodyWaits};
 ghost use Rattle.manager_core.specs.State.{entry};
 
 use crate::manager::Manager;
@@ -49,6 +49,13 @@ impl<S: TopStore> Manager<S> {
             Event::After(name, when) => self.free(by, event) && !self.tables.has_come(name, *when),
             _ => false,
         }
+    }
+
+    /// Whether nobody waits, so that no line is one by which an access waits. It takes no memory.
+    pub fn nobody_waits(&self) -> bool
+        ensures { IsTrue result → NobodyWaits self.now.history }
+    {
+        self.tables.nobody_waits(&self.log)
     }
 
     /// Whether it is seen at once that the line is held up: an access waits by it that was seen kept out, and no transaction has ended

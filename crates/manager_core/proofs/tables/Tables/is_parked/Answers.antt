@@ -9,7 +9,7 @@ pub returns-then-waits_by : goal.returns-then-waits_by
 returns-then-waits_by c room =
     let log = c.args.log.now in
     let m : Tabled = record { tree = c.self.inside.tree; marks = c.self.inside.marks; estate = c.self.inside.estate; waits = c.self.inside.waits } in
-    let look = c.in-Some.look in
+    let look = c.in-Some.look.now in
     let kept = c.self.invariant look c.in-Some.ensures in
     let named = numbered m.tree c.has_distinct_names.ensures.distinct look.txn kept.begun in
     let are = rw (← c.self.view_is) at c.requires.are in
