@@ -20,7 +20,7 @@ use Rattle.manager_core.specs.State.{State, entry}
 use Rattle.manager_core.specs.Asked.{IsLater}
 use Rattle.manager_core.specs.Sound.{IsSound}
 use Rattle.manager_core.specs.Calls.{Added, Answered, Committed, Retried, WaitsOn}
-use Rattle.manager_core.specs.Parking.{Awaited, Awaits, IsKeptOut}
+use Rattle.manager_core.specs.Parking.{Awaited, Awaits, IsKeptOut, NobodyWaits}
 use Rattle.manager_core.proofs.Waits.{same_by}
 use Rattle.interleavings.specs.Trails.{EntryAsks, Trail}
 use Rattle.interleavings.specs.Attempts.{Attempts, GoesOn}
@@ -181,6 +181,11 @@ free_unless_access h by (Begin t) is (inr none) = absurd none
 free_unless_access h by (Commit t) is (inr none) = absurd none
 free_unless_access h by (Abort t) is (inr none) = absurd none
 free_unless_access h by (After t when) is (inr none) = absurd none
+
+-- nor does any line wait where nobody does
+pub free_where_none_waits : (h : History) (by : By) (e : Event) → NobodyWaits h → IsFree h by e ⊎ IsWaitOf h by e → IsFree h by e
+free_where_none_waits h by e none (inl free) = free
+free_where_none_waits h by e none (inr waits) = absurd (none by e waits)
 
 -- and an access that is not free waits
 pub waits_unless_free : (h : History) (by : By) (e : Event) (b : Bool) → IsTrue b ↔ IsFree h by e → b ≡ false → IsFree h by e ⊎ IsWaitOf h by e → IsWaitOf h by e

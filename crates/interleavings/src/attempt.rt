@@ -49,6 +49,9 @@ pub(crate) fn attempt<S: TopStore>(
     ensures ok { IfOk result (λ outcome. Attempts S.TopStore manager.old manager.new by event.now outcome) }
     ensures err { OnErr result (manager.new ≡ manager.old) }
 {
+    if manager.nobody_waits() {
+        return attempt_free(manager, by, event);
+    }
     // A line that waits is mostly kept out still, and to ask for that alone is cheaper.
     if manager.is_parked(by) {
         return Ok(Outcome::Waits);

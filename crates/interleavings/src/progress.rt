@@ -17,6 +17,8 @@ pub struct Progress<S: TopStore> {
     pub(crate) manager: Box<Manager<S>>,
     // One past its last where all lines of the session are answered.
     pub(crate) next: Vec<u32>,
+    // The session that was answered last, or any.
+    pub(crate) lead: u32,
 }
 
 impl<S: TopStore> Model for Progress<S> {

@@ -67,6 +67,8 @@ pub struct Turns<'a, S: TopStore> {
     manager: Box<Manager<S>>,
     // The number of each session's next line, one past its last where all are answered.
     next: Vec<u32>,
+    // The session that was answered last, or any.
+    lead: u32,
 }
 
 impl<'a, S: TopStore> Model for Turns<'a, S> {
@@ -94,6 +96,7 @@ impl<'a, S: TopStore> Turns<'a, S> {
                     sessions,
                     manager,
                     next,
+                    lead: 0,
                 }),
                 Err(manager) => Err(let_go(manager)),
             },
@@ -169,6 +172,7 @@ impl<'a, S: TopStore> Turns<'a, S> {
             Outcome::Waits => Ok(Turn::Parked),
             _ => {
                 self.next[session as usize] = line + 1;
+                self.lead = session;
                 Ok(Turn::Answered)
             }
         }
@@ -192,12 +196,16 @@ impl<'a, S: TopStore> Turns<'a, S> {
         }
     }
 
-    /// Whether the next line of some session may be answered, or begin to wait. Of each session it takes one look.
+    /// Whether the next line of some session may be answered, or begin to wait. It looks first at the session that was answered
+    /// last, which mostly goes on, and takes one look at each session where none does.
     pub fn goes_on(&self) -> bool
         ensures { MatchBool result
             (SomeGoesOn self.now.core.rows self.now.sessions self.now.core.history)
             (NoneGoesOn self.now.core.rows self.now.sessions self.now.core.history) }
     {
+        if self.can_go_on(self.lead) {
+            return true;
+        }
         for session in 0..self.count() {
             if self.can_go_on(session) {
                 return true;
@@ -247,12 +255,14 @@ impl<'a, S: TopStore> Turns<'a, S> {
             alloc,
             manager,
             next,
+            lead,
             ..
         } = self;
         Progress {
             alloc,
             manager,
             next,
+            lead,
         }
     }
 
@@ -265,12 +275,14 @@ impl<'a, S: TopStore> Turns<'a, S> {
             alloc,
             manager,
             next,
+            lead,
         } = progress;
         Turns {
             alloc,
             sessions,
             manager,
             next,
+            lead,
         }
     }
 

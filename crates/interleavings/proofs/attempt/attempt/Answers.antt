@@ -1,9 +1,14 @@
 use Rattle.std.proofs.Common.{true, option_copied, refl, sym, ap, ◌∙◌}
-use Rattle.interleavings.proofs.Calls.{free_unless_access, if_retried, kept_out_attempt, waits_unless_free}
+use Rattle.interleavings.proofs.Calls.{free_unless_access, free_where_none_waits, if_retried, kept_out_attempt, waits_unless_free}
 use Rattle.interleavings.proofs.attempt.attempt.Goals as goal
 
 pub attempt_free-requires : goal.attempt_free-requires
 attempt_free-requires g c = record {
+  free = free_where_none_waits c.args.manager.now.history c.args.by c.args.event.now (c.nobody_waits.ensures c.if-nobody_waits.true) c.requires.next;
+}
+
+pub attempt_free-requires-in_default : goal.attempt_free-requires-in_default
+attempt_free-requires-in_default g c = record {
   free =
       free_unless_access c.args.manager.now.history c.args.by c.args.event.now (sym c.accessor.ensures ∙ ap option_copied c.in_default.is) c.requires.next;
 }

@@ -5,10 +5,13 @@ use Rattle.interleavings.proofs.turns.Turns.goes_on.Goals as goal
 pub loop-session-preserved : goal.loop-session-preserved
 loop-session-preserved g c u less =
     let t = c.args.self.now in
-    goes_more t.sessions t.core.history t.core.rows c.loop-session.session c.loop-session.invariant (sym c.can_go_on.ensures ∙ c.if-can_go_on.false) u (omega (arith, less))
+    goes_more t.sessions t.core.history t.core.rows c.loop-session.session c.loop-session.invariant (sym c.can_go_on-in-loop-session.ensures ∙ c.if-can_go_on-2.false) u (omega (arith, less))
 
 pub returns-then-can_go_on : goal.returns-then-can_go_on
-returns-then-can_go_on g c = (c.loop-session.session, sym c.can_go_on.ensures ∙ c.if-can_go_on.true)
+returns-then-can_go_on g c = (c.self.inside.lead, sym c.can_go_on.ensures ∙ c.if-can_go_on.true)
+
+pub returns-then-can_go_on-2 : goal.returns-then-can_go_on-2
+returns-then-can_go_on-2 g c = (c.loop-session.session, sym c.can_go_on-in-loop-session.ensures ∙ c.if-can_go_on-2.true)
 
 pub returns : goal.returns
 returns g c =
