@@ -3,9 +3,7 @@ ghost use Rattle.std.specs.Prelude.{◌≡◌, ℕ, ◌+◌, ◌-◌, ◌<◌, �
 ghost use Rattle.std.specs.Ordering.{nat_cmp};
 ghost use Rattle.std.specs.Cmp.{partial_equiv_from_equiv};
 ghost use Rattle.std.specs.Cmp.Lexicographic.{pointwise, slice_cmp, nat_list_eq_equiv, nat_list_cmp_total, texts_po, texts_ties};
-ghost use Rattle.std.specs.Cmp.Rules.{hashing};
-ghost use Rattle.std.specs.Hash as fed;
-ghost use Rattle.std.proofs.Common.{rules};
+ghost use Rattle.txn_bytes.specs.Held.{alike, fed_at_once};
 
 use std::cmp::Ordering;
 use std::hash::{Hash, Hasher};
@@ -109,11 +107,12 @@ impl<const N: usize> Ord for Held<N> {
 }
 
 impl<const N: usize> Hash for Held<N> {
-    ghost hash_input = { λ s. fed.slice fed.u8 s };
+    ghost hash_input = { fed_at_once };
 
-    ghost respects_eq = { Prim.search (hashing, rules) };
+    ghost respects_eq = { alike };
 
     fn hash<H: Hasher>(&self, state: &mut H) {
-        self.as_bytes().hash(state);
+        state.write(self.as_bytes());
+        state.write_u8(self.len);
     }
 }
