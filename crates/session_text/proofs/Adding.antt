@@ -5,8 +5,7 @@ use Rattle.std.proofs.Math.ListN.{set}
 use Rattle.std.proofs.lemmas.Bool.{eqb-false}
 use Rattle.serial_spec.specs.Interleaving.{Session}
 use Rattle.serial_spec.specs.declared.event.Event.{Event}
-use Rattle.session_text.specs.declared.text_line.TextLine.{TextLine}
-use Rattle.session_text.specs.declared.text_line.TextLine.TheVariants.{Command}
+use Rattle.session_text.specs.Texts.{TextLine, Command}
 use Rattle.session_text.specs.Grammar.{IsText}
 use Rattle.session_text.specs.Texts.{IsTextLine, open_lines, misplaced, grown}
 use Rattle.session_text.proofs.Growth.{push_last, unchanged_last, text_with_line, header_placed}

@@ -6,8 +6,7 @@ use Rattle.serial_spec.specs.Interleaving.{Session}
 use Rattle.serial_spec.specs.declared.event.Event.{Event}
 use Rattle.session_text.specs.declared.fault.LineKind.{LineKind}
 use Rattle.session_text.specs.declared.fault.LineKind.TheVariants as kind
-use Rattle.session_text.specs.declared.text_line.TextLine.{TextLine}
-use Rattle.session_text.specs.declared.text_line.TextLine.TheVariants.{Header, Command}
+use Rattle.session_text.specs.Texts.{TextLine, Header, Command}
 use Rattle.session_text.specs.Grammar.{IsText, spelled_text}
 use Rattle.session_text.specs.Laws.{line_count, IsFirstFault, FirstFaultsTold}
 use Rattle.session_text.specs.Steps.{◌>>=◌, unless}

@@ -9,8 +9,7 @@ use Rattle.serial_spec.specs.declared.operation.Op.TheVariants.{Get, Set, Add, D
 use Rattle.serial_spec.specs.declared.event.Event.{Event}
 use Rattle.serial_spec.specs.declared.event.Event.TheVariants.{Begin, Access, Sum, Commit, Abort, After}
 use Rattle.session_text.specs.declared.fault.LineKind.TheVariants as kind
-use Rattle.session_text.specs.declared.text_line.TextLine.{TextLine}
-use Rattle.session_text.specs.declared.text_line.TextLine.TheVariants.{Header, Command}
+use Rattle.session_text.specs.Texts.{TextLine, Header, Command}
 use Rattle.session_text.specs.Commands.{Words, one, event_of}
 use Rattle.session_text.specs.Grammar.{IsEvent}
 use Rattle.session_text.specs.Steps.{◌>>=◌}

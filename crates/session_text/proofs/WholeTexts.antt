@@ -8,8 +8,7 @@ use Rattle.serial_spec.specs.Printing.{spelled_event}
 use Rattle.serial_spec.specs.declared.event.Event.{Event}
 use Rattle.session_text.specs.declared.fault.LineKind.{LineKind}
 use Rattle.session_text.specs.declared.fault.LineKind.TheVariants as kind
-use Rattle.session_text.specs.declared.text_line.TextLine.{TextLine}
-use Rattle.session_text.specs.declared.text_line.TextLine.TheVariants.{Header, Command}
+use Rattle.session_text.specs.Texts.{TextLine, Header, Command}
 use Rattle.session_text.specs.Grammar.{IsEvent, IsSession, IsText, spelled_lines, spelled_session, spelled_text}
 use Rattle.session_text.specs.Steps.{◌>>=◌, unless}
 use Rattle.session_text.specs.Texts.{IsTextLine, with_line, grown, misplaced, with_bytes, at_line, read_from, sessions_of, Read, line_of}

@@ -1,5 +1,5 @@
 -- What the bytes of a file are read as: its sessions, or the line and the kind of the first fault.
-use Rattle.std.specs.Prelude.{◌≡◌, ℕ, ◌+◌, ◌-◌, ◌==◌, nat_le, if◌then◌else◌, List, [], ◌∷◌, ◌++◌, length, codes, Option, Some, None, Result, Ok, Err, slice_get, option_map}
+use Rattle.std.specs.Prelude.{◌≡◌, ℕ, ◌+◌, ◌-◌, ◌==◌, nat_le, if◌then◌else◌, List, [], ◌∷◌, ◌++◌, length, codes, Option, Some, None, Result, Ok, Err, slice_get, option_map, MatchResult}
 use Rattle.std.specs.Str.{bytes_eq}
 use Rattle.txn_names.specs.Reading.{label_of}
 use Rattle.txn_names.specs.Text.{IsLabel}
@@ -10,14 +10,17 @@ use Rattle.session_text.specs.declared.fault.LineKind.{LineKind}
 use Rattle.session_text.specs.declared.fault.LineKind.TheVariants as kind
 use Rattle.session_text.specs.declared.fault.TextFault.{TextFault}
 use Rattle.session_text.specs.declared.fault.TextFault.TheVariants as fault
-use Rattle.session_text.specs.declared.text_line.TextLine.{TextLine}
-use Rattle.session_text.specs.declared.text_line.TextLine.TheVariants.{Header, Command}
 use Rattle.session_text.specs.Steps.{◌>>=◌, or_fault, unless}
 use Rattle.session_text.specs.Words.{cut_at}
 use Rattle.session_text.specs.Commands.{Words, one, event_of}
 use Rattle.session_text.specs.Grammar.{IsEvent, is_taken}
 
 -- ---- one line, by itself
+
+-- a header by its label, or a command by its event
+pub data TextLine : Type 0 where
+  Header : List ℕ → TextLine
+  Command : Event → TextLine
 
 abbrev pub label_in : List ℕ → Result (List ℕ) LineKind
 label_in w = or_fault kind.Label (label_of w)
@@ -32,12 +35,15 @@ header_of ws = do
   l ← labelled ws
   Ok (Header l)
 
+abbrev pub command_of : List ℕ → Result TextLine LineKind
+command_of bs = event_of bs >>= λ e. Ok (Command e)
+
 -- by the first of the words of a line, of which there is one at least
 abbrev pub line_by : Words → List ℕ → Result TextLine LineKind
 line_by [] bs = Err kind.Word
 line_by (w ∷ ws) bs =
     if bytes_eq w (codes "session") then header_of ws
-    else event_of bs >>= λ e. Ok (Command e)
+    else command_of bs
 
 -- a header or a command
 abbrev pub line_of : List ℕ → Result TextLine LineKind
@@ -82,11 +88,15 @@ misplaced ss (Command e) =
     else if nat_le MOST_LINES (length (open_lines ss)) then Some kind.Limit
     else None
 
+-- the sessions with the line that was read, or the first fault
+abbrev pub placed : List Session → Result TextLine LineKind → Result (List Session) LineKind
+placed ss read = do
+  l ← read
+  unless (misplaced ss l) (grown ss l)
+
 -- the sessions with this line, or its first fault
 abbrev pub with_bytes : List Session → List ℕ → Result (List Session) LineKind
-with_bytes ss bs = do
-  l ← line_of bs
-  unless (misplaced ss l) (grown ss l)
+with_bytes ss bs = placed ss (line_of bs)
 
 -- ---- line by line
 
@@ -113,6 +123,12 @@ sessions_of bs = read_from 1 [] (cut_at 10 bs)
 abbrev pub Tells : TextFault → Read → Type 0
 Tells (fault.Bad n k) read = read ≡ Err (n, k)
 Tells fault.NoMemory read = Unit {0}
+
+-- what came of a line that was read as this, the line of this number: the sessions with it, or its fault
+abbrev pub IsPlaced : List Session → ℕ → Result TextLine LineKind → List Session → Result (Unit {0}) TextFault → Type 0
+IsPlaced old number line new result =
+    let read = at_line number (placed old line) in
+    MatchResult result (λ _. read ≡ Ok new) (λ fault. Tells fault read)
 
 -- ---- looking up
 

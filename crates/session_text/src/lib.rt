@@ -13,13 +13,13 @@
 
 mod command;
 mod fault;
+mod header;
 pub mod laws;
 mod line;
 mod number;
 mod parting;
 mod request;
 mod sessions;
-mod text_line;
 mod verbs;
 
 pub use fault::{LineKind, TextFault};

@@ -1,16 +1,20 @@
 //! The sessions of a text.
-ghost use Rattle.std.specs.Prelude.{◌≡◌, ◌==◌, ◌++◌, [], ◌∷◌, length, MatchResult, OnErr, OnOk};
+ghost use Rattle.std.specs.Prelude.{◌≡◌, ◌==◌, ◌++◌, [], ◌∷◌, length, MatchResult, OnErr, OnOk, Ok, None};
 ghost use Rattle.std.specs.Option.{option_copied};
+ghost use Rattle.serial_spec.specs.declared.event.Event.{Event};
+ghost use Rattle.session_text.specs.Commands.{event_of};
 ghost use Rattle.session_text.specs.Grammar.{IsText, is_taken};
-ghost use Rattle.session_text.specs.Texts.{IsTextLine, Tells, at_line, grown, label_at, line_at, misplaced, open_lines, sessions_of, with_bytes};
+ghost use Rattle.session_text.specs.Texts.{Command, Header, IsPlaced, Tells, command_of, header_of, label_at, line_at, line_of, misplaced, open_lines, sessions_of, with_line};
+ghost use Rattle.session_text.specs.Words.{parts_left};
 
 mod growing;
 
+use crate::command::event_of;
 use crate::fault::{LineKind, TextFault};
+use crate::header::labelled;
 use crate::line::Line;
 use crate::parting::cut;
-use crate::text_line::TextLine;
-use serial_spec::{MOST_LINES, MOST_SESSIONS, NoMemory};
+use serial_spec::{Event, MOST_LINES, MOST_SESSIONS, NoMemory};
 use std::alloc::Global;
 use std::marker::Model;
 use txn_names::Label;
@@ -106,62 +110,95 @@ impl Sessions {
 
     // One line more, the line of this number.
     fn add_bytes(&mut self, alloc: Global, number: usize, bytes: &[u8]) -> Result<(), TextFault>
-        ensures { let read = at_line number (with_bytes self.old bytes.now) in MatchResult result (λ _. read ≡ Ok self.new) (λ fault. Tells fault read) }
+        ensures { IsPlaced self.old number (line_of bytes.now) self.new result }
     {
-        let line = match TextLine::parse(bytes) {
-            Ok(line) => line,
+        let (word, words) = cut(bytes, b' ');
+        if word == b"session".as_slice() {
+            self.add_header(alloc, number, words)
+        } else {
+            self.add_command(number, bytes)
+        }
+    }
+
+    // One session more, by the words behind the first of its header, which is the line of this number.
+    fn add_header(
+        &mut self,
+        alloc: Global,
+        number: usize,
+        words: Option<&[u8]>,
+    ) -> Result<(), TextFault>
+        ensures { IsPlaced self.old number (header_of (parts_left 32 (option_copied words.entry))) self.new result }
+    {
+        let label = match labelled(words) {
+            Ok(label) => label,
             Err(kind) => return Err(TextFault::Bad { line: number, kind }),
         };
-        if let Some(kind) = self.fault_of(&line) {
+        if let Some(kind) = self.fault_of_header(&label) {
             return Err(TextFault::Bad { line: number, kind });
         }
-        match self.add(alloc, line) {
+        match self.add_session(alloc, label) {
             Ok(()) => Ok(()),
             Err(NoMemory) => Err(TextFault::NoMemory),
         }
     }
 
-    // Why a line may not stand behind these sessions.
-    fn fault_of(&self, line: &TextLine) -> Option<LineKind>
-        ensures { result ≡ misplaced self.now line.now }
+    // Why a header with this label may not stand behind these sessions.
+    fn fault_of_header(&self, label: &Label) -> Option<LineKind>
+        ensures { result ≡ misplaced self.now (Header label.now) }
     {
-        match line {
-            TextLine::Header(label) => {
-                if is_taken(label, &self.sessions) {
-                    Some(LineKind::Header)
-                } else if self.sessions.len() >= MOST_SESSIONS {
-                    Some(LineKind::Limit)
-                } else {
-                    None
-                }
-            }
-            TextLine::Command(_) => {
-                let lines = open_lines(&self.sessions);
-                if self.sessions.is_empty() {
-                    Some(LineKind::Header)
-                } else if lines.len() >= MOST_LINES {
-                    Some(LineKind::Limit)
-                } else {
-                    None
-                }
-            }
+        if is_taken(label, &self.sessions) {
+            Some(LineKind::Header)
+        } else if self.sessions.len() >= MOST_SESSIONS {
+            Some(LineKind::Limit)
+        } else {
+            None
         }
     }
 
-    fn add(&mut self, alloc: Global, line: TextLine) -> Result<(), NoMemory>
-        requires valid { IsTextLine line }
-        requires placed { misplaced self.old line ≡ None }
-        ensures ok { OnOk result (self.new ≡ grown self.old line) }
+    // Why a command line may not stand behind these sessions.
+    fn fault_of_command(&self) -> Option<LineKind>
+        ensures { (e : Event) → result ≡ misplaced self.now (Command e) }
+    {
+        let lines = open_lines(&self.sessions);
+        if self.sessions.is_empty() {
+            Some(LineKind::Header)
+        } else if lines.len() >= MOST_LINES {
+            Some(LineKind::Limit)
+        } else {
+            None
+        }
+    }
+
+    // One command line more, the line of this number. Its own faults come before that of its place.
+    fn add_command(&mut self, number: usize, bytes: &[u8]) -> Result<(), TextFault>
+        ensures { IsPlaced self.old number (command_of bytes.now) self.new result }
+    {
+        let misplaced = self.fault_of_command();
+        match &event_of(bytes) {
+            Err(kind) => Err(TextFault::Bad {
+                line: number,
+                kind: *kind,
+            }),
+            Ok(event) => match misplaced {
+                Some(kind) => Err(TextFault::Bad { line: number, kind }),
+                None => match self.add_event(event, bytes) {
+                    Ok(()) => Ok(()),
+                    Err(NoMemory) => Err(TextFault::NoMemory),
+                },
+            },
+        }
+    }
+
+    // The line of an event, which is read off these bytes, behind those of the last session. There is room for it.
+    fn add_event(&mut self, event: &Event, bytes: &[u8]) -> Result<(), NoMemory>
+        requires read { event_of bytes.now ≡ Ok event.now }
+        requires placed { misplaced self.old (Command event.now) ≡ None }
+        ensures ok { OnOk result (self.new ≡ with_line self.old event.now) }
         ensures err { OnErr result (self.new ≡ self.old) }
     {
-        match line {
-            TextLine::Header(label) => self.add_session(alloc, label),
-            TextLine::Command(line) => {
-                let last = self.sessions.len() - 1;
-                self.sessions[last].push(line)?;
-                Ok(())
-            }
-        }
+        let last = self.sessions.len() - 1;
+        self.sessions[last].push(Line::of(event, bytes))?;
+        Ok(())
     }
 }
 

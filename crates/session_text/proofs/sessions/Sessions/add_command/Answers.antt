@@ -1,0 +1,20 @@
+use Rattle.std.proofs.Common.{◌≡◌, None, Some, Ok, sym, ap, ◌∙◌}
+use Rattle.session_text.specs.Steps.{◌>>=◌, unless}
+use Rattle.session_text.specs.Texts.{Command, at_line, grown, misplaced, placed}
+use Rattle.session_text.proofs.sessions.Sessions.add_command.Goals as goal
+
+pub add_event-requires-clause-placed : goal.add_event-requires-clause-placed
+add_event-requires-clause-placed c = sym (c.fault_of_command-misplaced.ensures c.in-Ok.event) ∙ c.in-None.is
+
+pub returns-in-Some : goal.returns-in-Some
+returns-in-Some c =
+    let e = c.in-Ok.event in
+    ap (λ read. at_line c.args.number (placed c.args.self.now (read >>= λ d. Ok (Command d)))) (sym c.event_of.ensures ∙ c.in-Ok.is)
+    ∙ ap (λ fault. at_line c.args.number (unless fault (grown c.args.self.now (Command e)))) (sym (c.fault_of_command-misplaced.ensures e) ∙ c.in-Some.is)
+
+pub returns-in-Ok-add_event : goal.returns-in-Ok-add_event
+returns-in-Ok-add_event c =
+    let e = c.in-Ok.event in
+    ap (λ read. at_line c.args.number (placed c.args.self.now (read >>= λ d. Ok (Command d)))) (sym c.event_of.ensures ∙ c.in-Ok.is)
+    ∙ ap (λ fault. at_line c.args.number (unless fault (grown c.args.self.now (Command e)))) (sym (c.fault_of_command-misplaced.ensures e) ∙ c.in-None.is)
+    ∙ ap Ok (sym c.in-Ok-add_event.ensures.ok)
