@@ -155,17 +155,18 @@ pub parked : (rows : Rows) (h : History) (tables : Tabled) → AreAllowed rows h
 parked rows h tables allowed are by t asked n waits blocked event next =
     subst (IsKeptOut rows h by) (sym (only_event h by t asked waits.waits event next)) (out_if_blocked rows h tables allowed are by t asked n waits blocked)
 
+-- where nobody waits no wait stands at any number
+pub no_wait_at : (ws : List Wait) → length ws ≡ 0 → (n : ℕ) (w : Wait) → wait_in ws n ≡ Some w → ⊥
+no_wait_at [] e n w is = true≢false (sym (ap is_some is))
+no_wait_at (x ∷ ws) e n w is = omega (arith, e)
+
 -- where nobody waits this access does not
 pub nobody_waits : (rows : Rows) (h : History) (tables : Tabled) → AreAllowed rows h → AreTablesOf rows h tables → length tables.waits.waits ≡ 0
     → (by : By) (t : Name) (asked : Asked) → IsWaitOf h by (event_of t asked) → ⊥
 nobody_waits rows h tables allowed are nobody by t asked waits =
     let own = own_wait h by t asked waits in
     let kept = (tell_waits rows h tables allowed are).all t own.wait own.waits in
-    none tables.waits.waits nobody kept.0 kept.1 kept.3
-  where
-    none : (ws : List Wait) → length ws ≡ 0 → (n : ℕ) (w : Wait) → wait_in ws n ≡ Some w → ⊥
-    none [] e n w is = true≢false (sym (ap is_some is))
-    none (x ∷ ws) e n w is = omega (arith, e)
+    no_wait_at tables.waits.waits nobody kept.0 kept.1 kept.3
 
 -- nor does any other
 pub none_waits : (rows : Rows) (h : History) (tables : Tabled) → AreAllowed rows h → AreTablesOf rows h tables → length tables.waits.waits ≡ 0

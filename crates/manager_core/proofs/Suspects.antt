@@ -1,5 +1,5 @@
 -- Where an access closes no cycle of waits, told by those pairs alone that it can have added.
-use Rattle.std.proofs.Common.{◌≡◌, ℕ, zero, suc, ◌+◌, nat_eq, Bool, true, false, not, ◌&&◌, List, [], ◌∷◌, take, Option, Some, None, unwrap_or, inl, inr, subst, refl, sym, ap, ◌∙◌}
+use Rattle.std.proofs.Common.{◌≡◌, ℕ, zero, suc, ◌+◌, nat_eq, Bool, true, false, not, ◌&&◌, List, [], ◌∷◌, length, take, Option, Some, None, unwrap_or, inl, inr, subst, refl, sym, ap, ◌∙◌}
 use Rattle.std.specs.Prelude.{map, slice_get}
 use Rattle.std.specs.List.{IsDistinct, list_any}
 use Rattle.std.proofs.lemmas.Bool.{eq-eqb, or_cases, and_from, and_parts, eqb-true, false≢true, false_from_ne_true, not-true, or_left, or_right}
@@ -20,7 +20,7 @@ use Rattle.serial_spec.specs.History.{Name, History, event_of, is_active}
 use Rattle.serial_spec.specs.Locks.{conflicts, is_blocker, reach}
 use Rattle.serial_spec.specs.Rows.{Rows}
 use Rattle.serial_spec.specs.Legal.{AreAllowed}
-use Rattle.serial_spec.specs.Waits.{branch_of, number, wait_of as wait_by, waits_by, waits_for}
+use Rattle.serial_spec.specs.Waits.{Quiet, WaitInTurn, branch_of, number, wait_of as wait_by, waits_by, waits_for}
 use Rattle.txn_history.proofs.Theorems.{access_adds_at_key, quiet_stays, wait_adds_own, wait_closes_own}
 use Rattle.wait_cycles.specs.Cycles.{is_member}
 use Rattle.wait_cycles.specs.Waiting.{AreOnce, wait_of}
@@ -36,6 +36,7 @@ use Rattle.manager_core.specs.State.{entry}
 use Rattle.manager_core.specs.Tables.{Tabled}
 use Rattle.manager_core.specs.Victims.{StaysQuiet}
 use Rattle.manager_core.proofs.Branches.{in_branch}
+use Rattle.manager_core.proofs.KeptOut.{no_wait_at}
 use Rattle.manager_core.proofs.Lasting.{is_open}
 use Rattle.manager_core.proofs.Events.{accesses_own, done_at, refused_adds_none, same_asked}
 use Rattle.manager_core.proofs.Locks.{keeps_as, keeps_by, name_at, present, tells}
@@ -114,6 +115,22 @@ module _ (rows : Rows) (h : History) (tables : Tabled) (are : AreTablesOf rows h
       by : (o : Option Entry) → wait_by h t ≡ o → waits_by h t u o (wait_by h u) ≡ false
       by None is = refl
       by (Some x) is = absurd (idle (is_open h t x is).acts)
+
+-- where nobody waits no cycle stands
+module _ (rows : Rows) (h : History) (tables : Tabled) (nobody : length tables.waits.waits ≡ 0) (allowed : AreAllowed rows h) (are : AreTablesOf rows h tables) where
+  waits_for_none : (t u : Name) → waits_for h t u ≡ true → ⊥
+  waits_for_none t u = by (wait_by h t) refl
+    where
+      by : (o : Option Entry) → wait_by h t ≡ o → waits_by h t u o (wait_by h u) ≡ true → ⊥
+      by None is e = false≢true e
+      by (Some x) is e = let kept = (tell_waits rows h tables allowed are).all t x is in no_wait_at tables.waits.waits nobody kept.0 kept.1 kept.3
+
+  none_in_turn : (t : Name) (others : List Name) (u : Name) → WaitInTurn h t others u → ⊥
+  none_in_turn t [] u e = waits_for_none t u e
+  none_in_turn t (x ∷ xs) u e = waits_for_none t x e.0
+
+  pub quiet_if_nobody_waits : Quiet h
+  quiet_if_nobody_waits t on = none_in_turn t on.0 t on.2
 
 -- the number of one that is among these is among theirs
 numbered_member : (h : History) (t : Name) (ts : List Name) → list_any (path_eq t) ts ≡ true → is_member (number h t) (map (number h) ts) ≡ true

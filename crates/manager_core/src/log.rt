@@ -62,7 +62,8 @@ impl Log {
         self.history.reserve(additional)
     }
 
-    /// Adds the entry of an outcome.
+    /// Adds the entry of an outcome. It is part of each caller, so that the event is copied once.
+    #[inline(always)]
     pub(crate) fn add(&mut self, by: By, event: Event, outcome: &Outcome)
         requires { 0 < self.old.room }
         ensures rows { self.new.rows ≡ self.old.rows }

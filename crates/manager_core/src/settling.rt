@@ -27,7 +27,7 @@ use wait_graph::{CycleSearch, any_edge_by_way_of};
 // Whether the access that was entered last may have closed a cycle of waits. One that began to wait adds pairs of its own
 // transaction alone, and no cycle stood before: so it closes none unless one goes through its transaction. One that was answered
 // adds pairs of those alone whom its lock keeps out of what has a key in common with it, and those that wait in its branch: so it
-// closes none unless there are both. One that was refused adds no pair. It takes no memory.
+// closes none unless there are both. One that was refused adds no pair, and where nobody waits no cycle stands. It takes no memory.
 fn may_close_cycle(
     tables: &Tables,
     breaker: &mut CycleSearch,
@@ -40,6 +40,9 @@ fn may_close_cycle(
         StaysQuiet rows (entry by (event_of name.now asked.now) (answer_of outcome.now)) h tables.now }
     ensures room { breaker.old ≤ breaker.new }
 {
+    if tables.waits.is_empty() {
+        return false;
+    }
     let Some(txn) = tables.tree.no_of(name) else {
         return false;
     };
@@ -56,6 +59,7 @@ fn may_close_cycle(
 }
 
 // The event of a line that asks this of the transaction.
+#[inline(always)]
 fn event_of(name: &Name, asked: &Asked) -> Event
     ensures { result ≡ event_of name.now asked.now }
 {

@@ -1,8 +1,19 @@
-use Rattle.std.proofs.Common.{sym, ◌∙◌}
-use Rattle.std.proofs.lemmas.Bool.{not-false}
+use Rattle.std.proofs.Common.{◌∷◌, length, sym, ◌∙◌}
+use Rattle.std.proofs.lemmas.Bool.{eqb-true, not-false}
+use Rattle.serial_spec.specs.History.{event_of}
+use Rattle.manager_core.specs.Outcomes.{answer_of}
+use Rattle.manager_core.specs.State.{entry}
 use Rattle.manager_core.specs.Tables.{Tabled}
-use Rattle.manager_core.proofs.Suspects.{quiet_if_absent, quiet_if_it_is_in_nobodys_way, quiet_if_on_no_cycle, quiet_if_refused}
+use Rattle.manager_core.proofs.Suspects.{quiet_if_absent, quiet_if_it_is_in_nobodys_way, quiet_if_nobody_waits, quiet_if_on_no_cycle, quiet_if_refused}
 use Rattle.manager_core.proofs.settling.may_close_cycle.Goals as goal
+
+pub returns-then-is_empty-clause-quiet : goal.returns-then-is_empty-clause-quiet
+returns-then-is_empty-clause-quiet c =
+    let m : Tabled = record { tree = c.tables.inside.tree; marks = c.tables.inside.marks; estate = c.tables.inside.estate; waits = c.tables.inside.waits } in
+    rw (← c.tables.view_is)
+    (λ _ rows h by allowed are q.
+    quiet_if_nobody_waits rows (entry by (event_of c.args.name.now c.args.asked.now) (answer_of c.args.outcome.now) ∷ h) m
+    (eqb-true (length c.tables.inside.waits.waits) 0 (sym c.is_empty.ensures ∙ c.if-is_empty.true)) allowed are)
 
 pub returns-in_default-clause-quiet : goal.returns-in_default-clause-quiet
 returns-in_default-clause-quiet c =
