@@ -52,10 +52,6 @@ pub(crate) fn attempt<S: TopStore>(
     if manager.nobody_waits() {
         return attempt_free(manager, by, event);
     }
-    // A line that waits is mostly kept out still, and to ask for that alone is cheaper.
-    if manager.is_parked(by) {
-        return Ok(Outcome::Waits);
-    }
     let Some(name) = accessor(event) else {
         return attempt_free(manager, by, event);
     };

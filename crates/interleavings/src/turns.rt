@@ -167,8 +167,13 @@ impl<'a, S: TopStore> Turns<'a, S> {
             return Ok(Turn::OutOfTurn);
         };
         let text = self.sessions.line(session, line).unwrap();
+        let due = text.event();
         let by = By::Line { session, line };
-        match attempt(&mut self.manager, by, text.event())? {
+        // A line that waits is mostly kept out still, and to ask for that alone is cheaper.
+        if self.manager.is_parked(by) {
+            return Ok(Turn::Parked);
+        }
+        match attempt(&mut self.manager, by, due)? {
             Outcome::Waits => Ok(Turn::Parked),
             _ => {
                 self.next[session as usize] = line + 1;

@@ -13,11 +13,6 @@ attempt_free-requires-in_default g c = record {
       free_unless_access c.args.manager.now.history c.args.by c.args.event.now (sym c.accessor.ensures ∙ ap option_copied c.in_default.is) c.requires.next;
 }
 
-pub returns-then-is_parked-clause-ok : goal.returns-then-is_parked-clause-ok
-returns-then-is_parked-clause-ok g c =
-    kept_out_attempt g.S.TopStore c.args.manager.now c.args.by c.args.event.now true
-    (λ _. c.is_parked.ensures c.if-is_parked.true c.args.event.now c.requires.next, λ _. refl) refl
-
 pub returns-then-stays_held_up-clause-ok : goal.returns-then-stays_held_up-clause-ok
 returns-then-stays_held_up-clause-ok g c =
     rw c.stays_held_up.ensures.same
