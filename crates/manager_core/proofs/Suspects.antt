@@ -1,5 +1,5 @@
 -- Where an access closes no cycle of waits, told by those pairs alone that it can have added.
-use Rattle.std.proofs.Common.{◌≡◌, ℕ, zero, suc, ◌+◌, nat_eq, Bool, true, false, not, ◌&&◌, List, [], ◌∷◌, length, take, Option, Some, None, unwrap_or, inl, inr, subst, refl, sym, ap, ◌∙◌}
+use Rattle.std.proofs.Common.{◌≡◌, ℕ, nat_eq, true, false, not, ◌&&◌, List, [], ◌∷◌, length, Option, Some, None, unwrap_or, inl, inr, subst, refl, sym, ap, ◌∙◌}
 use Rattle.std.specs.Prelude.{map, slice_get}
 use Rattle.std.specs.List.{IsDistinct, list_any}
 use Rattle.std.proofs.lemmas.Bool.{eq-eqb, or_cases, and_from, and_parts, eqb-true, false≢true, false_from_ne_true, not-true, or_left, or_right}
@@ -7,7 +7,6 @@ use Rattle.txn_names.specs.Path.{is_front, path_eq}
 use Rattle.txn_names.proofs.Names.{path_eq_self, same_path}
 use Rattle.txn_tree.specs.States.{States, names}
 use Rattle.txn_tree.specs.Asked.{IsNumberOf, is_absent_in, is_name}
-use Rattle.serial_spec.proofs.Taking.{take_past}
 use Rattle.serial_spec.specs.declared.entry.Answer.TheVariants.{Done, Waits, Refused}
 use Rattle.serial_spec.specs.declared.entry.By.{By}
 use Rattle.serial_spec.specs.declared.entry.Entry.{Entry}
@@ -30,7 +29,7 @@ use Rattle.manager_core.specs.declared.outcome.Outcome.{Outcome}
 use Rattle.manager_core.specs.declared.outcome.Outcome.TheVariants as made
 use Rattle.manager_core.specs.Outcomes.{answer_of}
 use Rattle.manager_core.specs.Kept.{AreTablesOf}
-use Rattle.wait_graph.specs.Edges.{ByLocks, Keeps, is_beside, is_beside_it, is_in_branch, edges_among, passes, waits_by_way_of}
+use Rattle.wait_graph.specs.Edges.{ByLocks, Keeps, is_beside, is_beside_it, is_in_branch, edges_among, waits_by_way_of}
 use Rattle.wait_graph.specs.Walks.{IsOnNoCycle}
 use Rattle.manager_core.specs.State.{entry}
 use Rattle.manager_core.specs.Tables.{Tabled}
