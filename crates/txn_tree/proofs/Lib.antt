@@ -1,6 +1,7 @@
 pub mod Begun
 pub mod Changes
 pub mod Children
+pub mod Climbing
 pub mod Counts
 pub mod Ended
 pub mod Endings

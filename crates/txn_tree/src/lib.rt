@@ -2,6 +2,7 @@
 //! begin, commit and abort.
 #![tactic(auto)]
 
+mod active;
 mod fault;
 mod node;
 mod number;

@@ -342,7 +342,7 @@ impl Tree {
     }
 
     // Whether the transaction with this number is live by its own state. Below one that is not, nobody is active.
-    fn is_live_at(&self, txn: TxnNo) -> bool
+    pub(crate) fn is_live_at(&self, txn: TxnNo) -> bool
         ensures live { result ≡ is_live (status_at self.now txn) }
         ensures upward { IsUpward self.now }
     {
