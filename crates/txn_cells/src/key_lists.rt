@@ -32,6 +32,16 @@ impl Model for KeyList {
     ghost invariant = { λ l. IsDistinct label_eq l.keys.items × (length l.places.items ≡ length l.keys.items) };
 }
 
+/// A list's first room is for so many keys. Most transactions access few, so that their lists are allocated once.
+const FIRST_ROOM: usize = 16;
+
+// For how many keys more a list of this length makes room at least.
+fn growth(len: usize) -> usize
+    ensures { 0 < result }
+{
+    if len == 0 { FIRST_ROOM } else { 1 }
+}
+
 impl KeyList {
     fn new(alloc: Global) -> Self
         ensures { result ≡ [] }
@@ -72,8 +82,9 @@ impl KeyList {
         ensures ok { OnOk result (self.new ≡ self.old ++ (key.now, place) ∷ []) }
         ensures err { OnErr result (self.new ≡ self.old) }
     {
-        self.places.reserve(1)?;
-        self.keys.reserve(1)?;
+        let more = growth(self.keys.len());
+        self.places.reserve(more)?;
+        self.keys.reserve(more)?;
         self.keys.push(*key).unwrap();
         self.places.push(place).unwrap();
         Ok(())
