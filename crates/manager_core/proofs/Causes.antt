@@ -8,20 +8,21 @@ use Rattle.txn_tree.specs.declared.status.Status.{Status}
 use Rattle.txn_tree.specs.declared.status.Status.TheVariants as state
 use Rattle.txn_tree.specs.States.{names, is_committed}
 use Rattle.txn_tree.specs.Asked.{IsNumberOf, has_committed_in, is_absent_in, is_live_child_in}
-use Rattle.txn_tree.specs.Numbered.{status_at, status_named}
+use Rattle.txn_tree.specs.Numbered.{is_active_at, is_active_named, status_at, status_named}
 use Rattle.orphans.specs.Marked.{is_marked}
 use Rattle.serial_spec.specs.declared.target.Asked.{Asked}
 use Rattle.serial_spec.specs.declared.entry.By.{By}
 use Rattle.serial_spec.specs.declared.entry.Refusal.{Refusal}
 use Rattle.serial_spec.specs.declared.entry.Refusal.TheVariants.{Children, Done, Full, Orphan, Unknown, Waiting}
-use Rattle.serial_spec.specs.History.{Name, History, or_else}
+use Rattle.serial_spec.specs.History.{Name, History, is_active, or_else}
 use Rattle.serial_spec.specs.Rows.{Rows}
 use Rattle.serial_spec.specs.Legal.{AreAllowed}
 use Rattle.serial_spec.specs.Allowed.{when, waits_elsewhere, is_full_for, has_live_child, cause_at_end, cause_at_access, cause_at_commit}
 use Rattle.manager_core.specs.Kept.{AreTablesOf}
 use Rattle.manager_core.specs.Tables.{Tabled, cause_in}
 use Rattle.manager_core.proofs.Locks.{name_at}
-use Rattle.manager_core.proofs.Trees.{same_at_end, same_children}
+use Rattle.manager_core.proofs.Trees.{active_in, same_at_end, same_children}
+use Rattle.manager_core.proofs.Victims.{may_end}
 
 -- ---- by number
 
@@ -52,6 +53,12 @@ module _ (tables : Tabled) (t : Name) (n : ℕ) (number : IsNumberOf tables.tree
 -- ---- by the history
 
 module _ (rows : Rows) (h : History) (tables : Tabled) (allowed : AreAllowed rows h) (are : AreTablesOf rows h tables) (t : Name) where
+  pub none_by_activity : (n : ℕ) → 0 < length t → IsNumberOf tables.tree t n → true ≡ is_active_at tables.tree n → None ≡ cause_in tables t
+  none_by_activity n some number active =
+      let acts : is_active h t ≡ true =
+      sym (active_in rows h tables.tree allowed are.in_tree t) ∙ ap (is_active_named tables.tree) (sym (name_at tables.tree t n number)) ∙ sym active in
+      sym (same_at_end rows h tables allowed are t some ∙ may_end h t some acts)
+
   module _ (some : 0 < length t) (by : By) where
     at_end : (o : Option Refusal) → o ≡ cause_in tables t → o ≡ cause_at_end h t
     at_end o e = e ∙ same_at_end rows h tables allowed are t some

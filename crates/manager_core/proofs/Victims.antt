@@ -65,7 +65,7 @@ abbrev state : Bool → Bool → Bool → Status
 state b a c = cond b (cond a Aborted (cond c Committed Live)) Absent
 
 -- one that acts may end
-may_end : (h : History) (t : Name) → 0 < length t → is_active h t ≡ true → cause_at_end h t ≡ None
+pub may_end : (h : History) (t : Name) → 0 < length t → is_active h t ≡ true → cause_at_end h t ≡ None
 may_end h [] some acts = absurd (omega (arith, some))
 may_end h (l ∷ ls) some acts = by (has_begun h (l ∷ ls)) (has_aborted h (l ∷ ls)) (has_committed h (l ∷ ls)) (top_aborted h (l ∷ ls)) acts
   where

@@ -26,8 +26,8 @@ pub(crate) fn is_full_for(log: &Log, asked: &Asked) -> bool
 
 impl Tables {
     /// The number of a transaction that is live and has no aborted ancestor, or the cause that access, commit and abort
-    /// share.
-    pub(crate) fn active_number(&self, name: &Name) -> Result<TxnNo, Refusal>
+    /// share. An aborted ancestor is looked for by name.
+    pub(crate) fn number_by_marks(&self, name: &Name) -> Result<TxnNo, Refusal>
         ensures cause { result_err result ≡ cause_in self.now name.now }
         ensures number { IfOk result (IsNumberOf self.now.tree name.now) }
         ensures some { 0 < length name.now }
@@ -46,6 +46,25 @@ impl Tables {
         }
     }
 
+    /// As `number_by_marks`. Whether all of the transaction's ancestors are live is found by their numbers, so that none of their names
+    /// is hashed unless one is not.
+    pub(crate) fn active_number(&self, _log: &Log, name: &Name) -> Result<TxnNo, Refusal>
+        requires allowed { AreAllowed _log.now.rows _log.now.entries }
+        requires are { AreTablesOf _log.now.rows _log.now.entries self.now }
+        ensures cause { result_err result ≡ cause_in self.now name.now }
+        ensures number { IfOk result (IsNumberOf self.now.tree name.now) }
+        ensures some { 0 < length name.now }
+        ensures rootless { IsRootless self.now.tree }
+    {
+        name.has_labels();
+        if let Some(txn) = self.tree.no_of(name) {
+            if self.tree.is_active_at(txn) {
+                return Ok(txn);
+            }
+        }
+        self.number_by_marks(name)
+    }
+
     /// The number of a transaction whose access nothing but a lock may keep out, or why the access is refused.
     pub(crate) fn number_at_access(
         &self,
@@ -59,7 +78,7 @@ impl Tables {
         ensures cause { result_err result ≡ cause_at_access log.now.rows log.now.entries by name.now asked.now }
         ensures number { IfOk result (IsNumberOf self.now.tree name.now) }
     {
-        let txn = self.active_number(name)?;
+        let txn = self.active_number(log, name)?;
         if self.waits_elsewhere(txn, by) {
             Err(Refusal::Waiting)
         } else if is_full_for(log, asked) {
@@ -77,7 +96,7 @@ impl Tables {
         ensures number { IfOk result (IsNumberOf self.now.tree name.now) }
         ensures rootless { IsRootless self.now.tree }
     {
-        let txn = self.active_number(name)?;
+        let txn = self.active_number(log, name)?;
         if self.tree.live_children_at(txn) > 0 {
             Err(Refusal::Children)
         } else if self.waits_elsewhere(txn, by) {

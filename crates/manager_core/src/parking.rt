@@ -56,7 +56,7 @@ impl Tables {
     pub(crate) fn has_come(&self, name: &Name, when: When) -> bool
         ensures { (rows : Rows) (h : History) → AreAllowed rows h → AreTablesOf rows h self.now → result ≡ has_come h name.now when }
     {
-        come_by(self.active_number(name).err(), when)
+        come_by(self.number_by_marks(name).err(), when)
     }
 
     // Whether the transaction with this number waits for this access, and by this line.

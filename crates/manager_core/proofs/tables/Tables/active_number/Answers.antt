@@ -1,18 +1,12 @@
-use Rattle.std.proofs.Common.{sym, ◌∙◌}
+use Rattle.std.proofs.Common.{sym, ap, ◌∙◌}
+use Rattle.txn_tree.specs.Numbered.{is_active_at}
 use Rattle.manager_core.specs.Tables.{Tabled}
-use Rattle.manager_core.proofs.Causes.{done_by_state, none_by_state}
+use Rattle.manager_core.proofs.Causes.{none_by_activity}
 use Rattle.manager_core.proofs.tables.Tables.active_number.Goals as goal
 
-pub returns-in-Committed-clause-cause : goal.returns-in-Committed-clause-cause
-returns-in-Committed-clause-cause c =
-    let m : Tabled = record { tree = c.self.inside.tree; marks = c.self.inside.marks; estate = c.self.inside.estate; waits = c.self.inside.waits } in
-    rw (← c.self.view_is)
-    (done_by_state m c.args.name.now c.in-Some.txn c.in-Some.ensures.number c.in-Some.ensures.begun (sym c.in_default-top_aborted.is ∙ c.top_aborted.ensures)
-    (sym c.status_at.ensures ∙ c.in-Committed.is))
-
-pub returns-in_default-status_at-clause-cause : goal.returns-in_default-status_at-clause-cause
-returns-in_default-status_at-clause-cause c =
-    let m : Tabled = record { tree = c.self.inside.tree; marks = c.self.inside.marks; estate = c.self.inside.estate; waits = c.self.inside.waits } in
-    rw (← c.self.view_is)
-    (none_by_state m c.args.name.now c.in-Some.txn c.in-Some.ensures.number c.in-Some.ensures.begun (sym c.in_default-top_aborted.is ∙ c.top_aborted.ensures)
-    (λ e. c.in_default-status_at.not-Committed (c.status_at.ensures ∙ e)))
+pub returns-then-is_active_at-clause-cause : goal.returns-then-is_active_at-clause-cause
+returns-then-is_active_at-clause-cause c =
+    none_by_activity c.args._log.now.rows c.args._log.now.entries c.args.self.now c.requires.allowed c.requires.are c.args.name.now
+    c.in-Some.txn c.has_labels.ensures.some
+    (rw (sym c.self.view_is) c.in-Some.ensures.number)
+    (sym c.if-is_active_at.true ∙ c.is_active_at.ensures ∙ ap (λ (v : Tabled). is_active_at v.tree c.in-Some.txn) c.self.view_is)

@@ -5,5 +5,5 @@ use Rattle.manager_core.proofs.tables.Tables.has_come.Goals as goal
 
 pub returns : goal.returns
 returns c rows h allowed are =
-    c.come_by.ensures ∙ ap (λ cause. come_by cause c.args.when) (c.err.ensures.value ∙ c.active_number.ensures.cause)
-    ∙ has_come_as rows h c.args.self.now allowed are c.args.name.now c.active_number.ensures.some c.args.when
+    c.come_by.ensures ∙ ap (λ cause. come_by cause c.args.when) (c.err.ensures.value ∙ c.number_by_marks.ensures.cause)
+    ∙ has_come_as rows h c.args.self.now allowed are c.args.name.now c.number_by_marks.ensures.some c.args.when
