@@ -8,6 +8,7 @@ ghost use Rattle.serial_spec.specs.Printing.{spelled_number};
 ghost use Rattle.report_text.specs.Lines.{entry_line, row_lines};
 ghost use Rattle.serial_spec.specs.Report.{line, name_in, spelled_entry, spelled_history, spelled_rows};
 
+use crate::line_buffer::LineBuffer;
 use crate::spelling::{put_answer, put_count, put_event, put_named, put_number};
 use serial_spec::{Answer, By, Entry, Event, PlainTable};
 use txn_bytes::{Sink, WriteFault, put};
@@ -24,23 +25,55 @@ pub(crate) fn put_row<W: Sink>(out: &mut W, key: &Key, value: i64) -> Result<(),
     put_number(out, value)
 }
 
-pub(crate) fn put_row_line<W: Sink>(out: &mut W, key: &Key, value: i64) -> Result<(), WriteFault>
-    ensures ok { OnOk result (Appends (W.contents out.old) (W.contents out.new) (line (key.now ++ codes "=" ++ spelled_number value))) }
-    ensures err { OnErr result (AppendsFront (W.contents out.old) (W.contents out.new) (line (key.now ++ codes "=" ++ spelled_number value))) }
+// The line of a row, one part after another.
+fn put_row_parts<W: Sink>(out: &mut W, key: &Key, value: i64) -> Result<(), WriteFault>
+    ensures ok { OnOk result
+        (Appends (W.contents out.old) (W.contents out.new)
+        (line (key.now ++ codes "=" ++ spelled_number value))) }
+    ensures err { OnErr result
+        (AppendsFront (W.contents out.old) (W.contents out.new)
+        (line (key.now ++ codes "=" ++ spelled_number value))) }
     ensures asked { OnErr result (IsStopped W.takes out.new) }
 {
     put_row(out, key, value)?;
     put(out, b"\n")
 }
 
+// The line of a row, spelled in the buffer and handed on at once.
+pub(crate) fn put_row_line<W: Sink>(
+    out: &mut W,
+    buffer: &mut LineBuffer,
+    key: &Key,
+    value: i64,
+) -> Result<(), WriteFault>
+    ensures ok { OnOk result
+        (Appends (W.contents out.old) (W.contents out.new)
+        (line (key.now ++ codes "=" ++ spelled_number value))) }
+    ensures err { OnErr result
+        (AppendsFront (W.contents out.old) (W.contents out.new)
+        (line (key.now ++ codes "=" ++ spelled_number value))) }
+    ensures asked { OnErr result (IsStopped W.takes out.new) }
+{
+    buffer.clear();
+    match put_row_parts(buffer, key, value) {
+        Ok(()) => put(out, buffer.as_bytes()),
+        Err(WriteFault) => put_row_parts(out, key, value),
+    }
+}
+
 // The row at this place, if there is one.
-fn put_row_at<W: Sink>(out: &mut W, table: &PlainTable, place: usize) -> Result<(), WriteFault>
+fn put_row_at<W: Sink>(
+    out: &mut W,
+    buffer: &mut LineBuffer,
+    table: &PlainTable,
+    place: usize,
+) -> Result<(), WriteFault>
     ensures ok { OnOk result (Appends (W.contents out.old) (W.contents out.new) (row_lines (slice_get table.now.rows place))) }
     ensures err { OnErr result (AppendsFront (W.contents out.old) (W.contents out.new) (row_lines (slice_get table.now.rows place))) }
     ensures asked { OnErr result (IsStopped W.takes out.new) }
 {
     match table.at(place) {
-        Some((key, value)) => put_row_line(out, key, value),
+        Some((key, value)) => put_row_line(out, buffer, key, value),
         None => Ok(()),
     }
 }
@@ -50,8 +83,9 @@ pub(crate) fn put_table<W: Sink>(out: &mut W, table: &PlainTable) -> Result<(), 
     ensures err { OnErr result (AppendsFront (W.contents out.old) (W.contents out.new) (spelled_rows table.now.rows)) }
     ensures asked { OnErr result (IsStopped W.takes out.new) }
 {
+    let mut buffer = LineBuffer::new();
     for place in 0..table.len() {
-        put_row_at(out, table, place)?;
+        put_row_at(out, &mut buffer, table, place)?;
     }
     Ok(())
 }
@@ -130,13 +164,36 @@ fn put_entry<W: Sink>(out: &mut W, labels: &[Label], entry: &Entry) -> Result<()
     }
 }
 
-fn put_entry_line<W: Sink>(out: &mut W, labels: &[Label], entry: &Entry) -> Result<(), WriteFault>
-    ensures ok { OnOk result (Appends (W.contents out.old) (W.contents out.new) (entry_line labels.now entry.now)) }
-    ensures err { OnErr result (AppendsFront (W.contents out.old) (W.contents out.new) (entry_line labels.now entry.now)) }
+// The line of an entry, one part after another.
+fn put_entry_parts<W: Sink>(out: &mut W, labels: &[Label], entry: &Entry) -> Result<(), WriteFault>
+    ensures ok { OnOk result
+        (Appends (W.contents out.old) (W.contents out.new) (entry_line labels.now entry.now)) }
+    ensures err { OnErr result
+        (AppendsFront (W.contents out.old) (W.contents out.new) (entry_line labels.now entry.now)) }
     ensures asked { OnErr result (IsStopped W.takes out.new) }
 {
     put_entry(out, labels, entry)?;
     put(out, b"\n")
+}
+
+// The line of an entry, spelled in the buffer and handed on at once.
+fn put_entry_line<W: Sink>(
+    out: &mut W,
+    buffer: &mut LineBuffer,
+    labels: &[Label],
+    entry: &Entry,
+) -> Result<(), WriteFault>
+    ensures ok { OnOk result
+        (Appends (W.contents out.old) (W.contents out.new) (entry_line labels.now entry.now)) }
+    ensures err { OnErr result
+        (AppendsFront (W.contents out.old) (W.contents out.new) (entry_line labels.now entry.now)) }
+    ensures asked { OnErr result (IsStopped W.takes out.new) }
+{
+    buffer.clear();
+    match put_entry_parts(buffer, labels, entry) {
+        Ok(()) => put(out, buffer.as_bytes()),
+        Err(WriteFault) => put_entry_parts(out, labels, entry),
+    }
 }
 
 /// The entries, the oldest first.
@@ -149,8 +206,9 @@ pub(crate) fn put_history<W: Sink>(
     ensures err { OnErr result (AppendsFront (W.contents out.old) (W.contents out.new) (spelled_history labels.now (reverse entries.now))) }
     ensures asked { OnErr result (IsStopped W.takes out.new) }
 {
+    let mut buffer = LineBuffer::new();
     for entry in entries {
-        put_entry_line(out, labels, entry)?;
+        put_entry_line(out, &mut buffer, labels, entry)?;
     }
     Ok(())
 }

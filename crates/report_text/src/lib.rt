@@ -2,6 +2,7 @@
 #![tactic(auto)]
 
 mod entries;
+mod line_buffer;
 mod report;
 mod rows;
 mod spelling;

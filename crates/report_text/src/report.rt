@@ -9,18 +9,23 @@ ghost use Rattle.report_check.specs.declared.verdict.Verdict.TheVariants.{Yes};
 ghost use Rattle.report_text.specs.Lines.{ending_text, opening_text, row_line};
 
 use crate::entries::{put_history, put_row_line, put_table};
+use crate::line_buffer::LineBuffer;
 use durable_top::Row;
 use interleavings::Report;
 use serial_spec::{Entry, PlainTable};
 use txn_bytes::{Sink, WriteFault, put};
 use txn_names::Label;
 
-fn put_opening_row<W: Sink>(out: &mut W, row: &Row) -> Result<(), WriteFault>
+fn put_opening_row<W: Sink>(
+    out: &mut W,
+    buffer: &mut LineBuffer,
+    row: &Row,
+) -> Result<(), WriteFault>
     ensures ok { OnOk result (Appends (W.contents out.old) (W.contents out.new) (row_line (row.now.key, row.now.value))) }
     ensures err { OnErr result (AppendsFront (W.contents out.old) (W.contents out.new) (row_line (row.now.key, row.now.value))) }
     ensures asked { OnErr result (IsStopped W.takes out.new) }
 {
-    put_row_line(out, &row.key, row.value)
+    put_row_line(out, buffer, &row.key, row.value)
 }
 
 fn put_opening<W: Sink>(out: &mut W, rows: &[Row]) -> Result<(), WriteFault>
@@ -28,8 +33,9 @@ fn put_opening<W: Sink>(out: &mut W, rows: &[Row]) -> Result<(), WriteFault>
     ensures err { OnErr result (AppendsFront (W.contents out.old) (W.contents out.new) (spelled_rows (plain rows.now))) }
     ensures asked { OnErr result (IsStopped W.takes out.new) }
 {
+    let mut buffer = LineBuffer::new();
     for row in rows {
-        put_opening_row(out, row)?;
+        put_opening_row(out, &mut buffer, row)?;
     }
     Ok(())
 }

@@ -6,6 +6,7 @@ ghost use Rattle.serial_spec.specs.Report.{line};
 ghost use Rattle.report_text.specs.Rows.{numbered_row, numbered_rows};
 
 use crate::entries::put_row;
+use crate::line_buffer::LineBuffer;
 use crate::spelling::put_number;
 use durable_top::Row;
 use txn_bytes::{Sink, WriteFault, put};
@@ -21,13 +22,35 @@ fn put_numbered<W: Sink>(out: &mut W, row: &Row) -> Result<(), WriteFault>
     put_number(out, row.commit)
 }
 
-fn put_numbered_line<W: Sink>(out: &mut W, row: &Row) -> Result<(), WriteFault>
-    ensures ok { OnOk result (Appends (W.contents out.old) (W.contents out.new) (line (numbered_row row.now))) }
-    ensures err { OnErr result (AppendsFront (W.contents out.old) (W.contents out.new) (line (numbered_row row.now))) }
+// The line of a row, one part after another.
+fn put_numbered_parts<W: Sink>(out: &mut W, row: &Row) -> Result<(), WriteFault>
+    ensures ok { OnOk result
+        (Appends (W.contents out.old) (W.contents out.new) (line (numbered_row row.now))) }
+    ensures err { OnErr result
+        (AppendsFront (W.contents out.old) (W.contents out.new) (line (numbered_row row.now))) }
     ensures asked { OnErr result (IsStopped W.takes out.new) }
 {
     put_numbered(out, row)?;
     put(out, b"\n")
+}
+
+// The line of a row, spelled in the buffer and handed on at once.
+fn put_numbered_line<W: Sink>(
+    out: &mut W,
+    buffer: &mut LineBuffer,
+    row: &Row,
+) -> Result<(), WriteFault>
+    ensures ok { OnOk result
+        (Appends (W.contents out.old) (W.contents out.new) (line (numbered_row row.now))) }
+    ensures err { OnErr result
+        (AppendsFront (W.contents out.old) (W.contents out.new) (line (numbered_row row.now))) }
+    ensures asked { OnErr result (IsStopped W.takes out.new) }
+{
+    buffer.clear();
+    match put_numbered_parts(buffer, row) {
+        Ok(()) => put(out, buffer.as_bytes()),
+        Err(WriteFault) => put_numbered_parts(out, row),
+    }
 }
 
 /// Writes each row as a line: the key, an equals sign, the value, a space and the number of the commit that set it. It takes no
@@ -37,8 +60,9 @@ pub fn write_rows<W: Sink>(rows: &[Row], out: &mut W) -> Result<(), WriteFault>
     ensures err { OnErr result (AppendsFront (W.contents out.old) (W.contents out.new) (numbered_rows rows.now)) }
     ensures asked { OnErr result (IsStopped W.takes out.new) }
 {
+    let mut buffer = LineBuffer::new();
     for row in rows {
-        put_numbered_line(out, row)?;
+        put_numbered_line(out, &mut buffer, row)?;
     }
     Ok(())
 }

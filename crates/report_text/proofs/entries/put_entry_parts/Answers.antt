@@ -1,6 +1,6 @@
 use Rattle.std.proofs.Common.{[], ◌∷◌}
 use Rattle.txn_bytes.proofs.Appending.{front_of, on_err, then_on_err}
-use Rattle.report_text.proofs.entries.put_entry_line.Goals as goal
+use Rattle.report_text.proofs.entries.put_entry_parts.Goals as goal
 
 pub returns-in_err-put_entry-clause-err : goal.returns-in_err-put_entry-clause-err
 returns-in_err-put_entry-clause-err g c = on_err c.from_residual.result (front_of _ _ _ _ c.in_err-put_entry.ensures.err)

@@ -1,6 +1,6 @@
 use Rattle.std.proofs.Common.{[], ◌∷◌}
 use Rattle.txn_bytes.proofs.Appending.{front_of, on_err, then_on_err}
-use Rattle.report_text.proofs.rows.put_numbered_line.Goals as goal
+use Rattle.report_text.proofs.rows.put_numbered_parts.Goals as goal
 
 pub returns-in_err-put_numbered-clause-err : goal.returns-in_err-put_numbered-clause-err
 returns-in_err-put_numbered-clause-err g c = on_err c.from_residual.result (front_of _ _ _ _ c.in_err-put_numbered.ensures.err)
