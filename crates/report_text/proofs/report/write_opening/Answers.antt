@@ -1,4 +1,3 @@
-use Rattle.std.proofs.Common.{List, ℕ}
 use Rattle.std.specs.Prelude.{codes}
 use Rattle.serial_spec.specs.Report.{line, spelled_rows}
 use Rattle.durable_top.specs.Store.{plain}
