@@ -14,3 +14,4 @@ pub mod Counting
 pub mod Places
 pub mod Growing
 pub mod Requests
+pub mod Headers

@@ -3,7 +3,7 @@ ghost use Rattle.std.specs.Prelude.{◌≡◌, if◌then◌else◌};
 ghost use Rattle.std.specs.Option.{option_copied};
 ghost use Rattle.session_text.specs.Steps.{Gives};
 ghost use Rattle.session_text.specs.Words.{parts_left};
-ghost use Rattle.session_text.specs.Commands.{abort_of, add_of, after_of, begin_of, commit_of, del_of, event_of, get_of, name_in, named, one, set_of, sum_of, three, timed, two, when_in};
+ghost use Rattle.session_text.specs.Commands.{abort_of, add_of, after_of, begin_of, commit_of, del_of, event_of, get_of, one, set_of, sum_of, three, two, when_in};
 
 use crate::fault::LineKind;
 use crate::number::parse_number;
@@ -47,12 +47,6 @@ fn three(words: Option<&[u8]>) -> Result<(&[u8], &[u8], &[u8]), LineKind>
     Ok((first, second, third))
 }
 
-fn name_in(word: &[u8]) -> Result<Name, LineKind>
-    ensures { result ≡ name_in word.now }
-{
-    Name::parse(word).map_err(|_| LineKind::Name)
-}
-
 fn when_in(word: &[u8]) -> Result<When, LineKind>
     ensures { result ≡ when_in word.now }
 {
@@ -61,13 +55,6 @@ fn when_in(word: &[u8]) -> Result<When, LineKind>
         b"done" => Ok(When::Done),
         _ => Err(LineKind::Word),
     }
-}
-
-fn named(words: Option<&[u8]>) -> Result<Name, LineKind>
-    ensures { result ≡ named (parts_left 32 (option_copied words.entry)) }
-{
-    let word = one(words)?;
-    name_in(word)
 }
 
 // A line that reads or deletes a key. What is large is read by reference, and moved once, into the event.
@@ -103,21 +90,15 @@ fn valued(words: Option<&[u8]>, adds: bool) -> Result<Event, LineKind>
     Ok(Event::Access(*name, *key, op))
 }
 
-fn timed(words: Option<&[u8]>) -> Result<(Name, When), LineKind>
-    ensures { result ≡ timed (parts_left 32 (option_copied words.entry)) }
-{
-    let (first, second) = two(words)?;
-    let name = name_in(first)?;
-    let when = when_in(second)?;
-    Ok((name, when))
-}
-
 // Most lines ask for an access of a key. The others are read apart, since a call makes room for all that is read in it.
 #[inline(never)]
 fn begin_of(words: Option<&[u8]>) -> Result<Event, LineKind>
     ensures { result ≡ begin_of (parts_left 32 (option_copied words.entry)) }
 {
-    Ok(Event::Begin(named(words)?))
+    let Ok(name) = &Name::parse(one(words)?) else {
+        return Err(LineKind::Name);
+    };
+    Ok(Event::Begin(*name))
 }
 
 // It is far less common than an access of a key.
@@ -139,22 +120,32 @@ fn sum_of(words: Option<&[u8]>) -> Result<Event, LineKind>
 fn commit_of(words: Option<&[u8]>) -> Result<Event, LineKind>
     ensures { result ≡ commit_of (parts_left 32 (option_copied words.entry)) }
 {
-    Ok(Event::Commit(named(words)?))
+    let Ok(name) = &Name::parse(one(words)?) else {
+        return Err(LineKind::Name);
+    };
+    Ok(Event::Commit(*name))
 }
 
 #[inline(never)]
 fn abort_of(words: Option<&[u8]>) -> Result<Event, LineKind>
     ensures { result ≡ abort_of (parts_left 32 (option_copied words.entry)) }
 {
-    Ok(Event::Abort(named(words)?))
+    let Ok(name) = &Name::parse(one(words)?) else {
+        return Err(LineKind::Name);
+    };
+    Ok(Event::Abort(*name))
 }
 
 #[inline(never)]
 fn after_of(words: Option<&[u8]>) -> Result<Event, LineKind>
     ensures { result ≡ after_of (parts_left 32 (option_copied words.entry)) }
 {
-    let (name, when) = timed(words)?;
-    Ok(Event::After(name, when))
+    let (first, second) = two(words)?;
+    let Ok(name) = &Name::parse(first) else {
+        return Err(LineKind::Name);
+    };
+    let when = when_in(second)?;
+    Ok(Event::After(*name, when))
 }
 
 /// What a command line asks, or the kind of its first fault. Each event is given where it is made: as the value of an `if` it would

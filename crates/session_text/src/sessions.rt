@@ -11,7 +11,7 @@ mod growing;
 
 use crate::command::event_of;
 use crate::fault::{LineKind, TextFault};
-use crate::header::labelled;
+use crate::header::{labelled, words_of_header};
 use crate::line::Line;
 use crate::parting::cut;
 use serial_spec::{Event, MOST_LINES, MOST_SESSIONS, NoMemory};
@@ -112,11 +112,9 @@ impl Sessions {
     fn add_bytes(&mut self, alloc: Global, number: usize, bytes: &[u8]) -> Result<(), TextFault>
         ensures { IsPlaced self.old number (line_of bytes.now) self.new result }
     {
-        let (word, words) = cut(bytes, b' ');
-        if word == b"session".as_slice() {
-            self.add_header(alloc, number, words)
-        } else {
-            self.add_command(number, bytes)
+        match words_of_header(bytes) {
+            Some(words) => self.add_header(alloc, number, words),
+            None => self.add_command(number, bytes),
         }
     }
 
