@@ -55,9 +55,7 @@ pub(crate) fn attempt<S: TopStore>(
     let Some(name) = accessor(event) else {
         return attempt_free(manager, by, event);
     };
-    if manager.stays_held_up(by, event) {
-        Ok(Outcome::Waits)
-    } else if manager.free(by, event) {
+    if manager.free(by, event) {
         attempt_free(manager, by, event)
     } else {
         manager.retry(name)

@@ -1,5 +1,5 @@
 //! Sessions under way, a line at a time.
-ghost use Rattle.std.specs.Prelude.{◌≡◌, ◌↔◌, length, replicate, IfErr, IfOk, IsTrue, MatchBool, OnErr, OnOk};
+ghost use Rattle.std.specs.Prelude.{◌≡◌, ◌↔◌, length, replicate, IfErr, IfOk, IsTrue, MatchBool, OnErr, OnOk, Some};
 ghost use Rattle.serial_spec.specs.Interleaving.{AllAnswered};
 ghost use Rattle.txn_history.specs.Turns.{IsUnderWay};
 ghost use Rattle.durable_top.specs.Store.{plain};
@@ -161,18 +161,29 @@ impl<'a, S: TopStore> Turns<'a, S> {
         ensures way { OnOk result (IsUnderWay self.new.core.rows self.new.sessions self.new.core.history) }
         ensures err { OnErr result (self.new ≡ self.old) }
     {
-        // What is known of a text comes with its length: here that a session has few lines.
-        let _count = self.sessions.len();
         let Some(line) = self.next_line(session) else {
             return Ok(Turn::OutOfTurn);
         };
+        // A line that waits is mostly kept out still, and to ask for that alone is cheaper.
+        if self.manager.stays_parked(By::Line { session, line }) {
+            return Ok(Turn::Parked);
+        }
+        self.attempt_line(session, line)
+    }
+
+    // Attempts the session's next line, which has this number. It is no part of `step`, which pays for no room of it then.
+    #[inline(never)]
+    fn attempt_line(&mut self, session: u32, line: u32) -> Result<Turn, NoMemory>
+        requires { next_number self.old.sessions self.old.core.history session ≡ Some line }
+        ensures ok { IfOk result (λ turn. Stepped S.TopStore self.old self.new session turn) }
+        ensures way { OnOk result (IsUnderWay self.new.core.rows self.new.sessions self.new.core.history) }
+        ensures err { OnErr result (self.new ≡ self.old) }
+    {
+        // What is known of a text comes with its length: here that a session has few lines.
+        let _count = self.sessions.len();
         let text = self.sessions.line(session, line).unwrap();
         let due = text.event();
         let by = By::Line { session, line };
-        // A line that waits is mostly kept out still, and to ask for that alone is cheaper.
-        if self.manager.is_parked(by) {
-            return Ok(Turn::Parked);
-        }
         match attempt(&mut self.manager, by, due)? {
             Outcome::Waits => Ok(Turn::Parked),
             _ => {

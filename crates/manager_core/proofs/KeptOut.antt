@@ -26,11 +26,17 @@ use Rattle.serial_spec.specs.Legal.{AreAllowed}
 use Rattle.manager_core.specs.Kept.{AreTablesOf}
 use Rattle.manager_core.specs.Lines.{IsWaitOf, waiting_access}
 use Rattle.lock_table.specs.ByAsked.{MayAsk}
+use Rattle.std.specs.List.{IsDistinct}
+use Rattle.txn_names.specs.Path.{path_eq}
+use Rattle.txn_tree.specs.States.{names}
+use Rattle.manager_core.specs.Looked.{IsKeptFrom}
+use Rattle.manager_core.proofs.Looked.{numbered}
+use Rattle.manager_core.proofs.WaitTables.{access_of, kept_access_of}
 use Rattle.manager_core.specs.Parking.{IsKeptOut, IsParked, NobodyWaits, WaitsOn, come_by}
 use Rattle.manager_core.proofs.Locks.{may_as}
 use Rattle.manager_core.proofs.OneWait.{only_event}
 use Rattle.manager_core.proofs.Pairing.{tell_waits}
-use Rattle.wait_cycles.specs.Waiting.{wait_in}
+use Rattle.wait_cycles.specs.Waiting.{wait_in, wait_of as kept_wait}
 use Rattle.wait_cycles.specs.declared.waits.Wait.{Wait}
 use Rattle.manager_core.specs.Tables.{Tabled, cause_in}
 use Rattle.txn_history.proofs.Lists.{any-find}
@@ -154,6 +160,35 @@ pub parked : (rows : Rows) (h : History) (tables : Tabled) → AreAllowed rows h
     → WaitsOn rows h tables.tree by t asked n → (MayAsk tables.tree tables.estate.locks n asked → ⊥) → IsParked rows h by
 parked rows h tables allowed are by t asked n waits blocked event next =
     subst (IsKeptOut rows h by) (sym (only_event h by t asked waits.waits event next)) (out_if_blocked rows h tables allowed are by t asked n waits blocked)
+
+module _ (rows : Rows) (h : History) (tables : Tabled) (allowed : AreAllowed rows h) (are : AreTablesOf rows h tables) (distinct : IsDistinct path_eq (names tables.tree))
+    (by : By) (n : ℕ) where
+  -- so is the line of one that was seen, where its key is none too many
+  pub parked_as : (kept : IsKeptFrom tables.tree tables.estate.locks tables.waits.waits by n) → is_full_for rows h kept.asked ≡ false → IsParked rows h by
+  parked_as kept room =
+      let named = numbered tables.tree distinct n kept.begun in
+      let found = sym (kept_access_of h tables.tree tables.waits are.waiting named.0 n named.1) ∙ ap access_of kept.waiting in
+      let is = waiting_is rows h allowed named.0 by kept.asked found in
+      parked rows h tables allowed are by named.0 kept.asked n
+      (record {
+        number = named.1;
+        waits = is_wait h by named.0 kept.asked (record { wait = is.wait; waits = is.waits; of_line = is.of_line; event_is = is.event_is });
+        room = room;
+      })
+      kept.blocked
+
+  -- one that waits by this line, and may not have what it asks, is kept from it
+  abbrev pub kept_as : (w : Wait) → kept_wait tables.waits n ≡ Some w → same_line w.by by ≡ true → (MayAsk tables.tree tables.estate.locks n w.asked → ⊥)
+      → IsKeptFrom tables.tree tables.estate.locks tables.waits.waits by n
+  kept_as w is line blocked =
+      let known = (tell_waits rows h tables allowed are).known n w is in
+      let same : w ≡ record { txn = n; asked = w.asked; by = by } = λ i. record { txn = known.5 i; asked = w.asked; by = same_by w.by by line i } in
+      record {
+        begun = ap is_some known.2;
+        asked = w.asked;
+        waiting = is ∙ ap (λ v. Some v) same;
+        blocked = blocked;
+      }
 
 -- where nobody waits no wait stands at any number
 pub no_wait_at : (ws : List Wait) → length ws ≡ 0 → (n : ℕ) (w : Wait) → wait_in ws n ≡ Some w → ⊥

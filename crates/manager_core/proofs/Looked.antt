@@ -1,8 +1,8 @@
 -- Whoever was seen kept out is so until a transaction ends: names stay, and locks only rise.
-use Rattle.std.proofs.Common.{◌≡◌, ◌⊎◌, ℕ, zero, suc, ◌&&◌, nat_eq, Bool, true, false, cond, List, [], ◌∷◌, ◌++◌, length, take, replicate, Option, Some, None, is_some, unwrap_or, inl, inr, refl, sym, ap, subst, ◌∙◌, arith}
-use Rattle.std.specs.Prelude.{slice_get, slice_set}
+use Rattle.std.proofs.Common.{◌≡◌, ◌⊎◌, ℕ, zero, suc, ◌&&◌, nat_eq, Bool, true, false, cond, List, [], ◌∷◌, ◌++◌, Option, Some, None, replicate, is_some, unwrap_or, inl, inr, refl, sym, ap, subst, ◌∙◌}
+use Rattle.std.specs.Prelude.{slice_get}
 use Rattle.std.specs.List.{IsDistinct}
-use Rattle.std.proofs.lemmas.Bool.{false≢true}
+use Rattle.std.proofs.lemmas.Bool.{eq-eqb, eqb-true, false≢true, true≢false}
 use Rattle.txn_names.specs.Path.{path_eq}
 use Rattle.txn_tree.specs.States.{States, names}
 use Rattle.txn_tree.specs.Asked.{IsNumberOf}
@@ -21,7 +21,10 @@ use Rattle.lock_table.specs.Inherited.{whole, with_held}
 use Rattle.lock_table.specs.Blocking.{has_number, is_front_of}
 use Rattle.lock_table.specs.ByAsked.{BlocksAsked, MayAsk}
 use Rattle.lock_table.specs.Targeted.{Targeted, held_at, modes_at}
-use Rattle.manager_core.specs.declared.looks.Look.{Look}
+use Rattle.serial_spec.specs.declared.entry.By.{By}
+use Rattle.wait_cycles.specs.declared.waits.Wait.{Wait}
+use Rattle.wait_cycles.specs.Waiting.{wait_in}
+use Rattle.manager_core.specs.declared.looks.Looks.{Looks}
 use Rattle.manager_core.specs.Looked.{AreSeen, HasSeen, IsKeptFrom}
 use Rattle.manager_core.proofs.Locks.{name_at}
 
@@ -59,19 +62,20 @@ raised m more x e =
 
 -- ---- whoever keeps another out still does
 
-module _ (tree : States) (old new : Targeted) (rises : (u : ℕ) (v : Target) (x : Kind) → conflicts (whole (modes_at old u v)) x ≡ true → conflicts (whole (modes_at new u v)) x ≡ true) where
-  still_kept : (looks : List (Option Look)) → AreSeen tree old looks → AreSeen tree new looks
-  still_kept looks seen l has =
-      let was = seen l has in
-      record { begun = was.begun; blocked = λ may. was.blocked (λ u b. may u (blocks u b)) }
+module _ (tree : States) (waits : List Wait) (looks : Looks) (old new : Targeted)
+    (rises : (u : ℕ) (v : Target) (x : Kind) → conflicts (whole (modes_at old u v)) x ≡ true → conflicts (whole (modes_at new u v)) x ≡ true) where
+  still_kept : AreSeen tree old waits looks → AreSeen tree new waits looks
+  still_kept seen by n has =
+      let was = seen by n has in
+      record { begun = was.begun; asked = was.asked; waiting = was.waiting; blocked = λ may. was.blocked (λ u b. may u (blocks was.asked u b)) }
     where
-      blocks : (u : ℕ) → BlocksAsked tree old l.txn l.asked u → BlocksAsked tree new l.txn l.asked u
-      blocks u b = record { begun = b.begun; beside = b.beside; reaches = (b.reaches.0, b.reaches.1, rises u b.reaches.0 (kind_of l.asked) b.reaches.2) }
+      blocks : (a : Asked) (u : ℕ) → BlocksAsked tree old n a u → BlocksAsked tree new n a u
+      blocks a u b = record { begun = b.begun; beside = b.beside; reaches = (b.reaches.0, b.reaches.1, rises u b.reaches.0 (kind_of a) b.reaches.2) }
 
 -- where no lock changed
-pub seen_same : (tree : States) (old new : Targeted) → ((u : ℕ) (v : Target) → modes_at new u v ≡ modes_at old u v)
-    → (looks : List (Option Look)) → AreSeen tree old looks → AreSeen tree new looks
-seen_same tree old new same = still_kept tree old new (λ u v x e. subst (λ (m : Modes). conflicts (whole m) x ≡ true) (sym (same u v)) e)
+pub seen_same : (tree : States) (waits : List Wait) (looks : Looks) (old new : Targeted) → ((u : ℕ) (v : Target) → modes_at new u v ≡ modes_at old u v)
+    → AreSeen tree old waits looks → AreSeen tree new waits looks
+seen_same tree waits looks old new same = still_kept tree waits looks old new (λ u v x e. subst (λ (m : Modes). conflicts (whole m) x ≡ true) (sym (same u v)) e)
 
 -- and whoever may have what it asks still may
 pub may_same : (tree : States) (old new : Targeted) → ((u : ℕ) (v : Target) → modes_at new u v ≡ modes_at old u v) → (n : ℕ) (a : Asked) → MayAsk tree old n a → MayAsk tree new n a
@@ -79,9 +83,10 @@ may_same tree old new same n a may u b =
     may u (record { begun = b.begun; beside = b.beside; reaches = (b.reaches.0, b.reaches.1, subst (λ (m : Modes). conflicts (whole m) (kind_of a) ≡ true) (same u b.reaches.0) b.reaches.2) })
 
 -- where one was raised
-pub seen_raised : (tree : States) (old new : Targeted) (t : ℕ) (s : Target) (more : Mode) → ((u : ℕ) (v : Target) → modes_at new u v ≡ held_at old t s more u v)
-    → (looks : List (Option Look)) → AreSeen tree old looks → AreSeen tree new looks
-seen_raised tree old new t s more held = still_kept tree old new (λ u v x e. subst (λ (m : Modes). conflicts (whole m) x ≡ true) (sym (held u v)) (either u v x e))
+pub seen_raised : (tree : States) (waits : List Wait) (looks : Looks) (old new : Targeted) (t : ℕ) (s : Target) (more : Mode)
+    → ((u : ℕ) (v : Target) → modes_at new u v ≡ held_at old t s more u v) → AreSeen tree old waits looks → AreSeen tree new waits looks
+seen_raised tree waits looks old new t s more held =
+    still_kept tree waits looks old new (λ u v x e. subst (λ (m : Modes). conflicts (whole m) x ≡ true) (sym (held u v)) (either u v x e))
   where
     either : (u : ℕ) (v : Target) (x : Kind) → conflicts (whole (modes_at old u v)) x ≡ true → conflicts (whole (held_at old t s more u v)) x ≡ true
     either u v x e = by (nat_eq t u && target_eq s v)
@@ -91,15 +96,17 @@ seen_raised tree old new t s more held = still_kept tree old new (λ u v x e. su
         by false = e
 
 -- where another has begun
-pub seen_begun : (old tree : States) (t : Name) (locks : Targeted) → names tree ≡ names old ++ t ∷ []
-    → (looks : List (Option Look)) → AreSeen old locks looks → AreSeen tree locks looks
-seen_begun old tree t locks more looks seen l has =
-    let was = seen l has in
+pub seen_begun : (old tree : States) (t : Name) (locks : Targeted) (waits : List Wait) (looks : Looks) → names tree ≡ names old ++ t ∷ []
+    → AreSeen old locks waits looks → AreSeen tree locks waits looks
+seen_begun old tree t locks waits looks more seen b n has =
+    let was = seen b n has in
     record {
-      begun = ap is_some (kept l.txn was.begun) ∙ was.begun;
+      begun = ap is_some (kept n was.begun) ∙ was.begun;
+      asked = was.asked;
+      waiting = was.waiting;
       blocked = λ may. was.blocked (λ u b. may u (record {
         begun = ap is_some (kept u b.begun) ∙ b.begun;
-        beside = ap (λ o. is_front_of o (slice_get (names tree) l.txn)) (kept u b.begun) ∙ ap (is_front_of (slice_get (names old) u)) (kept l.txn was.begun) ∙ b.beside;
+        beside = ap (λ o. is_front_of o (slice_get (names tree) n)) (kept u b.begun) ∙ ap (is_front_of (slice_get (names old) u)) (kept n was.begun) ∙ b.beside;
         reaches = b.reaches;
       }));
     }
@@ -114,17 +121,73 @@ seen_begun old tree t locks more looks seen l has =
 -- ---- what was seen
 
 -- one more that is kept out
-pub seen_more : (tree : States) (locks : Targeted) (old new : List (Option Look)) (txn : ℕ) (asked : Asked)
-    → ((l : Look) → HasSeen new l → HasSeen old l ⊎ (l ≡ record { txn = txn; asked = asked }))
-    → (t : Name) → IsNumberOf tree t txn → (MayAsk tree locks txn asked → ⊥) → AreSeen tree locks old → AreSeen tree locks new
-seen_more tree locks old new txn asked each t number blocked seen l has =
-    elim (each l has) [
-      | inl before ↦ seen l before
-      | inr it ↦ subst (IsKeptFrom tree locks) (sym it) (record { begun = ap is_some (name_at tree t txn number); blocked = blocked })
+pub seen_more : (tree : States) (locks : Targeted) (waits : List Wait) (old new : Looks) (by : By) (txn : ℕ)
+    → ((b : By) (n : ℕ) → HasSeen new b n → HasSeen old b n ⊎ ((b ≡ by) × (n ≡ txn)))
+    → IsKeptFrom tree locks waits by txn → AreSeen tree locks waits old → AreSeen tree locks waits new
+seen_more tree locks waits old new by txn each kept seen b n has =
+    elim (each b n has) [
+      | inl before ↦ seen b n before
+      | inr it ↦ subst (λ m. IsKeptFrom tree locks waits b m) (sym it.1) (subst (λ c. IsKeptFrom tree locks waits c txn) (sym it.0) kept)
     ]
 
-pub seen_none : (tree : States) (locks : Targeted) (looks : List (Option Look)) → ((l : Look) → HasSeen looks l → ⊥) → AreSeen tree locks looks
-seen_none tree locks looks none l has = absurd (none l has)
+pub seen_none : (tree : States) (locks : Targeted) (waits : List Wait) (looks : Looks) → ((by : By) (n : ℕ) → HasSeen looks by n → ⊥) → AreSeen tree locks waits looks
+seen_none tree locks waits looks none by n has = absurd (none by n has)
+
+-- ---- who waits
+
+module _ (tree : States) (locks : Targeted) (old new : List Wait) (txn : ℕ) (x : Option Wait) (sets : (u : ℕ) → wait_in new u ≡ cond (nat_eq txn u) x (wait_in old u)) where
+  -- another waits as before
+  still_waits : (n : ℕ) (w : Wait) → wait_in old n ≡ Some w → (txn ≡ n → ⊥) → wait_in new n ≡ Some w
+  still_waits n w is other = sets n ∙ at (nat_eq txn n) refl
+    where
+      at : (b : Bool) → nat_eq txn n ≡ b → cond b x (wait_in old n) ≡ Some w
+      at true e = absurd (other (eqb-true txn n e))
+      at false e = is
+
+  -- so where this one did not wait, whoever was seen waits
+  pub seen_unless : (looks : Looks) → wait_in old txn ≡ None → AreSeen tree locks old looks → AreSeen tree locks new looks
+  seen_unless looks none seen by n has =
+      let was = seen by n has in
+      record {
+        begun = was.begun;
+        asked = was.asked;
+        waiting = still_waits n _ was.waiting (λ same. true≢false (sym (ap is_some was.waiting) ∙ ap (λ m. is_some (wait_in old m)) (sym same) ∙ ap is_some none));
+        blocked = was.blocked;
+      }
+
+  -- and where it did, all but those of its line
+  pub seen_ended : (before after : Looks) (w : Wait) → wait_in old txn ≡ Some w → ((b : By) (n : ℕ) → HasSeen after b n → HasSeen before b n × (b ≡ w.by → ⊥))
+      → AreSeen tree locks old before → AreSeen tree locks new after
+  seen_ended before after w is each seen by n has =
+      let had = each by n has in
+      let was = seen by n had.0 in
+      record {
+        begun = was.begun;
+        asked = was.asked;
+        waiting = still_waits n _ was.waiting (λ same. had.1 (ap (λ (o : Option Wait). (unwrap_or o w).by) (sym was.waiting ∙ ap (wait_in old) (sym same) ∙ is)));
+        blocked = was.blocked;
+      }
+
+-- one that waits from now on is kept out
+pub seen_started : (tree : States) (locks : Targeted) (old new : List Wait) (before after : Looks) (by : By) (txn : ℕ) (asked : Asked)
+    → ((u : ℕ) → wait_in new u ≡ cond (nat_eq txn u) (Some (record { txn = txn; asked = asked; by = by })) (wait_in old u)) → wait_in old txn ≡ None
+    → ((b : By) (n : ℕ) → HasSeen after b n → HasSeen before b n ⊎ ((b ≡ by) × (n ≡ txn)))
+    → (t : Name) → IsNumberOf tree t txn → (MayAsk tree locks txn asked → ⊥) → AreSeen tree locks old before → AreSeen tree locks new after
+seen_started tree locks old new before after by txn asked sets none each t number blocked seen =
+    seen_more tree locks new before after by txn each
+    (record {
+      begun = ap is_some (name_at tree t txn number);
+      asked = asked;
+      waiting = sets txn ∙ ap (λ b. cond b (Some (record { txn = txn; asked = asked; by = by })) (wait_in old txn)) (eq-eqb txn txn refl);
+      blocked = blocked;
+    })
+    (seen_unless tree locks old new txn (Some (record { txn = txn; asked = asked; by = by })) sets before none seen)
+
+-- no place of these stands
+pub none_stands : (n s : ℕ) → slice_get (replicate n false) s ≡ Some true → ⊥
+none_stands zero s e = false≢true (ap is_some e)
+none_stands (suc n) zero e = false≢true (ap (λ o. unwrap_or o false) e)
+none_stands (suc n) (suc s) e = none_stands n s e
 
 -- whoever has a number has a name
 pub numbered : (tree : States) → IsDistinct path_eq (names tree) → (n : ℕ) → has_number tree n ≡ true → (t : Name) × IsNumberOf tree t n
@@ -133,29 +196,3 @@ numbered tree distinct n e = by (slice_get (names tree) n) refl e
     by : (o : Option Name) → slice_get (names tree) n ≡ o → is_some o ≡ true → (t : Name) × IsNumberOf tree t n
     by None at f = absurd (false≢true f)
     by (Some t) at f = (t, number_at (names tree) distinct t n (found_at (names tree) distinct t n at))
-
--- ---- how it is kept
-
--- where one was put at a place
-pub put_at : (xs : List (Option Look)) (p : ℕ) (new l : Look) (i : ℕ) → slice_get (slice_set xs p (Some new)) i ≡ Some (Some l) → (slice_get xs i ≡ Some (Some l)) ⊎ (l ≡ new)
-put_at [] p new l i e = absurd (false≢true (ap is_some e))
-put_at (x ∷ xs) zero new l zero e = inr (sym (ap (λ o. unwrap_or (unwrap_or o None) new) e))
-put_at (x ∷ xs) zero new l (suc i) e = inl e
-put_at (x ∷ xs) (suc p) new l zero e = inl e
-put_at (x ∷ xs) (suc p) new l (suc i) e = put_at xs p new l i e
-
--- no place of these has any
-pub none_at : (n i : ℕ) (l : Look) → slice_get (replicate n None) i ≡ Some (Some l) → ⊥
-none_at zero i l e = false≢true (ap is_some e)
-none_at (suc n) zero l e = false≢true (ap (λ o. is_some (unwrap_or o None)) e)
-none_at (suc n) (suc i) l e = none_at n i l e
-
--- so where nothing was kept, making room changes nothing
-pub none_resized : (old new : List (Option Look)) (n m : ℕ) (b : Bool) → new ≡ cond b (take n old ++ replicate m None) old → length old ≡ 0 → (l : Look) → HasSeen new l → HasSeen old l
-none_resized (x ∷ old) new n m b is e l has = absurd (omega (arith, e))
-none_resized [] new n m false is e l has = (has.0, ap (λ xs. slice_get xs has.0) (sym is) ∙ has.1)
-none_resized [] new n m true is e l has = absurd (none_at m has.0 l (ap (λ xs. slice_get xs has.0) (ap (λ xs. xs ++ replicate m None) (sym (none_taken n)) ∙ sym is) ∙ has.1))
-  where
-    none_taken : (k : ℕ) → take {A = Option Look} k [] ≡ []
-    none_taken zero = refl
-    none_taken (suc k) = refl

@@ -2,9 +2,10 @@
 use Rattle.std.specs.Prelude.{◌≡◌, ℕ, Bool, true, false, ◌&&◌, ◌||◌, if◌then◌else◌, List, [], ◌∷◌, ◌++◌, slice_get, Option, Some, None, option_map}
 use Rattle.txn_names.specs.Path.{path_eq, is_front, parent, top_of}
 use Rattle.txn_tree.specs.States.{States, names, status_in}
-use Rattle.txn_tree.specs.Asked.{is_absent_in, is_live_in, has_committed_in, is_name}
+use Rattle.txn_tree.specs.Asked.{IsNumberOf, is_absent_in, is_live_in, has_committed_in, is_name}
 use Rattle.txn_tree.specs.declared.status.Status.TheVariants.{Live, Committed, Aborted}
 use Rattle.orphans.specs.Marked.{Marked, is_marked}
+use Rattle.lock_table.specs.ByAsked.{MayAsk}
 use Rattle.lock_table.specs.Inherited.{free, with_held}
 use Rattle.inherit.specs.LocksAndVersions.{LocksAndVersions, IsSame, modes_of, left_of, rows_of}
 use Rattle.inherit.specs.Steps.{HasGoneUp}
@@ -69,6 +70,10 @@ IsParentNumber tree t p = (m : ℕ) → is_it p m ≡ is_name (slice_get (names 
 -- the wait that is kept for the number n
 abbrev pub wait_at : Tabled → ℕ → Option Wait
 wait_at tables n = kept_wait tables.waits n
+
+-- somebody keeps t from what it asks
+abbrev pub IsKeptOutOf : Tabled → Name → Asked → Type 0
+IsKeptOutOf tables t a = (n : ℕ) → IsNumberOf tables.tree t n → MayAsk tables.tree tables.estate.locks n a → ⊥
 
 -- the wait that an entry begins, as it is kept for the number n
 abbrev pub wait_by : ℕ → By → Event → Option Wait

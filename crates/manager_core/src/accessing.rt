@@ -5,7 +5,7 @@ ghost use Rattle.serial_spec.specs.Legal.{AreAllowed};
 ghost use Rattle.serial_spec.specs.Waits.{wait_of};
 ghost use Rattle.manager_core.specs.Lines.{IsFree};
 ghost use Rattle.manager_core.specs.Kept.{AreTablesOf};
-ghost use Rattle.manager_core.specs.Tables.{ComesTo, HasOtherRoom, ReachesIn, WaitsFrom, WaitsUntil};
+ghost use Rattle.manager_core.specs.Tables.{ComesTo, HasOtherRoom, IsKeptOutOf, ReachesIn, WaitsFrom, WaitsUntil};
 
 use crate::log::Log;
 use crate::outcome::Outcome;
@@ -68,6 +68,7 @@ impl Tables {
         requires are { AreTablesOf log.now.rows log.now.entries self.old }
         ensures comes { IfOk result (λ outcome. ComesTo log.now.rows log.now.entries request.now.by request.now.name request.now.asked outcome) }
         ensures reaches { IfOk result (λ outcome. ReachesIn self.old self.new request.now.name request.now.asked outcome) }
+        ensures out { IfOk result (λ outcome. outcome ≡ Outcome.Waits → IsKeptOutOf self.new request.now.name request.now.asked) }
         ensures waits { self.new.waits ≡ self.old.waits }
         ensures marks { self.new.marks ≡ self.old.marks }
         ensures err { OnErr result (HasOtherRoom self.old self.new) }
@@ -78,7 +79,6 @@ impl Tables {
             Ok(txn) => {
                 // One that has to wait takes no place at what it asks for, so that those with a place are those with a lock.
                 if !self.may(txn, asked) {
-                    self.looks.put(*by, txn, asked);
                     return Ok(Outcome::Waits);
                 }
                 self.estate.reserve_asked(txn, asked)?;

@@ -1,110 +1,92 @@
 //! Accesses that were seen kept out, by session.
-ghost use Rattle.std.specs.Prelude.{◌≡◌, ◌⊎◌, option_copied, IfSome};
-ghost use Rattle.manager_core.specs.Looked.{HasSeen};
+ghost use Rattle.std.specs.Prelude.{◌≡◌, ◌⊎◌, ℕ, IfSome};
+ghost use Rattle.serial_spec.specs.declared.entry.By.{By};
+ghost use Rattle.manager_core.specs.Looked.{HasSeen, IsLast};
 
-use serial_spec::{Asked, By, MOST_SESSIONS};
-use std::alloc::Global;
-use std::marker::Model;
+use serial_spec::{By, MOST_SESSIONS};
 use txn_tree::TxnNo;
 
-/// An access that was seen kept out: by the number of its transaction, and what it asks.
+/// An access that was seen kept out: by the number of its transaction, and that of its line in the session.
 #[derive(Clone, Copy)]
 pub(crate) struct Look {
     pub(crate) txn: TxnNo,
-    pub(crate) asked: Asked,
+    pub(crate) line: u32,
 }
 
 /// For each session, of `MOST_SESSIONS` at most, the access of it that was last seen kept out. Locks only rise until a transaction
-/// ends (Moss 1981), so that it is kept out still as long as none has ended since. The number of its transaction is kept longer.
+/// ends (Moss 1981), so that it is kept out still, and stands, as long as it waits and none has ended since.
 #[derive(Drop)]
 pub(crate) struct Looks {
-    seen: Vec<Option<Look>>,
-    last: Vec<Option<TxnNo>>,
-}
-
-impl Model for Looks {
-    ghost use Rattle.std.specs.Prelude.{List, Option};
-    ghost use Rattle.manager_core.specs.declared.looks.Look.{Look};
-
-    ghost Value = { List (Option Look) };
-
-    ghost view = { λ l. l.seen.items };
+    pub(crate) last: [Option<Look>; MOST_SESSIONS],
+    pub(crate) stands: [bool; MOST_SESSIONS],
 }
 
 impl Looks {
-    /// Nothing was seen. It takes no memory yet.
-    pub(crate) fn new(alloc: Global) -> Looks
-        ensures { (l : Look) → HasSeen result l → ⊥ }
+    /// Nothing was seen.
+    pub(crate) fn new() -> Looks
+        ensures { (by : By) (n : ℕ) → HasSeen result by n → ⊥ }
     {
         Looks {
-            seen: Vec::new(alloc),
-            last: Vec::new(alloc),
+            last: [None; MOST_SESSIONS],
+            stands: [false; MOST_SESSIONS],
         }
     }
 
-    // Room for each session, where memory is left.
-    fn make_room(&mut self)
-        ensures { (l : Look) → HasSeen self.new l → HasSeen self.old l }
+    /// The transaction of the access that was last seen kept out by this line, whether or not it stands.
+    pub(crate) fn last_at(&self, by: By) -> Option<TxnNo>
+        ensures { IfSome result (IsLast self.now by) }
     {
-        if self.seen.is_empty() {
-            let _ = self.seen.resize(MOST_SESSIONS, None);
-        }
-    }
-
-    // Keeps the number of the transaction for the session, where memory is left.
-    fn put_last(&mut self, session: u32, txn: TxnNo)
-        ensures { self.new ≡ self.old }
-    {
-        if self.last.is_empty() {
-            let _ = self.last.resize(MOST_SESSIONS, None);
-        }
-        let place = session as usize;
-        if place < self.last.len() {
-            self.last[place] = Some(txn);
-        }
-    }
-
-    /// The access of the line's session that was last seen kept out, where no transaction has ended since.
-    pub(crate) fn at(&self, by: By) -> Option<&Look>
-        ensures { IfSome (option_copied result) (HasSeen self.now) }
-    {
-        match by {
-            By::Line { session, .. } => match self.seen.get(session as usize) {
-                Some(Some(look)) => Some(look),
-                _ => None,
-            },
+        let By::Line { session, line } = by else {
+            return None;
+        };
+        match self.last.get(session as usize) {
+            Some(Some(look)) if look.line == line => Some(look.txn),
             _ => None,
         }
     }
 
-    /// The transaction of the access of the line's session that was last seen kept out, also where one has ended since. No clause
-    /// says which it is, so that whoever asks compares its name.
-    pub(crate) fn last_txn(&self, by: By) -> Option<TxnNo> {
-        match by {
-            By::Line { session, .. } => *self.last.get(session as usize)?,
+    /// The transaction of the access by this line that was seen kept out and stands.
+    pub(crate) fn at(&self, by: By) -> Option<TxnNo>
+        ensures { IfSome result (HasSeen self.now by) }
+    {
+        let By::Line { session, .. } = by else {
+            return None;
+        };
+        match self.stands.get(session as usize) {
+            Some(true) => self.last_at(by),
             _ => None,
         }
     }
 
-    /// Keeps, for the session of this line, that the access was seen kept out. Where memory runs out nothing is kept.
-    pub(crate) fn put(&mut self, by: By, txn: TxnNo, asked: &Asked)
-        ensures { (l : Look) → HasSeen self.new l
-            → HasSeen self.old l ⊎ (l ≡ record { txn = txn; asked = asked.now }) }
+    /// Keeps that the transaction's access by this line was seen kept out.
+    pub(crate) fn put(&mut self, by: By, txn: TxnNo)
+        ensures { (b : By) (n : ℕ) → HasSeen self.new b n → HasSeen self.old b n ⊎ ((b ≡ by) × (n ≡ txn)) }
     {
-        self.make_room();
-        if let By::Line { session, .. } = by {
-            self.put_last(session, txn);
+        if let By::Line { session, line } = by {
             let place = session as usize;
-            if place < self.seen.len() {
-                self.seen[place] = Some(Look { txn, asked: *asked });
+            if place < MOST_SESSIONS {
+                self.last[place] = Some(Look { txn, line });
+                self.stands[place] = true;
+            }
+        }
+    }
+
+    /// Forgets what was seen of this line, which waits no more.
+    pub(crate) fn forget(&mut self, by: By)
+        ensures { (b : By) (n : ℕ) → HasSeen self.new b n → HasSeen self.old b n × (b ≡ by → ⊥) }
+    {
+        if let By::Line { session, .. } = by {
+            let place = session as usize;
+            if place < MOST_SESSIONS {
+                self.stands[place] = false;
             }
         }
     }
 
     /// Forgets all that was seen, since a lock may have been let go.
     pub(crate) fn clear(&mut self)
-        ensures { (l : Look) → HasSeen self.new l → ⊥ }
+        ensures { (by : By) (n : ℕ) → HasSeen self.new by n → ⊥ }
     {
-        self.seen.clear();
+        self.stands = [false; MOST_SESSIONS];
     }
 }

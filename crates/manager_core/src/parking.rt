@@ -1,24 +1,26 @@
 //! What keeps a line from its answer, read off the tables.
-ghost use Rattle.std.specs.Prelude.{◌≡◌, ◌↔◌, not, IfNone, IfSome, IsTrue};
+ghost use Rattle.std.specs.Prelude.{◌≡◌, ◌↔◌, not, IfNone, IfSome, IsTrue, Some};
 ghost use Rattle.txn_names.specs.Path.{Path};
-ghost use Rattle.txn_tree.specs.Asked.{IsNumberOf, is_absent_in};
+ghost use Rattle.txn_tree.specs.Asked.{IsNumberOf};
 ghost use Rattle.lock_table.specs.ByAsked.{MayAsk};
-ghost use Rattle.serial_spec.specs.Allowed.{has_come};
+ghost use Rattle.serial_spec.specs.Allowed.{has_come, is_full_for};
 ghost use Rattle.serial_spec.specs.History.{History, event_of};
 ghost use Rattle.serial_spec.specs.Legal.{AreAllowed};
 ghost use Rattle.serial_spec.specs.Locks.{is_blocked};
 ghost use Rattle.serial_spec.specs.Rows.{Rows};
 ghost use Rattle.serial_spec.specs.Waits.{same_line};
+ghost use Rattle.wait_cycles.specs.declared.waits.Wait.{Wait};
 ghost use Rattle.manager_core.specs.Kept.{AreTablesOf};
 ghost use Rattle.manager_core.specs.Lines.{IsWaitOf};
+ghost use Rattle.manager_core.specs.Looked.{IsKeptFrom};
 ghost use Rattle.manager_core.specs.Parking.{IsKeptOut, IsParked, NobodyWaits, WaitsOn, come_by};
+ghost use Rattle.manager_core.specs.Tables.{wait_at};
 
 use crate::deciding::is_full_for;
 use crate::log::Log;
-use crate::looks::Look;
 use crate::tables::Tables;
 use crate::waiting::same_line;
-use serial_spec::{Asked, By, Refusal, When};
+use serial_spec::{Asked, By, MOST_KEYS, Refusal, When};
 use txn_names::Name;
 use txn_tree::TxnNo;
 use wait_cycles::Wait;
@@ -42,13 +44,6 @@ fn is_of(wait: &Wait, by: By, asked: &Asked) -> bool
     ensures { IsTrue result ↔ (IsTrue (same_line wait.now.by by) × (wait.now.asked ≡ asked.now)) }
 {
     same_line(wait.by, by) && wait.asked == *asked
-}
-
-// Whether what was seen is this access of the transaction with this number.
-fn is_look(look: &Look, txn: TxnNo, asked: &Asked) -> bool
-    ensures { IsTrue result → (look.now.txn ≡ txn) × (look.now.asked ≡ asked.now) }
-{
-    look.txn == txn && look.asked == *asked
 }
 
 impl Tables {
@@ -77,16 +72,6 @@ impl Tables {
         self.estate.locks().may_ask(&self.tree, txn, asked)
     }
 
-    // Whether this is the access that was last seen kept out for the line's session. What was seen is forgotten when a transaction ends.
-    fn was_kept_out(&self, by: By, txn: TxnNo, asked: &Asked) -> bool
-        ensures { IsTrue result → MayAsk self.now.tree self.now.estate.locks txn asked.now → ⊥ }
-    {
-        match self.looks.at(by) {
-            Some(look) => is_look(look, txn, asked),
-            None => false,
-        }
-    }
-
     /// Whether nobody waits, so that no line is one by which an access waits.
     pub(crate) fn nobody_waits(&self, _log: &Log) -> bool
         requires allowed { AreAllowed _log.now.rows _log.now.entries }
@@ -94,27 +79,6 @@ impl Tables {
         ensures { IsTrue result → NobodyWaits _log.now.entries }
     {
         self.waits.is_empty()
-    }
-
-    // The number of the transaction, if the access last seen kept out for the line's session is of it.
-    fn number_seen(&self, by: By, name: &Name) -> Option<TxnNo>
-        ensures { IfSome result (IsNumberOf self.now.tree name.now) }
-    {
-        self.tree.has_distinct_names();
-        let txn = self.looks.last_txn(by)?;
-        let seen = self.tree.name_of(txn)?;
-        if *seen == *name { Some(txn) } else { None }
-    }
-
-    // The number of the transaction, if it has begun. Where its access was seen kept out, the name is not looked up.
-    fn number_by(&self, by: By, name: &Name) -> Option<TxnNo>
-        ensures number { IfSome result (IsNumberOf self.now.tree name.now) }
-        ensures begun { IfNone result (IsTrue (is_absent_in self.now.tree name.now)) }
-    {
-        match self.number_seen(by, name) {
-            Some(txn) => Some(txn),
-            None => self.tree.no_of(name),
-        }
     }
 
     // The number of the transaction, if it waits for this access by this line and no cause refuses the access.
@@ -128,7 +92,7 @@ impl Tables {
         if self.waits.is_empty() {
             return None;
         }
-        let txn = self.number_by(by, name)?;
+        let txn = self.tree.no_of(name)?;
         if !self.waits_by(txn, by, asked) {
             return None;
         }
@@ -137,21 +101,6 @@ impl Tables {
             return None;
         }
         Some(txn)
-    }
-
-    /// Whether an access that waits by this line is seen at once to be kept out still: it was seen so, and nothing has ended since.
-    pub(crate) fn is_parked(&self, log: &Log, by: By) -> bool
-        requires allowed { AreAllowed log.now.rows log.now.entries }
-        requires are { AreTablesOf log.now.rows log.now.entries self.now }
-        ensures { IsTrue result → IsParked log.now.rows log.now.entries by }
-    {
-        self.tree.has_distinct_names();
-        match self.looks.at(by) {
-            Some(look) => {
-                self.waits_by(look.txn, by, &look.asked) && !is_full_for(log, &look.asked)
-            }
-            None => false,
-        }
     }
 
     /// Whether this access waits, and by this line, and is kept out still.
@@ -163,29 +112,82 @@ impl Tables {
         let Some(txn) = self.number_of_wait(log, by, name, asked) else {
             return false;
         };
-        if self.was_kept_out(by, txn, asked) {
-            return true;
-        }
         !self.may(txn, asked)
     }
 
-    /// As `is_kept_out`. Where the access is kept out, that is remembered until a transaction ends.
-    pub(crate) fn stays_out(&mut self, log: &Log, by: By, name: &Name, asked: &Asked) -> bool
-        requires allowed { AreAllowed log.now.rows log.now.entries }
-        requires are { AreTablesOf log.now.rows log.now.entries self.old }
-        ensures out { IsTrue result ↔ IsKeptOut log.now.rows log.now.entries by (event_of name.now asked.now) }
-        ensures same { self.new ≡ self.old }
+    // Whether the key for which the transaction with this number waits would be one too many.
+    fn is_full_at(&self, log: &Log, txn: TxnNo) -> bool
+        ensures { (w : Wait) → wait_at self.now txn ≡ Some w → result ≡ is_full_for log.now.rows log.now.entries w.asked }
     {
-        let Some(txn) = self.number_of_wait(log, by, name, asked) else {
+        // Few know so many, so that mostly the wait is not looked up.
+        if log.known() < MOST_KEYS {
+            return false;
+        }
+        match self.waits.of(txn) {
+            Some(wait) => is_full_for(log, &wait.asked),
+            None => false,
+        }
+    }
+
+    /// Whether an access that waits by this line is seen at once to be kept out still: it was seen so, and nothing has ended since.
+    pub(crate) fn is_parked(&self, log: &Log, by: By) -> bool
+        requires allowed { AreAllowed log.now.rows log.now.entries }
+        requires are { AreTablesOf log.now.rows log.now.entries self.now }
+        ensures { IsTrue result → IsParked log.now.rows log.now.entries by }
+    {
+        self.tree.has_distinct_names();
+        match self.looks.at(by) {
+            Some(txn) => !self.is_full_at(log, txn),
+            None => false,
+        }
+    }
+
+    // Whether the transaction with this number waits by this line, and is kept out.
+    fn is_out_by(&self, log: &Log, by: By, txn: TxnNo) -> bool
+        requires allowed { AreAllowed log.now.rows log.now.entries }
+        requires are { AreTablesOf log.now.rows log.now.entries self.now }
+        ensures parked { IsTrue result → IsParked log.now.rows log.now.entries by }
+        ensures kept { IsTrue result → IsKeptFrom self.now.tree self.now.estate.locks self.now.waits.waits by txn }
+    {
+        self.tree.has_distinct_names();
+        let Some(wait) = self.waits.of(txn) else {
             return false;
         };
-        if self.was_kept_out(by, txn, asked) {
-            return true;
-        }
-        if self.may(txn, asked) {
+        if !same_line(wait.by, by) {
             return false;
         }
-        self.looks.put(by, txn, asked);
+        if is_full_for(log, &wait.asked) {
+            return false;
+        }
+        !self.may(txn, &wait.asked)
+    }
+
+    // As `stays_parked`, of an access that was not seen kept out since a transaction ended.
+    #[inline(never)]
+    fn is_seen_again(&mut self, log: &Log, by: By) -> bool
+        requires allowed { AreAllowed log.now.rows log.now.entries }
+        requires are { AreTablesOf log.now.rows log.now.entries self.old }
+        ensures parked { IsTrue result → IsParked log.now.rows log.now.entries by }
+        ensures same { self.new ≡ self.old }
+    {
+        let Some(txn) = self.looks.last_at(by) else {
+            return false;
+        };
+        if !self.is_out_by(log, by, txn) {
+            return false;
+        }
+        self.looks.put(by, txn);
         true
+    }
+
+    /// As `is_parked`, and where a transaction has ended since, the locks are asked once more. Where the access is kept out, that is
+    /// remembered until the next one ends.
+    pub(crate) fn stays_parked(&mut self, log: &Log, by: By) -> bool
+        requires allowed { AreAllowed log.now.rows log.now.entries }
+        requires are { AreTablesOf log.now.rows log.now.entries self.old }
+        ensures parked { IsTrue result → IsParked log.now.rows log.now.entries by }
+        ensures same { self.new ≡ self.old }
+    {
+        self.is_parked(log, by) || self.is_seen_again(log, by)
     }
 }

@@ -40,7 +40,7 @@ impl Model for Tables {
       waits = t.waits;
     } };
 
-    ghost invariant = { λ t. AreSeen t.tree t.estate.locks t.looks };
+    ghost invariant = { λ t. AreSeen t.tree t.estate.locks t.waits.waits t.looks };
 }
 
 impl Tables {
@@ -58,7 +58,7 @@ impl Tables {
             marks: Marks::new(alloc),
             estate: Estate::new(alloc, base),
             waits: Waits::new(alloc),
-            looks: Looks::new(alloc),
+            looks: Looks::new(),
         }
     }
 

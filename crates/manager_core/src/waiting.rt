@@ -10,7 +10,7 @@ ghost use Rattle.serial_spec.specs.Waits.{same_line, wait_of};
 ghost use Rattle.manager_core.specs.Kept.{AreTablesOf};
 ghost use Rattle.manager_core.specs.Lines.{waiting_access};
 ghost use Rattle.manager_core.specs.State.{entry};
-ghost use Rattle.manager_core.specs.Tables.{SetsWait, wait_at};
+ghost use Rattle.manager_core.specs.Tables.{IsKeptOutOf, SetsWait, wait_at};
 
 use crate::accessing::Request;
 use crate::tables::Tables;
@@ -60,10 +60,11 @@ impl Tables {
         }
     }
 
-    /// The transaction, which does not wait, waits from now on. There is room for it.
+    /// The transaction, which does not wait and is kept out of what it asks, waits from now on. There is room for it.
     pub(crate) fn start_wait(&mut self, request: &Request)
         requires begun { IsFalse (is_absent_in self.old.tree request.now.name) }
         requires none { (n : ℕ) → IsNumberOf self.old.tree request.now.name n → wait_at self.old n ≡ None }
+        requires out { IsKeptOutOf self.old request.now.name request.now.asked }
         requires room { 0 < self.old.waits.room }
         ensures beside { self.new ≡ record self.old { waits = self.new.waits } }
         ensures waits { SetsWait self.old self.new request.now.name (Some (entry request.now.by (event_of request.now.name request.now.asked) answer.Waits)) }
@@ -71,6 +72,7 @@ impl Tables {
     {
         let txn = self.number_of(&request.name);
         self.waits.add_reserved(txn, &request.asked, request.by);
+        self.looks.put(request.by, txn);
     }
 
     /// The transaction waits no more.
@@ -81,6 +83,9 @@ impl Tables {
         ensures grown { length self.new.waits.waits ≤ length self.old.waits.waits }
     {
         let txn = self.number_of(name);
+        if let Some(wait) = self.waits.of(txn) {
+            self.looks.forget(wait.by);
+        }
         self.waits.cancel(txn);
     }
 }

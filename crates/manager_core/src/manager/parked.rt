@@ -66,23 +66,13 @@ impl<S: TopStore> Manager<S> {
         self.tables.is_parked(&self.log, by)
     }
 
-    /// Tells what `held_up` tells, and remembers an access that is kept out until a transaction ends, so that to ask again costs
-    /// one look.
-    pub fn stays_held_up(&mut self, by: By, event: &Event) -> bool
-        ensures out { IsTrue result ↔ IsKeptOut self.old.rows self.old.history by event.now }
+    /// As `is_parked`, and where a transaction has ended since, the locks are asked once more. An access that is kept out is
+    /// remembered until the next one ends, so that to ask again costs one look. It takes no memory.
+    pub fn stays_parked(&mut self, by: By) -> bool
+        ensures parked { IsTrue result → IsParked self.old.rows self.old.history by }
         ensures same { self.new ≡ self.old }
     {
-        match event {
-            Event::Access(name, key, op) => {
-                let asked = Asked::At(*key, *op);
-                self.tables.stays_out(&self.log, by, name, &asked)
-            }
-            Event::Sum(name, group) => {
-                let asked = Asked::Over(*group);
-                self.tables.stays_out(&self.log, by, name, &asked)
-            }
-            _ => self.held_up(by, event),
-        }
+        self.tables.stays_parked(&self.log, by)
     }
 
     // Gives up an access that waits by this line.

@@ -1,5 +1,5 @@
-use Rattle.std.proofs.Common.{true, option_copied, refl, sym, ap, ◌∙◌}
-use Rattle.interleavings.proofs.Calls.{free_unless_access, free_where_none_waits, if_retried, kept_out_attempt, waits_unless_free}
+use Rattle.std.proofs.Common.{option_copied, sym, ap, ◌∙◌}
+use Rattle.interleavings.proofs.Calls.{free_unless_access, free_where_none_waits, if_retried, waits_unless_free}
 use Rattle.interleavings.proofs.attempt.attempt.Goals as goal
 
 pub attempt_free-requires : goal.attempt_free-requires
@@ -13,16 +13,9 @@ attempt_free-requires-in_default g c = record {
       free_unless_access c.args.manager.now.history c.args.by c.args.event.now (sym c.accessor.ensures ∙ ap option_copied c.in_default.is) c.requires.next;
 }
 
-pub returns-then-stays_held_up-clause-ok : goal.returns-then-stays_held_up-clause-ok
-returns-then-stays_held_up-clause-ok g c =
-    rw c.stays_held_up.ensures.same
-    (kept_out_attempt g.S.TopStore c.args.manager.now c.args.by c.args.event.now c.stays_held_up.result c.stays_held_up.ensures.out c.if-stays_held_up.true)
-
 pub returns-else-free-clause-ok : goal.returns-else-free-clause-ok
 returns-else-free-clause-ok g c =
     let m = c.args.manager.now in
-    let free = rw c.stays_held_up.ensures.same at c.free.ensures in
-    let retried = rw c.stays_held_up.ensures.same at c.retry.ensures.ok in
     if_retried g.S.TopStore m c.retry.new.self c.args.by c.args.event.now c.in-Some.name.now (sym c.in-Some.ensures)
-    (waits_unless_free m.history c.args.by c.args.event.now c.free.result free c.if-free.false c.requires.next)
-    c.retry.result retried
+    (waits_unless_free m.history c.args.by c.args.event.now c.free.result c.free.ensures c.if-free.false c.requires.next)
+    c.retry.result c.retry.ensures.ok

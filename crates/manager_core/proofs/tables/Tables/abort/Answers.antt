@@ -17,10 +17,10 @@ returns-in-Ok-clause-fewer c =
     (λ none n below waits. c.drop_under.ensures.fewer n (below_named m.tree _ c.args.name.now c.number_of-txn.result c.in-Ok.ensures.names c.number_of-txn.ensures.number n ∙ below) waits)
 
 pub invariant_of-self : goal.invariant_of-self
-invariant_of-self c = seen_none _ _ _ c.clear.ensures
+invariant_of-self c = seen_none _ _ _ _ c.clear.ensures
 
 pub invariant_of-self-in-Ok : goal.invariant_of-self-in-Ok
-invariant_of-self-in-Ok c = seen_none _ _ _ c.clear.ensures
+invariant_of-self-in-Ok c = seen_none _ _ _ _ c.clear.ensures
 
 pub invariant_of-self-in-Err : goal.invariant_of-self-in-Err
-invariant_of-self-in-Err c = seen_none _ _ _ c.clear.ensures
+invariant_of-self-in-Err c = seen_none _ _ _ _ c.clear.ensures

@@ -4,7 +4,7 @@ use Rattle.serial_spec.specs.Locks.{mode_of}
 use Rattle.serial_spec.specs.Targets.{kind_of, target}
 use Rattle.manager_core.proofs.Reaching.{comes_done, kept_by_lock, left_by_name, modes_by_name}
 use Rattle.manager_core.specs.Tables.{Tabled, HasOtherRoom}
-use Rattle.manager_core.proofs.Looked.{may_same, seen_more, seen_raised, seen_same}
+use Rattle.manager_core.proofs.Looked.{may_same, seen_raised, seen_same}
 use Rattle.manager_core.proofs.tables.Tables.access.Goals as goal
 
 pub grant-reply-requires-clause-may : goal.grant-reply-requires-clause-may
@@ -55,20 +55,11 @@ returns-in_ok-reserve_asked-in-Ok-clause-reaches c =
 pub invariant_of-self : goal.invariant_of-self
 invariant_of-self c =
     let m = c.self.inside in
-    let asked = c.args.request.now in
-    let locks = rw (← c.self.view_is) at c.may.ensures.locks in
-    let number = rw (← c.self.view_is) at c.in-Ok.ensures.number in
-    seen_more m.tree m.estate.locks m.looks c.put.new.self c.in-Ok.txn asked.asked c.put.ensures asked.name number
-    (λ may. true≢false (sym (locks.1 may) ∙ c.if-not-may.true)) c.self.invariant
-
-pub invariant_of-self-in_err-reserve_asked-in-Ok : goal.invariant_of-self-in_err-reserve_asked-in-Ok
-invariant_of-self-in_err-reserve_asked-in-Ok c =
-    let m = c.self.inside in
-    seen_same m.tree m.estate.locks c.reserve_asked.new.self.locks c.reserve_asked.ensures.same.modes m.looks c.self.invariant
+    seen_same m.tree m.waits.waits m.looks m.estate.locks c.reserve_asked.new.self.locks c.reserve_asked.ensures.same.modes c.self.invariant
 
 pub invariant_of-self-in-Ok : goal.invariant_of-self-in-Ok
 invariant_of-self-in-Ok c =
     let m = c.self.inside in
     let asked = c.args.request.now.asked in
-    let roomy = seen_same m.tree m.estate.locks c.reserve_asked.new.self.locks c.reserve_asked.ensures.same.modes m.looks c.self.invariant in
-    seen_raised m.tree c.reserve_asked.new.self.locks c.grant-reply.new.self.locks c.in-Ok.txn (target asked) (mode_of (kind_of asked)) c.grant-reply.ensures.accessed.modes m.looks roomy
+    let roomy = seen_same m.tree m.waits.waits m.looks m.estate.locks c.reserve_asked.new.self.locks c.reserve_asked.ensures.same.modes c.self.invariant in
+    seen_raised m.tree m.waits.waits m.looks c.reserve_asked.new.self.locks c.grant-reply.new.self.locks c.in-Ok.txn (target asked) (mode_of (kind_of asked)) c.grant-reply.ensures.accessed.modes roomy

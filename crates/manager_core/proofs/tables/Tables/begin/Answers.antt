@@ -11,7 +11,7 @@ pub invariant_of-self : goal.invariant_of-self
 invariant_of-self c =
     let m = c.self.inside in
     elim c.match-begin.branch [
-      | in-Ok w ↦ seen_begun m.tree c.begin.new.self c.args.name.now m.estate.locks (ap (λ (s : States). names s) w.in-Ok.ensures.last ∙ map-append (λ (x : Path × Status). x.0) m.tree _) m.looks c.self.invariant
+      | in-Ok w ↦ seen_begun m.tree c.begin.new.self c.args.name.now m.estate.locks m.waits.waits m.looks (ap (λ (s : States). names s) w.in-Ok.ensures.last ∙ map-append (λ (x : Path × Status). x.0) m.tree _) c.self.invariant
       | in-Err-Refused w ↦ rw (rw w.in-Err-Refused.is at c.begin.ensures.err) c.self.invariant
       | in-Err-NoMemory w ↦ rw (rw w.in-Err-NoMemory.is at c.begin.ensures.err) c.self.invariant
     ]

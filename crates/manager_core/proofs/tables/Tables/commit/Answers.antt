@@ -15,7 +15,7 @@ returns-in-Some c =
     })
 
 pub invariant_of-self : goal.invariant_of-self
-invariant_of-self c = seen_none _ _ _ c.clear.ensures
+invariant_of-self c = seen_none _ _ _ _ c.clear.ensures
 
 pub invariant_of-self-in-None : goal.invariant_of-self-in-None
-invariant_of-self-in-None c = seen_none _ _ _ c.clear.ensures
+invariant_of-self-in-None c = seen_none _ _ _ _ c.clear.ensures
