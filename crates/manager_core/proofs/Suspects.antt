@@ -20,14 +20,11 @@ use Rattle.serial_spec.specs.Locks.{conflicts, is_blocker, reach}
 use Rattle.serial_spec.specs.Rows.{Rows}
 use Rattle.serial_spec.specs.Legal.{AreAllowed}
 use Rattle.serial_spec.specs.Waits.{Quiet, WaitInTurn, branch_of, number, wait_of as wait_by, waits_by, waits_for}
-use Rattle.txn_history.proofs.Theorems.{access_adds_at_key, quiet_stays, wait_adds_own, wait_closes_own}
+use Rattle.txn_history.proofs.Theorems.{access_adds_at_key, quiet_stays, wait_makes_own}
 use Rattle.wait_cycles.specs.Cycles.{is_member}
 use Rattle.wait_cycles.specs.Waiting.{AreOnce, wait_of}
 use Rattle.wait_cycles.proofs.Agreement.{numbered_cycle}
 use Rattle.wait_cycles.specs.declared.waits.Wait.{Wait}
-use Rattle.manager_core.specs.declared.outcome.Outcome.{Outcome}
-use Rattle.manager_core.specs.declared.outcome.Outcome.TheVariants as made
-use Rattle.manager_core.specs.Outcomes.{answer_of}
 use Rattle.manager_core.specs.Kept.{AreTablesOf}
 use Rattle.wait_graph.specs.Edges.{ByLocks, Keeps, is_beside, is_beside_it, is_in_branch, edges_among, waits_by_way_of}
 use Rattle.wait_graph.specs.Walks.{IsOnNoCycle}
@@ -36,11 +33,12 @@ use Rattle.manager_core.specs.Tables.{Tabled}
 use Rattle.manager_core.specs.Victims.{StaysQuiet}
 use Rattle.manager_core.proofs.Branches.{in_branch}
 use Rattle.manager_core.proofs.KeptOut.{no_wait_at}
-use Rattle.manager_core.proofs.Lasting.{is_open}
 use Rattle.manager_core.proofs.Events.{accesses_own, done_at, refused_adds_none, same_asked}
 use Rattle.manager_core.proofs.Locks.{keeps_as, keeps_by, name_at, present, tells}
 use Rattle.wait_graph.proofs.Passing.{any_got}
 use Rattle.manager_core.proofs.Pairing.{are_waits, tell_waits}
+use Rattle.manager_core.proofs.Victims.{in_turn_acts}
+use Rattle.txn_history.specs.Laws.{QuietBut}
 
 -- ---- who waits, by place and by name
 
@@ -108,12 +106,9 @@ module _ (rows : Rows) (h : History) (tables : Tabled) (are : AreTablesOf rows h
   absent_keeps_nobody_out : (u v : Name) (a : Asked) → (is_blocker h u a t && is_front (branch_of u t) v) ≡ false
   absent_keeps_nobody_out u v a = false_from_ne_true _ (λ f. idle (and_parts (is_active h t) _ (and_parts (is_blocker h u a t) (is_front (branch_of u t) v) f).0).0)
 
-  absent_waits_not : (u : Name) → waits_for h t u ≡ false
-  absent_waits_not u = by (wait_by h t) refl
-    where
-      by : (o : Option Entry) → wait_by h t ≡ o → waits_by h t u o (wait_by h u) ≡ false
-      by None is = refl
-      by (Some x) is = absurd (idle (is_open h t x is).acts)
+  -- nor does any cycle go through it
+  pub quiet_but_absent : QuietBut t h → Quiet h
+  quiet_but_absent but u on = idle (in_turn_acts h t u on.0 u on.2 (but u on))
 
 -- where nobody waits no cycle stands
 module _ (rows : Rows) (h : History) (tables : Tabled) (nobody : length tables.waits.waits ≡ 0) (allowed : AreAllowed rows h) (are : AreTablesOf rows h tables) where
@@ -142,20 +137,32 @@ numbered_member h t (u ∷ ts) e =
       | inr later ↦ or_right (nat_eq (number h t) (number h u)) (is_member (number h t) (map (number h) ts)) (numbered_member h t ts later)
     ]
 
+-- where each cycle goes through t, and by numbers none does, none stands
+pub quiet_but_on_none : (rows : Rows) (h : History) (tables : Tabled) → AreTablesOf rows h tables → AreAllowed rows h → AreOnce tables.waits → IsDistinct path_eq (names tables.tree)
+    → (t : Name) (n : ℕ) → IsNumberOf tables.tree t n
+    → ByLocks tables.tree tables.estate.locks (λ keeps. IsOnNoCycle (edges_among tables.tree keeps tables.waits.waits) n) → QuietBut t h → Quiet h
+quiet_but_on_none rows h tables are allowed once distinct t n at_n none but u on =
+    let keeps : Keeps = keeps_by h tables.tree in
+    let told = are_waits rows h tables are allowed distinct once in
+    let same : number h t ≡ n = told.numbered n t (name_at tables.tree t n at_n) in
+    none keeps (tells rows h tables are) (number h u ∷ map (number h) on.0)
+    (numbered_cycle h (names tables.tree) (edges_among tables.tree keeps tables.waits.waits) told u on)
+    (subst (λ (m : ℕ). is_member m (number h u ∷ map (number h) on.0) ≡ true) same (numbered_member h t (u ∷ on.0) (but u on)))
+
 -- ---- an entry of an access
 
 module _ (rows : Rows) (h : History) (tables : Tabled) (by : By) (t : Name) (asked : Asked) where
   pub quiet_if_refused : (r : Refusal) → StaysQuiet rows (entry by (event_of t asked) (Refused r)) h tables
   quiet_if_refused r allowed are q = quiet_stays rows (entry by (event_of t asked) (Refused r)) h allowed (refused_adds_none t asked r) q
 
-  pub quiet_if_absent : (outcome : Outcome) → is_absent_in tables.tree t ≡ true → StaysQuiet rows (entry by (event_of t asked) (answer_of outcome)) h tables
-  quiet_if_absent (made.Done r) absent allowed are q =
+  -- each cycle that one that began to wait has closed goes through it
+  pub own_if_it_waits : AreAllowed rows (entry by (event_of t asked) Waits ∷ h) → Quiet h → QuietBut t (entry by (event_of t asked) Waits ∷ h)
+  own_if_it_waits allowed q = wait_makes_own rows (entry by (event_of t asked) Waits) h allowed t (accesses_own t asked) refl q
+
+  pub quiet_if_absent : (r : Reply) → is_absent_in tables.tree t ≡ true → StaysQuiet rows (entry by (event_of t asked) (Done r)) h tables
+  quiet_if_absent r absent allowed are q =
       let e : Entry = entry by (event_of t asked) (Done r) in
       access_adds_at_key rows e h allowed t asked r (done_at t asked r) (λ u v b x y waits event met second. absent_keeps_nobody_out rows (e ∷ h) tables are t absent u v b) q
-  quiet_if_absent made.Waits absent allowed are q =
-      let e : Entry = entry by (event_of t asked) Waits in
-      wait_adds_own rows e h allowed t (accesses_own t asked) refl (absent_waits_not rows (e ∷ h) tables are t absent) q
-  quiet_if_absent (made.Refused r) absent allowed are q = quiet_if_refused r allowed are q
 
   pub quiet_if_it_is_in_nobodys_way : (r : Reply) (n : ℕ) → AreOnce tables.waits → IsNumberOf tables.tree t n
       → ByLocks tables.tree tables.estate.locks (λ keeps. list_any (waits_by_way_of tables.tree keeps tables.waits.waits n (target asked)) tables.waits.waits ≡ false)
@@ -165,19 +172,3 @@ module _ (rows : Rows) (h : History) (tables : Tabled) (by : By) (t : Name) (ask
       let at = name_at tables.tree t n number in
       let nobody = none (keeps_by (e ∷ h) tables.tree) (tells rows (e ∷ h) tables are) in
       access_adds_at_key rows e h allowed t asked r (done_at t asked r) (keeps_nobody_out rows (e ∷ h) tables are allowed once t n at (target asked) nobody) q
-
-  -- no cycle goes through it
-  pub quiet_if_on_no_cycle : (n : ℕ) → AreOnce tables.waits → IsDistinct path_eq (names tables.tree) → IsNumberOf tables.tree t n
-      → ByLocks tables.tree tables.estate.locks (λ keeps. IsOnNoCycle (edges_among tables.tree keeps tables.waits.waits) n)
-      → StaysQuiet rows (entry by (event_of t asked) Waits) h tables
-  quiet_if_on_no_cycle n once distinct at_n none allowed are q =
-      let e : Entry = entry by (event_of t asked) Waits in
-      let keeps : Keeps = keeps_by (e ∷ h) tables.tree in
-      let told = are_waits rows (e ∷ h) tables are allowed distinct once in
-      let same : number (e ∷ h) t ≡ n = told.numbered n t (name_at tables.tree t n at_n) in
-      wait_closes_own rows e h allowed t (accesses_own t asked) refl
-      (λ u on through.
-      none keeps (tells rows (e ∷ h) tables are) (number (e ∷ h) u ∷ map (number (e ∷ h)) on.0)
-      (numbered_cycle (e ∷ h) (names tables.tree) (edges_among tables.tree keeps tables.waits.waits) told u on)
-      (subst (λ (m : ℕ). is_member m (number (e ∷ h) u ∷ map (number (e ∷ h)) on.0) ≡ true) same (numbered_member (e ∷ h) t (u ∷ on.0) through)))
-      q

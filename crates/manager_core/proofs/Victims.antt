@@ -1,8 +1,10 @@
 -- Victims are aborted until no cycle of waits is left.
-use Rattle.std.proofs.Common.{◌≡◌, ◌≤◌, ◌<◌, ◌*◌, ℕ, Bool, true, false, not, cond, ◌&&◌, List, [], ◌∷◌, length, filter, find, Option, Some, None, is_some, refl, sym, ap, subst, ◌∙◌, arith}
+use Rattle.std.proofs.Common.{◌≡◌, ◌≤◌, ◌<◌, ◌*◌, ℕ, Bool, true, false, not, cond, ◌&&◌, List, [], ◌∷◌, length, filter, find, Option, Some, None, is_some, inl, inr, refl, sym, ap, subst, ◌∙◌, arith}
 use Rattle.std.specs.Prelude.{slice_get, option_map}
-use Rattle.std.proofs.lemmas.Bool.{false≢true, not-true, true_from_ne_false, and_from, and_parts}
-use Rattle.txn_names.proofs.Names.{is_front_self}
+use Rattle.std.proofs.lemmas.Bool.{false≢true, not-true, true_from_ne_false, and_from, and_parts, or_cases}
+use Rattle.std.specs.List.{list_any}
+use Rattle.txn_names.specs.Path.{path_eq}
+use Rattle.txn_names.proofs.Names.{is_front_self, same_path}
 use Rattle.txn_tree.specs.States.{States, names}
 use Rattle.txn_tree.specs.Causes as tree
 use Rattle.serial_spec.specs.declared.entry.By.{By}
@@ -56,6 +58,19 @@ victim_waits h t v = ∥∥₁_elim v.0 (Bool-set (is_some (wait_of h t)) true) 
 some_if : (b : Bool) (x : Option Entry) → is_some (cond b x None) ≡ true → b ≡ true
 some_if true x e = refl
 some_if false x e = absurd (false≢true e)
+
+-- whoever is in a row of waits acts
+pub in_turn_acts : (h : History) (t u : Name) (xs : List Name) (v : Name) → WaitInTurn h u xs v → list_any (path_eq t) (u ∷ xs) ≡ true → is_active h t ≡ true
+in_turn_acts h t u [] v turn here =
+    elim (or_cases (path_eq t u) false here) [
+      | inl first ↦ ap (is_active h) (same_path t u first) ∙ some_if (is_active h u) _ (on_cycle_waits h u v [] turn)
+      | inr later ↦ absurd (false≢true later)
+    ]
+in_turn_acts h t u (x ∷ xs) v turn here =
+    elim (or_cases (path_eq t u) (list_any (path_eq t) (x ∷ xs)) here) [
+      | inl first ↦ ap (is_active h) (same_path t u first) ∙ some_if (is_active h u) _ (on_cycle_waits h u v (x ∷ xs) turn)
+      | inr later ↦ in_turn_acts h t x xs v turn.1 later
+    ]
 
 victim_acts : (h : History) (t : Name) → IsVictim h t → is_active h t ≡ true
 victim_acts h t v = some_if (is_active h t) _ (victim_waits h t v)

@@ -1,8 +1,9 @@
 //! Cycles of waits are broken: the last begun on any is aborted, until none is left.
-ghost use Rattle.std.specs.Prelude.{◌≡◌, ◌≤◌, ◌<◌, ◌+◌, ◌*◌, ◌∷◌, length, IfNone, IfSome, OnOk};
+ghost use Rattle.std.specs.Prelude.{◌≡◌, ◌≤◌, ◌<◌, ◌+◌, ◌*◌, ◌∷◌, length, IfNone, IfSome, IsFalse, OnOk};
 ghost use Rattle.serial_spec.specs.Interleaving.{victim};
 ghost use Rattle.serial_spec.specs.Legal.{AreAllowed};
 ghost use Rattle.serial_spec.specs.Waits.{IsVictim, Quiet};
+ghost use Rattle.txn_history.specs.Laws.{QuietBut};
 ghost use Rattle.manager_core.specs.Kept.{AreTablesOf};
 ghost use Rattle.manager_core.specs.Tables.{HasOtherRoom, rows_in};
 ghost use Rattle.manager_core.specs.Victims.{Breaks};
@@ -64,6 +65,48 @@ pub(crate) fn break_cycles(log: &mut Log, tables: &mut Tables, breaker: &mut Cyc
 {
     while let Some(name) = next_victim(log, tables, breaker) {
         abort_victim(log, tables, &name);
+    }
+}
+
+// Whether the walk from the transaction to those for whom it waits, and on from each of them, comes back to it. There is room for it.
+fn may_lie_on_cycle(_log: &Log, tables: &Tables, breaker: &mut CycleSearch, name: &Name) -> bool
+    requires allowed { AreAllowed _log.now.rows _log.now.entries }
+    requires are { AreTablesOf _log.now.rows _log.now.entries tables.now }
+    requires room { length tables.now.waits.waits * length tables.now.waits.waits ≤ breaker.old }
+    ensures none { IsFalse result → QuietBut name.now _log.now.entries → Quiet _log.now.entries }
+    ensures room { breaker.old ≤ breaker.new }
+{
+    let Some(txn) = tables.tree.no_of(name) else {
+        return false;
+    };
+    tables.tree.has_distinct_names();
+    tables.waits.has_each_once();
+    breaker.comes_back(&tables.tree, tables.estate.locks(), &tables.waits, txn)
+}
+
+/// As `break_cycles`, where each cycle goes through this transaction. So it is after each abort too, which only takes pairs away:
+/// none is left once the walk from it does not come back, and to see that takes no more pairs than are on the way.
+pub(crate) fn break_own_cycles(
+    log: &mut Log,
+    tables: &mut Tables,
+    breaker: &mut CycleSearch,
+    name: &Name,
+)
+    requires allowed { AreAllowed log.old.rows log.old.entries }
+    requires are { AreTablesOf log.old.rows log.old.entries tables.old }
+    requires own { QuietBut name.now log.old.entries }
+    requires room { length tables.old.waits.waits ≤ log.old.room }
+    requires marks_room { length tables.old.waits.waits ≤ tables.old.marks.room }
+    requires work_room { length tables.old.waits.waits * length tables.old.waits.waits ≤ breaker.old }
+    ensures rows { log.new.rows ≡ log.old.rows }
+    ensures breaks { Breaks log.old.rows log.old.entries log.new.entries tables.new }
+    ensures table { rows_in tables.new ≡ rows_in tables.old }
+{
+    while may_lie_on_cycle(log, tables, breaker, name) {
+        let Some(last) = next_victim(log, tables, breaker) else {
+            return;
+        };
+        abort_victim(log, tables, &last);
     }
 }
 

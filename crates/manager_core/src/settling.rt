@@ -3,7 +3,9 @@
 //! Each step looks for pairs of which the first waits for the second only where the step itself can have added one. All pairs
 //! together are as many as those that wait, squared, and most steps add none.
 ghost use Rattle.std.specs.Prelude.{◌≡◌, ◌≤◌, ◌+◌, ◌*◌, ◌∷◌, length, IsFalse};
+ghost use Rattle.serial_spec.specs.declared.entry.Answer.TheVariants.{Done};
 ghost use Rattle.serial_spec.specs.declared.entry.By.{By};
+ghost use Rattle.serial_spec.specs.declared.operation.Reply.{Reply};
 ghost use Rattle.serial_spec.specs.declared.target.Asked.{Asked};
 ghost use Rattle.serial_spec.specs.History.{History, event_of};
 ghost use Rattle.serial_spec.specs.Legal.{AreAllowed};
@@ -16,7 +18,7 @@ ghost use Rattle.manager_core.specs.Tables.{rows_in};
 ghost use Rattle.manager_core.specs.Victims.{Breaks, StaysQuiet};
 
 use crate::accessing::Request;
-use crate::breaking::break_cycles;
+use crate::breaking::{break_cycles, break_own_cycles};
 use crate::log::Log;
 use crate::outcome::Outcome;
 use crate::tables::Tables;
@@ -24,21 +26,12 @@ use serial_spec::{Asked, Event};
 use txn_names::Name;
 use wait_graph::{CycleSearch, any_edge_by_way_of};
 
-// Whether the access that was entered last may have closed a cycle of waits. One that began to wait adds pairs of its own
-// transaction alone, and no cycle stood before: so it closes none unless one goes through its transaction. One that was answered
-// adds pairs of those alone whom its lock keeps out of what has a key in common with it, and those that wait in its branch: so it
-// closes none unless there are both. One that was refused adds no pair, and where nobody waits no cycle stands. It takes no memory.
-fn may_close_cycle(
-    tables: &Tables,
-    breaker: &mut CycleSearch,
-    name: &Name,
-    asked: &Asked,
-    outcome: &Outcome,
-) -> bool
-    requires { length tables.now.waits.waits * length tables.now.waits.waits ≤ breaker.old }
-    ensures quiet { IsFalse result → (rows : Rows) (h : History) (by : By) →
-        StaysQuiet rows (entry by (event_of name.now asked.now) (answer_of outcome.now)) h tables.now }
-    ensures room { breaker.old ≤ breaker.new }
+// Whether the access that was answered last may have closed a cycle of waits. No cycle stood before, and it adds pairs of those
+// alone whom its lock keeps out of what has a key in common with it, and those that wait in its branch: so it closes none unless
+// there are both. Where nobody waits no cycle stands. It takes no memory.
+fn may_close_cycle(tables: &Tables, name: &Name, asked: &Asked) -> bool
+    ensures { IsFalse result → (rows : Rows) (h : History) (by : By) (reply : Reply) →
+        StaysQuiet rows (entry by (event_of name.now asked.now) (Done reply)) h tables.now }
 {
     if tables.waits.is_empty() {
         return false;
@@ -47,15 +40,7 @@ fn may_close_cycle(
         return false;
     };
     let (tree, locks, waits) = (&tables.tree, tables.estate.locks(), &tables.waits);
-    match outcome {
-        Outcome::Done(_) => any_edge_by_way_of(tree, locks, waits, txn, &asked.target()),
-        Outcome::Waits => {
-            tree.has_distinct_names();
-            waits.has_each_once();
-            breaker.comes_back(tree, locks, waits, txn)
-        }
-        Outcome::Refused(_) => false,
-    }
+    any_edge_by_way_of(tree, locks, waits, txn, &asked.target())
 }
 
 // The event of a line that asks this of the transaction.
@@ -90,7 +75,15 @@ pub(crate) fn settle(
 {
     let Request { by, name, asked } = request;
     log.add(*by, event_of(name, asked), outcome);
-    if may_close_cycle(tables, breaker, name, asked, outcome) {
-        break_cycles(log, tables, breaker);
+    match outcome {
+        // One that began to wait adds pairs of its own transaction alone, so that each cycle goes through it.
+        Outcome::Waits => break_own_cycles(log, tables, breaker, name),
+        Outcome::Done(_) => {
+            if may_close_cycle(tables, name, asked) {
+                break_cycles(log, tables, breaker);
+            }
+        }
+        // One that was refused adds no pair.
+        Outcome::Refused(_) => {}
     }
 }

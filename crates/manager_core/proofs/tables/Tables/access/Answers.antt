@@ -1,5 +1,4 @@
-use Rattle.std.proofs.Common.{refl, sym, ◌∙◌}
-use Rattle.std.proofs.lemmas.Bool.{true≢false}
+use Rattle.std.proofs.Common.{refl, ◌∙◌}
 use Rattle.serial_spec.specs.Locks.{mode_of}
 use Rattle.serial_spec.specs.Targets.{kind_of, target}
 use Rattle.manager_core.proofs.Reaching.{comes_done, kept_by_lock, left_by_name, modes_by_name}

@@ -1,6 +1,5 @@
-use Rattle.std.proofs.Common.{ap, sym, ◌∙◌}
+use Rattle.std.proofs.Common.{sym, ◌∙◌}
 use Rattle.std.proofs.lemmas.Bool.{not-true}
-use Rattle.wait_cycles.specs.declared.waits.Wait.{Wait}
 use Rattle.manager_core.specs.Tables.{Tabled}
 use Rattle.manager_core.proofs.KeptOut.{parked_as}
 use Rattle.manager_core.proofs.tables.Tables.is_parked.Goals as goal
