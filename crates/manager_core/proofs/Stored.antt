@@ -3,7 +3,9 @@ use Rattle.std.proofs.Common.{◌≡◌, ℕ, true, cond, List, [], ◌∷◌, l
 use Rattle.txn_names.specs.declared.change.Change.{Change}
 use Rattle.txn_tree.specs.Asked.{IsNumberOf}
 use Rattle.lock_table.specs.Inherited.{free, whole}
+use mathlib.Core.Path.{fun_ext}
 use Rattle.version_stack.specs.Seen.{seen_in}
+use Rattle.version_stack.specs.Versioned.{base_after}
 use Rattle.inherit.specs.LocksAndVersions.{base_of, left_of, modes_of}
 use Rattle.inherit.specs.Changes.{AreChangesOf}
 use Rattle.serial_spec.specs.declared.entry.By.{By}
@@ -53,37 +55,41 @@ module _ (rows : Rows) (h : History) (old : Tabled) (allowed : AreAllowed rows h
       sees : (k : List ℕ) → seen_in old.tree old.estate.versions n k ≡ seen (value_in rows) h t k
       sees k = seen_as rows h old allowed are k t n acts number
 
-  module _ (new : Tabled) (commits : CommitsIn old new t n None) where
-    -- the table has what its value was, unless the transaction left one
-    base_is : (k : List ℕ) → value_in (rows_in new) k ≡ value_or (left_at k h t) (stored (value_in rows) h k)
-    base_is k =
-        commits.up.base k
-        ∙ ap (λ o. value_or o (base_of old.estate k)) (left_is k)
-        ∙ ap (value_or (left_at k h t)) (are.current k)
+  -- a value that the transaction left comes in place of the table's
+  due_is : (k : List ℕ) → base_after old.estate.versions n None k ≡ value_or (left_at k h t) (stored (value_in rows) h k)
+  due_is k =
+      ap (λ o. value_or o (base_of old.estate k)) (left_is k)
+      ∙ ap (value_or (left_at k h t)) (are.current k)
 
+  -- which is the table with the changes made
+  pub due_overlays : IsLine by → length t ≡ 1 → (cs : List Change) → IsChanges (value_in rows) h t cs
+      → (k : List ℕ) → base_after old.estate.versions n None k ≡ overlay cs (base_of old.estate) k
+  due_overlays line top cs told k = each t top refl
+    where
+      was : value_in (rows_in old) ≡ stored (value_in rows) h
+      was = λ i q. are.current q i
+
+      each : (u : Name) → length u ≡ 1 → u ≡ t → base_after old.estate.versions n None k ≡ overlay cs (value_in (rows_in old)) k
+      each [] one is = absurd (omega (arith, one))
+      each (l ∷ m ∷ ls) one is = absurd (omega (arith, one))
+      each (l ∷ []) one is =
+          let e : Entry = entry by (Commit (l ∷ [])) (Done Ok) in
+          let cause = rw (sym is) at none in
+          let next = allowed_next rows h by (Commit (l ∷ [])) (Done Ok) allowed line (commit_allowed rows h by (l ∷ []) None cause) in
+          due_is k
+          ∙ ap (λ (v : Name). value_or (left_at k h v) (stored (value_in rows) h k)) (sym is)
+          ∙ ap (value_or (left_at k h (l ∷ []))) (value_stored rows h allowed k)
+          ∙ sym (seen_by_parent (value_in rows) h l [] k)
+          ∙ sym (seen_after_commit (value_in rows) e h l [] k refl)
+          ∙ sym (value_stored rows (e ∷ h) next k)
+          ∙ changes_made rows e h next l refl cs (rw (sym is) at told) k
+          ∙ ap (λ (m : Map). overlay cs m k) (sym was)
+
+  module _ (new : Tabled) (commits : CommitsIn old new t n None) where
     -- so the changes have been made in it
     pub table_overlays : IsLine by → length t ≡ 1 → (cs : List Change) → IsChanges (value_in rows) h t cs
         → value_in (rows_in new) ≡ overlay cs (value_in (rows_in old))
-    table_overlays line top cs told = λ i k. each t top refl k i
-      where
-        was : value_in (rows_in old) ≡ stored (value_in rows) h
-        was = λ i k. are.current k i
-
-        each : (u : Name) → length u ≡ 1 → u ≡ t → (k : List ℕ) → value_in (rows_in new) k ≡ overlay cs (value_in (rows_in old)) k
-        each [] one is k = absurd (omega (arith, one))
-        each (l ∷ m ∷ ls) one is k = absurd (omega (arith, one))
-        each (l ∷ []) one is k =
-            let e : Entry = entry by (Commit (l ∷ [])) (Done Ok) in
-            let cause = rw (sym is) at none in
-            let next = allowed_next rows h by (Commit (l ∷ [])) (Done Ok) allowed line (commit_allowed rows h by (l ∷ []) None cause) in
-            base_is k
-            ∙ ap (λ (v : Name). value_or (left_at k h v) (stored (value_in rows) h k)) (sym is)
-            ∙ ap (value_or (left_at k h (l ∷ []))) (value_stored rows h allowed k)
-            ∙ sym (seen_by_parent (value_in rows) h l [] k)
-            ∙ sym (seen_after_commit (value_in rows) e h l [] k refl)
-            ∙ sym (value_stored rows (e ∷ h) next k)
-            ∙ changes_made rows e h next l refl cs (rw (sym is) at told) k
-            ∙ ap (λ (m : Map). overlay cs m k) (sym was)
+    table_overlays line top cs told = fun_ext (λ k. commits.up.base k ∙ due_overlays line top cs told k)
 
     -- where no change was made the table is the same
     pub table_unchanged : (cs : List Change) → value_in (rows_in new) ≡ overlay cs (value_in (rows_in old)) → cs ≡ [] → rows_in new ≡ rows_in old

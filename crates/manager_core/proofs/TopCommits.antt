@@ -4,6 +4,8 @@ use Rattle.std.proofs.lemmas.Bool.{true≢false}
 use Rattle.txn_names.specs.declared.change.Change.{Change}
 use Rattle.txn_tree.specs.States.{States}
 use Rattle.txn_tree.specs.Asked.{IsNumberOf, IsRootless}
+use Rattle.version_stack.specs.Versioned.{base_after}
+use Rattle.inherit.specs.LocksAndVersions.{base_of}
 use Rattle.inherit.specs.Changes.{AreChangesOf}
 use Rattle.serial_spec.specs.declared.entry.By.{By}
 use Rattle.serial_spec.specs.declared.operation.Reply.TheVariants.{Ok}
@@ -26,7 +28,7 @@ use Rattle.manager_core.specs.Calls.{Committed}
 use Rattle.manager_core.proofs.Answers.{commit_allowed}
 use Rattle.manager_core.proofs.Commits.{asked, unasked, some_due, kept_top, kept_unstored}
 use Rattle.manager_core.proofs.Kept.{kept_roomy}
-use Rattle.manager_core.proofs.Stored.{are_changes, table_overlays, table_unchanged}
+use Rattle.manager_core.proofs.Stored.{are_changes, due_overlays, table_overlays, table_unchanged}
 
 first_true : (b : Bool) → b && true ≡ true → b ≡ true
 first_true true e = refl
@@ -38,7 +40,7 @@ first_false false e = refl
 
 module _ {S : Type 0} (g : Ghosts S) (rows : Rows) (h : History) (old mid : Tabled) (opened : AtOpening) (before : S) (kept : IsKept g rows h old opened before)
     (same : HasOtherRoom old mid) (by : By) (t : Name) (free : IsFree h by (Commit t)) (none : None ≡ cause_at_commit h by t) (top : length t ≡ 1)
-    (n : ℕ) (number : IsNumberOf old.tree t n) (rootless : IsRootless old.tree) (changes : List Change) (told : AreChangesOf mid.tree mid.estate n changes) where
+    (n : ℕ) (number : IsNumberOf old.tree t n) (rootless : IsRootless old.tree) (changes : List Change) (told : AreChangesOf old.tree old.estate n changes) where
   roomy : IsKept g rows h mid opened before
   roomy = kept_roomy g rows h old mid opened before kept same
 
@@ -46,7 +48,11 @@ module _ {S : Type 0} (g : Ghosts S) (rows : Rows) (h : History) (old mid : Tabl
   number_mid = subst (λ (s : States). IsNumberOf s t n) (sym same.tree) number
 
   are : IsChanges (value_in rows) h t changes
-  are = are_changes rows h mid roomy.allowed roomy.are t n number_mid by none changes told
+  are = are_changes rows h old kept.allowed kept.are t n number by none changes told
+
+  -- they come to what the transaction left
+  pub due : (k : List ℕ) → base_after mid.estate.versions n None k ≡ overlay changes (base_of mid.estate) k
+  due = due_overlays rows h mid roomy.allowed roomy.are t n number_mid by none free.line top changes are
 
   module _ (new : Tabled) (after : S) (commits : CommitsIn mid new t n None) (later : IsLater g before after) where
     overlays : value_in (rows_in new) ≡ overlay changes (value_in (rows_in mid))

@@ -7,18 +7,18 @@ use durable_top::TopStore;
 use txn_names::Change;
 
 /// Whether the store took the changes. It is not asked where there are none.
-pub(crate) fn are_taken<S: TopStore>(store: &mut S, changes: Vec<Change>) -> bool
-    requires { AreRising changes.items }
-    ensures took { IsTrue result → Takes S.TopStore store.old store.new changes.items }
-    ensures refused { IsFalse result → Refuses S.TopStore store.old store.new × (changes.items ≢ []) }
-    ensures asked { changes.items ≢ [] → IsAsked S.TopStore store.old store.new changes.items result }
-    ensures unasked { changes.items ≡ [] → store.new ≡ store.old }
+pub(crate) fn are_taken<S: TopStore>(store: &mut S, changes: &[Change]) -> bool
+    requires { AreRising changes.now }
+    ensures took { IsTrue result → Takes S.TopStore store.old store.new changes.now }
+    ensures refused { IsFalse result → Refuses S.TopStore store.old store.new × (changes.now ≢ []) }
+    ensures asked { changes.now ≢ [] → IsAsked S.TopStore store.old store.new changes.now result }
+    ensures unasked { changes.now ≡ [] → store.new ≡ store.old }
     ensures later { IsLater S.TopStore store.old store.new }
 {
     if changes.is_empty() {
         return true;
     }
-    match store.commit(&changes) {
+    match store.commit(changes) {
         Ok(()) => true,
         Err(_) => false,
     }

@@ -194,8 +194,8 @@ impl<S: TopStore> Manager<S> {
         };
         self.log.reserve(1)?;
         let parent = self.tables.parent_number(name, txn);
-        self.tables.reserve_commit(txn, Some(parent))?;
-        self.tables.commit(txn, Some(parent));
+        self.tables.reserve_commit(txn, parent)?;
+        self.tables.commit_child(txn, parent);
         let outcome = Outcome::Done(Reply::Ok);
         self.log.add(by, Event::Commit(*name), &outcome);
         Ok(outcome)
@@ -215,10 +215,10 @@ impl<S: TopStore> Manager<S> {
             Err(refusal) => return self.refuse_commit(by, name, refusal),
         };
         self.log.reserve(1)?;
-        self.tables.reserve_commit(txn, None)?;
         let changes = self.tables.changes(txn)?;
-        if are_taken(&mut self.store, changes) {
-            self.tables.commit(txn, None);
+        self.tables.reserve_changes(changes.len())?;
+        if are_taken(&mut self.store, &changes) {
+            self.tables.commit_top(txn, &changes);
             let outcome = Outcome::Done(Reply::Ok);
             self.log.add(by, Event::Commit(*name), &outcome);
             Ok(outcome)

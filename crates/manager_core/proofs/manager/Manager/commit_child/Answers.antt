@@ -15,8 +15,8 @@ invariant_of-self-in_err-reserve_commit g c =
     rw (c.reserve.ensures.rows, c.reserve.ensures.entries)
     (settled_roomy g.S.TopStore m.log.rows m.log.entries m.tables m.opened m.store c.self.invariant _ c.reserve_commit.ensures.same)
 
-pub commit-requires-clause-active : goal.commit-requires-clause-active
-commit-requires-clause-active g c =
+pub commit_child-requires-clause-active : goal.commit_child-requires-clause-active
+commit_child-requires-clause-active g c =
     let m = c.self.inside in
     let t = c.args.name.now in
     let none = c.in-Ok.ensures.cause in
@@ -24,8 +24,8 @@ commit-requires-clause-active g c =
     let number = subst (λ (s : States). IsNumberOf s t c.in-Ok.txn) (sym c.reserve_commit.ensures.same.tree) c.in-Ok.ensures.number in
     (commits_at m.log.rows m.log.entries c.reserve_commit.new.self.tree c.args.by t _ roomy.kept.allowed roomy.kept.are.in_tree number none).0
 
-pub commit-requires-clause-children : goal.commit-requires-clause-children
-commit-requires-clause-children g c =
+pub commit_child-requires-clause-children : goal.commit_child-requires-clause-children
+commit_child-requires-clause-children g c =
     let m = c.self.inside in
     let t = c.args.name.now in
     let none = c.in-Ok.ensures.cause in
@@ -46,7 +46,7 @@ invariant_of-self-2 g c =
     rw (c.add.ensures.rows, c.add.ensures.entries, c.reserve.ensures.rows, c.reserve.ensures.entries)
     (settled_next g.S.TopStore m.log.rows m.log.entries c.reserve_commit.new.self m.opened m.store roomy _ _ _ refl
     (kept_child g.S.TopStore m.log.rows m.log.entries c.reserve_commit.new.self _ m.opened m.store roomy.kept c.args.by t free none
-    c.in-Ok.txn (Some c.parent_number-parent.result) c.requires.below number above (c.requires.below, above) (c.commit.ensures t (name_at _ t _ number))))
+    c.in-Ok.txn (Some c.parent_number-parent.result) c.requires.below number above (c.requires.below, above) (c.commit_child.ensures t (name_at _ t _ number))))
 
 pub returns-clause-sound : goal.returns-clause-sound
 returns-clause-sound g c = sound g.S.TopStore _ _ (invariant_of-self-2 g c) refl
@@ -59,7 +59,7 @@ returns-clause-ok g c =
     let same = c.reserve_commit.ensures.same in
     let number = subst (λ (s : States). IsNumberOf s t c.in-Ok.txn) (sym same.tree) c.in-Ok.ensures.number in
     let above = subst (λ (s : States). IsNumberOf s (parent t) c.parent_number-parent.result) (sym same.tree) c.parent_number-parent.ensures in
-    let table = goes_below c.reserve_commit.new.self _ t c.in-Ok.txn (Some c.parent_number-parent.result) (c.requires.below, above) c.requires.below (c.commit.ensures t (name_at _ t _ number)) ∙ same.estate.rows in
+    let table = goes_below c.reserve_commit.new.self _ t c.in-Ok.txn (Some c.parent_number-parent.result) (c.requires.below, above) c.requires.below (c.commit_child.ensures t (name_at _ t _ number)) ∙ same.estate.rows in
     rw (← c.self.view_is, c.add.ensures.rows, c.add.ensures.entries, c.reserve.ensures.rows, c.reserve.ensures.entries, table) record {
       allowed = commit_allowed m.log.rows m.log.entries c.args.by t None none;
       added = refl;
