@@ -13,20 +13,24 @@ use Rattle.inherit.proofs.Numbers.{one_number, no_number}
 
 module _ (tree : States) (a : LocksAndVersions) (t : Path) (child : ℕ) (number : IsNumberOf tree t child) where
   -- to a parent that has begun
-  pub ready_below : (p : ℕ) → IsNumberOf tree (parent t) p → MayGoUp a child p
-      → (n : ℕ) → IsNumberOf tree t n → (m : ℕ) → IsParent tree t (Some m) → MayGoUp a n m
-  ready_below p is may n too m of =
-      subst (λ (v : ℕ). MayGoUp a v m) (sym (one_number tree t child number n too))
-      (subst (λ (v : ℕ). MayGoUp a child v) (sym (one_number tree (parent t) p is m of.1)) may)
+  pub ready_below : (p : ℕ) → IsNumberOf tree (parent t) p → (length t ≡ 1 → ⊥) → MayGoUp a child (Some p)
+      → (n : ℕ) → IsNumberOf tree t n → (o : Option ℕ) → IsParent tree t o → MayGoUp a n o
+  ready_below p is below may n too None top = absurd (below top)
+  ready_below p is below may n too (Some m) of =
+      subst (λ (v : ℕ). MayGoUp a v (Some m)) (sym (one_number tree t child number n too))
+      (subst (λ (v : ℕ). MayGoUp a child (Some v)) (sym (one_number tree (parent t) p is m of.1)) may)
 
   -- no parent has begun
-  pub ready_nowhere : None ≡ position (path_eq (parent t)) (names tree)
-      → (n : ℕ) → IsNumberOf tree t n → (m : ℕ) → IsParent tree t (Some m) → MayGoUp a n m
-  ready_nowhere none n too m of = absurd (no_number tree (parent t) m of.1 none)
+  pub ready_nowhere : None ≡ position (path_eq (parent t)) (names tree) → (length t ≡ 1 → ⊥)
+      → (n : ℕ) → IsNumberOf tree t n → (o : Option ℕ) → IsParent tree t o → MayGoUp a n o
+  ready_nowhere none below n too None top = absurd (below top)
+  ready_nowhere none below n too (Some m) of = absurd (no_number tree (parent t) m of.1 none)
 
-  -- there is no parent but the root
-  pub ready_top : length t ≡ 1 → (n : ℕ) → IsNumberOf tree t n → (m : ℕ) → IsParent tree t (Some m) → MayGoUp a n m
-  ready_top top n too m of = absurd (omega (arith, top, of.0))
+  -- into the base
+  pub ready_top : length t ≡ 1 → MayGoUp a child None
+      → (n : ℕ) → IsNumberOf tree t n → (o : Option ℕ) → IsParent tree t o → MayGoUp a n o
+  ready_top top may n too None of = subst (λ (v : ℕ). MayGoUp a v None) (sym (one_number tree t child number n too)) may
+  ready_top top may n too (Some m) of = absurd (omega (arith, top, of.0))
 
 -- a place that has been made is there
 pub place_made : (old new : ℕ → List ℕ → Bool) (t : ℕ) (k : List ℕ) → ((u : ℕ) (q : List ℕ) → new u q ≡ with_place old t k u q) → new t k ≡ true

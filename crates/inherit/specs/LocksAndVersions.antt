@@ -46,11 +46,12 @@ MayLeave v t (Over g) = Unit {0}
 abbrev pub HasPlace : LocksAndVersions → ℕ → Asked → Type 0
 HasPlace a t asked = MayHoldAsked a.locks t asked × MayLeave a.versions t asked
 
--- whatever the child has goes up to its parent without memory
-abbrev pub MayGoUp : LocksAndVersions → ℕ → ℕ → Type 0
-MayGoUp a child p =
+-- whatever the child has goes up without memory: to its parent, or into the base where that is the root
+abbrev pub MayGoUp : LocksAndVersions → ℕ → Option ℕ → Type 0
+MayGoUp a child (Some p) =
     locks.MayGoUpTo a.locks child p
     × ((q : List ℕ) → IsTrue (versions.has_place a.versions child q) → IsTrue (versions.has_place a.versions p q))
+MayGoUp a child None = versions.FitsBase a.versions child
 
 -- p is the number of t's parent, and there is none where that is the root
 abbrev pub IsParent : States → Path → Option ℕ → Type 0
@@ -61,14 +62,23 @@ IsParent tree t (Some p) = (1 < length t) × IsNumberOf tree (parent t) p
 abbrev pub IsReadyToAsk : States → LocksAndVersions → Path → Asked → Type 0
 IsReadyToAsk tree a t asked = (n : ℕ) → IsNumberOf tree t n → HasPlace a n asked
 
--- the step of this event takes no memory, apart from what a commit puts into the table
+-- the step of this event takes no memory
 abbrev pub IsReady : States → LocksAndVersions → Event → Type 0
 IsReady tree a (Begin t) = Unit {0}
 IsReady tree a (Access t k o) = IsReadyToAsk tree a t (At k o)
 IsReady tree a (Sum t g) = IsReadyToAsk tree a t (Over g)
-IsReady tree a (Commit t) = (n : ℕ) → IsNumberOf tree t n → (p : ℕ) → IsParent tree t (Some p) → MayGoUp a n p
+IsReady tree a (Commit t) = (n : ℕ) → IsNumberOf tree t n → (p : Option ℕ) → IsParent tree t p → MayGoUp a n p
 IsReady tree a (Abort t) = Unit {0}
 IsReady tree a (After t x) = Unit {0}
+
+-- the step of this event has its room already, and none of it is in the table
+abbrev pub HasRoom : States → LocksAndVersions → Event → Type 0
+HasRoom tree a (Begin t) = Unit {0}
+HasRoom tree a (Access t k o) = IsReady tree a (Access t k o)
+HasRoom tree a (Sum t g) = IsReady tree a (Sum t g)
+HasRoom tree a (Commit t) = (length t ≡ 1 → ⊥) × IsReady tree a (Commit t)
+HasRoom tree a (Abort t) = Unit {0}
+HasRoom tree a (After t x) = Unit {0}
 
 -- the step of this event is an access that leaves no value anywhere
 abbrev pub IsRead : Event → Type 0

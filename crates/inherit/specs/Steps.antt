@@ -13,8 +13,6 @@ use Rattle.serial_spec.specs.Targets.{kind_of, target}
 use Rattle.serial_spec.specs.Locks.{mode_of}
 use Rattle.serial_spec.specs.Values.{leaves_at}
 use Rattle.serial_spec.specs.History.{or_else}
-use Rattle.serial_spec.specs.Changes.{overlay}
-use Rattle.txn_names.specs.declared.change.Change.{Change}
 use Rattle.inherit.specs.LocksAndVersions.{LocksAndVersions, free, modes_of, left_of, base_of, rows_of}
 
 -- what u left at q, where t left what it asked leaves by this reply, if it is something
@@ -40,14 +38,6 @@ pub record HasGoneUp (old new : LocksAndVersions) (child : ℕ) (parent : Option
   pub base : (q : List ℕ) → base_of new q ≡ versions.base_after old.versions child parent q
   -- where nothing of the table changes its rows are the same
   pub same : ((q : List ℕ) → versions.base_after old.versions child parent q ≡ base_of old q) → rows_of new ≡ rows_of old
-
--- the changes have been made in the table, and what t had is gone
-pub record HasGoneIn (old new : LocksAndVersions) (t : ℕ) (cs : List Change) : Type 0 where
-  pub modes : (u : ℕ) (s : Target) → modes_of new u s ≡ locks.handed_up_at old.locks t None u s
-  pub left : (u : ℕ) (q : List ℕ) → left_of new u q ≡ versions.handed_up old.versions t None u q
-  pub base : base_of new ≡ overlay cs (base_of old)
-  -- where no value of the table changes its rows are the same
-  pub same : overlay cs (base_of old) ≡ base_of old → rows_of new ≡ rows_of old
 
 -- what t and all below it had is gone
 pub record HasDropped (tree : States) (old new : LocksAndVersions) (t : ℕ) : Type 0 where

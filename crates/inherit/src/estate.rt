@@ -1,12 +1,13 @@
 //! The steps that touch locks and versions.
-ghost use Rattle.std.specs.Prelude.{◌≡◌, ◌≤◌, ℕ, List, length, None, Some, IsOk, OnOk};
+ghost use Rattle.std.specs.Prelude.{◌≡◌, ◌≤◌, ℕ, List, length, None, Some, IsOk, OnOk, IfSome};
 ghost use Rattle.txn_tree.specs.Asked.{IsNumberOf};
-ghost use Rattle.serial_spec.specs.Changes.{AreRising};
+ghost use Rattle.serial_spec.specs.Changes.{AreRising, overlay};
 ghost use Rattle.serial_spec.specs.declared.operation.Kind.TheVariants.{Read};
 ghost use Rattle.serial_spec.specs.declared.target.Target.{Target};
 ghost use Rattle.serial_spec.specs.Targets.{kind_of};
-ghost use Rattle.inherit.specs.LocksAndVersions.{IsRead, IsReady, IsReadyToAsk, IsSame, MayGoUp, free, left_of, modes_of};
-ghost use Rattle.inherit.specs.Steps.{HasDropped, HasGoneIn, HasGoneUp};
+ghost use Rattle.inherit.specs.LocksAndVersions.{HasRoom, IsRead, IsReady, IsReadyToAsk, IsSame, MayGoUp, base_of, free, left_of, modes_of};
+ghost use Rattle.inherit.specs.Steps.{HasDropped, HasGoneUp};
+ghost use Rattle.version_stack.specs.Versioned.{base_after};
 
 use lock_table::TargetLocks;
 use serial_spec::{Asked, Event, NoMemory, PlainTable};
@@ -17,7 +18,7 @@ use txn_tree::{Tree, TxnNo};
 use version_stack::Versions;
 
 /// What live transactions lock and what they left, over one table. Each step changes both atomically, and
-/// takes no memory after `reserve_for` of its event, or for a commit into the table `reserve_for_base`.
+/// takes no memory after `reserve_for` of its event.
 #[derive(Drop)]
 pub struct Estate {
     pub(crate) alloc: Global,
@@ -72,29 +73,42 @@ impl Estate {
         versions.into_base()
     }
 
-    /// Makes all growths of a commit into a parent that has begun beforehand, as `reserve_for` of its event does, by the numbers of
-    /// the two. The only error is that memory runs out.
-    pub fn reserve_for_parent(&mut self, child: TxnNo, parent: TxnNo) -> Result<(), NoMemory>
-        ensures succeeds { MayGoUp self.old child parent → IsOk result }
-        ensures ok { OnOk result (MayGoUp self.new child parent) }
+    // Makes room for what the child hands to a parent that has begun.
+    fn reserve_for_parent(&mut self, child: TxnNo, parent: TxnNo) -> Result<(), NoMemory>
+        ensures succeeds { MayGoUp self.old child (Some parent) → IsOk result }
+        ensures ok { OnOk result (MayGoUp self.new child (Some parent)) }
         ensures same { IsSame self.old self.new }
     {
         self.locks.reserve_for_parent(child, parent)?;
         self.versions.reserve_for_parent(child, parent)
     }
 
-    /// Makes all growths of a commit into the table beforehand: room for so many changes. The only error is that memory runs out.
-    pub fn reserve_for_base(&mut self, changes: usize) -> Result<(), NoMemory>
+    /// Makes all growths of a commit beforehand, as `reserve_for` of its event does: from the transaction's number to its
+    /// parent's, or into the table where it has none. The only error is that memory runs out.
+    pub fn reserve_hand_up(&mut self, child: TxnNo, parent: Option<TxnNo>) -> Result<(), NoMemory>
+        ensures succeeds { IfSome parent (λ p. MayGoUp self.old child (Some p) → IsOk result) }
+        ensures ok { OnOk result (MayGoUp self.new child parent) }
+        ensures same { IsSame self.old self.new }
+    {
+        match parent {
+            Some(parent) => self.reserve_for_parent(child, parent),
+            None => self.versions.reserve_for_base(child),
+        }
+    }
+
+    /// Makes room for so many changes of the table, which `commit_changes` then makes without memory. What is locked, left and seen
+    /// stays. The only error is that memory runs out.
+    pub fn reserve_changes(&mut self, changes: usize) -> Result<(), NoMemory>
         ensures ok { OnOk result (changes ≤ self.new.versions.base.room) }
         ensures same { IsSame self.old self.new }
     {
-        self.versions.reserve_for_base(changes)
+        self.versions.reserve_changes(changes)
     }
 
-    // Makes room for what a commit hands up to a parent.
+    // Makes room for what a commit hands up.
     fn reserve_commit(&mut self, tree: &Tree, child: TxnNo, name: &Name) -> Result<(), NoMemory>
         requires { IsNumberOf tree.now name.now child }
-        ensures succeeds { IsReady tree.now self.old (Event.Commit name.now) → IsOk result }
+        ensures succeeds { HasRoom tree.now self.old (Event.Commit name.now) → IsOk result }
         ensures ok { OnOk result (IsReady tree.now self.new (Event.Commit name.now)) }
         ensures same { IsSame self.old self.new }
     {
@@ -103,7 +117,7 @@ impl Estate {
                 Some(parent) => self.reserve_for_parent(child, parent),
                 None => Ok(()),
             },
-            None => Ok(()),
+            None => self.versions.reserve_for_base(child),
         }
     }
 
@@ -120,13 +134,13 @@ impl Estate {
         }
     }
 
-    /// Makes all growths of the event's step beforehand: an access's, a sum's or a commit's into a parent. A commit into the table
-    /// has its room from `reserve_for_base`. What is locked, left and seen stays. For a read or a sum no room is made among the
-    /// versions. Where the step has its room already it takes no memory. The only error is that memory runs out.
+    /// Makes all growths of the event's step beforehand: an access's, a sum's or a commit's. What is locked, left and seen stays.
+    /// For a read or a sum no room is made among the versions. Where the step has its room already, other than in the table, it
+    /// takes no memory. The only error is that memory runs out.
     pub fn reserve_for(&mut self, tree: &Tree, event: &Event) -> Result<(), NoMemory>
         ensures ok { OnOk result (IsReady tree.now self.new event.now) }
         ensures same { IsSame self.old self.new }
-        ensures succeeds { IsReady tree.now self.old event.now → IsOk result }
+        ensures succeeds { HasRoom tree.now self.old event.now → IsOk result }
         ensures read { IsRead event.now → self.new.versions ≡ self.old.versions }
     {
         match event {
@@ -142,22 +156,33 @@ impl Estate {
 
     /// Hands up what a committed child has: its parent retains its locks, and has what it left. It takes no memory.
     pub fn commit_child(&mut self, child: TxnNo, parent: TxnNo)
-        requires room { MayGoUp self.old child parent }
+        requires room { MayGoUp self.old child (Some parent) }
         ensures { HasGoneUp self.old self.new child (Some parent) }
     {
         self.locks.hand_up(child, Some(parent));
-        self.versions.hand_up(child, parent);
+        self.versions.hand_up(child, Some(parent));
     }
 
-    /// Lets the locks of a committed top-level transaction go, and makes its changes in the table, as `changes` tells them, in
-    /// place of what it left. It takes no memory.
-    pub fn commit_top(&mut self, txn: TxnNo, changes: &[Change])
-        requires rising { AreRising changes.now }
-        requires room { length changes.now ≤ self.old.versions.base.room }
-        ensures { HasGoneIn self.old self.new txn changes.now }
+    /// Lets the locks of a committed top-level transaction go, and puts what it left into the table. It takes no memory.
+    pub fn commit_top(&mut self, txn: TxnNo)
+        requires room { MayGoUp self.old txn None }
+        ensures { HasGoneUp self.old self.new txn None }
     {
         self.locks.hand_up(txn, None);
-        self.versions.put_in_base(txn, changes);
+        self.versions.hand_up(txn, None);
+    }
+
+    /// Does what `commit_top` does, by the changes that come to what the transaction left, as `changes` tells them: they are made
+    /// in the table in one pass, and not key by key. It takes no memory.
+    pub fn commit_changes(&mut self, txn: TxnNo, changes: &[Change])
+        requires rising { AreRising changes.now }
+        requires room { length changes.now ≤ self.old.versions.base.room }
+        requires due { (q : List ℕ) → base_after self.old.versions txn None q
+            ≡ overlay changes.now (base_of self.old) q }
+        ensures { HasGoneUp self.old self.new txn None }
+    {
+        self.locks.hand_up(txn, None);
+        self.versions.hand_up_changes(txn, changes);
     }
 
     /// Drops what the transaction and all below it have. It takes no memory.

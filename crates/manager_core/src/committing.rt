@@ -24,10 +24,10 @@ impl Tables {
 
     /// Makes room for what goes up at the commit of a subtransaction, from its number to its parent's.
     pub(crate) fn reserve_commit(&mut self, child: TxnNo, parent: TxnNo) -> Result<(), NoMemory>
-        ensures room { OnOk result (MayGoUp self.new.estate child parent) }
+        ensures room { OnOk result (MayGoUp self.new.estate child (Some parent)) }
         ensures same { HasOtherRoom self.old self.new }
     {
-        self.estate.reserve_for_parent(child, parent)
+        self.estate.reserve_hand_up(child, Some(parent))
     }
 
     /// Makes room for so many changes of the table.
@@ -35,14 +35,14 @@ impl Tables {
         ensures room { OnOk result (changes ≤ self.new.estate.versions.base.room) }
         ensures same { HasOtherRoom self.old self.new }
     {
-        self.estate.reserve_for_base(changes)
+        self.estate.reserve_changes(changes)
     }
 
     /// Commits a subtransaction that nothing refuses, and hands up what it has, for which there is room. It takes no memory.
     pub(crate) fn commit_child(&mut self, child: TxnNo, parent: TxnNo)
         requires active { is_active_at self.old.tree child ≡ true }
         requires children { live_children_at self.old.tree child ≡ 0 }
-        requires room { MayGoUp self.old.estate child parent }
+        requires room { MayGoUp self.old.estate child (Some parent) }
         ensures { (t : Path) → slice_get (names self.old.tree) child ≡ Some t
             → CommitsIn self.old self.new t child (Some parent) }
     {
@@ -65,6 +65,6 @@ impl Tables {
     {
         self.looks.clear();
         self.tree.commit_at(txn);
-        self.estate.commit_top(txn, changes);
+        self.estate.commit_changes(txn, changes);
     }
 }

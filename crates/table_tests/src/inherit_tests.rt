@@ -109,11 +109,7 @@ fn commit_once(estate: &mut Estate, tree: &Tree, name: &Name) -> Result<(), NoMe
                     estate.commit_child(child, parent);
                 }
             }
-            None => {
-                let changes = estate.changes(tree, child)?;
-                estate.reserve_for_base(changes.len())?;
-                estate.commit_top(child, &changes);
-            }
+            None => estate.commit_top(child),
         }
     }
     Ok(())

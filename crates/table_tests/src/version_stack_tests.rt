@@ -1,7 +1,7 @@
 //! The worked values of versions, and each call once. Under a trial run that refuses a growth the call is made again.
 use serial_spec::{Left, NoMemory, PlainTable};
 use std::process::Abort;
-use txn_names::{Change, Key, Name};
+use txn_names::{Key, Name};
 use txn_tree::{Tree, TxnNo};
 use version_stack::Versions;
 
@@ -47,7 +47,7 @@ fn put(rt: &impl Abort, versions: &mut Versions, txn: TxnNo, key: &Key, value: O
 
 fn hand_up_once(versions: &mut Versions, child: TxnNo, parent: TxnNo) -> Result<(), NoMemory> {
     versions.reserve_for_parent(child, parent)?;
-    versions.hand_up(child, parent);
+    versions.hand_up(child, Some(parent));
     Ok(())
 }
 
@@ -57,21 +57,15 @@ fn hand_up(rt: &impl Abort, versions: &mut Versions, child: TxnNo, parent: TxnNo
     }
 }
 
-fn store_once(
-    versions: &mut Versions,
-    top: TxnNo,
-    key: &Key,
-    value: Option<i64>,
-) -> Result<(), NoMemory> {
-    versions.reserve_for_base(1)?;
-    versions.put_in_base(top, &[Change { key: *key, value }]);
+fn store_once(versions: &mut Versions, top: TxnNo) -> Result<(), NoMemory> {
+    versions.reserve_for_base(top)?;
+    versions.hand_up(top, None);
     Ok(())
 }
 
-// The value comes into the base in place of what the transaction left.
-fn store(rt: &impl Abort, versions: &mut Versions, top: TxnNo, key: &Key, value: Option<i64>) {
-    if store_once(versions, top, key, value).is_err() {
-        store_once(versions, top, key, value).expect(rt, "memory");
+fn store(rt: &impl Abort, versions: &mut Versions, top: TxnNo) {
+    if store_once(versions, top).is_err() {
+        store_once(versions, top).expect(rt, "memory");
     }
 }
 
@@ -100,7 +94,7 @@ fn nest(rt: &impl Abort, tree: &mut Tree, versions: &mut Versions) {
     let (x, all) = (key(rt, 0), [a, l, r, b]);
     let (nine, four) = (Some(9), Some(4));
     put(rt, versions, b, &x, nine);
-    store(rt, versions, b, &x, nine);
+    store(rt, versions, b);
     assert!(rt; sees(rt, versions, tree, &all, [nine, nine, nine, nine]));
     put(rt, versions, a, &x, Some(1));
     put(rt, versions, l, &x, Some(2));
@@ -111,10 +105,10 @@ fn nest(rt: &impl Abort, tree: &mut Tree, versions: &mut Versions) {
     hand_up(rt, versions, r, a);
     assert!(rt; versions.left(a, &x) == Left::Absent && versions.left(r, &x) == Left::Nothing);
     assert!(rt; sees(rt, versions, tree, &all, [None, None, None, nine]));
-    store(rt, versions, a, &x, None);
+    store(rt, versions, a);
     assert!(rt; sees(rt, versions, tree, &all, [None, None, None, None]));
     put(rt, versions, b, &x, four);
-    store(rt, versions, b, &x, four);
+    store(rt, versions, b);
     assert!(rt; versions.base().get(&x) == four);
 }
 
@@ -155,10 +149,7 @@ fn the_last_child_counts(rt: HostRuntime) {
         hand_up(&rt, &mut versions, txn, top);
     }
     assert!(rt; sees_all(&rt, &versions, &tree, top, CHILDREN - 1));
-    for index in 0..KEYS {
-        let value = value_of(index, CHILDREN - 1);
-        store(&rt, &mut versions, top, &key(&rt, index), value);
-    }
+    store(&rt, &mut versions, top);
     assert!(rt; sees_all(&rt, &versions, &tree, top, CHILDREN - 1));
     assert!(rt; versions.into_base().len() == 40);
 }

@@ -1,11 +1,13 @@
 //! The versions over a base.
-ghost use Rattle.std.specs.Prelude.{◌≡◌, ◌≤◌, ◌&&◌, ℤ, pos, ◌+ℤ◌, ◌≤ℤ◌, neg_ℤ, ◌^◌, option_map, length, not, nat_eq, false, IsOk, IsTrue, OnErr, OnOk, List, ℕ, None, Some, if◌then◌else◌};
+ghost use Rattle.std.specs.Prelude.{◌≡◌, ◌≤◌, ◌<◌, ◌&&◌, ℤ, pos, ◌+ℤ◌, ◌≤ℤ◌, neg_ℤ, ◌^◌, option_map, length, ◌+◌, not, nat_eq, false, IsOk, IsTrue, IfSome, IfNone, OnErr, OnOk, List, ℕ, None, Some, if◌then◌else◌};
 ghost use Rattle.txn_cells.specs.Cells.{is_under};
 ghost use Rattle.txn_names.specs.Text.{IsKey};
 ghost use Rattle.serial_spec.specs.Changes.{AreRising, overlay};
 ghost use Rattle.serial_spec.specs.Operations.{amount, as_option};
+ghost use Rattle.serial_spec.specs.Rows.{IsRising, value_in};
+ghost use Rattle.serial_spec.specs.Serial.{put};
 ghost use Rattle.serial_spec.specs.Sums.{sum_in};
-ghost use Rattle.version_stack.specs.Versioned.{IsTowards, base_in, handed_up, has_place, left_in, put_by, change_of, with_childs, with_own, with_place};
+ghost use Rattle.version_stack.specs.Versioned.{FitsBase, IsTowards, base_after, base_in, handed_up, has_place, left_at, left_in, put_by, change_of, with_childs, with_keys, with_own, with_place};
 ghost use Rattle.version_stack.specs.Seen.{as_i64, seen_at, seen_in};
 
 use crate::version::Version;
@@ -33,6 +35,30 @@ impl Model for Versions {
       written = v.written;
       base = v.base;
     } };
+}
+
+// Puts what was left at the key into the base.
+fn put_left(base: &mut PlainTable, key: &Key, left: Version)
+    requires { 0 < base.old.room }
+    ensures put { value_in base.new.rows ≡ put (value_in base.old.rows) key.now left.value }
+    ensures room { base.old.room ≤ base.new.room + 1 }
+{
+    base.put(key, left.value).unwrap();
+}
+
+// Puts what the transaction left at these keys into the base.
+fn put_at(base: &mut PlainTable, written: &CellTable<Version>, txn: TxnNo, keys: &[Key])
+    requires { length keys.now ≤ base.old.room }
+    ensures put { (q : List ℕ) → value_in base.new.rows q ≡ with_keys (left_at written.now txn) keys.now (value_in base.old.rows) q }
+    ensures rising { IsRising base.old.rows × IsRising base.new.rows }
+{
+    base.has_rising_rows();
+    for key in keys {
+        if let Some(version) = written.get(txn, key) {
+            put_left(base, key, version);
+        }
+    }
+    base.has_rising_rows();
 }
 
 // An absent key counts as 0.
@@ -195,9 +221,23 @@ impl Versions {
         self.written.reserve_for_parent(child, parent)
     }
 
+    /// Makes room in the base for each key at which the child has a place, so that what it left can go there without
+    /// memory. Nothing that was left changes, each place stays, and the base has the same rows. The only error is that
+    /// memory runs out.
+    pub fn reserve_for_base(&mut self, child: TxnNo) -> Result<(), NoMemory>
+        ensures ok { OnOk result (FitsBase self.new child) }
+        ensures left { (u : ℕ) → (q : List ℕ) → left_in self.new u q ≡ left_in self.old u q }
+        ensures places { (u : ℕ) → (q : List ℕ) → has_place self.new u q ≡ has_place self.old u q }
+        ensures base { self.new.base.rows ≡ self.old.base.rows }
+        ensures room { self.old.base.room ≤ self.new.base.room }
+    {
+        let keys = self.written.keys(child).len();
+        self.base.reserve(keys)
+    }
+
     /// Makes room in the base for so many changes, so that they can be made without memory. Nothing that was left changes, each
     /// place stays, and the base has the same rows. The only error is that memory runs out.
-    pub fn reserve_for_base(&mut self, changes: usize) -> Result<(), NoMemory>
+    pub fn reserve_changes(&mut self, changes: usize) -> Result<(), NoMemory>
         ensures ok { OnOk result (changes ≤ self.new.base.room) }
         ensures written { self.new.written ≡ self.old.written }
         ensures base { self.new.base.rows ≡ self.old.base.rows }
@@ -217,36 +257,53 @@ impl Versions {
     }
 
     /// Hands up what a committed child left: it has left nothing any more, and in its parent it stands before what the
-    /// parent left. It takes no memory.
-    pub fn hand_up(&mut self, child: TxnNo, parent: TxnNo)
-        requires { (q : List ℕ) → IsTrue (has_place self.old child q)
-            → IsTrue (has_place self.old parent q) }
-        ensures left { (u : ℕ) → (q : List ℕ) → left_in self.new u q
-            ≡ handed_up self.old child (Some parent) u q }
-        ensures places { (u : ℕ) → (q : List ℕ) → has_place self.new u q
-            ≡ (not (nat_eq child u) && has_place self.old u q) }
-        ensures base { self.new.base ≡ self.old.base }
+    /// parent left. Where the parent is the root it goes into the base. It takes no memory.
+    pub fn hand_up(&mut self, child: TxnNo, parent: Option<TxnNo>)
+        requires places { IfSome parent (λ p. (q : List ℕ) → IsTrue (has_place self.old child q) → IsTrue (has_place self.old p q)) }
+        requires room { IfNone parent (FitsBase self.old child) }
+        ensures left { (u : ℕ) → (q : List ℕ) → left_in self.new u q ≡ handed_up self.old child parent u q }
+        ensures places { (u : ℕ) → (q : List ℕ) → has_place self.new u q ≡ (not (nat_eq child u) && has_place self.old u q) }
+        ensures base { (q : List ℕ) → base_in self.new q ≡ base_after self.old child parent q }
+        ensures same { ((q : List ℕ) → base_after self.old child parent q ≡ base_in self.old q) → self.new.base.rows ≡ self.old.base.rows }
     {
-        self.written.hand_up(child, Some(parent));
+        match parent {
+            Some(parent) => self.written.hand_up(child, Some(parent)),
+            None => {
+                self.put_in_base(child);
+                self.written.hand_up(child, None);
+            }
+        }
     }
 
-    /// Makes these changes in the base, for which there is room, in one pass, and the transaction has left nothing any more.
-    /// Where they change no value the base has the same rows. It takes no memory.
-    pub fn put_in_base(&mut self, txn: TxnNo, changes: &[Change])
+    /// Hands up what a committed child left into the base, as `hand_up` does, by the changes that come to that: they are made in
+    /// one pass, and not key by key. It takes no memory.
+    pub fn hand_up_changes(&mut self, child: TxnNo, changes: &[Change])
         requires rising { AreRising changes.now }
         requires room { length changes.now ≤ self.old.base.room }
+        requires due { (q : List ℕ) → base_after self.old child None q
+            ≡ overlay changes.now (base_in self.old) q }
         ensures left { (u : ℕ) → (q : List ℕ) → left_in self.new u q
-            ≡ handed_up self.old txn None u q }
+            ≡ handed_up self.old child None u q }
         ensures places { (u : ℕ) → (q : List ℕ) → has_place self.new u q
-            ≡ (not (nat_eq txn u) && has_place self.old u q) }
-        ensures base { base_in self.new ≡ overlay changes.now (base_in self.old) }
-        ensures same { overlay changes.now (base_in self.old) ≡ base_in self.old
+            ≡ (not (nat_eq child u) && has_place self.old u q) }
+        ensures base { (q : List ℕ) → base_in self.new q ≡ base_after self.old child None q }
+        ensures same { ((q : List ℕ) → base_after self.old child None q ≡ base_in self.old q)
             → self.new.base.rows ≡ self.old.base.rows }
     {
         self.base.has_rising_rows();
         self.base.change(changes);
         self.base.has_rising_rows();
-        self.written.hand_up(txn, None);
+        self.written.hand_up(child, None);
+    }
+
+    // Puts what the transaction left into the base, where it stays in its place too.
+    fn put_in_base(&mut self, txn: TxnNo)
+        requires { FitsBase self.old txn }
+        ensures written { self.new.written ≡ self.old.written }
+        ensures base { (q : List ℕ) → base_in self.new q ≡ base_after self.old txn None q }
+        ensures rising { IsRising self.old.base.rows × IsRising self.new.base.rows }
+    {
+        put_at(&mut self.base, &self.written, txn, self.written.keys(txn));
     }
 
     /// Drops what the transaction and all below it left. It takes no memory.

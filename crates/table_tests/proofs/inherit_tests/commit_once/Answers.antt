@@ -1,4 +1,4 @@
-use Rattle.std.proofs.Common.{◌≡◌, ◌<◌, Some, rules}
+use Rattle.std.proofs.Common.{◌≡◌, ◌<◌, Some, None, rules}
 use Rattle.std.specs.Prelude.{length}
 use Rattle.txn_names.specs.Path.{parent}
 use Rattle.txn_tree.specs.Asked.{IsNumberOf}
@@ -10,7 +10,9 @@ commit_child-requires c =
     let p = c.in-Some-no_of.parent in
     let below : 1 < length t = search rules in
     let is : IsNumberOf c.args.tree.now (parent t) p = search rules in
-    record { room = c.in_ok-reserve_for.ensures.ok c.in-Some.child c.in-Some.ensures.number p (below, is) }
+    record { room = c.in_ok-reserve_for.ensures.ok c.in-Some.child c.in-Some.ensures.number (Some p) (below, is) }
 
-pub commit_top-requires-clause-rising : goal.commit_top-requires-clause-rising
-commit_top-requires-clause-rising c = rw c.deref.ensures.value c.in_ok-changes-in-None.ensures.rising
+pub commit_top-requires : goal.commit_top-requires
+commit_top-requires c =
+    let top : length c.args.name.now ≡ 1 = search rules in
+    record { room = c.in_ok-reserve_for.ensures.ok c.in-Some.child c.in-Some.ensures.number None top }
