@@ -68,7 +68,8 @@ impl Tables {
         requires are { AreTablesOf log.now.rows log.now.entries self.old }
         ensures comes { IfOk result (λ outcome. ComesTo log.now.rows log.now.entries request.now.by request.now.name request.now.asked outcome) }
         ensures reaches { IfOk result (λ outcome. ReachesIn self.old self.new request.now.name request.now.asked outcome) }
-        ensures out { IfOk result (λ outcome. outcome ≡ Outcome.Waits → IsKeptOutOf self.new request.now.name request.now.asked) }
+        ensures out { IfOk result (λ outcome. outcome ≡ Outcome.Waits
+            → IsKeptOutOf self.new request.now.name request.now.asked) }
         ensures waits { self.new.waits ≡ self.old.waits }
         ensures marks { self.new.marks ≡ self.old.marks }
         ensures err { OnErr result (HasOtherRoom self.old self.new) }

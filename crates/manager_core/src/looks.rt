@@ -60,7 +60,8 @@ impl Looks {
 
     /// Keeps that the transaction's access by this line was seen kept out.
     pub(crate) fn put(&mut self, by: By, txn: TxnNo)
-        ensures { (b : By) (n : ℕ) → HasSeen self.new b n → HasSeen self.old b n ⊎ ((b ≡ by) × (n ≡ txn)) }
+        ensures { (b : By) (n : ℕ) → HasSeen self.new b n
+            → HasSeen self.old b n ⊎ ((b ≡ by) × (n ≡ txn)) }
     {
         if let By::Line { session, line } = by {
             let place = session as usize;

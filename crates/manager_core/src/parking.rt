@@ -117,7 +117,8 @@ impl Tables {
 
     // Whether the key for which the transaction with this number waits would be one too many.
     fn is_full_at(&self, log: &Log, txn: TxnNo) -> bool
-        ensures { (w : Wait) → wait_at self.now txn ≡ Some w → result ≡ is_full_for log.now.rows log.now.entries w.asked }
+        ensures { (w : Wait) → wait_at self.now txn ≡ Some w
+            → result ≡ is_full_for log.now.rows log.now.entries w.asked }
     {
         // Few know so many, so that mostly the wait is not looked up.
         if log.known() < MOST_KEYS {
@@ -147,7 +148,8 @@ impl Tables {
         requires allowed { AreAllowed log.now.rows log.now.entries }
         requires are { AreTablesOf log.now.rows log.now.entries self.now }
         ensures parked { IsTrue result → IsParked log.now.rows log.now.entries by }
-        ensures kept { IsTrue result → IsKeptFrom self.now.tree self.now.estate.locks self.now.waits.waits by txn }
+        ensures kept { IsTrue result
+            → IsKeptFrom self.now.tree self.now.estate.locks self.now.waits.waits by txn }
     {
         self.tree.has_distinct_names();
         let Some(wait) = self.waits.of(txn) else {

@@ -125,7 +125,8 @@ impl Sessions {
         number: usize,
         words: Option<&[u8]>,
     ) -> Result<(), TextFault>
-        ensures { IsPlaced self.old number (header_of (parts_left 32 (option_copied words.entry))) self.new result }
+        ensures { IsPlaced self.old number
+            (header_of (parts_left 32 (option_copied words.entry))) self.new result }
     {
         let label = match labelled(words) {
             Ok(label) => label,

@@ -32,7 +32,8 @@ fn go_on_from(
     edges: &mut Vec<(TxnNo, TxnNo)>,
 )
     requires marks { length marks.old.items ≡ length waits.now.waits }
-    requires room { vec_len edges.old + unmarked marks.old.items * length waits.now.waits ≤ vec_capacity edges.old }
+    requires room { vec_len edges.old + unmarked marks.old.items * length waits.now.waits
+        ≤ vec_capacity edges.old }
     ensures gone_on { ByLocks tree.now locks.now (λ keeps.
         AreGoneOn (edges_among tree.now keeps waits.now.waits) waits.now.waits marks.old.items edges.old.items
         → AreGoneOn (edges_among tree.now keeps waits.now.waits) waits.now.waits marks.new.items edges.new.items
