@@ -1,5 +1,5 @@
 -- Where an access closes no cycle of waits, told by those pairs alone that it can have added.
-use Rattle.std.proofs.Common.{◌≡◌, ℕ, nat_eq, true, false, not, ◌&&◌, List, [], ◌∷◌, length, Option, Some, None, unwrap_or, inl, inr, subst, refl, sym, ap, ◌∙◌}
+use Rattle.std.proofs.Common.{◌≡◌, ◌≤◌, ℕ, nat_eq, true, false, not, ◌&&◌, List, [], ◌∷◌, length, Option, Some, None, unwrap_or, inl, inr, subst, refl, sym, ap, ◌∙◌}
 use Rattle.std.specs.Prelude.{map, slice_get}
 use Rattle.std.specs.List.{IsDistinct, list_any}
 use Rattle.std.proofs.lemmas.Bool.{eq-eqb, or_cases, and_from, and_parts, eqb-true, false≢true, false_from_ne_true, not-true, or_left, or_right}
@@ -19,15 +19,17 @@ use Rattle.serial_spec.specs.History.{Name, History, event_of, is_active}
 use Rattle.serial_spec.specs.Locks.{conflicts, is_blocker, reach}
 use Rattle.serial_spec.specs.Rows.{Rows}
 use Rattle.serial_spec.specs.Legal.{AreAllowed}
-use Rattle.serial_spec.specs.Waits.{Quiet, WaitInTurn, branch_of, number, wait_of as wait_by, waits_by, waits_for}
+use Rattle.serial_spec.specs.Waits.{IsVictim, OnCycle, Quiet, WaitInTurn, branch_of, number, wait_of as wait_by, waits_by, waits_for}
 use Rattle.txn_history.proofs.Theorems.{access_adds_at_key, quiet_stays, wait_makes_own}
-use Rattle.wait_cycles.specs.Cycles.{is_member}
+use Rattle.wait_cycles.specs.Agreement.{AreWaits}
+use Rattle.wait_cycles.specs.Cycles.{IsCycle, is_member}
 use Rattle.wait_cycles.specs.Waiting.{AreOnce, wait_of}
-use Rattle.wait_cycles.proofs.Agreement.{numbered_cycle}
+use Rattle.wait_cycles.proofs.Agreement.{cycles_agree, numbered_cycle}
+use Rattle.wait_cycles.proofs.Lists.{member_here}
 use Rattle.wait_cycles.specs.declared.waits.Wait.{Wait}
 use Rattle.manager_core.specs.Kept.{AreTablesOf}
 use Rattle.wait_graph.specs.Edges.{ByLocks, Keeps, is_beside, is_beside_it, is_in_branch, edges_among, waits_by_way_of}
-use Rattle.wait_graph.specs.Walks.{IsOnNoCycle}
+use Rattle.wait_graph.specs.Walks.{IsLastThrough, IsOnNoCycle}
 use Rattle.manager_core.specs.State.{entry}
 use Rattle.manager_core.specs.Tables.{Tabled}
 use Rattle.manager_core.specs.Victims.{StaysQuiet}
@@ -137,17 +139,38 @@ numbered_member h t (u ∷ ts) e =
       | inr later ↦ or_right (nat_eq (number h t) (number h u)) (is_member (number h t) (map (number h) ts)) (numbered_member h t ts later)
     ]
 
--- where each cycle goes through t, and by numbers none does, none stands
-pub quiet_but_on_none : (rows : Rows) (h : History) (tables : Tabled) → AreTablesOf rows h tables → AreAllowed rows h → AreOnce tables.waits → IsDistinct path_eq (names tables.tree)
-    → (t : Name) (n : ℕ) → IsNumberOf tables.tree t n
-    → ByLocks tables.tree tables.estate.locks (λ keeps. IsOnNoCycle (edges_among tables.tree keeps tables.waits.waits) n) → QuietBut t h → Quiet h
-quiet_but_on_none rows h tables are allowed once distinct t n at_n none but u on =
-    let keeps : Keeps = keeps_by h tables.tree in
-    let told = are_waits rows h tables are allowed distinct once in
-    let same : number h t ≡ n = told.numbered n t (name_at tables.tree t n at_n) in
-    none keeps (tells rows h tables are) (number h u ∷ map (number h) on.0)
-    (numbered_cycle h (names tables.tree) (edges_among tables.tree keeps tables.waits.waits) told u on)
-    (subst (λ (m : ℕ). is_member m (number h u ∷ map (number h) on.0) ≡ true) same (numbered_member h t (u ∷ on.0) (but u on)))
+-- where each cycle goes through t, by numbers each goes through its number: none stands where none does, and the last on any is a victim
+module _ (rows : Rows) (h : History) (tables : Tabled) (are : AreTablesOf rows h tables) (allowed : AreAllowed rows h) (once : AreOnce tables.waits)
+    (distinct : IsDistinct path_eq (names tables.tree)) (t : Name) (n : ℕ) (at_n : IsNumberOf tables.tree t n) (but : QuietBut t h) where
+  told : AreWaits h (names tables.tree) (edges_among tables.tree (keeps_by h tables.tree) tables.waits.waits)
+  told = are_waits rows h tables are allowed distinct once
+
+  numbered_on : (u : Name) (on : OnCycle h u) → IsCycle (edges_among tables.tree (keeps_by h tables.tree) tables.waits.waits) (number h u ∷ map (number h) on.0)
+  numbered_on u on = numbered_cycle h (names tables.tree) (edges_among tables.tree (keeps_by h tables.tree) tables.waits.waits) told u on
+
+  goes_through : (u : Name) (on : OnCycle h u) → is_member n (number h u ∷ map (number h) on.0) ≡ true
+  goes_through u on =
+      subst (λ (m : ℕ). is_member m (number h u ∷ map (number h) on.0) ≡ true) (told.numbered n t (name_at tables.tree t n at_n))
+      (numbered_member h t (u ∷ on.0) (but u on))
+
+  pub quiet_but_on_none : ByLocks tables.tree tables.estate.locks (λ keeps. IsOnNoCycle (edges_among tables.tree keeps tables.waits.waits) n) → Quiet h
+  quiet_but_on_none none u on =
+      none (keeps_by h tables.tree) (tells rows h tables are) (number h u ∷ map (number h) on.0) (numbered_on u on) (goes_through u on)
+
+  pub last_is_victim : (a : ℕ) → ByLocks tables.tree tables.estate.locks (λ keeps. IsLastThrough (edges_among tables.tree keeps tables.waits.waits) n a)
+      → (s : Name) × (slice_get (names tables.tree) a ≡ Some s) × IsVictim h s
+  last_is_victim a last =
+      let is = last (keeps_by h tables.tree) (tells rows h tables are) in
+      let lies = (cycles_agree h (names tables.tree) (edges_among tables.tree (keeps_by h tables.tree) tables.waits.waits) told).by_numbers
+      is.through.0 is.through.1 a is.through.2 in (
+        lies.0,
+        lies.1,
+        (
+          ∣ lies.2 ∣₁,
+          λ u on. subst (λ (x : ℕ). number h u ≤ x) (sym (told.numbered a lies.0 lies.1))
+              (is.last (number h u ∷ map (number h) on.0) (numbered_on u on) (goes_through u on) (number h u) (member_here (number h u) (map (number h) on.0))),
+        ),
+      )
 
 -- ---- an entry of an access
 

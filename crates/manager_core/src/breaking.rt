@@ -1,5 +1,5 @@
 //! Cycles of waits are broken: the last begun on any is aborted, until none is left.
-ghost use Rattle.std.specs.Prelude.{◌≡◌, ◌≤◌, ◌<◌, ◌+◌, ◌*◌, ◌∷◌, length, IfNone, IfSome, IsFalse, OnOk};
+ghost use Rattle.std.specs.Prelude.{◌≡◌, ◌≤◌, ◌<◌, ◌+◌, ◌*◌, ◌∷◌, length, IfNone, IfSome, OnOk};
 ghost use Rattle.serial_spec.specs.Interleaving.{victim};
 ghost use Rattle.serial_spec.specs.Legal.{AreAllowed};
 ghost use Rattle.serial_spec.specs.Waits.{IsVictim, Quiet};
@@ -68,24 +68,31 @@ pub(crate) fn break_cycles(log: &mut Log, tables: &mut Tables, breaker: &mut Cyc
     }
 }
 
-// Whether the walk from the transaction to those for whom it waits, and on from each of them, comes back to it. There is room for it.
-fn may_lie_on_cycle(_log: &Log, tables: &Tables, breaker: &mut CycleSearch, name: &Name) -> bool
+// The transaction that is aborted next, if a cycle of waits stands, where each goes through this transaction. There is room to look
+// for it.
+fn next_own_victim(
+    _log: &Log,
+    tables: &Tables,
+    breaker: &mut CycleSearch,
+    name: &Name,
+) -> Option<Name>
     requires allowed { AreAllowed _log.now.rows _log.now.entries }
     requires are { AreTablesOf _log.now.rows _log.now.entries tables.now }
+    requires own { QuietBut name.now _log.now.entries }
     requires room { length tables.now.waits.waits * length tables.now.waits.waits ≤ breaker.old }
-    ensures none { IsFalse result → QuietBut name.now _log.now.entries → Quiet _log.now.entries }
+    ensures some { IfSome result (IsVictim _log.now.entries) }
+    ensures none { IfNone result (Quiet _log.now.entries) }
     ensures room { breaker.old ≤ breaker.new }
 {
-    let Some(txn) = tables.tree.no_of(name) else {
-        return false;
-    };
+    let txn = tables.tree.no_of(name)?;
     tables.tree.has_distinct_names();
     tables.waits.has_each_once();
-    breaker.comes_back(&tables.tree, tables.estate.locks(), &tables.waits, txn)
+    let last = breaker.last_through(&tables.tree, tables.estate.locks(), &tables.waits, txn)?;
+    tables.tree.name_of(last).copied()
 }
 
-/// As `break_cycles`, where each cycle goes through this transaction. So it is after each abort too, which only takes pairs away:
-/// none is left once the walk from it does not come back, and to see that takes no more pairs than are on the way.
+/// As `break_cycles`, where each cycle goes through this transaction. So it is after each abort too, which only takes pairs away, so
+/// that those alone are looked at that the transaction waits for, or that one of these waits for in turn.
 pub(crate) fn break_own_cycles(
     log: &mut Log,
     tables: &mut Tables,
@@ -102,10 +109,7 @@ pub(crate) fn break_own_cycles(
     ensures breaks { Breaks log.old.rows log.old.entries log.new.entries tables.new }
     ensures table { rows_in tables.new ≡ rows_in tables.old }
 {
-    while may_lie_on_cycle(log, tables, breaker, name) {
-        let Some(last) = next_victim(log, tables, breaker) else {
-            return;
-        };
+    while let Some(last) = next_own_victim(log, tables, breaker, name) {
         abort_victim(log, tables, &last);
     }
 }

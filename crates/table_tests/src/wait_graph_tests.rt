@@ -73,6 +73,18 @@ fn victim(
     Some(txn.place())
 }
 
+// The last begun of those on a cycle through the transaction.
+fn last_through(
+    search: &mut CycleSearch,
+    tree: &Tree,
+    locks: &TargetLocks,
+    waits: &Waits,
+    txn: TxnNo,
+) -> Option<u32> {
+    let last = search.last_through(tree, locks, waits, txn)?;
+    Some(last.place())
+}
+
 // Each of two waits for what the other has written, so that the last begun is the victim.
 #[test]
 fn two_that_wait_for_each_other(rt: HostRuntime) {
@@ -84,11 +96,11 @@ fn two_that_wait_for_each_other(rt: HostRuntime) {
     hold(&rt, &mut locks, second, b"y");
     wait(&rt, &mut waits, first, b"y");
     room(&rt, &mut search, waits.len());
-    assert!(rt; !search.comes_back(&tree, &locks, &waits, first));
+    assert!(rt; last_through(&mut search, &tree, &locks, &waits, first).is_none());
     assert!(rt; victim(&mut search, &tree, &locks, &waits).is_none());
     wait(&rt, &mut waits, second, b"x");
     room(&rt, &mut search, waits.len());
-    assert!(rt; search.comes_back(&tree, &locks, &waits, second));
+    assert!(rt; last_through(&mut search, &tree, &locks, &waits, second) == Some(1));
     assert!(rt; victim(&mut search, &tree, &locks, &waits) == Some(1));
 }
 
@@ -106,8 +118,8 @@ fn a_third_waits_for_two_on_a_cycle(rt: HostRuntime) {
     wait(&rt, &mut waits, second, b"x");
     wait(&rt, &mut waits, third, b"x");
     room(&rt, &mut search, waits.len());
-    assert!(rt; !search.comes_back(&tree, &locks, &waits, third));
-    assert!(rt; search.comes_back(&tree, &locks, &waits, first));
+    assert!(rt; last_through(&mut search, &tree, &locks, &waits, third).is_none());
+    assert!(rt; last_through(&mut search, &tree, &locks, &waits, first) == Some(1));
     assert!(rt; victim(&mut search, &tree, &locks, &waits) == Some(1));
     let (x, z) = (Target::Key(key(&rt, b"x")), Target::Key(key(&rt, b"z")));
     assert!(rt; any_edge_by_way_of(&tree, &locks, &waits, first, &x));
@@ -128,6 +140,6 @@ fn one_waits_by_way_of_a_branch(rt: HostRuntime) {
     wait(&rt, &mut waits, other, b"x");
     wait(&rt, &mut waits, child, b"y");
     room(&rt, &mut search, waits.len());
-    assert!(rt; search.comes_back(&tree, &locks, &waits, child));
+    assert!(rt; last_through(&mut search, &tree, &locks, &waits, child) == Some(2));
     assert!(rt; victim(&mut search, &tree, &locks, &waits) == Some(2));
 }

@@ -1,5 +1,5 @@
 -- The walk from one that waits to those for whom it waits, and on from each of them.
-use Rattle.std.specs.Prelude.{◌≡◌, ℕ, Bool, false, not, IsTrue, List, slice_get, slice_index_or, Some, count_by}
+use Rattle.std.specs.Prelude.{◌≡◌, ◌≤◌, ◌⊎◌, ℕ, Bool, false, not, IsTrue, List, slice_get, slice_index_or, Some, count_by}
 use Rattle.wait_cycles.specs.Cycles.{Pairs, IsCycle, is_member, waits_in}
 use Rattle.wait_cycles.specs.declared.waits.Wait.{Wait}
 
@@ -7,9 +7,23 @@ use Rattle.wait_cycles.specs.declared.waits.Wait.{Wait}
 abbrev pub IsOnNoCycle : Pairs → ℕ → Type 0
 IsOnNoCycle edges a = (xs : List ℕ) → IsCycle edges xs → IsTrue (is_member a xs) → ⊥
 
+-- a lies on a cycle, and no greater number lies on any cycle through b
+pub record IsLastThrough (edges : Pairs) (b a : ℕ) : Type 0 where
+  pub through : (xs : List ℕ) × IsCycle edges xs × IsTrue (is_member a xs)
+  pub last : (ys : List ℕ) → IsCycle edges ys → IsTrue (is_member b ys) → (c : ℕ) → IsTrue (is_member c ys) → c ≤ a
+
+-- of all edges those are listed that lie on cycles through a, and none but edges
+pub record IsWayOf (all listed : Pairs) (a : ℕ) : Type 0 where
+  pub whole : (xs : List ℕ) → IsCycle all xs → IsTrue (is_member a xs) → IsCycle listed xs
+  pub sound : (xs : List ℕ) → IsCycle listed xs → IsCycle all xs
+
 -- what stood at a place still does
 abbrev pub IsLonger : Pairs → Pairs → Type 0
 IsLonger old new = (i : ℕ) (p : ℕ × ℕ) → slice_get old i ≡ Some p → slice_get new i ≡ Some p
+
+-- what came to the old pairs is of all
+abbrev pub HasMoreOf : Pairs → Pairs → Pairs → Type 0
+HasMoreOf all old new = (a b : ℕ) → IsTrue (waits_in new a b) → IsTrue (waits_in old a b) ⊎ IsTrue (waits_in all a b)
 
 -- whomever a waits for, the pair of both is listed
 abbrev pub AreListed : Pairs → Pairs → ℕ → Type 0

@@ -2,10 +2,10 @@
 ghost use Rattle.std.specs.Prelude.{◌≡◌, ◌≤◌, ◌*◌, ℕ, List, length, IfNone, IfSome, IsFalse, IsOk, OnOk};
 ghost use Rattle.wait_cycles.specs.Cycles.{IsCycle, IsLastOn};
 ghost use Rattle.wait_graph.specs.Edges.{ByLocks, edges_among};
-ghost use Rattle.wait_graph.specs.Walks.{IsOnNoCycle};
+ghost use Rattle.wait_graph.specs.Walks.{IsLastThrough, IsOnNoCycle};
 
 use crate::edges::collect_edges;
-use crate::walk::comes_back;
+use crate::walk::collect_way;
 use lock_table::TargetLocks;
 use serial_spec::NoMemory;
 use std::alloc::{AllocError, Global};
@@ -58,21 +58,26 @@ impl CycleSearch {
         self.work.reserve(edges)
     }
 
-    /// Whether the walk that begins at the transaction, and goes on from each that it reaches to those for whom that one waits,
-    /// comes back to the transaction. If it does not, no cycle of waits goes through it.
-    pub fn comes_back(
+    /// The last begun of those that lie on a cycle through the transaction, if there is one. It makes the edges of those alone that
+    /// the transaction waits for, or that one of these waits for in turn, so that it costs less than `victim` where few are.
+    pub fn last_through(
         &mut self,
         tree: &Tree,
         locks: &TargetLocks,
         waits: &Waits,
         txn: TxnNo,
-    ) -> bool
+    ) -> Option<TxnNo>
         requires { length waits.now.waits * length waits.now.waits ≤ self.old }
-        ensures none { IsFalse result → ByLocks tree.now locks.now (λ keeps.
-            IsOnNoCycle (edges_among tree.now keeps waits.now.waits) txn) }
+        ensures some { IfSome result (λ last. ByLocks tree.now locks.now (λ keeps.
+            IsLastThrough (edges_among tree.now keeps waits.now.waits) txn last)) }
+        ensures none { IfNone result (ByLocks tree.now locks.now (λ keeps.
+            IsOnNoCycle (edges_among tree.now keeps waits.now.waits) txn)) }
         ensures room { self.old ≤ self.new }
     {
-        comes_back(tree, locks, waits, txn, &mut self.marks, &mut self.edges)
+        if !collect_way(tree, locks, waits, txn, &mut self.marks, &mut self.edges) {
+            return None;
+        }
+        self.work.victim(&self.edges)
     }
 
     /// The last begun of those that lie on a cycle of waits, if there is a cycle.

@@ -1,7 +1,7 @@
-//! The walk from one that waits to those for whom it waits, and on from each of them: whether it comes back.
-ghost use Rattle.std.specs.Prelude.{◌≡◌, ◌≤◌, ◌+◌, ◌*◌, ℕ, false, IsFalse, length, slice_index_or, vec_len, vec_capacity};
+//! The walk from one that waits to those for whom it waits, and on from each of them: its edges, and whether it comes back.
+ghost use Rattle.std.specs.Prelude.{◌≡◌, ◌≤◌, ◌+◌, ◌*◌, ◌||◌, nat_eq, ℕ, false, IsFalse, length, slice_index_or, vec_len, vec_capacity};
 ghost use Rattle.wait_graph.specs.Edges.{ByLocks, edges_among};
-ghost use Rattle.wait_graph.specs.Walks.{AreGoneOn, AreListed, IsLonger, IsOnNoCycle, unmarked};
+ghost use Rattle.wait_graph.specs.Walks.{AreGoneOn, AreListed, HasMoreOf, IsLonger, IsOnNoCycle, IsWayOf, unmarked};
 
 use crate::edges::add_edges_from;
 use lock_table::TargetLocks;
@@ -38,6 +38,8 @@ fn go_on_from(
         AreGoneOn (edges_among tree.now keeps waits.now.waits) waits.now.waits marks.old.items edges.old.items
         → AreGoneOn (edges_among tree.now keeps waits.now.waits) waits.now.waits marks.new.items edges.new.items
         × AreListed (edges_among tree.now keeps waits.now.waits) edges.new.items txn) }
+    ensures among { ByLocks tree.now locks.now (λ keeps.
+        HasMoreOf (edges_among tree.now keeps waits.now.waits) edges.old.items edges.new.items) }
     ensures longer { IsLonger edges.old.items edges.new.items }
     ensures marks { length marks.new.items ≡ length marks.old.items }
     ensures marks_capacity { vec_capacity marks.old ≤ vec_capacity marks.new }
@@ -58,9 +60,16 @@ fn go_on_from(
     }
 }
 
-/// Whether the walk that begins at the transaction, and goes on from each that it reaches to those for whom that one waits, comes
-/// back to the transaction. If it does not, no cycle of waits goes through it. Each is gone on from once. It takes no memory.
-pub(crate) fn comes_back(
+// Whether the walk has come back to the transaction: before, or with the one that it reaches now.
+fn is_back(before: bool, reached: TxnNo, txn: TxnNo) -> bool
+    ensures { result ≡ (before || nat_eq reached txn) }
+{
+    before || reached == txn
+}
+
+/// Lists the edges on the way of a transaction: those of its own wait, and of each that is reached by one that is listed. It tells
+/// whether one of them comes back to the transaction. Each that waits is gone on from once. It takes no memory.
+pub(crate) fn collect_way(
     tree: &Tree,
     locks: &TargetLocks,
     waits: &Waits,
@@ -72,20 +81,22 @@ pub(crate) fn comes_back(
     requires room { length waits.now.waits * length waits.now.waits ≤ vec_capacity edges.old }
     ensures none { IsFalse result → ByLocks tree.now locks.now (λ keeps.
         IsOnNoCycle (edges_among tree.now keeps waits.now.waits) txn) }
+    ensures way { ByLocks tree.now locks.now (λ keeps.
+        IsWayOf (edges_among tree.now keeps waits.now.waits) edges.new.items txn) }
+    ensures len { vec_len edges.new ≤ length waits.now.waits * length waits.now.waits }
     ensures marks_capacity { vec_capacity marks.old ≤ vec_capacity marks.new }
     ensures capacity { vec_capacity edges.old ≤ vec_capacity edges.new }
 {
     clear_marks(marks, waits);
     edges.clear();
     go_on_from(tree, locks, waits, txn, marks, edges);
+    let mut back = false;
     let mut place = 0;
     while place < edges.len() {
         let (_, reached) = edges[place];
-        if reached == txn {
-            return true;
-        }
+        back = is_back(back, reached, txn);
         go_on_from(tree, locks, waits, reached, marks, edges);
         place += 1;
     }
-    false
+    back
 }

@@ -4,8 +4,8 @@ use Rattle.manager_core.specs.Tables.{rows_in}
 use Rattle.manager_core.proofs.Victims.{BreakingAt}
 use Rattle.manager_core.proofs.breaking.break_own_cycles.Given as goal
 
-abbrev pub invariant-loop-log : goal.invariant-loop-log
-invariant-loop-log l = record {
+abbrev pub invariant-loop-last : goal.invariant-loop-last
+invariant-loop-last l = record {
   rows : l.log.rows ≡ l.initial.log.rows;
   far : BreakingAt l.log.rows l.initial.log.entries l.log.entries l.tables;
   own : QuietBut l.name l.log.entries;
@@ -15,5 +15,5 @@ invariant-loop-log l = record {
   work_room : length l.tables.waits.waits * length l.tables.waits.waits ≤ l.breaker;
 }
 
-abbrev pub decreases-loop-log : goal.decreases-loop-log
-decreases-loop-log l = length l.tables.waits.waits
+abbrev pub decreases-loop-last : goal.decreases-loop-last
+decreases-loop-last l = length l.tables.waits.waits

@@ -1,7 +1,7 @@
-use Rattle.std.proofs.Common.{◌≡◌, ◌<◌, true, false, length, sym, ap, subst, ◌∙◌, Some, arith}
+use Rattle.std.proofs.Common.{◌≡◌, ◌<◌, true, false, length, sym, ap, subst, ◌∙◌, Some, inl, arith}
 use Rattle.std.specs.Prelude.{slice_index_or}
 use Rattle.std.proofs.lemmas.Option.{get_or_from_slice_get, slice_get-get_or, slice_get_within}
-use Rattle.wait_graph.proofs.Walking.{marked_before, marked_now, nobodys, one_marked}
+use Rattle.wait_graph.proofs.Walking.{marked_before, marked_now, more_of, nobodys, one_marked}
 use Rattle.wait_graph.proofs.walk.go_on_from.Goals as goal
 
 pub returns-in_default-clause-gone_on : goal.returns-in_default-clause-gone_on
@@ -54,3 +54,14 @@ returns-in-Some-at-clause-len c =
     let within : place < length marks = omega (arith, slice_get_within c.args.waits.now.waits place there.0 there.2, c.requires.marks) in
     let more = one_marked marks place (length c.args.waits.now.waits) within (subst (λ b. slice_index_or marks place b ≡ b) c.if-index.false (sym c.index.ensures)) in
     omega (arith, more, c.add_edges_from.ensures.len)
+
+pub returns-in_default-clause-among : goal.returns-in_default-clause-among
+returns-in_default-clause-among c keeps tells a b e = inl e
+
+pub returns-then-index-clause-among : goal.returns-then-index-clause-among
+returns-then-index-clause-among c keeps tells a b e = inl e
+
+pub returns-in-Some-at-clause-among : goal.returns-in-Some-at-clause-among
+returns-in-Some-at-clause-among c keeps tells =
+    more_of c.args.tree.now keeps c.args.waits.now c.has_each_once.ensures c.args.edges.now.items c.add_edges_from.new.edges.items c.in-Some.place
+    c.in-Some-at.wait.now (sym c.in-Some-at.ensures.wait) (c.add_edges_from.ensures.edges keeps tells)
