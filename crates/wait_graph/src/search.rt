@@ -58,8 +58,9 @@ impl CycleSearch {
         self.work.reserve(edges)
     }
 
-    /// The last begun of those that lie on a cycle through the transaction, if there is one. It makes the edges of those alone that
-    /// the transaction waits for, or that one of these waits for in turn, so that it costs less than `victim` where few are.
+    /// One that lies on a cycle and was begun no earlier than any on a cycle through the transaction, if there is such a cycle. So where
+    /// each cycle goes through the transaction it is the last begun of those on any, as `victim` gives. It makes the edges of those
+    /// alone that the transaction waits for, or that one of these waits for in turn, and so costs less where these are few.
     pub fn last_through(
         &mut self,
         tree: &Tree,
