@@ -57,32 +57,39 @@ fn wait(rt: &impl Abort, waits: &mut Waits, txn: TxnNo, text: &[u8]) {
     }
 }
 
-fn room(rt: &impl Abort, search: &mut CycleSearch, waiting: usize) {
-    if search.reserve(waiting).is_err() {
-        search.reserve(waiting).expect(rt, "memory");
-    }
-}
-
+// The last begun of those on any cycle, searched in room that is made for it.
 fn victim(
+    rt: &impl Abort,
     search: &mut CycleSearch,
     tree: &Tree,
     locks: &TargetLocks,
     waits: &Waits,
-) -> Option<u32> {
-    let txn = search.victim(tree, locks, waits)?;
-    Some(txn.place())
+) -> Option<TxnNo> {
+    match search.reserve(waits.len()) {
+        Ok(()) => search.victim(tree, locks, waits),
+        Err(_) => {
+            search.reserve(waits.len()).expect(rt, "memory");
+            search.victim(tree, locks, waits)
+        }
+    }
 }
 
 // The last begun of those on a cycle through the transaction.
 fn last_through(
+    rt: &impl Abort,
     search: &mut CycleSearch,
     tree: &Tree,
     locks: &TargetLocks,
     waits: &Waits,
     txn: TxnNo,
-) -> Option<u32> {
-    let last = search.last_through(tree, locks, waits, txn)?;
-    Some(last.place())
+) -> Option<TxnNo> {
+    match search.reserve(waits.len()) {
+        Ok(()) => search.last_through(tree, locks, waits, txn),
+        Err(_) => {
+            search.reserve(waits.len()).expect(rt, "memory");
+            search.last_through(tree, locks, waits, txn)
+        }
+    }
 }
 
 // Each of two waits for what the other has written, so that the last begun is the victim.
@@ -95,13 +102,11 @@ fn two_that_wait_for_each_other(rt: HostRuntime) {
     hold(&rt, &mut locks, first, b"x");
     hold(&rt, &mut locks, second, b"y");
     wait(&rt, &mut waits, first, b"y");
-    room(&rt, &mut search, waits.len());
-    assert!(rt; last_through(&mut search, &tree, &locks, &waits, first).is_none());
-    assert!(rt; victim(&mut search, &tree, &locks, &waits).is_none());
+    assert!(rt; last_through(&rt, &mut search, &tree, &locks, &waits, first).is_none());
+    assert!(rt; victim(&rt, &mut search, &tree, &locks, &waits).is_none());
     wait(&rt, &mut waits, second, b"x");
-    room(&rt, &mut search, waits.len());
-    assert!(rt; last_through(&mut search, &tree, &locks, &waits, second) == Some(1));
-    assert!(rt; victim(&mut search, &tree, &locks, &waits) == Some(1));
+    assert!(rt; last_through(&rt, &mut search, &tree, &locks, &waits, second) == Some(second));
+    assert!(rt; victim(&rt, &mut search, &tree, &locks, &waits) == Some(second));
 }
 
 // Who waits for one on a cycle is not on it itself.
@@ -117,10 +122,9 @@ fn a_third_waits_for_two_on_a_cycle(rt: HostRuntime) {
     wait(&rt, &mut waits, first, b"y");
     wait(&rt, &mut waits, second, b"x");
     wait(&rt, &mut waits, third, b"x");
-    room(&rt, &mut search, waits.len());
-    assert!(rt; last_through(&mut search, &tree, &locks, &waits, third).is_none());
-    assert!(rt; last_through(&mut search, &tree, &locks, &waits, first) == Some(1));
-    assert!(rt; victim(&mut search, &tree, &locks, &waits) == Some(1));
+    assert!(rt; last_through(&rt, &mut search, &tree, &locks, &waits, third).is_none());
+    assert!(rt; last_through(&rt, &mut search, &tree, &locks, &waits, first) == Some(second));
+    assert!(rt; victim(&rt, &mut search, &tree, &locks, &waits) == Some(second));
     let (x, z) = (Target::Key(key(&rt, b"x")), Target::Key(key(&rt, b"z")));
     assert!(rt; any_edge_by_way_of(&tree, &locks, &waits, first, &x));
     assert!(rt; !any_edge_by_way_of(&tree, &locks, &waits, first, &z));
@@ -139,7 +143,6 @@ fn one_waits_by_way_of_a_branch(rt: HostRuntime) {
     hold(&rt, &mut locks, other, b"y");
     wait(&rt, &mut waits, other, b"x");
     wait(&rt, &mut waits, child, b"y");
-    room(&rt, &mut search, waits.len());
-    assert!(rt; last_through(&mut search, &tree, &locks, &waits, child) == Some(2));
-    assert!(rt; victim(&mut search, &tree, &locks, &waits) == Some(2));
+    assert!(rt; last_through(&rt, &mut search, &tree, &locks, &waits, child) == Some(other));
+    assert!(rt; victim(&rt, &mut search, &tree, &locks, &waits) == Some(other));
 }
