@@ -1,4 +1,3 @@
-pub mod Feeding
 pub mod Following
 pub mod Judging
 pub mod Lining

@@ -1,7 +1,6 @@
 //! The verdict on the bytes of a report, as they come off a reader.
 #![tactic(auto)]
 
-mod cutting;
 mod kept;
 mod lines;
 mod reading;

@@ -6,12 +6,12 @@ ghost use Rattle.report_tables.specs.Chained.{chain_in};
 ghost use Rattle.report_judge.specs.Judging.{IsComparedBy, IsDue, IsLine, Stands, is_over};
 ghost use Rattle.report_judge.specs.Kept.{IsSeen, line_of, part_of};
 
-use crate::cutting::cut_line;
 use crate::kept::Kept;
 use crate::seen::{Part, Seen, take};
 use report_check::Verdict;
 use report_tables::{Transactions, Values, compare, serve_all};
 use serial_spec::NoMemory;
+use session_text::cut_line;
 use std::alloc::Global;
 use txn_names::Key;
 

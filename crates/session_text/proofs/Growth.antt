@@ -11,7 +11,7 @@ use Rattle.txn_names.proofs.Names.{label_eq_self, same_label}
 use Rattle.serial_spec.specs.Interleaving.{Session}
 use Rattle.serial_spec.specs.declared.event.Event.{Event}
 use Rattle.session_text.specs.declared.fault.LineKind.TheVariants as kind
-use Rattle.session_text.specs.Texts.{TextLine, Header, Command}
+use Rattle.session_text.specs.Texts.{Header, Command}
 use Rattle.session_text.specs.Grammar.{IsEvent, IsSession, IsText, AreApart, is_taken}
 use Rattle.session_text.specs.Texts.{open_lines, with_line, with_header, misplaced}
 

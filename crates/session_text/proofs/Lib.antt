@@ -7,6 +7,7 @@ pub mod Adding
 pub mod Spelling
 pub mod TextLines
 pub mod WholeTexts
+pub mod Feeding
 pub mod Feeds
 pub mod ReadBack
 pub mod FirstFaults

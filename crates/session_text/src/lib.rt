@@ -25,6 +25,6 @@ mod verbs;
 pub use fault::{LineKind, TextFault};
 pub use line::{Line, parse_event, parse_line};
 pub use number::parse_number;
-pub use parting::cut;
+pub use parting::{cut, cut_line};
 pub use request::parse_request;
 pub use sessions::Sessions;

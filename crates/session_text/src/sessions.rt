@@ -13,7 +13,7 @@ use crate::command::event_of;
 use crate::fault::{LineKind, TextFault};
 use crate::header::{labelled, words_of_header};
 use crate::line::Line;
-use crate::parting::cut;
+use crate::parting::cut_line;
 use serial_spec::{Event, MOST_LINES, MOST_SESSIONS, NoMemory};
 use std::alloc::Global;
 use std::marker::Model;
@@ -61,7 +61,7 @@ impl Sessions {
         let mut number = 1;
         let mut rest = bytes;
         while !rest.is_empty() {
-            let (line, after) = cut(rest, b'\n');
+            let (line, after) = cut_line(rest);
             let Some(after) = after else {
                 return Err(TextFault::Bad {
                     line: number,

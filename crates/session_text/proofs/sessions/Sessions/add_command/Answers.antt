@@ -1,6 +1,6 @@
-use Rattle.std.proofs.Common.{◌≡◌, None, Some, Ok, sym, ap, ◌∙◌}
+use Rattle.std.proofs.Common.{Ok, sym, ap, ◌∙◌}
 use Rattle.session_text.specs.Steps.{◌>>=◌, unless}
-use Rattle.session_text.specs.Texts.{Command, at_line, grown, misplaced, placed}
+use Rattle.session_text.specs.Texts.{Command, at_line, grown, placed}
 use Rattle.session_text.proofs.sessions.Sessions.add_command.Goals as goal
 
 pub add_event-requires-clause-placed : goal.add_event-requires-clause-placed
