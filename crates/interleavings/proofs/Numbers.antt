@@ -30,7 +30,7 @@ use Rattle.serial_spec.specs.Rows.{Rows}
 use Rattle.interleavings.specs.Attempts.{Attempts}
 use Rattle.interleavings.specs.declared.turns.Turn.TheVariants.{Answered, Parked}
 use Rattle.interleavings.specs.Trails.{Trail}
-use Rattle.interleavings.specs.Turning.{AreNext, AreTurns, Turning, Stepped, Unstuck, next_number}
+use Rattle.interleavings.specs.Turning.{AreNext, AreTurns, IsDue, Turning, Stepped, Unstuck, next_number}
 use Rattle.interleavings.proofs.Trails.{stuck_asks, trail_one}
 use Rattle.interleavings.proofs.Schedules.{on_same}
 use Rattle.interleavings.proofs.Attempts.{attempt_steps, others_count, count_waits, count_answered, own_answered, other_answered}
@@ -82,16 +82,6 @@ few_lines ss h s e text due = by (slice_get ss s) refl
         let at : slice_get x.lines (answered h s) ≡ Some e = sym (ap (λ x. slice_get (lines_of x) (answered h s)) is) ∙ due in
         omega (arith, slice_get_within x.lines (answered h s) e at, short ss s x text.sessions is)
 
--- a number tells of a line, so that one is left
-pub next_some : (ss : List Session) (h : History) (s l : ℕ) → next_number ss h s ≡ Some l → (e : Event) × (next_event ss h s ≡ Some e) × (l ≡ suc (answered h s))
-next_some ss h s l at = by (next_event ss h s) refl
-  where
-    by : (x : Option Event) → next_event ss h s ≡ x → (e : Event) × (next_event ss h s ≡ Some e) × (l ≡ suc (answered h s))
-    by None is = absurd (none-some l (sym (ap (λ z. option_map (λ (d : Event). suc (answered h s)) z) is) ∙ at))
-    by (Some e) is =
-        let both : Some (suc (answered h s)) ≡ Some l = sym (ap (λ z. option_map (λ (d : Event). suc (answered h s)) z) is) ∙ at in
-        (e, is, sym (unsome (suc (answered h s)) l both))
-
 -- a line of the text by its number
 pub line_of_number : (ss : List Session) (s n : ℕ) → line_at ss s (suc n) ≡ slice_get (lines_of (slice_get ss s)) n
 line_of_number ss s n =
@@ -102,19 +92,23 @@ line_of_number ss s n =
 pub next_by_number : (ss : List Session) (h : History) (s l : ℕ) → l ≡ suc (answered h s) → line_at ss s l ≡ next_event ss h s
 next_by_number ss h s l is = ap (line_at ss s) is ∙ line_of_number ss s (answered h s)
 
--- so the line that has the number that is told is the next
-pub next_told : (ss : List Session) (h : History) (s l : ℕ) → next_number ss h s ≡ Some l → (e : Event) → line_at ss s l ≡ Some e
-    → (next_event ss h s ≡ Some e) × (l ≡ suc (answered h s))
-next_told ss h s l at e line = let n = next_some ss h s l at in (sym (next_by_number ss h s l n.2) ∙ line, n.2)
+-- so the line of the number that is kept is the next
+pub due_of_number : (ss : List Session) (h : History) (numbers : List ℕ) → AreNext ss h numbers → (s l : ℕ) → slice_get numbers s ≡ Some l
+    → (e : Event) → line_at ss s l ≡ Some e → IsDue ss h s l e
+due_of_number ss h numbers next s l at e line =
+    let number : l ≡ suc (answered h s) = kept_number ss h numbers next s l at in
+    record { event = sym (next_by_number ss h s l number) ∙ line; number = number }
 
--- the next line's number, where the line is there
-pub number_of_line : (ss : List Session) (h : History) (s l : ℕ) (x : Option Event) → l ≡ suc (answered h s) → line_at ss s l ≡ x
-    → option_map (λ e. l) x ≡ next_number ss h s
-number_of_line ss h s l x is at = by x (sym (next_by_number ss h s l is) ∙ at)
-  where
-    by : (y : Option Event) → next_event ss h s ≡ y → option_map (λ e. l) y ≡ next_number ss h s
-    by None e = ap (λ z. option_map (λ (d : Event). suc (answered h s)) z) (sym e)
-    by (Some d) e = ap (λ m. Some m) is ∙ ap (λ z. option_map (λ (d : Event). suc (answered h s)) z) (sym e)
+-- and where it is none no line is left
+pub none_of_number : (ss : List Session) (h : History) (numbers : List ℕ) → AreNext ss h numbers → (s l : ℕ) → slice_get numbers s ≡ Some l
+    → line_at ss s l ≡ None → next_event ss h s ≡ None
+none_of_number ss h numbers next s l at line = sym (next_by_number ss h s l (kept_number ss h numbers next s l at)) ∙ line
+
+pub number_due : (ss : List Session) (h : History) (s l : ℕ) (e : Event) → IsDue ss h s l e → Some l ≡ next_number ss h s
+number_due ss h s l e due = ap (λ n. Some n) due.number ∙ sym (ap (λ x. option_map (λ (d : Event). suc (answered h s)) x) due.event)
+
+pub number_none : (ss : List Session) (h : History) (s : ℕ) → next_event ss h s ≡ None → None ≡ next_number ss h s
+number_none ss h s none = sym (ap (λ x. option_map (λ (d : Event). suc (answered h s)) x) none)
 
 -- ---- how they are kept
 
@@ -169,24 +163,34 @@ next_more ss h h2 numbers s l is more others there next count = record {
 
 -- ---- an attempt
 
-module _ {S : Type 0} (g : Ghosts S) (ss : List Session) (old new : State S) (numbers : List ℕ) (turns : AreTurns (record { sessions = ss; core = old }) numbers)
-    (s : ℕ) (e : Event) (due : next_event ss old.history s ≡ Some e) where
+module _ {S : Type 0} (g : Ghosts S) (ss : List Session) (old : State S) (numbers : List ℕ) (turns : AreTurns (record { sessions = ss; core = old }) numbers)
+    (s l : ℕ) (e : Event) (due : IsDue ss old.history s l e) where
   -- the line is free, or waits
-  pub free_or_waits : (l : ℕ) → l ≡ suc (answered old.history s) → IsFree old.history (Line s l) e ⊎ IsWaitOf old.history (Line s l) e
-  free_or_waits l is =
-      subst (λ n. IsFree old.history (Line s n) e ⊎ IsWaitOf old.history (Line s n) e) (sym is)
-      (next_is_free old.rows ss old.history (legal_allowed old.rows old.history turns.way.legal) turns.way.in_turn s e due)
+  pub free_or_waits : IsFree old.history (Line s l) e ⊎ IsWaitOf old.history (Line s l) e
+  free_or_waits =
+      subst (λ n. IsFree old.history (Line s n) e ⊎ IsWaitOf old.history (Line s n) e) (sym due.number)
+      (next_is_free old.rows ss old.history (legal_allowed old.rows old.history turns.way.legal) turns.way.in_turn s e due.event)
 
-  module _ (o : Outcome) (attempt : Attempts g old new (next_line old.history s) e o) where
+  -- of its session, which has few lines, a number is kept
+  pub number_fits : IsText ss → l ≤ 1024
+  number_fits text = subst (λ n. n ≤ 1024) (sym due.number) (few_lines ss old.history s e text due.event)
+
+  pub is_kept : s < length numbers
+  is_kept = subst (λ n. s < n) (sym turns.next.count) (session_there ss old.history s e due.event)
+
+  module _ (new : State S) (o : Outcome) (tried : Attempts g old new (Line s l) e o) where
+    attempt : Attempts g old new (next_line old.history s) e o
+    attempt = subst (λ n. Attempts g old new (Line s n) e o) due.number tried
+
     way_on : IsUnderWay new.rows ss new.history
     way_on =
         subst (λ r. IsUnderWay r ss new.history) (sym attempt.on.rows)
-        (step_keeps old.rows ss old.history new.history s turns.way (attempt_steps g old new ss s e due o attempt))
+        (step_keeps old.rows ss old.history new.history s turns.way (attempt_steps g old new ss s e due.event o attempt))
 
-    -- the line waits
     few_on : length new.rows ≤ most_rows
     few_on = subst (λ (r : Rows). length r ≤ most_rows) (sym attempt.on.rows) turns.few
 
+    -- the line waits
     pub turns_parked : o ≡ Waits → AreTurns (record { sessions = ss; core = new }) numbers
     turns_parked waits = record {
       way = way_on;
@@ -201,29 +205,28 @@ module _ {S : Type 0} (g : Ghosts S) (ss : List Session) (old new : State S) (nu
             (eqb_tells u s)
 
     -- it is answered
-    pub turns_answered : (o ≡ Waits → ⊥) → (l : ℕ) → l ≡ suc (answered old.history s) → s < length ss → length (set numbers s (l + 1)) ≡ length numbers
-        → AreTurns (record { sessions = ss; core = new }) (set numbers s (l + 1))
-    turns_answered ends l is there count = record {
+    pub turns_answered : (o ≡ Waits → ⊥) → length (set numbers s (l + 1)) ≡ length numbers → AreTurns (record { sessions = ss; core = new }) (set numbers s (l + 1))
+    turns_answered ends count = record {
       way = way_on;
       few = few_on;
-      next = next_more ss old.history new.history numbers s l is (count_answered g old new s (suc (answered old.history s)) e o attempt ends)
-          (others_count g old new s (suc (answered old.history s)) e o attempt) there turns.next count;
+      next = next_more ss old.history new.history numbers s l due.number (count_answered g old new s (suc (answered old.history s)) e o attempt ends)
+          (others_count g old new s (suc (answered old.history s)) e o attempt) (session_there ss old.history s e due.event) turns.next count;
     }
 
     -- so it was a step, and this is what it tells
     pub stepped_parked : o ≡ Waits → Stepped g (record { sessions = ss; core = old }) (record { sessions = ss; core = new }) s Parked
     stepped_parked waits = record {
       sessions = refl;
-      step = attempt_steps g old new ss s e due o attempt;
-      told = (ap is_some due, count_waits g old new s (suc (answered old.history s)) e o attempt waits);
+      step = attempt_steps g old new ss s e due.event o attempt;
+      told = (ap is_some due.event, count_waits g old new s (suc (answered old.history s)) e o attempt waits);
       on = attempt.on;
     }
 
     pub stepped_answered : (o ≡ Waits → ⊥) → Stepped g (record { sessions = ss; core = old }) (record { sessions = ss; core = new }) s Answered
     stepped_answered ends = record {
       sessions = refl;
-      step = attempt_steps g old new ss s e due o attempt;
-      told = (ap is_some due, count_answered g old new s (suc (answered old.history s)) e o attempt ends);
+      step = attempt_steps g old new ss s e due.event o attempt;
+      told = (ap is_some due.event, count_answered g old new s (suc (answered old.history s)) e o attempt ends);
       on = attempt.on;
     }
 
@@ -234,11 +237,11 @@ pub unstuck_none : {S : Type 0} (g : Ghosts S) (t : Turning S) → NoneGivesUp t
 unstuck_none g t none = record { sessions = refl; told = (none, refl); on = on_same g t.core }
 
 module _ {S : Type 0} (ss : List Session) (old new : State S) (numbers : List ℕ) (turns : AreTurns (record { sessions = ss; core = old }) numbers)
-    (s l : ℕ) (e : Event) (must : MustGiveUp old.rows ss old.history s e) (is : l ≡ suc (answered old.history s))
+    (s l : ℕ) (e : Event) (due : IsDue ss old.history s l e) (must : MustGiveUp old.rows ss old.history s e)
     (added : new ≡ record old { history = entry (Line s l) e Stuck ∷ old.history }) where
   -- its entry
   pub stuck_history : new.history ≡ stuck old.history s e ∷ old.history
-  stuck_history = ap (λ (m : State S). m.history) added ∙ ap (λ n. entry (Line s n) e Stuck ∷ old.history) is
+  stuck_history = ap (λ (m : State S). m.history) added ∙ ap (λ n. entry (Line s n) e Stuck ∷ old.history) due.number
 
   stuck_rows : new.rows ≡ old.rows
   stuck_rows = ap (λ (m : State S). m.rows) added
@@ -247,7 +250,7 @@ module _ {S : Type 0} (ss : List Session) (old new : State S) (numbers : List �
   pub unstuck : (g : Ghosts S) → Unstuck g (record { sessions = ss; core = old }) (record { sessions = ss; core = new }) (Some (s, l))
   unstuck g = record {
     sessions = refl;
-    told = (is, (e, must, stuck_history));
+    told = (due.number, (e, must, stuck_history));
     on = record {
       rows = stuck_rows;
       opened = ap (λ (m : State S). m.opened) added;
@@ -265,7 +268,7 @@ module _ {S : Type 0} (ss : List Session) (old new : State S) (numbers : List �
   turns_stuck count = record {
     few = subst (λ (r : Rows). length r ≤ most_rows) (sym stuck_rows) turns.few;
     way = subst (λ r. IsUnderWay r ss new.history) (sym stuck_rows) (stuck_keeps old.rows ss old.history new.history turns.way (s, e, must, stuck_history));
-    next = next_more ss old.history new.history numbers s l is own others (session_there ss old.history s e must.left) turns.next count;
+    next = next_more ss old.history new.history numbers s l due.number own others (session_there ss old.history s e must.left) turns.next count;
   }
     where
       own : answered new.history s ≡ suc (answered old.history s)

@@ -17,7 +17,7 @@ use Rattle.txn_history.proofs.Tests.{clash}
 use Rattle.txn_history.proofs.Theorems.{legal_allowed}
 use Rattle.txn_history.proofs.NextLines.{next_can_give_up}
 use Rattle.manager_core.specs.Parking.{IsKeptOut}
-use Rattle.interleavings.specs.Turning.{IsFirstOpen, SomeGoesOn, has_answer, can_go_on, next_number}
+use Rattle.interleavings.specs.Turning.{IsDue, IsFirstOpen, SomeGoesOn, has_answer, can_go_on, next_number}
 
 module _ (ss : List Session) (h : History) where
   -- where there is no session there is no line
@@ -110,21 +110,21 @@ module _ (ss : List Session) (h : History) where
         by (inr from) = let same : s ≡ u = omega (arith, less, from) in subst (λ v. goes v ≡ false) same last
 
     -- the manager tells of a next line whether it can go on
-    pub told_held_up : IsUnderWay rows ss h → (s l : ℕ) (e : Event) → l ≡ suc (answered h s) → next_event ss h s ≡ Some e → (b : Bool)
+    pub told_held_up : IsUnderWay rows ss h → (s l : ℕ) (e : Event) → IsDue ss h s l e → (b : Bool)
         → IsTrue b ↔ IsKeptOut rows h (Line s l) e → not b ≡ goes s
-    told_held_up way s l e is due b tells = by b tells (answer rows h (next_line h s) e) refl
+    told_held_up way s l e due b tells = by b tells (answer rows h (next_line h s) e) refl
       where
         line : Line s l ≡ next_line h s
-        line = ap (Line s) is
+        line = ap (Line s) due.number
 
         by : (c : Bool) → IsTrue c ↔ IsKeptOut rows h (Line s l) e → (x : Option Answer) → answer rows h (next_line h s) e ≡ x → not c ≡ goes s
-        by true t x at = sym (ap (has_answer rows h s) due ∙ ap (λ b2. is_some (answer rows h b2 e)) (sym line) ∙ ap is_some (t.0 refl).none)
+        by true t x at = sym (ap (has_answer rows h s) due.event ∙ ap (λ b2. is_some (answer rows h b2 e)) (sym line) ∙ ap is_some (t.0 refl).none)
         by false t None at =
             clash (t.1 (record {
-              can = subst (λ b2. CanGiveUp h b2 e) (sym line) (next_can_give_up rows ss h (legal_allowed rows h way.legal) way.in_turn s e due at);
+              can = subst (λ b2. CanGiveUp h b2 e) (sym line) (next_can_give_up rows ss h (legal_allowed rows h way.legal) way.in_turn s e due.event at);
               none = ap (λ b2. answer rows h b2 e) line ∙ at;
             })) refl
-        by false t (Some a) at = sym (ap (has_answer rows h s) due ∙ ap is_some at)
+        by false t (Some a) at = sym (ap (has_answer rows h s) due.event ∙ ap is_some at)
 
     -- where one can go on, a step of each adds an entry
     pub some_moves : (h2 : History) → SomeGoesOn rows ss h → StepOfEach rows ss (length ss) h h2 → pending_in ss h2 (length ss) < pending_in ss h (length ss)

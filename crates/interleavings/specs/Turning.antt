@@ -28,6 +28,11 @@ pub record Turning (S : Type 0) : Type 0 where
 abbrev pub next_number : List Session → History → ℕ → Option ℕ
 next_number ss h s = option_map (λ e. suc (answered h s)) (next_event ss h s)
 
+-- the session's next line has this number and asks this
+pub record IsDue (ss : List Session) (h : History) (s l : ℕ) (e : Event) : Type 0 where
+  pub event : next_event ss h s ≡ Some e
+  pub number : l ≡ suc (answered h s)
+
 -- the first session that has a line left, if one has
 abbrev pub IsFirstOpen : List Session → History → Option ℕ → Type 0
 IsFirstOpen ss h None = AllAnswered ss h

@@ -1,19 +1,19 @@
 //! Sessions under way, a line at a time.
-ghost use Rattle.std.specs.Prelude.{◌≡◌, ◌↔◌, length, replicate, IfErr, IfOk, IsTrue, MatchBool, OnErr, OnOk, Some};
-ghost use Rattle.serial_spec.specs.Interleaving.{AllAnswered};
+ghost use Rattle.std.specs.Prelude.{◌≡◌, ◌↔◌, length, replicate, IfErr, IfNone, IfOk, IfSome, IsTrue, MatchBool, None, OnErr, OnOk};
+ghost use Rattle.serial_spec.specs.Interleaving.{AllAnswered, next_event};
 ghost use Rattle.txn_history.specs.Turns.{IsUnderWay};
 ghost use Rattle.durable_top.specs.Store.{plain};
 ghost use Rattle.manager_core.specs.Opening.{HasCause};
 ghost use Rattle.interleavings.specs.Progressing.{AreUnderWay, turning};
 ghost use Rattle.interleavings.specs.Scheduled.{Stands};
-ghost use Rattle.interleavings.specs.Turning.{IsClosed, IsFirstOpen, IsStart, NoneGoesOn, SomeGoesOn, Stepped, TellsStuck, Unstuck, can_go_on, next_number};
+ghost use Rattle.interleavings.specs.Turning.{IsClosed, IsDue, IsFirstOpen, IsStart, NoneGoesOn, SomeGoesOn, Stepped, TellsStuck, Unstuck, can_go_on, next_number};
 
 use crate::attempt::attempt;
 use crate::progress::Progress;
 use crate::report::{Report, labels_of, report_of};
 use durable_top::{Row, TopStore};
 use manager_core::{Manager, OpenFault, Outcome};
-use serial_spec::{By, NoMemory};
+use serial_spec::{By, Event, NoMemory};
 use session_text::Sessions;
 use std::alloc::Global;
 use std::marker::Model;
@@ -118,12 +118,24 @@ impl<'a, S: TopStore> Turns<'a, S> {
         self.sessions.len() as u32
     }
 
+    // The session's next line, where there is such a session and it has a line left: its number, and what it asks.
+    fn due(&self, session: u32) -> Option<(u32, &'a Event)>
+        ensures some { IfSome result (λ due.
+            IsDue self.now.sessions self.now.core.history session due.0 due.1.now) }
+        ensures none { IfNone result
+            (next_event self.now.sessions self.now.core.history session ≡ None) }
+    {
+        let line = *self.next.get(session as usize)?;
+        let sessions = self.sessions;
+        let text = sessions.line(session, line)?;
+        Some((line, text.event()))
+    }
+
     /// The number of the session's next line, where there is such a session and it has a line left.
     pub fn next_line(&self, session: u32) -> Option<u32>
         ensures { result ≡ next_number self.now.sessions self.now.core.history session }
     {
-        let line = *self.next.get(session as usize)?;
-        self.sessions.line(session, line)?;
+        let (line, _) = self.due(session)?;
         Some(line)
     }
 
@@ -161,28 +173,27 @@ impl<'a, S: TopStore> Turns<'a, S> {
         ensures way { OnOk result (IsUnderWay self.new.core.rows self.new.sessions self.new.core.history) }
         ensures err { OnErr result (self.new ≡ self.old) }
     {
-        let Some(line) = self.next_line(session) else {
+        let Some((line, due)) = self.due(session) else {
             return Ok(Turn::OutOfTurn);
         };
         // A line that waits is mostly kept out still, and to ask for that alone is cheaper.
         if self.manager.stays_parked(By::Line { session, line }) {
             return Ok(Turn::Parked);
         }
-        self.attempt_line(session, line)
+        self.attempt_line(session, line, due)
     }
 
-    // Attempts the session's next line, which has this number. It is no part of `step`, which pays for no room of it then.
+    // Attempts the session's next line, which has this number and asks this. It is no part of `step`, which pays for no room of it
+    // then.
     #[inline(never)]
-    fn attempt_line(&mut self, session: u32, line: u32) -> Result<Turn, NoMemory>
-        requires { next_number self.old.sessions self.old.core.history session ≡ Some line }
+    fn attempt_line(&mut self, session: u32, line: u32, due: &Event) -> Result<Turn, NoMemory>
+        requires { IsDue self.old.sessions self.old.core.history session line due.now }
         ensures ok { IfOk result (λ turn. Stepped S.TopStore self.old self.new session turn) }
         ensures way { OnOk result (IsUnderWay self.new.core.rows self.new.sessions self.new.core.history) }
         ensures err { OnErr result (self.new ≡ self.old) }
     {
         // What is known of a text comes with its length: here that a session has few lines.
         let _count = self.sessions.len();
-        let text = self.sessions.line(session, line).unwrap();
-        let due = text.event();
         let by = By::Line { session, line };
         match attempt(&mut self.manager, by, due)? {
             Outcome::Waits => Ok(Turn::Parked),
@@ -198,18 +209,14 @@ impl<'a, S: TopStore> Turns<'a, S> {
     fn can_go_on(&self, session: u32) -> bool
         ensures { result ≡ can_go_on self.now.core.rows self.now.sessions self.now.core.history session }
     {
-        match self.next_line(session) {
-            Some(line) => {
-                let text = self.sessions.line(session, line).unwrap();
-                let due = text.event();
-                let by = By::Line { session, line };
-                if self.manager.is_parked(by) {
-                    return false;
-                }
-                !self.manager.held_up(by, due)
-            }
-            None => false,
+        let Some((line, due)) = self.due(session) else {
+            return false;
+        };
+        let by = By::Line { session, line };
+        if self.manager.is_parked(by) {
+            return false;
         }
+        !self.manager.held_up(by, due)
     }
 
     /// Whether the next line of some session may be answered, or begin to wait. It looks first at the session that was answered
@@ -254,10 +261,8 @@ impl<'a, S: TopStore> Turns<'a, S> {
         let Some(session) = self.stuck_session() else {
             return Ok(None);
         };
-        let line = self.next_line(session).unwrap();
-        let text = self.sessions.line(session, line).unwrap();
-        self.manager
-            .cancel(By::Line { session, line }, text.event())?;
+        let (line, due) = self.due(session).unwrap();
+        self.manager.cancel(By::Line { session, line }, due)?;
         self.next[session as usize] = line + 1;
         Ok(Some((session, line)))
     }
