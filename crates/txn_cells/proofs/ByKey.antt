@@ -164,11 +164,12 @@ one_fits some all t are there fresh =
     ]) in
     omega (arith, most)
 
-pub fewer_left : (xs : List ℕ) (t : ℕ) → length (filter (λ v. not (nat_eq v t)) xs) ≤ length xs
-fewer_left [] t = omega arith
-fewer_left (x ∷ xs) t = by (nat_eq x t) (fewer_left xs t)
+-- no more pass than there are
+pub fewer_pass : (p : ℕ → Bool) (xs : List ℕ) → length (filter p xs) ≤ length xs
+fewer_pass p [] = omega arith
+fewer_pass p (x ∷ xs) = by (p x) (fewer_pass p xs)
   where
-    by : (b : Bool) → length (filter (λ v. not (nat_eq v t)) xs) ≤ length xs → length (cond (not b) (x ∷ filter (λ v. not (nat_eq v t)) xs) (filter (λ v. not (nat_eq v t)) xs)) ≤ length (x ∷ xs)
+    by : (b : Bool) → length (filter p xs) ≤ length xs → length (cond b (x ∷ filter p xs) (filter p xs)) ≤ length (x ∷ xs)
     by true le = omega (arith, le)
     by false le = omega (arith, le)
 

@@ -1,20 +1,19 @@
 -- The holders of a key, as one of them is looked for, put in, set and taken out.
-use Rattle.std.proofs.Common.{◌≡◌, ◌<◌, ◌≤◌, ℕ, suc, Bool, true, false, cond, not, nat_eq, ◌&&◌, ◌||◌, filter, List, [], ◌∷◌, length, get_or, set, Option, Some, None, unwrap_or, is_some, refl, sym, ap, subst, ◌∙◌, arith}
+use Rattle.std.proofs.Common.{◌≡◌, ◌<◌, ◌≤◌, ℕ, suc, true, false, cond, not, nat_eq, ◌&&◌, ◌||◌, filter, List, [], ◌∷◌, length, get_or, set, Option, Some, None, unwrap_or, is_some, refl, sym, ap, subst, ◌∙◌, arith}
 use Rattle.std.specs.Prelude.{slice_get}
 use Rattle.std.specs.List.{insert, list_any, remove, zip}
 use Rattle.std.specs.List.Sorted.{IsStrictlyIncreasing}
 use Rattle.std.specs.Map.{lookup}
-use Rattle.std.proofs.lemmas.Bool.{false≢true}
 use Rattle.std.proofs.lemmas.Cmp.{nat_eq_equiv}
 use Rattle.std.proofs.lemmas.List.{length-set}
 use Rattle.std.proofs.lemmas.List.Edits.{length-insert, length-remove}
 use Rattle.std.proofs.lemmas.List.Kept.{IsStrictlyIncreasing-filter}
 use Rattle.std.proofs.lemmas.Map.{lookup-insert, none_passes_from_lookup}
 use Rattle.std.proofs.lemmas.Option.{get_or_from_slice_get, slice_get_within}
-use Rattle.txn_cells.specs.Kept.{AreAmong, AreMarked, Held, content_of, holds, stands}
-use Rattle.txn_cells.proofs.ByKey.{among_left, among_one, among_put, any-without, one_fits, removed, rises}
+use Rattle.txn_cells.specs.Kept.{Held, content_of, holds}
+use Rattle.txn_cells.proofs.ByKey.{removed, rises}
 use Rattle.txn_cells.proofs.Puts.{none_from, on_number}
-use Rattle.txn_cells.proofs.Zipped.{content-put, content-taken, empty_as_none, found-remove, found-set, found_at, holds-put, holds-taken, listed, still, zip-insert}
+use Rattle.txn_cells.proofs.Zipped.{content-put, content-taken, empty_as_none, found-remove, found-set, found_at, holds-put, holds-taken, listed, still}
 
 pub length-zip : {K X : Type 0} (ns : List K) (cs : List X) → length cs ≡ length ns → length (zip ns cs) ≡ length ns
 length-zip [] cs same = refl
@@ -40,17 +39,9 @@ out_already old t u fresh =
     (λ e. subst (λ (v : ℕ). holds old v ≡ false) e fresh)
     (λ _. refl)
 
-module _ {V : Type 0} (outstanding : V → Bool) (ns marked : List ℕ) (cs : List (Option V)) (rising : IsStrictlyIncreasing ns) (same : length cs ≡ length ns)
-    (among : AreAmong marked ns) (stand : AreMarked outstanding (zip ns cs) marked) (t i : ℕ) where
-  -- the invariant, with an empty place put in
-  pub put_held : holds (zip ns cs) t ≡ false → i ≤ length ns
-      → (length (insert cs i None) ≡ length (insert ns i t)) × AreAmong marked (insert ns i t) × AreMarked outstanding (zip (insert ns i t) (insert cs i None)) marked
-  put_held fresh within = (
-    (let a = length-insert ns i t within in let b = length-insert cs i None (omega (arith, within, same)) in omega (arith, a, b, same)),
-    among_put marked ns t i among,
-    λ u e.
-        stand u (ap (stands outstanding) (sym (ap (λ (h : Held V). content_of h u) (zip-insert ns cs i t None same within) ∙ put_contents (zip ns cs) t i fresh u)) ∙ e),
-  )
+module _ {V : Type 0} (ns : List ℕ) (cs : List (Option V)) (rising : IsStrictlyIncreasing ns) (same : length cs ≡ length ns) (t i : ℕ) where
+  pub put_same : i ≤ length ns → length (insert cs i None) ≡ length (insert ns i t)
+  put_same within = let a = length-insert ns i t within in let b = length-insert cs i None (omega (arith, within, same)) in omega (arith, a, b, same)
 
   module _ (at : slice_get ns i ≡ Some t) where
     within : i < length ns
@@ -65,7 +56,7 @@ module _ {V : Type 0} (outstanding : V → Bool) (ns marked : List ℕ) (cs : Li
     pub has_place_there : holds (zip ns cs) t ≡ true
     has_place_there = ap is_some (found_at ns cs t i None (rises ns t rising) same within number)
 
-    there : list_any (nat_eq t) ns ≡ true
+    pub there : list_any (nat_eq t) ns ≡ true
     there = sym (listed ns cs same t) ∙ has_place_there
 
     -- ---- set
@@ -83,22 +74,6 @@ module _ {V : Type 0} (outstanding : V → Bool) (ns marked : List ℕ) (cs : Li
       pub set_same : length (set cs i c) ≡ length ns
       set_same = length-set cs i c ∙ same
 
-      -- what stands out is marked
-      pub set_stand : (more : List ℕ) → ((u : ℕ) → list_any (nat_eq u) marked ≡ true → list_any (nat_eq u) more ≡ true)
-          → (stands outstanding c ≡ true → list_any (nat_eq t) more ≡ true) → AreMarked outstanding (zip ns (set cs i c)) more
-      set_stand more kept here u e =
-          on_number t u (λ b. stands outstanding (cond b c (content_of (zip ns cs) u)) ≡ true → list_any (nat_eq u) more ≡ true)
-          (λ mine f. subst (λ (v : ℕ). list_any (nat_eq v) more ≡ true) mine (here f))
-          (λ _ f. kept u (stand u f))
-          (ap (stands outstanding) (sym (set_contents u)) ∙ e)
-
-    -- there is room to mark it
-    pub room_to_mark : (capacity : ℕ) → length ns ≤ capacity → list_any (nat_eq t) marked ≡ false → length marked < capacity
-    room_to_mark capacity room fresh = let less = one_fits marked ns t among there fresh in omega (arith, less, room)
-
-    pub marked_too : (more : List ℕ) → IsStrictlyIncreasing more → ((u : ℕ) → list_any (nat_eq u) more ≡ (nat_eq t u || list_any (nat_eq u) marked)) → AreAmong more ns
-    marked_too more rising_more each = among_one marked more ns t among there rising_more each
-
     -- ---- taken out
 
     taken_cell : (u : ℕ) → lookup (nat_eq u) (zip (remove ns i) (remove cs i)) ≡ cond (nat_eq t u) None (lookup (nat_eq u) (zip ns cs))
@@ -110,28 +85,17 @@ module _ {V : Type 0} (outstanding : V → Bool) (ns marked : List ℕ) (cs : Li
     pub taken_holds : (u : ℕ) → holds (zip (remove ns i) (remove cs i)) u ≡ (not (nat_eq t u) && holds (zip ns cs) u)
     taken_holds u = holds-taken t u (zip ns cs) (zip (remove ns i) (remove cs i)) (taken_cell u)
 
-    left : remove ns i ≡ filter (λ v. not (nat_eq v t)) ns
+    pub left : remove ns i ≡ filter (λ v. not (nat_eq v t)) ns
     left = removed ns t i (rises ns t rising) within number
 
     pub taken_rising : IsStrictlyIncreasing (remove ns i)
     taken_rising = subst (λ (xs : List ℕ). IsStrictlyIncreasing xs) (sym left) (IsStrictlyIncreasing-filter (λ v. not (nat_eq v t)) ns rising)
 
+    pub fewer : suc (length (remove ns i)) ≡ length ns
+    fewer = let a = length-remove ns i within in omega (arith, a, within)
+
     pub taken_same : length (remove cs i) ≡ length (remove ns i)
     taken_same = let a = length-remove ns i within in let b = length-remove cs i (omega (arith, within, same)) in omega (arith, a, b, same)
-
-    pub taken_among : AreAmong (filter (λ v. not (nat_eq v t)) marked) (remove ns i)
-    taken_among = subst (λ (xs : List ℕ). AreAmong (filter (λ v. not (nat_eq v t)) marked) xs) (sym left) (among_left marked ns t among)
-
-    pub taken_room : (capacity : ℕ) → length ns ≤ capacity → length (remove ns i) ≤ capacity
-    taken_room capacity room = let a = length-remove ns i within in omega (arith, a, room)
-
-    pub taken_stand : AreMarked outstanding (zip (remove ns i) (remove cs i)) (filter (λ v. not (nat_eq v t)) marked)
-    taken_stand u e =
-        any-without marked t u
-        ∙ on_number t u (λ b. stands outstanding (cond b None (content_of (zip ns cs) u)) ≡ true → (not b && list_any (nat_eq u) marked) ≡ true)
-        (λ _ f. absurd (false≢true f))
-        (λ _ f. stand u f)
-        (ap (stands outstanding) (sym (taken_contents u)) ∙ e)
 
 -- ---- one that is not there
 

@@ -4,6 +4,7 @@ mod HandedUp
 mod Handing
 mod Holding
 mod Lists
+mod Marking
 mod Placing
 mod Puts
 pub mod Reserving

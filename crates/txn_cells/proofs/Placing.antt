@@ -1,6 +1,6 @@
 -- The keys of each transaction at their places among all keys, as a key is listed, a list is taken, and the keys grow.
-use Rattle.std.proofs.Common.{◌≡◌, ℕ, zero, suc, Bool, true, false, cond, nat_eq, List, [], ◌∷◌, ◌++◌, get_or, length, Some, None, unwrap_or, is_some, refl, sym, ap, subst, ◌∙◌}
-use Rattle.std.specs.Prelude.{option_map, slice_get}
+use Rattle.std.proofs.Common.{◌≡◌, ℕ, zero, suc, Bool, true, false, cond, nat_eq, List, [], ◌∷◌, ◌++◌, get_or, length, Option, Some, None, unwrap_or, is_some, refl, sym, ap, subst, ◌∙◌}
+use Rattle.std.specs.Prelude.{IfSome, option_map, slice_get}
 use Rattle.std.specs.List.{position}
 use Rattle.std.specs.Map.{keys_of, lookup, values_of}
 use Rattle.std.proofs.lemmas.Bool.{false≢true}
@@ -92,6 +92,10 @@ key_at_place k keys p e =
     let found = position-Some (label_eq k) keys p [] e in
     slice_get-get_or keys p [] found.0 ∙ ap (λ (x : List ℕ). Some x) (sym (same_label k (get_or keys p []) found.1))
 
+pub place_found : (k : List ℕ) (keys : List (List ℕ)) (o : Option ℕ) → o ≡ position (label_eq k) keys → IfSome o (λ p. slice_get keys p ≡ Some k)
+place_found k keys None e = tt
+place_found k keys (Some p) e = key_at_place k keys p (sym e)
+
 -- a key that goes last
 pub last_at : (keys : List (List ℕ)) (k : List ℕ) → slice_get (keys ++ k ∷ []) (length keys) ≡ Some k
 last_at [] k = refl
@@ -119,8 +123,8 @@ module _ {V S : Type 0} (m : IndexMap (List ℕ) (Held V) S) (unique : IsUnique 
   pub changed_at : (now : Held V) (q : List ℕ) → lookup (label_eq q) (with_value_at m p now).entries ≡ cond (label_eq k q) (Some now) (lookup (label_eq q) m.entries)
   changed_at now q = (updates-with_value_at m p now nat_list_eq_equiv unique k held entry).0 q
 
--- the key of a listed entry
-pub key_listed : (es : Listed) (i : ℕ) (e : List ℕ × ℕ) → slice_get es i ≡ Some e → slice_get (keys_of es) i ≡ Some e.0
+-- the key of an entry
+pub key_listed : {X : Type 0} (es : List (List ℕ × X)) (i : ℕ) (e : List ℕ × X) → slice_get es i ≡ Some e → slice_get (keys_of es) i ≡ Some e.0
 key_listed es i e is = slice_get-map (λ x. x.0) es i ∙ ap (option_map (λ x. x.0)) is
 
 pub none_listed : (es : Listed) (i : ℕ) → slice_get es i ≡ None → slice_get (keys_of es) i ≡ None

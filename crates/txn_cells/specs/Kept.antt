@@ -1,8 +1,8 @@
 -- Cells as callers see them: for each transaction that has any, a list of its keys, each with what stands there. And as they
 -- are kept: at each key the transactions with a place there, each with what it has, and beside that the keys of each
 -- transaction, at its number, each with its place among all keys.
-use Rattle.std.specs.Prelude.{◌≡◌, ◌+◌, ℕ, suc, Bool, true, false, nat_eq, List, [], ◌∷◌, Option, Some, None, is_some, unwrap_or, slice_get, map}
-use Rattle.std.specs.List.{AllByRecursion, list_any}
+use Rattle.std.specs.Prelude.{◌≡◌, ◌+◌, ◌<◌, ◌≤◌, ℕ, suc, Bool, true, false, nat_eq, List, [], ◌∷◌, Option, Some, None, is_some, unwrap_or, slice_get, length, map}
+use Rattle.std.specs.List.{AllByRecursion, list_any, zip}
 use Rattle.std.specs.List.Sorted.{IsStrictlyIncreasing}
 use Rattle.std.specs.Map.{lookup, keys_of}
 use Rattle.txn_names.specs.Path.{label_eq}
@@ -61,6 +61,21 @@ pub record AreAmong (some all : List ℕ) : Type 0 where
 -- whoever has what stands out is marked
 abbrev pub AreMarked : {V : Type 0} → (V → Bool) → Held V → List ℕ → Type 0
 AreMarked outstanding held marked = (u : ℕ) → stands outstanding (content_of held u) ≡ true → list_any (nat_eq u) marked ≡ true
+
+-- of these numbers, each with what it has, some are marked: at least those that have what stands out.
+-- There is room to mark all
+pub record HasMarks {V : Type 0} (outstanding : V → Bool) (numbers : List ℕ) (contents : List (Option V)) (marked : List ℕ) (room : ℕ) : Type 0 where
+  pub among : AreAmong marked numbers
+  pub fits : length numbers ≤ room
+  pub all : AreMarked outstanding (zip numbers contents) marked
+
+-- so few are gone through one by one, and no marks are kept of them
+abbrev pub few : ℕ
+few = 4
+
+-- where there are more than a few numbers, marks are kept
+abbrev pub HasMarksPastFew : {V : Type 0} → (V → Bool) → List ℕ → List (Option V) → List ℕ → ℕ → Type 0
+HasMarksPastFew outstanding numbers contents marked room = few < length numbers → HasMarks outstanding numbers contents marked room
 
 -- ---- at all keys
 

@@ -7,26 +7,31 @@ ghost use Rattle.txn_cells.specs.Cells.{is_it, merged};
 ghost use Rattle.txn_cells.specs.Kept.{content_of, holds, stands};
 
 use crate::inherit::Inherit;
+use crate::marks::{FEW, make_room_to_mark};
 use crate::numbers::{find, put_in, take_from};
 use serial_spec::NoMemory;
 use std::alloc::Global;
+use std::collections::VecDeque;
 use std::marker::Model;
 use txn_tree::TxnNo;
 
-/// What all transactions have at one key. It has the numbers of those that have a place there, each once, rising; in the
-/// same order what each has; and, rising too, at least those whose content stands out. There is room to mark all.
+/// What all transactions have at one key. It has the numbers of those that have a place there, each
+/// once, rising; and in the same order what each has, in a queue, so that what stands near either
+/// end is put in and taken out without moving the rest. Where they are more than a few, at least
+/// those whose content stands out are marked, rising too, and there is room to mark all. Of a few no
+/// marks are kept, since it costs less to go through them all.
 #[derive(Drop)]
 pub struct KeyCells<V: Inherit> {
     numbers: Vec<TxnNo>,
-    contents: Vec<Option<V>>,
+    contents: VecDeque<Option<V>>,
     marked: Vec<TxnNo>,
 }
 
 impl<V: Inherit> Model for KeyCells<V> {
-    ghost use Rattle.std.specs.Prelude.{◌≡◌, ◌≤◌, length, vec_capacity};
+    ghost use Rattle.std.specs.Prelude.{◌≡◌, length, vec_capacity};
     ghost use Rattle.std.specs.List.{zip};
     ghost use Rattle.std.specs.List.Sorted.{IsStrictlyIncreasing};
-    ghost use Rattle.txn_cells.specs.Kept.{AreAmong, AreMarked, Held};
+    ghost use Rattle.txn_cells.specs.Kept.{HasMarksPastFew, Held};
 
     ghost Value = { Held V };
 
@@ -34,8 +39,8 @@ impl<V: Inherit> Model for KeyCells<V> {
 
     ghost invariant = { λ h.
         IsStrictlyIncreasing h.numbers.items × (length h.contents.items ≡ length h.numbers.items)
-        × AreAmong h.marked.items h.numbers.items × (length h.numbers.items ≤ vec_capacity h.marked)
-        × AreMarked V.outstanding (zip h.numbers.items h.contents.items) h.marked.items };
+        × HasMarksPastFew V.outstanding h.numbers.items h.contents.items h.marked.items
+        (vec_capacity h.marked) };
 }
 
 impl<V: Inherit> KeyCells<V> {
@@ -45,7 +50,7 @@ impl<V: Inherit> KeyCells<V> {
     {
         KeyCells {
             numbers: Vec::new(alloc),
-            contents: Vec::new(alloc),
+            contents: VecDeque::new(alloc),
             marked: Vec::new(alloc),
         }
     }
@@ -59,7 +64,8 @@ impl<V: Inherit> KeyCells<V> {
         self.numbers.as_slice()
     }
 
-    /// Of these all whose content stands out, in the same order, and maybe some whose content did once.
+    /// Of these all whose content stands out, in the same order, and maybe some whose content does
+    /// not: where only a few have a place, all of them.
     pub fn standing_out(&self) -> &[TxnNo]
         ensures all { (u : ℕ) → IsTrue (stands V.outstanding (content_of self.now u)) →
             IsTrue (list_any (nat_eq u) result.now) }
@@ -67,7 +73,11 @@ impl<V: Inherit> KeyCells<V> {
             IsTrue (holds self.now u) }
         ensures rising { IsStrictlyIncreasing result.now }
     {
-        self.marked.as_slice()
+        if self.numbers.len() <= FEW {
+            self.numbers.as_slice()
+        } else {
+            self.marked.as_slice()
+        }
     }
 
     /// What the transaction has here.
@@ -88,7 +98,7 @@ impl<V: Inherit> KeyCells<V> {
         ensures ok { OnOk result (self.new ≡ insert self.old place (txn, None)) }
         ensures err { OnErr result (self.new ≡ self.old) }
     {
-        self.marked.reserve(self.numbers.len() + 1)?;
+        make_room_to_mark(&mut self.marked, self.numbers.as_slice(), &self.contents)?;
         self.contents.reserve(1)?;
         self.numbers.reserve(1)?;
         self.numbers.insert(place, txn).unwrap();
@@ -122,7 +132,7 @@ impl<V: Inherit> KeyCells<V> {
     {
         if let Ok(place) = find(self.numbers.as_slice(), txn) {
             self.contents[place] = Some(value);
-            if value.stands_out() {
+            if self.numbers.len() > FEW && value.stands_out() {
                 put_in(&mut self.marked, txn);
             }
         }
@@ -149,8 +159,10 @@ impl<V: Inherit> KeyCells<V> {
         match find(self.numbers.as_slice(), txn) {
             Ok(place) => {
                 self.numbers.remove(place);
-                take_from(&mut self.marked, txn);
-                self.contents.remove(place)
+                if self.numbers.len() > FEW {
+                    take_from(&mut self.marked, txn);
+                }
+                self.contents.remove(place).unwrap()
             }
             Err(_) => None,
         }

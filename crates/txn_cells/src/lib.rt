@@ -5,6 +5,7 @@
 mod inherit;
 mod key_cells;
 mod key_lists;
+mod marks;
 mod numbers;
 mod places;
 mod table;

@@ -17,11 +17,14 @@ use std::marker::Model;
 use txn_names::Key;
 use txn_tree::TxnNo;
 
-/// What is held at each key. A key stays when its last holder goes, and so stands at one place among all keys for good.
+/// What is held at each key. A key stays when its last holder goes, and so stands at one place among
+/// all keys for good. The place that `place_for` gave last is remembered, since what is set at a key
+/// is mostly set right after a place was asked for there.
 #[derive(Drop)]
 pub(crate) struct Places<V: Inherit> {
     alloc: Global,
     holders: IndexMap<Key, KeyCells<V>>,
+    recent: usize,
 }
 
 impl<V: Inherit> Model for Places<V> {
@@ -40,7 +43,22 @@ impl<V: Inherit> Places<V> {
         Places {
             alloc,
             holders: IndexMap::new(alloc),
+            recent: 0,
         }
+    }
+
+    // The place of the key among all keys, if it is among them. The key at the remembered place is
+    // compared first, which costs less than to look the key up.
+    fn index_of(&self, key: &Key) -> Option<usize>
+        ensures some { IfSome result (λ p. slice_get (keys_of self.now) p ≡ Some key.now) }
+        ensures none { IfNone result ((u : ℕ) → IsFalse (place_kept self.now u key.now)) }
+    {
+        if let Some((recent, _)) = self.holders.get_index(self.recent) {
+            if *recent == *key {
+                return Some(self.recent);
+            }
+        }
+        self.holders.get_index_of(key)
     }
 
     /// What all transactions have at the key, if it is among the keys.
@@ -59,11 +77,15 @@ impl<V: Inherit> Places<V> {
         ensures succeeds { (u : ℕ) → IsTrue (place_kept self.old u key.now) → IsOk result }
     {
         if let Some(place) = self.holders.get_index_of(key) {
+            self.recent = place;
             return Ok(place);
         }
         let place = self.holders.len();
         match self.holders.insert(*key, KeyCells::new(self.alloc)) {
-            Ok(_) => Ok(place),
+            Ok(_) => {
+                self.recent = place;
+                Ok(place)
+            }
             Err(_) => Err(AllocError),
         }
     }
@@ -98,7 +120,10 @@ impl<V: Inherit> Places<V> {
         ensures places { (u : ℕ) → (q : List ℕ) → place_kept self.new u q
             ≡ place_kept self.old u q }
     {
-        if let Some(holders) = self.holders.get_mut(key) {
+        let Some(place) = self.index_of(key) else {
+            return;
+        };
+        if let Some(holders) = self.holders.get_index_mut(place) {
             holders.set(txn, value);
         }
     }
@@ -114,7 +139,10 @@ impl<V: Inherit> Places<V> {
         ensures places { (u : ℕ) → (q : List ℕ) → place_kept self.new u q
             ≡ place_kept self.old u q }
     {
-        if let Some(holders) = self.holders.get_mut(key) {
+        let Some(place) = self.index_of(key) else {
+            return;
+        };
+        if let Some(holders) = self.holders.get_index_mut(place) {
             holders.join(txn, added);
         }
     }

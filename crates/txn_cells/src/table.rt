@@ -178,7 +178,7 @@ impl<V: Inherit> CellTable<V> {
     }
 
     /// Transactions that have a place at the key, each once, in the order in which they began: all those whose content there
-    /// stands out, and maybe some whose content did once. No other transaction is looked at.
+    /// stands out, and maybe some whose content does not. No other transaction is looked at.
     pub fn standing_out(&self, key: &Key) -> &[TxnNo]
         ensures all { (u : ℕ) → IsTrue (stands V.outstanding (content self.now u key.now)) → IsTrue (list_any (nat_eq u) result.now) }
         ensures places { (u : ℕ) → IsTrue (list_any (nat_eq u) result.now) → IsTrue (has_place self.now u key.now) }

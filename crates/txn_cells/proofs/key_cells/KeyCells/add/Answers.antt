@@ -28,14 +28,14 @@ returns-in-Ok-clause-made g c =
     let h = c.self.inside in
     let i = c.self.invariant in
     let at = rw c.as_slice.ensures.value at c.in-Ok.ensures.there in
-    rw (sym c.self.view_is) (ap not (sym (has_place_there g.V.Inherit.outstanding h.numbers.items h.marked.items h.contents.items i.0 i.1 i.2 i.4 c.args.txn c.in-Ok.field-0 at)))
+    rw (sym c.self.view_is) (ap not (sym (has_place_there h.numbers.items h.contents.items i.0 i.1 c.args.txn c.in-Ok.field-0 at)))
 
 pub returns-in-Ok-clause-ok : goal.returns-in-Ok-clause-ok
 returns-in-Ok-clause-ok g c =
     let h = c.self.inside in
     let i = c.self.invariant in
     let at = rw c.as_slice.ensures.value at c.in-Ok.ensures.there in
-    let there = has_place_there g.V.Inherit.outstanding h.numbers.items h.marked.items h.contents.items i.0 i.1 i.2 i.4 c.args.txn c.in-Ok.field-0 at in
+    let there = has_place_there h.numbers.items h.contents.items i.0 i.1 c.args.txn c.in-Ok.field-0 at in
     rw (sym c.self.view_is) (λ u. sym (still _ c.args.txn u there))
 
 pub returns-in_ok-insert-in-Err-clause-made : goal.returns-in_ok-insert-in-Err-clause-made

@@ -9,7 +9,7 @@ returns-in-Ok g c =
     let at = rw c.as_slice.ensures.value at c.in-Ok.ensures.there in
     rw (sym c.self.view_is)
     (c.index.ensures
-    ∙ sym (has_content g.V.Inherit.outstanding h.numbers.items h.marked.items h.contents.items i.0 i.1 i.2 i.4 c.args.txn c.in-Ok.place at c.index.result.now))
+    ∙ sym (has_content h.numbers.items h.contents.items i.0 i.1 c.args.txn c.in-Ok.place at c.index.result.now))
 
 pub returns-in-Err : goal.returns-in-Err
 returns-in-Err g c =

@@ -1,47 +1,83 @@
-use Rattle.std.proofs.Common.{sym, ◌∙◌}
-use Rattle.txn_cells.proofs.Holding.{has_content, not_there, nothing_had, out_already, taken_among, taken_contents, taken_holds, taken_rising, taken_room, taken_same, taken_stand}
+use Rattle.std.proofs.Common.{◌<◌, List, ℕ, ap, arith, length, remove, sym, vec_capacity, ◌∙◌}
+use Rattle.txn_cells.specs.Kept.{few}
+use Rattle.txn_cells.proofs.Holding.{fewer, has_content, not_there, nothing_had, out_already, taken_contents, taken_holds, taken_rising, taken_same}
+use Rattle.txn_cells.proofs.Marking.{marks_left}
 use Rattle.txn_cells.proofs.Zipped.{empty_as_none}
 use Rattle.txn_cells.proofs.key_cells.KeyCells.remove.Goals as goal
+use Rattle.txn_cells.proofs.key_cells.KeyCells.remove.Goals.{then-len-gt-FEW, else-len-gt-FEW}
 
 pub invariant_of-self : goal.invariant_of-self
 invariant_of-self g c =
     let h = c.self.inside in
     let i = c.self.invariant in
+    let ns : List ℕ = h.numbers.items in
+    let cs = h.contents.items in
     let t = c.args.txn in
-    let out = g.V.Inherit.outstanding in
+    let p : ℕ = c.in-Ok.place in
     let at = rw c.as_slice.ensures.value at c.in-Ok.ensures.there in
-    rw (c.remove.ensures.items, c.remove-in-Ok.ensures.items, c.take_from.ensures.left, c.take_from.ensures.capacity) (
-      taken_rising out h.numbers.items h.marked.items h.contents.items i.0 i.1 i.2 i.4 t c.in-Ok.place at,
-      taken_same out h.numbers.items h.marked.items h.contents.items i.0 i.1 i.2 i.4 t c.in-Ok.place at,
-      taken_among out h.numbers.items h.marked.items h.contents.items i.0 i.1 i.2 i.4 t c.in-Ok.place at,
-      taken_room out h.numbers.items h.marked.items h.contents.items i.0 i.1 i.2 i.4 t c.in-Ok.place at _ i.3,
-      taken_stand out h.numbers.items h.marked.items h.contents.items i.0 i.1 i.2 i.4 t c.in-Ok.place at,
-    )
+    let rising = taken_rising ns cs i.0 i.1 t p at in
+    let same = taken_same ns cs i.0 i.1 t p at in
+    elim c.if-len-gt-FEW.branch [
+      | then-len-gt-FEW w ↦
+          let contents = rw (c.unwrap.ensures, w.self-inside-is) at c.remove-in-Ok.ensures.items in
+          rw (w.self-inside-is, contents, c.remove.ensures.items, w.take_from.ensures.left, w.take_from.ensures.capacity) (
+            rising,
+            same,
+            λ (more : few < length (remove ns p)).
+                let many : few < length ns = omega (arith, more, fewer ns cs i.0 i.1 t p at) in
+                marks_left g.V.Inherit.outstanding ns cs h.marked.items (vec_capacity h.marked) (i.2 many) i.0 i.1 t p at,
+          )
+      | else-len-gt-FEW w ↦
+          let contents = rw (c.unwrap.ensures, w.self-inside-is) at c.remove-in-Ok.ensures.items in
+          rw (w.self-inside-is, contents, c.remove.ensures.items) (
+            rising,
+            same,
+            λ (more : few < length (remove ns p)).
+                let left = ap length c.remove.ensures.items in
+                absurd (omega (arith, more, left, c.remove.new.self.ok.0, c.len.ensures, w.if-len-gt-FEW.false)),
+          )
+    ]
 
-pub returns-in-Ok-clause-had : goal.returns-in-Ok-clause-had
-returns-in-Ok-clause-had g c =
+pub returns-after-len-gt-FEW-clause-had : goal.returns-after-len-gt-FEW-clause-had
+returns-after-len-gt-FEW-clause-had g c =
     let h = c.self.inside in
     let i = c.self.invariant in
     let at = rw c.as_slice.ensures.value at c.in-Ok.ensures.there in
-    rw (sym c.self.view_is)
-    (c.remove-in-Ok.ensures.value
-    ∙ sym (has_content g.V.Inherit.outstanding h.numbers.items h.marked.items h.contents.items i.0 i.1 i.2 i.4 c.args.txn c.in-Ok.place at c.remove-in-Ok.result))
+    let there = sym (has_content h.numbers.items h.contents.items i.0 i.1 c.args.txn c.in-Ok.place at c.unwrap.result) in
+    elim c.if-len-gt-FEW.branch [
+      | then-len-gt-FEW w ↦ rw (sym c.self.view_is) ((rw (c.unwrap.ensures, w.self-inside-is) at c.remove-in-Ok.ensures.value) ∙ there)
+      | else-len-gt-FEW w ↦ rw (sym c.self.view_is) ((rw (c.unwrap.ensures, w.self-inside-is) at c.remove-in-Ok.ensures.value) ∙ there)
+    ]
 
-pub returns-in-Ok-clause-contents : goal.returns-in-Ok-clause-contents
-returns-in-Ok-clause-contents g c =
+pub returns-after-len-gt-FEW-clause-contents : goal.returns-after-len-gt-FEW-clause-contents
+returns-after-len-gt-FEW-clause-contents g c =
     let h = c.self.inside in
     let i = c.self.invariant in
     let at = rw c.as_slice.ensures.value at c.in-Ok.ensures.there in
-    rw (sym c.self.view_is, c.remove.ensures.items, c.remove-in-Ok.ensures.items)
-    (taken_contents g.V.Inherit.outstanding h.numbers.items h.marked.items h.contents.items i.0 i.1 i.2 i.4 c.args.txn c.in-Ok.place at)
+    let taken = taken_contents h.numbers.items h.contents.items i.0 i.1 c.args.txn c.in-Ok.place at in
+    elim c.if-len-gt-FEW.branch [
+      | then-len-gt-FEW w ↦
+          let contents = rw (c.unwrap.ensures, w.self-inside-is) at c.remove-in-Ok.ensures.items in
+          rw (sym c.self.view_is, w.self-inside-is, contents, c.remove.ensures.items) taken
+      | else-len-gt-FEW w ↦
+          let contents = rw (c.unwrap.ensures, w.self-inside-is) at c.remove-in-Ok.ensures.items in
+          rw (sym c.self.view_is, w.self-inside-is, contents, c.remove.ensures.items) taken
+    ]
 
-pub returns-in-Ok-clause-places : goal.returns-in-Ok-clause-places
-returns-in-Ok-clause-places g c =
+pub returns-after-len-gt-FEW-clause-places : goal.returns-after-len-gt-FEW-clause-places
+returns-after-len-gt-FEW-clause-places g c =
     let h = c.self.inside in
     let i = c.self.invariant in
     let at = rw c.as_slice.ensures.value at c.in-Ok.ensures.there in
-    rw (sym c.self.view_is, c.remove.ensures.items, c.remove-in-Ok.ensures.items)
-    (taken_holds g.V.Inherit.outstanding h.numbers.items h.marked.items h.contents.items i.0 i.1 i.2 i.4 c.args.txn c.in-Ok.place at)
+    let taken = taken_holds h.numbers.items h.contents.items i.0 i.1 c.args.txn c.in-Ok.place at in
+    elim c.if-len-gt-FEW.branch [
+      | then-len-gt-FEW w ↦
+          let contents = rw (c.unwrap.ensures, w.self-inside-is) at c.remove-in-Ok.ensures.items in
+          rw (sym c.self.view_is, w.self-inside-is, contents, c.remove.ensures.items) taken
+      | else-len-gt-FEW w ↦
+          let contents = rw (c.unwrap.ensures, w.self-inside-is) at c.remove-in-Ok.ensures.items in
+          rw (sym c.self.view_is, w.self-inside-is, contents, c.remove.ensures.items) taken
+    ]
 
 pub returns-in-Err-clause-had : goal.returns-in-Err-clause-had
 returns-in-Err-clause-had g c =

@@ -10,7 +10,7 @@ use Rattle.txn_cells.proofs.Puts.{held_empty, none_from, none_placed}
 use Rattle.txn_cells.proofs.places.Places.place_for.Goals as goal
 
 pub returns-in-Some-clause-place : goal.returns-in-Some-clause-place
-returns-in-Some-clause-place g c = rw (sym c.self.view_is) (key_at_place c.args.key.now (keys_of c.self.inside.holders.entries) c.in-Some.place (sym c.in-Some.ensures.index))
+returns-in-Some-clause-place g c = key_at_place c.args.key.now (keys_of c.self.inside.holders.entries) c.in-Some.place (sym c.in-Some.ensures.index)
 
 pub returns-in-Ok-clause-held : goal.returns-in-Ok-clause-held
 returns-in-Ok-clause-held g c =
