@@ -69,9 +69,12 @@ pub(crate) fn is_kept_out(locks: &KeyCells<Modes>, tree: &Tree, txn: TxnNo, kind
 pub(crate) fn lets_in(locks: &KeyCells<Modes>, tree: &Tree, txn: TxnNo, kind: Kind) -> bool
     ensures { result ≡ not (is_kept_out tree.now (modes_of locks.now) txn kind) }
 {
-    // Most accesses that are kept out are so by a writer, and writers are fewer than those with a place at the key.
-    if kind == Kind::Write {
-        if any_keeps_out(locks, tree, txn, kind, locks.standing_out()) {
+    // Most accesses that are kept out are so by a writer, so those that stand out are asked first
+    // where they are fewer than all that have a place at the key. Where they are not, both lists are
+    // the same, and it would be gone through twice.
+    let writers = locks.standing_out();
+    if kind == Kind::Write && writers.len() < locks.holders().len() {
+        if any_keeps_out(locks, tree, txn, kind, writers) {
             return false;
         }
     }
