@@ -8,7 +8,7 @@ ghost use Rattle.txn_cells.specs.Kept.{content_of, holds, stands};
 
 use crate::inherit::Inherit;
 use crate::marks::{FEW, make_room_to_mark};
-use crate::numbers::{find, put_in, take_from};
+use crate::numbers::{Numbers, find, put_in, take_from};
 use serial_spec::NoMemory;
 use std::alloc::Global;
 use std::collections::VecDeque;
@@ -22,7 +22,7 @@ use txn_tree::TxnNo;
 /// marks are kept, since it costs less to go through them all.
 #[derive(Drop)]
 pub struct KeyCells<V: Inherit> {
-    numbers: Vec<TxnNo>,
+    numbers: Numbers,
     contents: VecDeque<Option<V>>,
     marked: Vec<TxnNo>,
 }
@@ -35,11 +35,11 @@ impl<V: Inherit> Model for KeyCells<V> {
 
     ghost Value = { Held V };
 
-    ghost view = { λ h. zip h.numbers.items h.contents.items };
+    ghost view = { λ h. zip h.numbers h.contents.items };
 
     ghost invariant = { λ h.
-        IsStrictlyIncreasing h.numbers.items × (length h.contents.items ≡ length h.numbers.items)
-        × HasMarksPastFew V.outstanding h.numbers.items h.contents.items h.marked.items
+        IsStrictlyIncreasing h.numbers × (length h.contents.items ≡ length h.numbers)
+        × HasMarksPastFew V.outstanding h.numbers h.contents.items h.marked.items
         (vec_capacity h.marked) };
 }
 
@@ -49,7 +49,7 @@ impl<V: Inherit> KeyCells<V> {
         ensures { result ≡ [] }
     {
         KeyCells {
-            numbers: Vec::new(alloc),
+            numbers: Numbers::new(alloc),
             contents: VecDeque::new(alloc),
             marked: Vec::new(alloc),
         }
@@ -100,8 +100,7 @@ impl<V: Inherit> KeyCells<V> {
     {
         make_room_to_mark(&mut self.marked, self.numbers.as_slice(), &self.contents)?;
         self.contents.reserve(1)?;
-        self.numbers.reserve(1)?;
-        self.numbers.insert(place, txn).unwrap();
+        self.numbers.insert(place, txn)?;
         self.contents.insert(place, None).unwrap();
         Ok(())
     }

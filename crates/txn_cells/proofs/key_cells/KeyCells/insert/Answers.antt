@@ -12,22 +12,22 @@ use Rattle.txn_cells.proofs.key_cells.KeyCells.insert.Goals as goal
 pub insert-requires : goal.insert-requires
 insert-requires g c =
     let h = c.self.inside in
-    let within : c.args.place ≤ length (zip h.numbers.items h.contents.items) = rw (sym c.self.view_is) at c.requires.within in
-    let long = length-zip h.numbers.items h.contents.items c.self.invariant.1 in
-    omega (arith, within, long, h.numbers.ok.0, c.reserve-2.ensures.len)
+    let within : c.args.place ≤ length (zip h.numbers h.contents.items) = rw (sym c.self.view_is) at c.requires.within in
+    let long = length-zip h.numbers h.contents.items c.self.invariant.1 in
+    omega (arith, within, long)
 
 pub insert-requires-2 : goal.insert-requires-2
 insert-requires-2 g c =
     let h = c.self.inside in
-    let within : c.args.place ≤ length (zip h.numbers.items h.contents.items) = rw (sym c.self.view_is) at c.requires.within in
-    let long = length-zip h.numbers.items h.contents.items c.self.invariant.1 in
+    let within : c.args.place ≤ length (zip h.numbers h.contents.items) = rw (sym c.self.view_is) at c.requires.within in
+    let long = length-zip h.numbers h.contents.items c.self.invariant.1 in
     omega (arith, within, long, c.self.invariant.1, h.contents.ok.0, c.reserve.ensures.len)
 
 pub invariant_of-self-2 : goal.invariant_of-self-2
 invariant_of-self-2 g c =
     let h = c.self.inside in
     let i = c.self.invariant in
-    let ns : List ℕ = h.numbers.items in
+    let ns : List ℕ = h.numbers in
     let cs = h.contents.items in
     let p : ℕ = c.args.place in
     let t : ℕ = c.args.txn in
@@ -35,10 +35,10 @@ invariant_of-self-2 g c =
     let asked : p ≤ length (zip ns cs) = rw (sym c.self.view_is) at c.requires.within in
     let within : p ≤ length ns = omega (arith, asked, length-zip ns cs i.1) in
     let rising : IsStrictlyIncreasing (insert ns p t) = rw (sym c.self.view_is, keys_of-zip ns cs i.1) at c.requires.rising in
-    let numbers = rw (c.unwrap.ensures, c.reserve-2.ensures.items) at c.insert.ensures.items in
-    let contents = rw (c.unwrap-2.ensures, c.reserve.ensures.items) at c.insert-2.ensures.items in
-    let marks = rw c.as_slice.ensures.value at c.in_ok-make_room_to_mark.ensures.marks in
-    let room = rw c.as_slice.ensures.value at c.in_ok-make_room_to_mark.ensures.room in
+    let numbers = c.in_ok-insert.ensures.ok in
+    let contents = rw (c.unwrap.ensures, c.reserve.ensures.items) at c.insert-2.ensures.items in
+    let marks = rw c.as_slice.ensures at c.in_ok-make_room_to_mark.ensures.marks in
+    let room = rw c.as_slice.ensures at c.in_ok-make_room_to_mark.ensures.room in
     let longer = length-insert ns p t within in
     rw (numbers, contents) (
       rising,
@@ -52,10 +52,10 @@ pub returns-clause-ok : goal.returns-clause-ok
 returns-clause-ok g c =
     let h = c.self.inside in
     let i = c.self.invariant in
-    let ns : List ℕ = h.numbers.items in
+    let ns : List ℕ = h.numbers in
     let cs = h.contents.items in
     let asked : c.args.place ≤ length (zip ns cs) = rw (sym c.self.view_is) at c.requires.within in
     let within : c.args.place ≤ length ns = omega (arith, asked, length-zip ns cs i.1) in
-    let numbers = rw (c.unwrap.ensures, c.reserve-2.ensures.items) at c.insert.ensures.items in
-    let contents = rw (c.unwrap-2.ensures, c.reserve.ensures.items) at c.insert-2.ensures.items in
+    let numbers = c.in_ok-insert.ensures.ok in
+    let contents = rw (c.unwrap.ensures, c.reserve.ensures.items) at c.insert-2.ensures.items in
     rw (sym c.self.view_is, numbers, contents) (zip-insert ns cs c.args.place c.args.txn None i.1 within)

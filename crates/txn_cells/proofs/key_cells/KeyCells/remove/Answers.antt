@@ -10,17 +10,17 @@ pub invariant_of-self : goal.invariant_of-self
 invariant_of-self g c =
     let h = c.self.inside in
     let i = c.self.invariant in
-    let ns : List ℕ = h.numbers.items in
+    let ns : List ℕ = h.numbers in
     let cs = h.contents.items in
     let t = c.args.txn in
     let p : ℕ = c.in-Ok.place in
-    let at = rw c.as_slice.ensures.value at c.in-Ok.ensures.there in
+    let at = rw c.as_slice.ensures at c.in-Ok.ensures.there in
     let rising = taken_rising ns cs i.0 i.1 t p at in
     let same = taken_same ns cs i.0 i.1 t p at in
     elim c.if-len-gt-FEW.branch [
       | then-len-gt-FEW w ↦
           let contents = rw (c.unwrap.ensures, w.self-inside-is) at c.remove-in-Ok.ensures.items in
-          rw (w.self-inside-is, contents, c.remove.ensures.items, w.take_from.ensures.left, w.take_from.ensures.capacity) (
+          rw (w.self-inside-is, contents, c.remove.ensures, w.take_from.ensures.left, w.take_from.ensures.capacity) (
             rising,
             same,
             λ (more : few < length (remove ns p)).
@@ -29,12 +29,12 @@ invariant_of-self g c =
           )
       | else-len-gt-FEW w ↦
           let contents = rw (c.unwrap.ensures, w.self-inside-is) at c.remove-in-Ok.ensures.items in
-          rw (w.self-inside-is, contents, c.remove.ensures.items) (
+          rw (w.self-inside-is, contents, c.remove.ensures) (
             rising,
             same,
             λ (more : few < length (remove ns p)).
-                let left = ap length c.remove.ensures.items in
-                absurd (omega (arith, more, left, c.remove.new.self.ok.0, c.len.ensures, w.if-len-gt-FEW.false)),
+                let left = ap length c.remove.ensures in
+                absurd (omega (arith, more, left, c.len.ensures, w.if-len-gt-FEW.false)),
           )
     ]
 
@@ -42,8 +42,8 @@ pub returns-after-len-gt-FEW-clause-had : goal.returns-after-len-gt-FEW-clause-h
 returns-after-len-gt-FEW-clause-had g c =
     let h = c.self.inside in
     let i = c.self.invariant in
-    let at = rw c.as_slice.ensures.value at c.in-Ok.ensures.there in
-    let there = sym (has_content h.numbers.items h.contents.items i.0 i.1 c.args.txn c.in-Ok.place at c.unwrap.result) in
+    let at = rw c.as_slice.ensures at c.in-Ok.ensures.there in
+    let there = sym (has_content h.numbers h.contents.items i.0 i.1 c.args.txn c.in-Ok.place at c.unwrap.result) in
     elim c.if-len-gt-FEW.branch [
       | then-len-gt-FEW w ↦ rw (sym c.self.view_is) ((rw (c.unwrap.ensures, w.self-inside-is) at c.remove-in-Ok.ensures.value) ∙ there)
       | else-len-gt-FEW w ↦ rw (sym c.self.view_is) ((rw (c.unwrap.ensures, w.self-inside-is) at c.remove-in-Ok.ensures.value) ∙ there)
@@ -53,46 +53,46 @@ pub returns-after-len-gt-FEW-clause-contents : goal.returns-after-len-gt-FEW-cla
 returns-after-len-gt-FEW-clause-contents g c =
     let h = c.self.inside in
     let i = c.self.invariant in
-    let at = rw c.as_slice.ensures.value at c.in-Ok.ensures.there in
-    let taken = taken_contents h.numbers.items h.contents.items i.0 i.1 c.args.txn c.in-Ok.place at in
+    let at = rw c.as_slice.ensures at c.in-Ok.ensures.there in
+    let taken = taken_contents h.numbers h.contents.items i.0 i.1 c.args.txn c.in-Ok.place at in
     elim c.if-len-gt-FEW.branch [
       | then-len-gt-FEW w ↦
           let contents = rw (c.unwrap.ensures, w.self-inside-is) at c.remove-in-Ok.ensures.items in
-          rw (sym c.self.view_is, w.self-inside-is, contents, c.remove.ensures.items) taken
+          rw (sym c.self.view_is, w.self-inside-is, contents, c.remove.ensures) taken
       | else-len-gt-FEW w ↦
           let contents = rw (c.unwrap.ensures, w.self-inside-is) at c.remove-in-Ok.ensures.items in
-          rw (sym c.self.view_is, w.self-inside-is, contents, c.remove.ensures.items) taken
+          rw (sym c.self.view_is, w.self-inside-is, contents, c.remove.ensures) taken
     ]
 
 pub returns-after-len-gt-FEW-clause-places : goal.returns-after-len-gt-FEW-clause-places
 returns-after-len-gt-FEW-clause-places g c =
     let h = c.self.inside in
     let i = c.self.invariant in
-    let at = rw c.as_slice.ensures.value at c.in-Ok.ensures.there in
-    let taken = taken_holds h.numbers.items h.contents.items i.0 i.1 c.args.txn c.in-Ok.place at in
+    let at = rw c.as_slice.ensures at c.in-Ok.ensures.there in
+    let taken = taken_holds h.numbers h.contents.items i.0 i.1 c.args.txn c.in-Ok.place at in
     elim c.if-len-gt-FEW.branch [
       | then-len-gt-FEW w ↦
           let contents = rw (c.unwrap.ensures, w.self-inside-is) at c.remove-in-Ok.ensures.items in
-          rw (sym c.self.view_is, w.self-inside-is, contents, c.remove.ensures.items) taken
+          rw (sym c.self.view_is, w.self-inside-is, contents, c.remove.ensures) taken
       | else-len-gt-FEW w ↦
           let contents = rw (c.unwrap.ensures, w.self-inside-is) at c.remove-in-Ok.ensures.items in
-          rw (sym c.self.view_is, w.self-inside-is, contents, c.remove.ensures.items) taken
+          rw (sym c.self.view_is, w.self-inside-is, contents, c.remove.ensures) taken
     ]
 
 pub returns-in-Err-clause-had : goal.returns-in-Err-clause-had
 returns-in-Err-clause-had g c =
     let h = c.self.inside in
-    let absent = rw c.as_slice.ensures.value at c.in-Err.ensures.absent in
-    rw (sym c.self.view_is) (sym (nothing_had h.numbers.items h.contents.items c.self.invariant.1 c.args.txn absent))
+    let absent = rw c.as_slice.ensures at c.in-Err.ensures.absent in
+    rw (sym c.self.view_is) (sym (nothing_had h.numbers h.contents.items c.self.invariant.1 c.args.txn absent))
 
 pub returns-in-Err-clause-contents : goal.returns-in-Err-clause-contents
 returns-in-Err-clause-contents g c =
     let h = c.self.inside in
-    let absent = rw c.as_slice.ensures.value at c.in-Err.ensures.absent in
-    rw (sym c.self.view_is) (λ u. sym (empty_as_none _ c.args.txn u (not_there h.numbers.items h.contents.items c.self.invariant.1 c.args.txn absent)))
+    let absent = rw c.as_slice.ensures at c.in-Err.ensures.absent in
+    rw (sym c.self.view_is) (λ u. sym (empty_as_none _ c.args.txn u (not_there h.numbers h.contents.items c.self.invariant.1 c.args.txn absent)))
 
 pub returns-in-Err-clause-places : goal.returns-in-Err-clause-places
 returns-in-Err-clause-places g c =
     let h = c.self.inside in
-    let absent = rw c.as_slice.ensures.value at c.in-Err.ensures.absent in
-    rw (sym c.self.view_is) (λ u. out_already _ c.args.txn u (not_there h.numbers.items h.contents.items c.self.invariant.1 c.args.txn absent))
+    let absent = rw c.as_slice.ensures at c.in-Err.ensures.absent in
+    rw (sym c.self.view_is) (λ u. out_already _ c.args.txn u (not_there h.numbers h.contents.items c.self.invariant.1 c.args.txn absent))

@@ -10,22 +10,22 @@ pub put_in-requires-clause-room : goal.put_in-requires-clause-room
 put_in-requires-clause-room g c = λ fresh.
     let h = c.self.inside in
     let i = c.self.invariant in
-    let numbers : List ℕ = h.numbers.items in
-    let at = rw c.as_slice.ensures.value at c.in-Ok.ensures.there in
-    let many : few < length numbers = omega (arith, c.if-len-gt-FEW.true, c.len.ensures, h.numbers.ok.0) in
-    room_to_mark g.V.Inherit.outstanding h.numbers.items h.contents.items h.marked.items (vec_capacity h.marked) (i.2 many) i.0 i.1 c.args.txn c.in-Ok.place at fresh
+    let numbers : List ℕ = h.numbers in
+    let at = rw c.as_slice.ensures at c.in-Ok.ensures.there in
+    let many : few < length numbers = omega (arith, c.if-len-gt-FEW.true, c.len.ensures) in
+    room_to_mark g.V.Inherit.outstanding h.numbers h.contents.items h.marked.items (vec_capacity h.marked) (i.2 many) i.0 i.1 c.args.txn c.in-Ok.place at fresh
 
 pub invariant_of-self : goal.invariant_of-self
 invariant_of-self g c =
     let h = c.self.inside in
     let i = c.self.invariant in
     let t = c.args.txn in
-    let at = rw c.as_slice.ensures.value at c.in-Ok.ensures.there in
+    let at = rw c.as_slice.ensures at c.in-Ok.ensures.there in
     let e = c.put_in.ensures in (
       i.0,
-      set_same h.numbers.items h.contents.items i.0 i.1 t c.in-Ok.place at (Some c.args.value),
+      set_same h.numbers h.contents.items i.0 i.1 t c.in-Ok.place at (Some c.args.value),
       λ many.
-          marks_with g.V.Inherit.outstanding h.numbers.items h.contents.items h.marked.items (vec_capacity h.marked) (i.2 many) i.0 i.1 t c.in-Ok.place at (Some c.args.value)
+          marks_with g.V.Inherit.outstanding h.numbers h.contents.items h.marked.items (vec_capacity h.marked) (i.2 many) i.0 i.1 t c.in-Ok.place at (Some c.args.value)
           c.put_in.new.numbers.items (vec_capacity c.put_in.new.numbers) e.capacity e.rising e.each,
     )
 
@@ -34,11 +34,11 @@ invariant_of-self-else-stands_out g c =
     let h = c.self.inside in
     let i = c.self.invariant in
     let t = c.args.txn in
-    let at = rw c.as_slice.ensures.value at c.in-Ok.ensures.there in (
+    let at = rw c.as_slice.ensures at c.in-Ok.ensures.there in (
       i.0,
-      set_same h.numbers.items h.contents.items i.0 i.1 t c.in-Ok.place at (Some c.args.value),
+      set_same h.numbers h.contents.items i.0 i.1 t c.in-Ok.place at (Some c.args.value),
       λ many.
-          marks_still g.V.Inherit.outstanding h.numbers.items h.contents.items h.marked.items (vec_capacity h.marked) (i.2 many) i.0 i.1 t c.in-Ok.place at (Some c.args.value)
+          marks_still g.V.Inherit.outstanding h.numbers h.contents.items h.marked.items (vec_capacity h.marked) (i.2 many) i.0 i.1 t c.in-Ok.place at (Some c.args.value)
           (sym c.stands_out.ensures ∙ c.if-stands_out.false),
     )
 
@@ -46,15 +46,15 @@ pub returns-then-stands_out-clause-contents : goal.returns-then-stands_out-claus
 returns-then-stands_out-clause-contents g c =
     let h = c.self.inside in
     let i = c.self.invariant in
-    let at = rw c.as_slice.ensures.value at c.in-Ok.ensures.there in
-    rw (sym c.self.view_is) (set_contents h.numbers.items h.contents.items i.0 i.1 c.args.txn c.in-Ok.place at (Some c.args.value))
+    let at = rw c.as_slice.ensures at c.in-Ok.ensures.there in
+    rw (sym c.self.view_is) (set_contents h.numbers h.contents.items i.0 i.1 c.args.txn c.in-Ok.place at (Some c.args.value))
 
 pub returns-else-len-gt-FEW-clause-contents : goal.returns-else-len-gt-FEW-clause-contents
 returns-else-len-gt-FEW-clause-contents g c =
     let h = c.self.inside in
     let i = c.self.invariant in
-    let at = rw c.as_slice.ensures.value at c.in-Ok.ensures.there in
-    let is = set_contents h.numbers.items h.contents.items i.0 i.1 c.args.txn c.in-Ok.place at (Some c.args.value) in
+    let at = rw c.as_slice.ensures at c.in-Ok.ensures.there in
+    let is = set_contents h.numbers h.contents.items i.0 i.1 c.args.txn c.in-Ok.place at (Some c.args.value) in
     elim c.else-len-gt-FEW.branch [
       | else-len-gt-FEW-via-then-len-gt-FEW+else-stands_out w ↦ rw (w.self-is, sym c.self.view_is) is
       | else-len-gt-FEW-via-else-len-gt-FEW w ↦ rw (w.self-is, sym c.self.view_is) is
@@ -64,15 +64,15 @@ pub returns-then-stands_out-clause-places : goal.returns-then-stands_out-clause-
 returns-then-stands_out-clause-places g c =
     let h = c.self.inside in
     let i = c.self.invariant in
-    let at = rw c.as_slice.ensures.value at c.in-Ok.ensures.there in
-    rw (sym c.self.view_is) (set_holds h.numbers.items h.contents.items i.0 i.1 c.args.txn c.in-Ok.place at (Some c.args.value))
+    let at = rw c.as_slice.ensures at c.in-Ok.ensures.there in
+    rw (sym c.self.view_is) (set_holds h.numbers h.contents.items i.0 i.1 c.args.txn c.in-Ok.place at (Some c.args.value))
 
 pub returns-else-len-gt-FEW-clause-places : goal.returns-else-len-gt-FEW-clause-places
 returns-else-len-gt-FEW-clause-places g c =
     let h = c.self.inside in
     let i = c.self.invariant in
-    let at = rw c.as_slice.ensures.value at c.in-Ok.ensures.there in
-    let is = set_holds h.numbers.items h.contents.items i.0 i.1 c.args.txn c.in-Ok.place at (Some c.args.value) in
+    let at = rw c.as_slice.ensures at c.in-Ok.ensures.there in
+    let is = set_holds h.numbers h.contents.items i.0 i.1 c.args.txn c.in-Ok.place at (Some c.args.value) in
     elim c.else-len-gt-FEW.branch [
       | else-len-gt-FEW-via-then-len-gt-FEW+else-stands_out w ↦ rw (w.self-is, sym c.self.view_is) is
       | else-len-gt-FEW-via-else-len-gt-FEW w ↦ rw (w.self-is, sym c.self.view_is) is
@@ -81,6 +81,6 @@ returns-else-len-gt-FEW-clause-places g c =
 pub returns-in_default-clause-contents : goal.returns-in_default-clause-contents
 returns-in_default-clause-contents g c =
     let h = c.self.inside in
-    let absent = rw (c.in_default.is, c.as_slice.ensures.value) at c.find.ensures.absent in
+    let absent = rw (c.in_default.is, c.as_slice.ensures) at c.find.ensures.absent in
     let there = rw (sym c.self.view_is) at c.requires in
-    absurd (false≢true (sym (not_there h.numbers.items h.contents.items c.self.invariant.1 c.args.txn absent) ∙ there))
+    absurd (false≢true (sym (not_there h.numbers h.contents.items c.self.invariant.1 c.args.txn absent) ∙ there))

@@ -8,18 +8,18 @@ use Rattle.txn_cells.proofs.key_cells.KeyCells.standing_out.Goals as goal
 pub returns-then-len-le-FEW-clause-all : goal.returns-then-len-le-FEW-clause-all
 returns-then-len-le-FEW-clause-all g c =
     let h = c.self.inside in
-    rw (sym c.self.view_is, c.as_slice.ensures.value)
-    (λ u e. sym (listed h.numbers.items h.contents.items c.self.invariant.1 u) ∙ has_place g.V.Inherit.outstanding (zip h.numbers.items h.contents.items) u e)
+    rw (sym c.self.view_is, c.as_slice.ensures)
+    (λ u e. sym (listed h.numbers h.contents.items c.self.invariant.1 u) ∙ has_place g.V.Inherit.outstanding (zip h.numbers h.contents.items) u e)
 
 pub returns-then-len-le-FEW-clause-places : goal.returns-then-len-le-FEW-clause-places
 returns-then-len-le-FEW-clause-places g c =
     let h = c.self.inside in
-    rw (sym c.self.view_is, c.as_slice.ensures.value) (λ u e. listed h.numbers.items h.contents.items c.self.invariant.1 u ∙ e)
+    rw (sym c.self.view_is, c.as_slice.ensures) (λ u e. listed h.numbers h.contents.items c.self.invariant.1 u ∙ e)
 
 pub returns-else-len-le-FEW-clause-places : goal.returns-else-len-le-FEW-clause-places
 returns-else-len-le-FEW-clause-places g c =
     let h = c.self.inside in
-    let numbers : List ℕ = h.numbers.items in
-    let many : few < length numbers = omega (arith, c.if-len-le-FEW.false, c.len.ensures, h.numbers.ok.0) in
+    let numbers : List ℕ = h.numbers in
+    let many : few < length numbers = omega (arith, c.if-len-le-FEW.false, c.len.ensures) in
     rw (sym c.self.view_is, c.as_slice-else-len-le-FEW.ensures.value)
-    (λ u e. listed h.numbers.items h.contents.items c.self.invariant.1 u ∙ (c.self.invariant.2 many).among.within u e)
+    (λ u e. listed h.numbers h.contents.items c.self.invariant.1 u ∙ (c.self.invariant.2 many).among.within u e)
