@@ -23,9 +23,11 @@ use Rattle.txn_history.proofs.Activity.{acts_active}
 use Rattle.txn_history.proofs.OwnLines.{line_self}
 use Rattle.txn_history.proofs.Causes.{neither, acts_at_end}
 use Rattle.txn_history.proofs.Theorems.{wait_holds}
-use Rattle.serial_spec.specs.Waits.{same_line}
+use Rattle.serial_spec.specs.Waits.{is_waits, same_line}
 use Rattle.manager_core.specs.declared.outcome.Outcome.{Outcome}
 use Rattle.manager_core.specs.declared.outcome.Outcome.TheVariants as made
+use Rattle.manager_core.specs.declared.accessing.Attempt.{Attempt}
+use Rattle.manager_core.specs.declared.accessing.Attempt.TheVariants as attempt
 use Rattle.manager_core.specs.Tables.{ComesTo}
 use Rattle.manager_core.specs.Lines.{IsLine, IsFree, IsWaitOf}
 use Rattle.manager_core.specs.Sound.{is_store_refusal}
@@ -151,34 +153,38 @@ pub access_done : (rows : Rows) (h : History) (by : By) (t : Name) (asked : Aske
     → is_blocked h t asked ≡ false → Allowed rows h by (event_of t asked) (Done (reply_at (seen (value_in rows) h t) asked))
 access_done rows h by t asked e free = answer_at rows h by t asked ∙ rw (← e, free) refl
 
+-- an outcome but for the cause of a refusal
+abbrev pub attempt_of : Outcome → Attempt
+attempt_of (made.Done reply) = attempt.Answered reply
+attempt_of made.Waits = attempt.Waits
+attempt_of (made.Refused r) = attempt.Refused
+
+-- what an access comes to, with the cause where it is refused
+abbrev pub EndsAs : Rows → History → By → Name → Asked → Outcome → Type 0
+EndsAs rows h by t asked (made.Refused r) = Some r ≡ cause_at_access rows h by t asked
+EndsAs rows h by t asked outcome = ComesTo rows h by t asked (attempt_of outcome)
+
 -- so an access that comes to this may be answered so
 pub access_comes : (rows : Rows) (h : History) (by : By) (t : Name) (asked : Asked) → IsFree h by (event_of t asked) → (outcome : Outcome)
-    → ComesTo rows h by t asked outcome → Allowed rows h by (event_of t asked) (answer_of outcome)
+    → EndsAs rows h by t asked outcome → Allowed rows h by (event_of t asked) (answer_of outcome)
 access_comes rows h by t asked free (made.Done reply) comes =
     subst (λ r. Allowed rows h by (event_of t asked) (Done r)) (sym comes.2) (access_done rows h by t asked comes.0 comes.1)
 access_comes rows h by t asked free made.Waits comes = access_waits rows h by t asked free comes.0 comes.1
 access_comes rows h by t asked free (made.Refused r) comes = access_refused rows h by t asked r comes
 
--- and that is no refusal of the store
-pub comes_other : (rows : Rows) (h : History) (by : By) (t : Name) (asked : Asked) (outcome : Outcome)
-    → ComesTo rows h by t asked outcome → is_store_refusal (answer_of outcome) ≡ false
-comes_other rows h by t asked (made.Done reply) comes = refl
-comes_other rows h by t asked made.Waits comes = refl
-comes_other rows h by t asked (made.Refused r) comes = access_other rows h by t asked r comes
-
 -- a line that has waited is answered only when it waits no more
 pub retry_comes : (rows : Rows) (h : History) (by : By) (t : Name) (asked : Asked) (outcome : Outcome)
-    → ComesTo rows h by t asked outcome → (outcome ≡ made.Waits → ⊥) → Allowed rows h by (event_of t asked) (answer_of outcome)
-retry_comes rows h by t asked (made.Done reply) comes other =
+    → EndsAs rows h by t asked outcome → is_waits (answer_of outcome) ≡ false → Allowed rows h by (event_of t asked) (answer_of outcome)
+retry_comes rows h by t asked (made.Done reply) comes answered =
     subst (λ r. Allowed rows h by (event_of t asked) (Done r)) (sym comes.2) (access_done rows h by t asked comes.0 comes.1)
-retry_comes rows h by t asked made.Waits comes other = absurd (other refl)
-retry_comes rows h by t asked (made.Refused r) comes other = access_refused rows h by t asked r comes
+retry_comes rows h by t asked made.Waits comes answered = absurd (false≢true (sym answered))
+retry_comes rows h by t asked (made.Refused r) comes answered = access_refused rows h by t asked r comes
 
-pub still_waits : (rows : Rows) (h : History) (by : By) (t : Name) (asked : Asked) (outcome : Outcome)
-    → ComesTo rows h by t asked outcome → outcome ≡ made.Waits → has_waited h by ≡ true → answer rows h by (event_of t asked) ≡ None
-still_waits rows h by t asked (made.Done reply) comes same waited = absurd (cc)
-still_waits rows h by t asked made.Waits comes same waited = answer_at rows h by t asked ∙ rw (← comes.0, comes.1, waited) refl
-still_waits rows h by t asked (made.Refused r) comes same waited = absurd (cc)
+pub still_waits : (rows : Rows) (h : History) (by : By) (t : Name) (asked : Asked)
+    → ComesTo rows h by t asked attempt.Waits → has_waited h by ≡ true
+    → answer rows h by (event_of t asked) ≡ None
+still_waits rows h by t asked comes waited =
+    answer_at rows h by t asked ∙ rw (← comes.0, comes.1, waited) refl
 
 -- ---- lines that are given up
 

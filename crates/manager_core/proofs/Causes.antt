@@ -1,6 +1,6 @@
 -- The cause that the tables tell is the definitions' first.
-use Rattle.std.proofs.Common.{◌≡◌, ℕ, ◌<◌, Bool, true, false, not, length, Option, Some, None, refl, sym, ap, ◌∙◌}
-use Rattle.std.proofs.lemmas.Bool.{true≢false}
+use Rattle.std.proofs.Common.{◌≡◌, ℕ, ◌<◌, Bool, true, false, not, length, Option, Some, None, is_some, refl, sym, ap, ◌∙◌}
+use Rattle.std.proofs.lemmas.Bool.{false≢true, true≢false}
 use Rattle.std.specs.Prelude.{option_map}
 use Rattle.std.specs.List.{list_any}
 use Rattle.txn_names.specs.Path.{top_of}
@@ -20,6 +20,7 @@ use Rattle.serial_spec.specs.Legal.{AreAllowed}
 use Rattle.serial_spec.specs.Allowed.{when, waits_elsewhere, is_full_for, has_live_child, cause_at_end, cause_at_access, cause_at_commit}
 use Rattle.manager_core.specs.Kept.{AreTablesOf}
 use Rattle.manager_core.specs.Tables.{Tabled, cause_in}
+use Rattle.manager_core.proofs.Answers.{active_at_access}
 use Rattle.manager_core.proofs.Locks.{name_at}
 use Rattle.manager_core.proofs.Trees.{active_in, same_at_end, same_children}
 use Rattle.manager_core.proofs.Victims.{may_end}
@@ -59,6 +60,19 @@ module _ (rows : Rows) (h : History) (tables : Tabled) (allowed : AreAllowed row
       sym (active_in rows h tables.tree allowed are.in_tree t) ∙ ap (is_active_named tables.tree) (sym (name_at tables.tree t n number)) ∙ sym active in
       sym (same_at_end rows h tables allowed are t some ∙ may_end h t some acts)
 
+  -- one that does not act is refused
+  pub refused_by_inactivity : (n : ℕ) → IsNumberOf tables.tree t n
+      → false ≡ is_active_at tables.tree n → (by : By) (asked : Asked)
+      → is_some (cause_at_access rows h by t asked) ≡ true
+  refused_by_inactivity n number inactive by asked = go (cause_at_access rows h by t asked) refl
+    where
+      go : (o : Option Refusal) → o ≡ cause_at_access rows h by t asked → is_some o ≡ true
+      go None none =
+          absurd (true≢false (sym (active_at_access rows h by t asked none)
+          ∙ sym (active_in rows h tables.tree allowed are.in_tree t)
+          ∙ ap (is_active_named tables.tree) (sym (name_at tables.tree t n number)) ∙ sym inactive))
+      go (Some r) same = refl
+
   module _ (some : 0 < length t) (by : By) where
     at_end : (o : Option Refusal) → o ≡ cause_in tables t → o ≡ cause_at_end h t
     at_end o e = e ∙ same_at_end rows h tables allowed are t some
@@ -66,6 +80,12 @@ module _ (rows : Rows) (h : History) (tables : Tabled) (allowed : AreAllowed row
     -- the cause at the end stands first
     pub access_by_end : (asked : Asked) (r : Refusal) → Some r ≡ cause_in tables t → Some r ≡ cause_at_access rows h by t asked
     access_by_end asked r e = ap (λ o. or_else o (or_else (when (waits_elsewhere h by t) Waiting) (when (is_full_for rows h asked) Full))) (at_end (Some r) e)
+
+    -- so is one that never began
+    pub refused_by_absence : (asked : Asked) → is_absent_in tables.tree t ≡ true
+        → is_some (cause_at_access rows h by t asked) ≡ true
+    refused_by_absence asked absent =
+        sym (ap is_some (access_by_end asked Unknown (rw absent refl)))
 
     pub commit_by_end : (r : Refusal) → Some r ≡ cause_in tables t → Some r ≡ cause_at_commit h by t
     commit_by_end r e = ap (λ o. or_else o (or_else (when (has_live_child h t) Children) (when (waits_elsewhere h by t) Waiting))) (at_end (Some r) e)
@@ -78,6 +98,23 @@ module _ (rows : Rows) (h : History) (tables : Tabled) (allowed : AreAllowed row
         ap (λ b. or_else (when b Waiting) (when f Full)) waits
         ∙ ap (λ b. or_else (when (waits_elsewhere h by t) Waiting) (when b Full)) full
         ∙ ap (λ o. or_else o (or_else (when (waits_elsewhere h by t) Waiting) (when (is_full_for rows h asked) Full))) ends
+
+    -- so too of one that acts
+    pub active_cause : (n : ℕ) → IsNumberOf tables.tree t n → true ≡ is_active_at tables.tree n
+        → (asked : Asked) → (w f : Bool) → w ≡ waits_elsewhere h by t → f ≡ is_full_for rows h asked
+        → or_else (when w Waiting) (when f Full) ≡ cause_at_access rows h by t asked
+    active_cause n number active asked = access_cause asked (none_by_activity n some number active)
+
+    -- the last of them, where it is refused
+    pub full_at_last : (asked : Asked) → None ≡ cause_in tables t → false ≡ waits_elsewhere h by t
+        → is_some (cause_at_access rows h by t asked) ≡ true
+        → Some Full ≡ cause_at_access rows h by t asked
+    full_at_last asked none waits refused = go (is_full_for rows h asked) refl
+      where
+        go : (f : Bool) → f ≡ is_full_for rows h asked → Some Full ≡ cause_at_access rows h by t asked
+        go true full = access_cause asked none false true waits full
+        go false full =
+            absurd (false≢true (ap is_some (access_cause asked none false false waits full) ∙ refused))
 
     pub commit_cause : None ≡ cause_in tables t → (c w : Bool) → c ≡ list_any (is_live_child_in tables.tree t) (names tables.tree) → w ≡ waits_elsewhere h by t
         → or_else (when c Children) (when w Waiting) ≡ cause_at_commit h by t

@@ -1,5 +1,5 @@
 -- How each call keeps what the manager's type says.
-use Rattle.std.proofs.Common.{◌≡◌, ◌<◌, true, false, ◌∷◌, Option, Some, None, length, refl, sym, ap, subst, ◌∙◌}
+use Rattle.std.proofs.Common.{◌≡◌, ◌<◌, true, false, true≢false, ◌∷◌, Option, Some, None, length, refl, sym, ap, subst, ◌∙◌}
 use Rattle.txn_tree.specs.Causes as tree
 use Rattle.orphans.specs.Marked.{Marked}
 use Rattle.inherit.specs.LocksAndVersions.{LocksAndVersions, left_of, modes_of, rows_of}
@@ -28,10 +28,10 @@ use Rattle.manager_core.specs.Lines.{IsFree, IsLine, IsWaitOf}
 use Rattle.manager_core.specs.Sound.{IsBacked, is_store_refusal}
 use Rattle.manager_core.specs.StoredNumbers.{commits_top}
 use Rattle.manager_core.specs.Kept.{AreTablesOf, AreWaitsOf, IsKept}
-use Rattle.manager_core.specs.Tables.{Tabled, BeginsIn, AbortsIn, ComesTo, HasOtherRoom, IsBeside, MadeUnless, ReachesIn, SetsWait, WaitsFrom, WaitsUntil, rows_in, wait_at}
+use Rattle.manager_core.specs.Tables.{Tabled, BeginsIn, AbortsIn, HasOtherRoom, IsBeside, MadeUnless, ReachesIn, SetsWait, WaitsFrom, rows_in, wait_at}
 use Rattle.manager_core.proofs.Events.{done_at, own_wait, refused_at, stuck_at, waits_at}
 use Rattle.manager_core.proofs.Trees.{same_at_begin, same_at_abort}
-use Rattle.manager_core.proofs.Answers.{active_at_access, allowed_next, begin_allowed, abort_allowed, begin_other, abort_other, access_other, stuck_allowed, line_of_wait}
+use Rattle.manager_core.proofs.Answers.{EndsAs, attempt_of, active_at_access, allowed_next, begin_allowed, abort_allowed, begin_other, abort_other, access_other, stuck_allowed, line_of_wait}
 use Rattle.manager_core.proofs.Facts.{backed_next}
 use Rattle.manager_core.proofs.Lasting.{not_begun, unless_free, unless_own, wait_aborted, wait_answered, wait_begun, wait_lasts, wait_starts}
 use Rattle.manager_core.proofs.WaitTables.{waits_begun, waits_dropped, waits_set, waits_stay}
@@ -56,7 +56,7 @@ beside_parts old new tree marks estate = record {
 pub beside_same : (old new : Tabled) → new ≡ old → IsBeside old new
 beside_same old new same = beside_parts old new (ap (λ (v : Tabled). v.tree) same) (ap (λ (v : Tabled). v.marks) same) (ap (λ (v : Tabled). v.estate) same)
 
-beside_but : (old new : Tabled) → new ≡ record old { waits = new.waits } → IsBeside old new
+pub beside_but : (old new : Tabled) → new ≡ record old { waits = new.waits } → IsBeside old new
 beside_but old new same = beside_parts old new (ap (λ (v : Tabled). v.tree) same) (ap (λ (v : Tabled). v.marks) same) (ap (λ (v : Tabled). v.estate) same)
 
 -- with other room
@@ -99,7 +99,7 @@ module _ {S : Type 0} (g : Ghosts S) (rows : Rows) (h : History) (old new : Tabl
 
   -- an access however it is answered
   kept_access : (t : Name) (asked : Asked) (outcome : Outcome) → IsLine by → Allowed rows h by (event_of t asked) (answer_of outcome)
-      → ComesTo rows h by t asked outcome → ReachesIn old new t asked outcome → AreWaitsOf (entry by (event_of t asked) (answer_of outcome) ∷ h) new.tree new.waits
+      → EndsAs rows h by t asked outcome → ReachesIn old new t asked (attempt_of outcome) → AreWaitsOf (entry by (event_of t asked) (answer_of outcome) ∷ h) new.tree new.waits
       → IsKept g rows (entry by (event_of t asked) (answer_of outcome) ∷ h) new opened store
   kept_access t asked (Done r) line due comes has waiting =
       let allowed = allowed_next rows h by (event_of t asked) (IsDone r) kept.allowed line due in
@@ -143,7 +143,7 @@ module _ {S : Type 0} (g : Ghosts S) (rows : Rows) (h : History) (old new : Tabl
 
   -- an access, and who waits after it
   waits_asked : (t : Name) (asked : Asked) (outcome : Outcome) → IsFree h by (event_of t asked) → AreAllowed rows (entry by (event_of t asked) (answer_of outcome) ∷ h)
-      → ComesTo rows h by t asked outcome → ReachesIn old new t asked outcome → WaitsFrom old new by t asked outcome
+      → EndsAs rows h by t asked outcome → ReachesIn old new t asked (attempt_of outcome) → WaitsFrom old new by t asked (attempt_of outcome)
       → AreWaitsOf (entry by (event_of t asked) (answer_of outcome) ∷ h) new.tree new.waits
   waits_asked t asked (Done r) free allowed comes has keeps =
       waits_stay h (entry by (event_of t asked) (IsDone r) ∷ h) old new kept.are.waiting (ap names has.tree) keeps
@@ -156,7 +156,7 @@ module _ {S : Type 0} (g : Ghosts S) (rows : Rows) (h : History) (old new : Tabl
       (wait_lasts rows (entry by (event_of t asked) (Refuses r)) h allowed Nothing (refused_at t asked r) refl (unless_free h by (event_of t asked) free) refl)
 
   pub kept_asked : (t : Name) (asked : Asked) (outcome : Outcome) → IsFree h by (event_of t asked) → Allowed rows h by (event_of t asked) (answer_of outcome)
-      → ComesTo rows h by t asked outcome → ReachesIn old new t asked outcome → WaitsFrom old new by t asked outcome
+      → EndsAs rows h by t asked outcome → ReachesIn old new t asked (attempt_of outcome) → WaitsFrom old new by t asked (attempt_of outcome)
       → IsKept g rows (entry by (event_of t asked) (answer_of outcome) ∷ h) new opened store
   kept_asked t asked outcome free due comes has waits =
       let allowed = allowed_next rows h by (event_of t asked) (answer_of outcome) kept.allowed free.line due in
@@ -166,8 +166,8 @@ module _ {S : Type 0} (g : Ghosts S) (rows : Rows) (h : History) (old new : Tabl
 
   module _ (t : Name) (wait : Entry) (waits : wait_of h t ≡ Some wait) (of_line : same_line wait.by by ≡ true) (line : IsLine by) where
     -- the access is answered
-    pub kept_answered : (asked : Asked) (outcome : Outcome) → Allowed rows h by (event_of t asked) (answer_of outcome) → (outcome ≡ Waits → ⊥)
-        → ComesTo rows h by t asked outcome → ReachesIn old new t asked outcome → WaitsUntil old new t outcome
+    pub kept_answered : (asked : Asked) (outcome : Outcome) → Allowed rows h by (event_of t asked) (answer_of outcome) → is_waits (answer_of outcome) ≡ false
+        → EndsAs rows h by t asked outcome → ReachesIn old new t asked (attempt_of outcome) → SetsWait old new t None
         → IsKept g rows (entry by (event_of t asked) (answer_of outcome) ∷ h) new opened store
     kept_answered asked (Done r) due answered comes has sets =
         let x : Entry = entry by (event_of t asked) (IsDone r) in
@@ -175,7 +175,7 @@ module _ {S : Type 0} (g : Ghosts S) (rows : Rows) (h : History) (old new : Tabl
         kept_access t asked (Done r) line due comes has
         (waits_set h (x ∷ h) old new kept.are.waiting t None (ap names has.tree) sets
         (wait_answered rows x h allowed (Accesses t asked r) (done_at t asked r) refl refl t (unless_own h by t wait waits of_line)))
-    kept_answered asked Waits due answered comes same sets = absurd (answered refl)
+    kept_answered asked Waits due answered comes same sets = absurd (true≢false answered)
     kept_answered asked (Refused r) due answered comes same sets =
         let x : Entry = entry by (event_of t asked) (Refuses r) in
         let allowed = allowed_next rows h by (event_of t asked) (Refuses r) kept.allowed line due in
@@ -202,7 +202,7 @@ module _ {S : Type 0} (g : Ghosts S) (rows : Rows) (h : History) (old new : Tabl
       (kept_given_up t own.wait own.waits own.of_line (line_of_wait h by (event_of t asked) of_it) (event_of t asked) (stuck_allowed rows h by (event_of t asked) of_it) (stuck_at t asked) (beside_but old new same) sets)
 
 -- no access changes the table
-pub same_rows : (old new : Tabled) (t : Name) (asked : Asked) (outcome : Outcome) → ReachesIn old new t asked outcome → rows_in new ≡ rows_in old
+pub same_rows : (old new : Tabled) (t : Name) (asked : Asked) (outcome : Outcome) → ReachesIn old new t asked (attempt_of outcome) → rows_in new ≡ rows_in old
 same_rows old new t asked (Done reply) has = has.rows
 same_rows old new t asked Waits same = same.estate.rows
 same_rows old new t asked (Refused refusal) same = same.estate.rows

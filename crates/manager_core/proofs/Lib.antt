@@ -35,3 +35,4 @@ pub mod Pairing
 pub mod Suspects
 pub mod Victims
 pub mod Settled
+pub mod Asking

@@ -1,6 +1,6 @@
 -- What an access comes to by the estate is what it comes to by the history.
 use Rattle.std.proofs.Common.{◌≡◌, ℕ, Bool, true, false, not, true≢false, cond, ◌&&◌, List, None, refl, sym, ◌∙◌}
-use Rattle.std.proofs.lemmas.Bool.{false≢true, not-true}
+use Rattle.std.proofs.lemmas.Bool.{not-true}
 use Rattle.std.specs.Prelude.{slice_get}
 use Rattle.txn_tree.specs.States.{names}
 use Rattle.txn_tree.specs.Asked.{IsNumberOf, is_name}
@@ -21,7 +21,7 @@ use Rattle.serial_spec.specs.Values.{leaves_at, seen}
 use Rattle.serial_spec.specs.Rows.{Rows, value_in}
 use Rattle.serial_spec.specs.Legal.{AreAllowed}
 use Rattle.serial_spec.specs.Allowed.{cause_at_access}
-use Rattle.manager_core.specs.declared.outcome.Outcome.TheVariants.{Done, Waits}
+use Rattle.manager_core.specs.declared.accessing.Attempt.TheVariants.{Answered}
 use Rattle.manager_core.specs.Kept.{AreTablesOf}
 use Rattle.manager_core.specs.Tables.{Tabled, ComesTo, HasOtherRoom}
 use Rattle.manager_core.proofs.Answers.{active_at_access}
@@ -42,19 +42,13 @@ module _ (rows : Rows) (h : History) (old mid : Tabled) (allowed : AreAllowed ro
   let_in : MayAsk mid.tree mid.estate.locks n asked → is_blocked h t asked ≡ false
   let_in may = not-true (is_blocked h t asked) (sym (may_as rows h mid are t n number asked true (λ _. may, λ _. refl)))
 
-  kept_out : (MayAsk mid.tree mid.estate.locks n asked → ⊥) → is_blocked h t asked ≡ true
-  kept_out none = kept_by_lock (is_blocked h t asked) false (may_as rows h mid are t n number asked false (λ f. absurd (false≢true f), λ may. absurd (none may))) refl
-
   module _ (by : By) (none : None ≡ cause_at_access rows h by t asked) where
     sees : (k : List ℕ) → seen_in mid.tree mid.estate.versions n k ≡ seen (value_in rows) h t k
     sees k = seen_as rows h mid allowed are k t n (active_at_access rows h by t asked none) number
 
     pub comes_done : (reply : Reply) → MayAsk mid.tree mid.estate.locks n asked → reply ≡ reply_at (seen_in mid.tree mid.estate.versions n) asked
-        → ComesTo rows h by t asked (Done reply)
+        → ComesTo rows h by t asked (Answered reply)
     comes_done reply may e = (none, let_in may, e ∙ (λ i. reply_at (λ k. sees k i) asked))
-
-    pub comes_waits : (MayAsk mid.tree mid.estate.locks n asked → ⊥) → ComesTo rows h by t asked Waits
-    comes_waits may = (none, kept_out may)
 
   -- by name what was done by number
   pub modes_by_name : (new : LocksAndVersions) (reply : Reply) → HasAccessed mid.estate new n asked reply → (u : ℕ) (s : Target)

@@ -20,6 +20,7 @@ use Rattle.serial_spec.specs.Legal.{AreAllowed, MayCome, IsAbortOf}
 use Rattle.txn_history.proofs.Lists.{none-filter, any-find}
 use Rattle.manager_core.specs.declared.outcome.Outcome.{Outcome}
 use Rattle.manager_core.specs.declared.outcome.Outcome.TheVariants as made
+use Rattle.manager_core.specs.declared.accessing.Attempt.TheVariants as attempt
 use Rattle.manager_core.specs.State.{State}
 use Rattle.manager_core.specs.Lines.{IsLine, access_by, waiting_access}
 use Rattle.manager_core.specs.Tables.{ComesTo}
@@ -114,14 +115,14 @@ module _ (rows : Rows) (h : History) (allowed : AreAllowed rows h) (t : Name) (b
 -- ---- what a caller is told
 
 -- it waits on
-pub waits_on : {S : Type 0} (m : State S) (t : Name) (by : By) (asked : Asked) → IsWaiting m.history t by asked → (outcome : Outcome)
-    → ComesTo m.rows m.history by t asked outcome → outcome ≡ made.Waits → Retried m m t outcome
-waits_on m t by asked is outcome comes same = record {
+pub waits_on : {S : Type 0} (m : State S) (t : Name) (by : By) (asked : Asked) → IsWaiting m.history t by asked
+    → ComesTo m.rows m.history by t asked attempt.Waits → Retried m m t made.Waits
+waits_on m t by asked is comes = record {
   wait = is.wait;
   waits = is.waits;
   told = inr record {
-    none = rw (is.by_is, is.event_is) (still_waits m.rows m.history by t asked outcome comes same is.waited);
-    outcome_is = same;
+    none = rw (is.by_is, is.event_is) (still_waits m.rows m.history by t asked comes is.waited);
+    outcome_is = refl;
     same = refl;
   };
 }

@@ -17,8 +17,8 @@ use Rattle.serial_spec.specs.Waits.{accesses, same_line, wait_of}
 use Rattle.serial_spec.specs.Allowed.{cause_at_access, is_other_line, waits_elsewhere}
 use Rattle.serial_spec.specs.Rows.{Rows}
 use Rattle.txn_history.proofs.Causes.{neither, not_when}
-use Rattle.manager_core.specs.declared.outcome.Outcome.{Outcome}
-use Rattle.manager_core.specs.declared.outcome.Outcome.TheVariants.{Done, Waits, Refused}
+use Rattle.manager_core.specs.declared.accessing.Attempt.{Attempt}
+use Rattle.manager_core.specs.declared.accessing.Attempt.TheVariants.{Answered, Waits, Refused}
 use Rattle.manager_core.specs.Kept.{AreWaitsOf, wait_of_any}
 use Rattle.manager_core.specs.Lines.{access_by, waiting_access, IsFree}
 use Rattle.manager_core.specs.Tables.{Tabled, AbortsIn, BeginsIn, KeepsWaits, ReachesIn, SetsWait, is_below, wait_at, wait_by, wait_for}
@@ -141,9 +141,9 @@ none_kept_for rows h tables are by t asked free none n number =
     are n ∙ ap (λ o. wait_for n (wait_of_any h o)) (name_at tables.tree t n number) ∙ ap (wait_for n) (none_waiting h by (event_of t asked) free t alone)
 
 -- beside the waits it does what it does
-pub reaches_beside : (old mid : Tabled) (before after : Waiting) (t : Name) (asked : Asked) (outcome : Outcome)
-    → ReachesIn (record old { waits = before }) mid t asked outcome → ReachesIn old (record mid { waits = after }) t asked outcome
-reaches_beside old mid before after t asked (Done reply) has =
+pub reaches_beside : (old mid : Tabled) (before after : Waiting) (t : Name) (asked : Asked) (attempt : Attempt)
+    → ReachesIn (record old { waits = before }) mid t asked attempt → ReachesIn old (record mid { waits = after }) t asked attempt
+reaches_beside old mid before after t asked (Answered reply) has =
     record { tree = has.tree; marks = has.marks; modes = has.modes; left = has.left; rows = has.rows }
 reaches_beside old mid before after t asked Waits same = record { tree = same.tree; marks = same.marks; estate = same.estate }
-reaches_beside old mid before after t asked (Refused refusal) same = record { tree = same.tree; marks = same.marks; estate = same.estate }
+reaches_beside old mid before after t asked Refused same = record { tree = same.tree; marks = same.marks; estate = same.estate }

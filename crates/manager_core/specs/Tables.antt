@@ -1,5 +1,6 @@
 -- The tables as contracts see them, what is asked of them, and what each step does to them.
 use Rattle.std.specs.Prelude.{◌≡◌, ℕ, Bool, true, false, ◌&&◌, ◌||◌, if◌then◌else◌, List, [], ◌∷◌, ◌++◌, slice_get, Option, Some, None, option_map}
+use Rattle.std.specs.Prelude.{IsTrue, is_some}
 use Rattle.txn_names.specs.Path.{path_eq, is_front, parent, top_of}
 use Rattle.txn_tree.specs.States.{States, names, status_in}
 use Rattle.txn_tree.specs.Asked.{IsNumberOf, is_absent_in, is_live_in, has_committed_in, is_name}
@@ -28,8 +29,8 @@ use Rattle.serial_spec.specs.Serial.{reply_at}
 use Rattle.serial_spec.specs.Values.{leaves_at, seen}
 use Rattle.serial_spec.specs.Rows.{Rows, value_in}
 use Rattle.serial_spec.specs.Allowed.{when, cause_at_access}
-use Rattle.manager_core.specs.declared.outcome.Outcome.{Outcome}
-use Rattle.manager_core.specs.declared.outcome.Outcome.TheVariants.{Done, Waits, Refused}
+use Rattle.manager_core.specs.declared.accessing.Attempt.{Attempt}
+use Rattle.manager_core.specs.declared.accessing.Attempt.TheVariants.{Answered, Waits, Refused}
 use Rattle.serial_spec.specs.Legal.{is_top_level}
 use Rattle.manager_core.specs.State.{entry}
 use Rattle.serial_spec.specs.declared.entry.Refusal.{Refusal}
@@ -141,10 +142,10 @@ pub record AccessesIn (old new : Tabled) (t : Name) (a : Asked) (reply : Reply) 
       ≡ (if is_name (slice_get (names old.tree) n) t then or_else (leaves_at a reply q) (left_of old.estate n q) else left_of old.estate n q)
   pub rows : rows_in new ≡ rows_in old
 
--- the access was made, if it was done
-abbrev pub ReachesIn : Tabled → Tabled → Name → Asked → Outcome → Type 0
-ReachesIn old new t a (Done reply) = AccessesIn old new t a reply
-ReachesIn old new t a outcome = IsBeside old new
+-- the access was made, if it was answered
+abbrev pub ReachesIn : Tabled → Tabled → Name → Asked → Attempt → Type 0
+ReachesIn old new t a (Answered reply) = AccessesIn old new t a reply
+ReachesIn old new t a attempt = IsBeside old new
 
 -- all wait as before
 abbrev pub KeepsWaits : Tabled → Tabled → Type 0
@@ -155,18 +156,18 @@ abbrev pub SetsWait : Tabled → Tabled → Name → Option Entry → Type 0
 SetsWait old new t w = (n : ℕ) → wait_at new n ≡ (if is_name (slice_get (names old.tree) n) t then wait_for n w else wait_at old n)
 
 -- an access that has to wait does so from then on
-abbrev pub WaitsFrom : Tabled → Tabled → By → Name → Asked → Outcome → Type 0
+abbrev pub WaitsFrom : Tabled → Tabled → By → Name → Asked → Attempt → Type 0
 WaitsFrom old new by t a Waits = SetsWait old new t (Some (entry by (event_of t a) answer.Waits))
-WaitsFrom old new by t a outcome = KeepsWaits old new
+WaitsFrom old new by t a attempt = KeepsWaits old new
 
 -- one that waited does so until it is answered
-abbrev pub WaitsUntil : Tabled → Tabled → Name → Outcome → Type 0
-WaitsUntil old new t Waits = KeepsWaits old new
-WaitsUntil old new t outcome = SetsWait old new t None
+abbrev pub WaitsUntil : Tabled → Tabled → Name → Attempt → Type 0
+WaitsUntil old new t (Answered reply) = SetsWait old new t None
+WaitsUntil old new t attempt = KeepsWaits old new
 
--- what an access comes to
-abbrev pub ComesTo : Rows → History → By → Name → Asked → Outcome → Type 0
-ComesTo rows h by t a (Done reply) =
+-- what an access comes to: that some cause refuses it, a wait, or its reply
+abbrev pub ComesTo : Rows → History → By → Name → Asked → Attempt → Type 0
+ComesTo rows h by t a (Answered reply) =
     (None ≡ cause_at_access rows h by t a) × (is_blocked h t a ≡ false) × (reply ≡ reply_at (seen (value_in rows) h t) a)
 ComesTo rows h by t a Waits = (None ≡ cause_at_access rows h by t a) × (is_blocked h t a ≡ true)
-ComesTo rows h by t a (Refused refusal) = Some refusal ≡ cause_at_access rows h by t a
+ComesTo rows h by t a Refused = IsTrue (is_some (cause_at_access rows h by t a))

@@ -5,87 +5,108 @@ ghost use Rattle.serial_spec.specs.Legal.{AreAllowed};
 ghost use Rattle.serial_spec.specs.Waits.{wait_of};
 ghost use Rattle.manager_core.specs.Lines.{IsFree};
 ghost use Rattle.manager_core.specs.Kept.{AreTablesOf};
-ghost use Rattle.manager_core.specs.Tables.{ComesTo, HasOtherRoom, IsKeptOutOf, ReachesIn, WaitsFrom, WaitsUntil};
+ghost use Rattle.manager_core.specs.Tables.{ComesTo, HasOtherRoom, IsKeptOutOf};
+ghost use Rattle.manager_core.specs.Tables.{ReachesIn, WaitsFrom, WaitsUntil};
 
 use crate::log::Log;
-use crate::outcome::Outcome;
 use crate::tables::Tables;
-use serial_spec::{Asked, By, NoMemory};
+use serial_spec::{Asked, By, NoMemory, Reply};
 use txn_names::Name;
 
 /// An access that is asked for, with its line.
 #[derive(Clone, Copy)]
-pub(crate) struct Request {
+pub(crate) struct Request<'a> {
     pub(crate) by: By,
-    pub(crate) name: Name,
-    pub(crate) asked: Asked,
+    pub(crate) name: &'a Name,
+    pub(crate) asked: &'a Asked,
+}
+
+/// What an access comes to in the tables. It is an outcome without the cause of a refusal. A cause
+/// can hold a name, which is large, so it is looked for only where an access is refused.
+#[derive(Clone, Copy)]
+pub(crate) enum Attempt {
+    Answered(Reply),
+    Waits,
+    Refused,
 }
 
 impl Tables {
     /// An access by a line that is free: one that is kept out waits from now on.
-    pub(crate) fn ask(&mut self, log: &Log, request: &Request) -> Result<Outcome, NoMemory>
+    pub(crate) fn ask(&mut self, log: &Log, request: &Request<'_>) -> Result<Attempt, NoMemory>
         requires allowed { AreAllowed log.now.rows log.now.entries }
         requires are { AreTablesOf log.now.rows log.now.entries self.old }
-        requires free { IsFree log.now.entries request.now.by (event_of request.now.name request.now.asked) }
-        ensures comes { IfOk result (λ outcome. ComesTo log.now.rows log.now.entries request.now.by request.now.name request.now.asked outcome) }
-        ensures reaches { IfOk result (λ outcome. ReachesIn self.old self.new request.now.name request.now.asked outcome) }
-        ensures waits { IfOk result (λ outcome. WaitsFrom self.old self.new request.now.by request.now.name request.now.asked outcome) }
+        requires free { IsFree log.now.entries request.now.by
+            (event_of request.now.name.now request.now.asked.now) }
+        ensures comes { IfOk result (ComesTo log.now.rows log.now.entries
+            request.now.by request.now.name.now request.now.asked.now) }
+        ensures reaches { IfOk result
+            (ReachesIn self.old self.new request.now.name.now request.now.asked.now) }
+        ensures waits { IfOk result (WaitsFrom self.old self.new
+            request.now.by request.now.name.now request.now.asked.now) }
         ensures grown { OnOk result (length self.new.waits.waits ≤ length self.old.waits.waits + 1) }
         ensures marks { self.new.marks ≡ self.old.marks }
         ensures err { OnErr result (HasOtherRoom self.old self.new) }
     {
         self.waits.reserve(1)?;
-        let outcome = self.access(log, request)?;
-        if let Outcome::Waits = outcome {
+        let attempt = self.access(log, request)?;
+        if let Attempt::Waits = attempt {
             self.start_wait(request);
         }
-        Ok(outcome)
+        Ok(attempt)
     }
 
     /// The access by which a transaction waits: it waits on, or it is answered and waits no more.
-    pub(crate) fn ask_again(&mut self, log: &Log, request: &Request) -> Result<Outcome, NoMemory>
+    /// Where it is refused its wait is left, since tables that have all waits tell the cause.
+    pub(crate) fn ask_again(
+        &mut self,
+        log: &Log,
+        request: &Request<'_>,
+    ) -> Result<Attempt, NoMemory>
         requires allowed { AreAllowed log.now.rows log.now.entries }
         requires are { AreTablesOf log.now.rows log.now.entries self.old }
-        requires waits { IsTrue (is_some (wait_of log.now.entries request.now.name)) }
-        ensures comes { IfOk result (λ outcome. ComesTo log.now.rows log.now.entries request.now.by request.now.name request.now.asked outcome) }
-        ensures reaches { IfOk result (λ outcome. ReachesIn self.old self.new request.now.name request.now.asked outcome) }
-        ensures waits { IfOk result (λ outcome. WaitsUntil self.old self.new request.now.name outcome) }
+        requires waits { IsTrue (is_some (wait_of log.now.entries request.now.name.now)) }
+        ensures comes { IfOk result (ComesTo log.now.rows log.now.entries
+            request.now.by request.now.name.now request.now.asked.now) }
+        ensures reaches { IfOk result
+            (ReachesIn self.old self.new request.now.name.now request.now.asked.now) }
+        ensures waits { IfOk result (WaitsUntil self.old self.new request.now.name.now) }
         ensures grown { OnOk result (length self.new.waits.waits ≤ length self.old.waits.waits) }
         ensures marks { self.new.marks ≡ self.old.marks }
         ensures err { OnErr result (HasOtherRoom self.old self.new) }
     {
-        let outcome = self.access(log, request)?;
-        match outcome {
-            Outcome::Waits => {}
-            _ => self.end_wait(&request.name),
+        let attempt = self.access(log, request)?;
+        if let Attempt::Answered(_) = attempt {
+            self.end_wait(request.name);
         }
-        Ok(outcome)
+        Ok(attempt)
     }
 
-    // What an access comes to: a lock may keep it out (Moss 1981). The tables have it, if it is done.
-    fn access(&mut self, log: &Log, request: &Request) -> Result<Outcome, NoMemory>
+    // What an access comes to: a lock may keep it out (Moss 1981). The tables have it, if it is
+    // answered.
+    fn access(&mut self, log: &Log, request: &Request<'_>) -> Result<Attempt, NoMemory>
         requires allowed { AreAllowed log.now.rows log.now.entries }
         requires are { AreTablesOf log.now.rows log.now.entries self.old }
-        ensures comes { IfOk result (λ outcome. ComesTo log.now.rows log.now.entries request.now.by request.now.name request.now.asked outcome) }
-        ensures reaches { IfOk result (λ outcome. ReachesIn self.old self.new request.now.name request.now.asked outcome) }
-        ensures out { IfOk result (λ outcome. outcome ≡ Outcome.Waits
-            → IsKeptOutOf self.new request.now.name request.now.asked) }
+        ensures comes { IfOk result (ComesTo log.now.rows log.now.entries
+            request.now.by request.now.name.now request.now.asked.now) }
+        ensures reaches { IfOk result
+            (ReachesIn self.old self.new request.now.name.now request.now.asked.now) }
+        ensures out { IfOk result (λ attempt. attempt ≡ Attempt.Waits
+            → IsKeptOutOf self.new request.now.name.now request.now.asked.now) }
         ensures waits { self.new.waits ≡ self.old.waits }
         ensures marks { self.new.marks ≡ self.old.marks }
         ensures err { OnErr result (HasOtherRoom self.old self.new) }
     {
-        let Request { by, name, asked } = request;
-        match self.number_at_access(log, *by, name, asked) {
-            Err(refusal) => Ok(Outcome::Refused(refusal)),
-            Ok(txn) => {
-                // One that has to wait takes no place at what it asks for, so that those with a place are those with a lock.
-                if !self.may(txn, asked) {
-                    return Ok(Outcome::Waits);
-                }
-                self.estate.reserve_asked(txn, asked)?;
-                let reply = self.estate.grant(&self.tree, txn, asked);
-                Ok(Outcome::Done(reply))
-            }
+        let Request { by, name, asked } = *request;
+        let Some(txn) = self.number_to_ask(log, by, name, asked) else {
+            return Ok(Attempt::Refused);
+        };
+        // One that has to wait takes no place at what it asks for, so that those with a place are
+        // those with a lock.
+        if !self.may(txn, asked) {
+            return Ok(Attempt::Waits);
         }
+        self.estate.reserve_asked(txn, asked)?;
+        let reply = self.estate.grant(&self.tree, txn, asked);
+        Ok(Attempt::Answered(reply))
     }
 }

@@ -1,5 +1,6 @@
 //! Why a line is refused, read off the tables. What is not refused goes on by the transaction's number.
-ghost use Rattle.std.specs.Prelude.{◌≡◌, ◌<◌, length, IfOk};
+ghost use Rattle.std.specs.Prelude.{◌≡◌, ◌<◌, length, IfNone, IfOk, IfSome, IsTrue};
+ghost use Rattle.std.specs.Prelude.{None, Some, is_some};
 ghost use Rattle.std.specs.Result.{result_err};
 ghost use Rattle.txn_tree.specs.Asked.{IsNumberOf, IsRootless};
 ghost use Rattle.serial_spec.specs.Allowed.{cause_at_access, cause_at_commit, is_full_for};
@@ -65,26 +66,63 @@ impl Tables {
         self.number_by_marks(name)
     }
 
-    /// The number of a transaction whose access nothing but a lock may keep out, or why the access is refused.
-    pub(crate) fn number_at_access(
+    /// The number of a transaction whose access nothing but a lock may keep out. It is none where
+    /// the access is refused. `refusal_at_access` tells the cause, so that this result is small.
+    pub(crate) fn number_to_ask(
         &self,
         log: &Log,
         by: By,
         name: &Name,
         asked: &Asked,
-    ) -> Result<TxnNo, Refusal>
+    ) -> Option<TxnNo>
         requires allowed { AreAllowed log.now.rows log.now.entries }
         requires are { AreTablesOf log.now.rows log.now.entries self.now }
-        ensures cause { result_err result ≡ cause_at_access log.now.rows log.now.entries by name.now asked.now }
-        ensures number { IfOk result (IsNumberOf self.now.tree name.now) }
+        ensures some { IfSome result (λ txn. None
+            ≡ cause_at_access log.now.rows log.now.entries by name.now asked.now) }
+        ensures none { IfNone result (IsTrue
+            (is_some (cause_at_access log.now.rows log.now.entries by name.now asked.now))) }
+        ensures number { IfSome result (IsNumberOf self.now.tree name.now) }
     {
-        let txn = self.active_number(log, name)?;
+        name.has_labels();
+        let txn = self.tree.no_of(name)?;
+        if !self.tree.is_active_at(txn) {
+            return None;
+        }
         if self.waits_elsewhere(txn, by) {
-            Err(Refusal::Waiting)
-        } else if is_full_for(log, asked) {
-            Err(Refusal::Full)
-        } else {
-            Ok(txn)
+            return None;
+        }
+        if is_full_for(log, asked) {
+            return None;
+        }
+        Some(txn)
+    }
+
+    /// Why an access is refused. Few accesses are, so this is kept out of the code of the callers.
+    #[inline(never)]
+    pub(crate) fn refusal_at_access(
+        &self,
+        _log: &Log,
+        by: By,
+        name: &Name,
+        _asked: &Asked,
+    ) -> Refusal
+        requires allowed { AreAllowed _log.now.rows _log.now.entries }
+        requires are { AreTablesOf _log.now.rows _log.now.entries self.now }
+        requires refused { IsTrue
+            (is_some (cause_at_access _log.now.rows _log.now.entries by name.now _asked.now)) }
+        ensures { Some result
+            ≡ cause_at_access _log.now.rows _log.now.entries by name.now _asked.now }
+    {
+        match self.number_by_marks(name) {
+            Err(refusal) => refusal,
+            Ok(txn) => {
+                if self.waits_elsewhere(txn, by) {
+                    Refusal::Waiting
+                } else {
+                    // No other cause is left.
+                    Refusal::Full
+                }
+            }
         }
     }
 

@@ -39,10 +39,10 @@ impl Outcome {
     pub(crate) fn answer(&self) -> Answer
         ensures { result ≡ answer_of self.now }
     {
-        match *self {
-            Outcome::Done(reply) => Answer::Done(reply),
+        match self {
+            Outcome::Done(reply) => Answer::Done(*reply),
             Outcome::Waits => Answer::Waits,
-            Outcome::Refused(refusal) => Answer::Refused(refusal),
+            Outcome::Refused(refusal) => Answer::Refused(*refusal),
         }
     }
 }

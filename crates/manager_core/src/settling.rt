@@ -60,21 +60,27 @@ pub(crate) fn settle(
     log: &mut Log,
     tables: &mut Tables,
     breaker: &mut CycleSearch,
-    request: &Request,
+    request: &Request<'_>,
     outcome: &Outcome,
 )
-    requires allowed { AreAllowed log.old.rows (entry request.now.by (event_of request.now.name request.now.asked) (answer_of outcome.now) ∷ log.old.entries) }
-    requires are { AreTablesOf log.old.rows (entry request.now.by (event_of request.now.name request.now.asked) (answer_of outcome.now) ∷ log.old.entries) tables.old }
+    requires allowed { AreAllowed log.old.rows
+        (entry request.now.by (event_of request.now.name.now request.now.asked.now)
+        (answer_of outcome.now) ∷ log.old.entries) }
+    requires are { AreTablesOf log.old.rows
+        (entry request.now.by (event_of request.now.name.now request.now.asked.now)
+        (answer_of outcome.now) ∷ log.old.entries) tables.old }
     requires quiet { Quiet log.old.entries }
     requires room { length tables.old.waits.waits + 1 ≤ log.old.room }
     requires marks_room { length tables.old.waits.waits ≤ tables.old.marks.room }
     requires work_room { length tables.old.waits.waits * length tables.old.waits.waits ≤ breaker.old }
     ensures rows { log.new.rows ≡ log.old.rows }
-    ensures breaks { Breaks log.old.rows (entry request.now.by (event_of request.now.name request.now.asked) (answer_of outcome.now) ∷ log.old.entries) log.new.entries tables.new }
+    ensures breaks { Breaks log.old.rows
+        (entry request.now.by (event_of request.now.name.now request.now.asked.now)
+        (answer_of outcome.now) ∷ log.old.entries) log.new.entries tables.new }
     ensures table { rows_in tables.new ≡ rows_in tables.old }
 {
-    let Request { by, name, asked } = request;
-    log.add(*by, event_of(name, asked), outcome);
+    let Request { by, name, asked } = *request;
+    log.add(by, event_of(name, asked), outcome);
     match outcome {
         // One that began to wait adds pairs of its own transaction alone, so that each cycle goes through it.
         Outcome::Waits => break_own_cycles(log, tables, breaker, name),

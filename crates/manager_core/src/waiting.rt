@@ -61,17 +61,20 @@ impl Tables {
     }
 
     /// The transaction, which does not wait and is kept out of what it asks, waits from now on. There is room for it.
-    pub(crate) fn start_wait(&mut self, request: &Request)
-        requires begun { IsFalse (is_absent_in self.old.tree request.now.name) }
-        requires none { (n : ℕ) → IsNumberOf self.old.tree request.now.name n → wait_at self.old n ≡ None }
-        requires out { IsKeptOutOf self.old request.now.name request.now.asked }
+    pub(crate) fn start_wait(&mut self, request: &Request<'_>)
+        requires begun { IsFalse (is_absent_in self.old.tree request.now.name.now) }
+        requires none { (n : ℕ) → IsNumberOf self.old.tree request.now.name.now n
+            → wait_at self.old n ≡ None }
+        requires out { IsKeptOutOf self.old request.now.name.now request.now.asked.now }
         requires room { 0 < self.old.waits.room }
         ensures beside { self.new ≡ record self.old { waits = self.new.waits } }
-        ensures waits { SetsWait self.old self.new request.now.name (Some (entry request.now.by (event_of request.now.name request.now.asked) answer.Waits)) }
+        ensures waits { SetsWait self.old self.new request.now.name.now
+            (Some (entry request.now.by (event_of request.now.name.now request.now.asked.now)
+            answer.Waits)) }
         ensures grown { length self.new.waits.waits ≡ length self.old.waits.waits + 1 }
     {
-        let txn = self.number_of(&request.name);
-        self.waits.add_reserved(txn, &request.asked, request.by);
+        let txn = self.number_of(request.name);
+        self.waits.add_reserved(txn, request.asked, request.by);
         self.looks.put(request.by, txn);
     }
 

@@ -6,7 +6,7 @@ ghost use Rattle.serial_spec.specs.History.{event_of};
 ghost use Rattle.serial_spec.specs.Waits.{wait_of};
 ghost use Rattle.manager_core.specs.Lines.{IsFree};
 
-use crate::accessing::Request;
+use crate::accessing::{Attempt, Request};
 use crate::breaking::reserve_step;
 use crate::manager::Manager;
 use crate::outcome::Outcome;
@@ -55,21 +55,30 @@ impl<S: TopStore> Manager<S> {
         ensures err { OnErr result (self.new ≡ self.old) }
         ensures sound { OnOk result (IsSound S.TopStore self.new) }
     {
-        reserve_step(&mut self.log, &mut self.tables, &mut self.breaker)?;
+        let (log, tables, breaker) = (&mut self.log, &mut self.tables, &mut self.breaker);
+        reserve_step(log, tables, breaker)?;
         let request = Request {
             by,
-            name: *name,
-            asked,
+            name,
+            asked: &asked,
         };
-        let outcome = self.tables.ask(&self.log, &request)?;
-        settle(
-            &mut self.log,
-            &mut self.tables,
-            &mut self.breaker,
-            &request,
-            &outcome,
-        );
-        Ok(outcome)
+        // Each arm makes its own outcome: one for all has room for a name, and is dear to move.
+        let attempt = tables.ask(log, &request)?;
+        match attempt {
+            Attempt::Answered(reply) => {
+                settle(log, tables, breaker, &request, &Outcome::Done(reply));
+                Ok(Outcome::Done(reply))
+            }
+            Attempt::Waits => {
+                settle(log, tables, breaker, &request, &Outcome::Waits);
+                Ok(Outcome::Waits)
+            }
+            Attempt::Refused => {
+                let refused = Outcome::Refused(tables.refusal_at_access(log, by, name, &asked));
+                settle(log, tables, breaker, &request, &refused);
+                Ok(refused)
+            }
+        }
     }
 
     /// Asks again for the access by which the transaction waits. It is answered now, by its own line, and victims are aborted
@@ -80,26 +89,27 @@ impl<S: TopStore> Manager<S> {
         ensures err { OnErr result (self.new ≡ self.old) }
         ensures sound { OnOk result (IsSound S.TopStore self.new) }
     {
-        reserve_step(&mut self.log, &mut self.tables, &mut self.breaker)?;
-        let (by, asked) = self.tables.waiting_access(name).unwrap();
+        let (log, tables, breaker) = (&mut self.log, &mut self.tables, &mut self.breaker);
+        reserve_step(log, tables, breaker)?;
+        let (by, asked) = tables.waiting_access(name).unwrap();
         let request = Request {
             by,
-            name: *name,
-            asked,
+            name,
+            asked: &asked,
         };
-        let outcome = self.tables.ask_again(&self.log, &request)?;
-        match outcome {
-            Outcome::Waits => {}
-            _ => {
-                settle(
-                    &mut self.log,
-                    &mut self.tables,
-                    &mut self.breaker,
-                    &request,
-                    &outcome,
-                );
+        let attempt = tables.ask_again(log, &request)?;
+        match attempt {
+            Attempt::Answered(reply) => {
+                settle(log, tables, breaker, &request, &Outcome::Done(reply));
+                Ok(Outcome::Done(reply))
+            }
+            Attempt::Waits => Ok(Outcome::Waits),
+            Attempt::Refused => {
+                let refused = Outcome::Refused(tables.refusal_at_access(log, by, name, &asked));
+                tables.end_wait(name);
+                settle(log, tables, breaker, &request, &refused);
+                Ok(refused)
             }
         }
-        Ok(outcome)
     }
 }

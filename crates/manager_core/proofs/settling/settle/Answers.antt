@@ -6,7 +6,7 @@ pub break_own_cycles-requires-clause-own : goal.break_own_cycles-requires-clause
 break_own_cycles-requires-clause-own c =
     let asked = c.args.request.now in
     let allowed = rw c.in-Waits.is at c.requires.allowed in
-    rw (c.add.ensures.entries, c.event_of.ensures, c.in-Waits.is) (own_if_it_waits _ _ c.args.tables.now asked.by asked.name asked.asked allowed c.requires.quiet)
+    rw (c.add.ensures.entries, c.event_of.ensures, c.in-Waits.is) (own_if_it_waits _ _ c.args.tables.now asked.by asked.name.now asked.asked.now allowed c.requires.quiet)
 
 pub returns-else-may_close_cycle-clause-breaks : goal.returns-else-may_close_cycle-clause-breaks
 returns-else-may_close_cycle-clause-breaks c =
@@ -20,5 +20,5 @@ returns-in-Refused-clause-breaks c =
     let asked = c.args.request.now in
     let allowed = rw c.in-Refused.is at c.requires.allowed in
     let are = rw c.in-Refused.is at c.requires.are in
-    let quiet = quiet_if_refused _ _ c.args.tables.now asked.by asked.name asked.asked c.in-Refused.field-0 allowed are c.requires.quiet in
+    let quiet = quiet_if_refused _ _ c.args.tables.now asked.by asked.name.now asked.asked.now c.in-Refused.field-0 allowed are c.requires.quiet in
     rw (c.add.ensures.entries, c.event_of.ensures, c.in-Refused.is) (broken _ _ _ _ (breaking_from _ _ _ allowed are) quiet)

@@ -10,30 +10,30 @@ pub grant-reply-requires-clause-may : goal.grant-reply-requires-clause-may
 grant-reply-requires-clause-may c =
     let m = c.self.inside in
     let locks = rw (← c.self.view_is) at c.may.ensures.locks in
-    may_same m.tree m.estate.locks c.reserve_asked.new.self.locks c.reserve_asked.ensures.same.modes c.in-Ok.txn c.args.request.now.asked (locks.0 c.if-not-may.false)
+    may_same m.tree m.estate.locks c.reserve_asked.new.self.locks c.reserve_asked.ensures.same.modes c.in-Some.txn c.args.request.now.asked.now (locks.0 c.if-not-may.false)
 
-pub returns-in_ok-reserve_asked-in-Ok-clause-comes : goal.returns-in_ok-reserve_asked-in-Ok-clause-comes
-returns-in_ok-reserve_asked-in-Ok-clause-comes c =
+pub returns-clause-comes : goal.returns-clause-comes
+returns-clause-comes c =
     let log = c.args.log.now in
     let asked = c.args.request.now in
     let m : Tabled = record { tree = c.self.inside.tree; marks = c.self.inside.marks; estate = c.self.inside.estate; waits = c.self.inside.waits } in
     let are = rw (← c.self.view_is) at c.requires.are in
     let mid : Tabled = record { tree = m.tree; marks = m.marks; estate = c.reserve_asked.new.self; waits = m.waits } in
     let same : HasOtherRoom m mid = record { tree = refl; marks = refl; estate = c.reserve_asked.ensures.same; waits = λ n. refl } in
-    let number = rw (← c.self.view_is) at c.in-Ok.ensures.number in
+    let number = rw (← c.self.view_is) at c.in-Some.ensures.number in
     let locks = rw (← c.self.view_is) at c.may.ensures.locks in
-    let may = may_same m.tree m.estate.locks c.reserve_asked.new.self.locks c.reserve_asked.ensures.same.modes c.in-Ok.txn asked.asked (locks.0 c.if-not-may.false) in
-    comes_done log.rows log.entries m mid c.requires.allowed are same asked.name c.in-Ok.txn number asked.asked asked.by c.in-Ok.ensures.cause c.grant-reply.result may c.grant-reply.ensures.reply
+    let may = may_same m.tree m.estate.locks c.reserve_asked.new.self.locks c.reserve_asked.ensures.same.modes c.in-Some.txn asked.asked.now (locks.0 c.if-not-may.false) in
+    comes_done log.rows log.entries m mid c.requires.allowed are same asked.name.now c.in-Some.txn number asked.asked.now asked.by c.in-Some.ensures.some c.grant-reply.result may c.grant-reply.ensures.reply
 
 pub returns-then-not-may-clause-comes : goal.returns-then-not-may-clause-comes
 returns-then-not-may-clause-comes c =
     let log = c.args.log.now in (
-      c.in-Ok.ensures.cause,
-      kept_by_lock _ c.may.result (c.may.ensures.blocked c.args.request.now.name c.in-Ok.ensures.number log.rows log.entries c.requires.are) c.if-not-may.true,
+      c.in-Some.ensures.some,
+      kept_by_lock _ c.may.result (c.may.ensures.blocked c.args.request.now.name.now c.in-Some.ensures.number log.rows log.entries c.requires.are) c.if-not-may.true,
     )
 
-pub returns-in_ok-reserve_asked-in-Ok-clause-reaches : goal.returns-in_ok-reserve_asked-in-Ok-clause-reaches
-returns-in_ok-reserve_asked-in-Ok-clause-reaches c =
+pub returns-clause-reaches : goal.returns-clause-reaches
+returns-clause-reaches c =
     let log = c.args.log.now in
     let asked = c.args.request.now in
     let m : Tabled = record { tree = c.self.inside.tree; marks = c.self.inside.marks; estate = c.self.inside.estate; waits = c.self.inside.waits } in
@@ -41,13 +41,13 @@ returns-in_ok-reserve_asked-in-Ok-clause-reaches c =
     let mid : Tabled = record { tree = m.tree; marks = m.marks; estate = c.reserve_asked.new.self; waits = m.waits } in
     let roomy = c.reserve_asked.ensures.same in
     let same : HasOtherRoom m mid = record { tree = refl; marks = refl; estate = roomy; waits = λ n. refl } in
-    let number = rw (← c.self.view_is) at c.in-Ok.ensures.number in
+    let number = rw (← c.self.view_is) at c.in-Some.ensures.number in
     let has = c.grant-reply.ensures.accessed in
     rw (← c.self.view_is) (record {
       tree = refl;
       marks = refl;
-      modes = modes_by_name log.rows log.entries m mid c.requires.allowed are same asked.name c.in-Ok.txn number asked.asked c.grant-reply.new.self c.grant-reply.result has;
-      left = left_by_name log.rows log.entries m mid c.requires.allowed are same asked.name c.in-Ok.txn number asked.asked c.grant-reply.new.self c.grant-reply.result has;
+      modes = modes_by_name log.rows log.entries m mid c.requires.allowed are same asked.name.now c.in-Some.txn number asked.asked.now c.grant-reply.new.self c.grant-reply.result has;
+      left = left_by_name log.rows log.entries m mid c.requires.allowed are same asked.name.now c.in-Some.txn number asked.asked.now c.grant-reply.new.self c.grant-reply.result has;
       rows = has.rows ∙ roomy.rows;
     })
 
@@ -56,9 +56,9 @@ invariant_of-self c =
     let m = c.self.inside in
     seen_same m.tree m.waits.waits m.looks m.estate.locks c.reserve_asked.new.self.locks c.reserve_asked.ensures.same.modes c.self.invariant
 
-pub invariant_of-self-in-Ok : goal.invariant_of-self-in-Ok
-invariant_of-self-in-Ok c =
+pub invariant_of-self-2 : goal.invariant_of-self-2
+invariant_of-self-2 c =
     let m = c.self.inside in
-    let asked = c.args.request.now.asked in
+    let asked = c.args.request.now.asked.now in
     let roomy = seen_same m.tree m.waits.waits m.looks m.estate.locks c.reserve_asked.new.self.locks c.reserve_asked.ensures.same.modes c.self.invariant in
-    seen_raised m.tree m.waits.waits m.looks c.reserve_asked.new.self.locks c.grant-reply.new.self.locks c.in-Ok.txn (target asked) (mode_of (kind_of asked)) c.grant-reply.ensures.accessed.modes roomy
+    seen_raised m.tree m.waits.waits m.looks c.reserve_asked.new.self.locks c.grant-reply.new.self.locks c.in-Some.txn (target asked) (mode_of (kind_of asked)) c.grant-reply.ensures.accessed.modes roomy

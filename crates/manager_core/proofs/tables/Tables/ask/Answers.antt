@@ -4,9 +4,8 @@ use Rattle.txn_tree.specs.Asked.{IsNumberOf}
 use Rattle.wait_cycles.specs.declared.waits.Wait.{Wait}
 use Rattle.wait_cycles.specs.Waiting.{Waiting, wait_in, wait_of as kept_wait}
 use Rattle.manager_core.specs.Tables.{Tabled}
-use Rattle.manager_core.proofs.WaitTables.{none_kept_for, reaches_beside}
+use Rattle.manager_core.proofs.WaitTables.{none_kept_for}
 use Rattle.manager_core.proofs.tables.Tables.ask.Goals as goal
-use Rattle.manager_core.proofs.tables.Tables.ask.Goals.{in-Waits, in_default}
 
 pub start_wait-requires-clause-none : goal.start_wait-requires-clause-none
 start_wait-requires-clause-none c n number =
@@ -14,19 +13,9 @@ start_wait-requires-clause-none c n number =
     let asked = c.args.request.now in
     let m : Tabled = record { tree = c.self.inside.tree; marks = c.self.inside.marks; estate = c.self.inside.estate; waits = c.self.inside.waits } in
     let are = rw (← c.self.view_is) at c.requires.are in
-    let comes = rw c.in-Waits.is at c.in_ok-outcome.ensures.comes in
-    let beside = rw c.in-Waits.is at c.in_ok-outcome.ensures.reaches in
-    ap (λ (s : Waiting). kept_wait s n) c.in_ok-outcome.ensures.waits
+    let comes = rw c.in-Waits.is at c.in_ok-attempt.ensures.comes in
+    let beside = rw c.in-Waits.is at c.in_ok-attempt.ensures.reaches in
+    ap (λ (s : Waiting). kept_wait s n) c.in_ok-attempt.ensures.waits
     ∙ ap (λ (ws : List Wait). wait_in ws n) c.reserve.ensures.waits
-    ∙ none_kept_for log.rows log.entries m are.waiting asked.by asked.name asked.asked c.requires.free comes.0 n
-    (subst (λ (s : States). IsNumberOf s asked.name n) beside.tree number)
-
-pub returns-clause-reaches : goal.returns-clause-reaches
-returns-clause-reaches c =
-    let asked = c.args.request.now in
-    let m : Tabled = record { tree = c.self.inside.tree; marks = c.self.inside.marks; estate = c.self.inside.estate; waits = c.self.inside.waits } in
-    let on = reaches_beside m c.access.new.self c.reserve.new.self in
-    elim c.match-outcome.branch [
-      | in-Waits w ↦ rw (w.self-is, ← c.self.view_is, w.start_wait.ensures.beside) (on _ asked.name asked.asked c.in_ok-outcome.outcome c.in_ok-outcome.ensures.reaches)
-      | in_default w ↦ rw (w.self-is, ← c.self.view_is) (on c.access.new.self.waits asked.name asked.asked c.in_ok-outcome.outcome c.in_ok-outcome.ensures.reaches)
-    ]
+    ∙ none_kept_for log.rows log.entries m are.waiting asked.by asked.name.now asked.asked.now c.requires.free comes.0 n
+    (subst (λ (s : States). IsNumberOf s asked.name.now n) beside.tree number)

@@ -1,0 +1,67 @@
+use Rattle.std.proofs.Common.{true, false, is_some, refl, sym, ap, ◌∙◌}
+use Rattle.std.proofs.lemmas.Bool.{not-false}
+use Rattle.txn_tree.specs.Asked.{IsNumberOf}
+use Rattle.txn_tree.specs.Numbered.{is_active_at}
+use Rattle.manager_core.specs.Tables.{Tabled}
+use Rattle.manager_core.proofs.Causes.{active_cause, refused_by_absence, refused_by_inactivity}
+use Rattle.manager_core.proofs.tables.Tables.number_to_ask.Goals as goal
+
+pub returns-in_err-txn-clause-none : goal.returns-in_err-txn-clause-none
+returns-in_err-txn-clause-none c =
+    let log = c.args.log.now in
+    let are = rw (← c.self.view_is) at c.requires.are in
+    rw c.from_residual.ensures
+    (refused_by_absence log.rows log.entries _ c.requires.allowed are c.args.name.now
+    c.has_labels.ensures.some c.args.by c.args.asked.now
+    (not-false _ (sym c.in_err-txn.ensures.begun)))
+
+pub returns-then-not-is_active_at-clause-none : goal.returns-then-not-is_active_at-clause-none
+returns-then-not-is_active_at-clause-none c =
+    let log = c.args.log.now in
+    let are = rw (← c.self.view_is) at c.requires.are in
+    refused_by_inactivity log.rows log.entries _ c.requires.allowed are c.args.name.now
+    c.in_ok-txn.txn c.in_ok-txn.ensures.number
+    (sym c.if-not-is_active_at.true ∙ c.is_active_at.ensures) c.args.by c.args.asked.now
+
+pub returns-then-waits_elsewhere-clause-none : goal.returns-then-waits_elsewhere-clause-none
+returns-then-waits_elsewhere-clause-none c =
+    let log = c.args.log.now in
+    let t = c.args.name.now in
+    let number : IsNumberOf c.args.self.now.tree t c.in_ok-txn.txn = rw (sym c.self.view_is)
+    c.in_ok-txn.ensures.number in
+    let active = sym c.if-not-is_active_at.false ∙ c.is_active_at.ensures ∙ ap
+    (λ (v : Tabled). is_active_at v.tree c.in_ok-txn.txn) c.self.view_is in
+    let waits = c.waits_elsewhere.ensures t number log.rows log.entries c.requires.are in
+    sym (ap is_some (active_cause log.rows log.entries c.args.self.now c.requires.allowed
+    c.requires.are t c.has_labels.ensures.some c.args.by c.in_ok-txn.txn number active
+    c.args.asked.now
+    true _ (sym c.if-waits_elsewhere.true ∙ waits) refl))
+
+pub returns-then-is_full_for-clause-none : goal.returns-then-is_full_for-clause-none
+returns-then-is_full_for-clause-none c =
+    let log = c.args.log.now in
+    let t = c.args.name.now in
+    let number : IsNumberOf c.args.self.now.tree t c.in_ok-txn.txn = rw (sym c.self.view_is)
+    c.in_ok-txn.ensures.number in
+    let active = sym c.if-not-is_active_at.false ∙ c.is_active_at.ensures ∙ ap
+    (λ (v : Tabled). is_active_at v.tree c.in_ok-txn.txn) c.self.view_is in
+    let waits = c.waits_elsewhere.ensures t number log.rows log.entries c.requires.are in
+    sym (ap is_some (active_cause log.rows log.entries c.args.self.now c.requires.allowed
+    c.requires.are t c.has_labels.ensures.some c.args.by c.in_ok-txn.txn number active
+    c.args.asked.now
+    false true (sym c.if-waits_elsewhere.false ∙ waits)
+    (sym c.if-is_full_for.true ∙ c.is_full_for.ensures)))
+
+pub returns-clause-some : goal.returns-clause-some
+returns-clause-some c =
+    let log = c.args.log.now in
+    let t = c.args.name.now in
+    let number : IsNumberOf c.args.self.now.tree t c.in_ok-txn.txn = rw (sym c.self.view_is)
+    c.in_ok-txn.ensures.number in
+    let active = sym c.if-not-is_active_at.false ∙ c.is_active_at.ensures ∙ ap
+    (λ (v : Tabled). is_active_at v.tree c.in_ok-txn.txn) c.self.view_is in
+    let waits = c.waits_elsewhere.ensures t number log.rows log.entries c.requires.are in
+    active_cause log.rows log.entries c.args.self.now c.requires.allowed c.requires.are t
+    c.has_labels.ensures.some c.args.by c.in_ok-txn.txn number active c.args.asked.now
+    false false (sym c.if-waits_elsewhere.false ∙ waits)
+    (sym c.if-is_full_for.false ∙ c.is_full_for.ensures)
