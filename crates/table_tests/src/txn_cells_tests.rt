@@ -158,7 +158,7 @@ fn one_look_tells_what_all_have(rt: HostRuntime) {
     let seen = table.at(&first).expect(&rt, "somebody has a place");
     assert!(rt; seen.get(top) == Some(Latest(1)) && seen.get(txn) == Some(Latest(2)));
     assert!(rt; seen.get(TxnNo::new(2)) == None);
-    assert!(rt; seen.holders().len() == 2 && seen.standing_out().is_empty());
+    assert!(rt; seen.holders().len() == 2);
     assert!(rt; table.at(&key(&rt, KEYS)).is_none());
     if join_once(&mut table, txn, &first, Latest(3)).is_err() {
         join_once(&mut table, txn, &first, Latest(3)).expect(&rt, "memory");
