@@ -11,14 +11,20 @@ attempt-requires-clause-next g c =
 pub overflow_add-line : goal.overflow_add-line
 overflow_add-line g c =
     let due = rw (← c.self.view_is) at c.requires in
-    omega (arith, number_fits g.S.TopStore c.self.inside.sessions.now c.self.inside.manager.value c.self.inside.next.items c.self.invariant c.args.session c.args.line c.args.due.now due
-    c.len-count.ensures.text)
+    omega (
+      arith,
+      number_fits g.S.TopStore c.self.inside.sessions.now c.self.inside.manager.value c.self.inside.next.items c.self.invariant c.args.session c.args.line c.args.due.now due
+          c.len-count.ensures.text,
+    )
 
 pub index_mut-requires : goal.index_mut-requires
 index_mut-requires g c =
     let due = rw (← c.self.view_is) at c.requires in
-    omega (arith, is_kept g.S.TopStore c.self.inside.sessions.now c.self.inside.manager.value c.self.inside.next.items c.self.invariant c.args.session c.args.line c.args.due.now due,
-    c.self.inside.next.ok.0)
+    omega (
+      arith,
+      is_kept g.S.TopStore c.self.inside.sessions.now c.self.inside.manager.value c.self.inside.next.items c.self.invariant c.args.session c.args.line c.args.due.now due,
+      c.self.inside.next.ok.0,
+    )
 
 pub invariant_of-self-in-Waits : goal.invariant_of-self-in-Waits
 invariant_of-self-in-Waits g c =
