@@ -2,7 +2,7 @@
 use Rattle.std.proofs.Common.{◌≡◌, ℕ, zero, suc, ◌<◌, ◌≤◌, Bool, true, false, cond, not, nat_eq, ◌&&◌, ◌||◌, List, [], ◌∷◌, ◌++◌, length, get_or, set, Option, Some, None, unwrap_or, is_some, refl, sym, ap, subst, ◌∙◌, arith}
 use Rattle.std.specs.Prelude.{slice_get}
 use Rattle.std.specs.List.{insert, list_any, remove, zip}
-use Rattle.std.specs.Map.{lookup}
+use Rattle.std.specs.Map.{keys_of, lookup}
 use Rattle.std.proofs.lemmas.Bool.{eq-eqb, false≢true, ne_eqb}
 use Rattle.std.proofs.lemmas.Map.Made.{keys_of-zip}
 use Rattle.txn_cells.specs.Kept.{Held, content_of, holds}
@@ -130,3 +130,7 @@ zip-get [] xs i k x at is = absurd (false≢true (ap is_some at))
 zip-get (j ∷ ks) [] i k x at is = absurd (false≢true (ap is_some is))
 zip-get (j ∷ ks) (y ∷ ys) zero k x at is = ap (λ a. Some (a, y)) (ap (λ o. unwrap_or o k) at) ∙ ap (λ b. Some (k, b)) (ap (λ o. unwrap_or o x) is)
 zip-get (j ∷ ks) (y ∷ ys) (suc i) k x at is = zip-get ks ys i k x at is
+
+-- the key at a place is that of the pair there
+pub number_at : {K X : Type 0} (ks : List K) (xs : List X) (i : ℕ) (k : K) → length xs ≡ length ks → slice_get (keys_of (zip ks xs)) i ≡ Some k → slice_get ks i ≡ Some k
+number_at ks xs i k same at = sym (ap (λ ns. slice_get ns i) (keys_of-zip ks xs same)) ∙ at

@@ -1,5 +1,5 @@
 //! What all transactions have at one key.
-ghost use Rattle.std.specs.Prelude.{◌≡◌, ◌≤◌, ◌<◌, ◌&&◌, ◌||◌, not, nat_eq, [], length, slice_get, vec_capacity, IsFalse, IsOk, IsTrue, IfOk, IfSome, OnErr, OnOk, Option, ℕ, if◌then◌else◌, Some, None};
+ghost use Rattle.std.specs.Prelude.{◌≡◌, ◌≤◌, ◌<◌, ◌&&◌, ◌||◌, not, nat_eq, [], length, slice_get, vec_capacity, IsFalse, IsOk, IsTrue, IfOk, IfNone, IfSome, OnErr, OnOk, Option, ℕ, if◌then◌else◌, Some, None};
 ghost use Rattle.std.specs.List.{insert, list_any, zip};
 ghost use Rattle.std.specs.List.Sorted.{IsStrictlyIncreasing};
 ghost use Rattle.std.specs.Map.{keys_of};
@@ -80,13 +80,25 @@ impl<V: Inherit> KeyCells<V> {
         }
     }
 
+    // Where among the others the transaction has its place, and what it has there.
+    fn found(&self, txn: TxnNo) -> Option<(usize, Option<V>)>
+        ensures at { IfSome result (λ found. slice_get (keys_of self.now) found.0 ≡ Some txn) }
+        ensures had { IfSome result (λ found. found.1 ≡ content_of self.now txn) }
+        ensures none { IfNone result (IsFalse (holds self.now txn)) }
+    {
+        match find(self.numbers.as_slice(), txn) {
+            Ok(place) => Some((place, self.contents[place])),
+            Err(_) => None,
+        }
+    }
+
     /// What the transaction has here.
     pub fn get(&self, txn: TxnNo) -> Option<V>
         ensures { result ≡ content_of self.now txn }
     {
-        match find(self.numbers.as_slice(), txn) {
-            Ok(place) => self.contents[place],
-            Err(_) => None,
+        match self.found(txn) {
+            Some((_, had)) => had,
+            None => None,
         }
     }
 
@@ -122,6 +134,19 @@ impl<V: Inherit> KeyCells<V> {
         }
     }
 
+    // Sets what the transaction has, whose place this is.
+    fn put_at(&mut self, place: usize, txn: TxnNo, value: V)
+        requires { slice_get (keys_of self.old) place ≡ Some txn }
+        ensures contents { (u : ℕ) → content_of self.new u ≡ (if nat_eq txn u then Some value
+            else content_of self.old u) }
+        ensures places { (u : ℕ) → holds self.new u ≡ holds self.old u }
+    {
+        self.contents[place] = Some(value);
+        if self.numbers.len() > FEW && value.stands_out() {
+            put_in(&mut self.marked, txn);
+        }
+    }
+
     /// Sets what the transaction has. It takes no memory.
     pub(crate) fn set(&mut self, txn: TxnNo, value: V)
         requires { IsTrue (holds self.old txn) }
@@ -129,11 +154,8 @@ impl<V: Inherit> KeyCells<V> {
             else content_of self.old u) }
         ensures places { (u : ℕ) → holds self.new u ≡ holds self.old u }
     {
-        if let Ok(place) = find(self.numbers.as_slice(), txn) {
-            self.contents[place] = Some(value);
-            if self.numbers.len() > FEW && value.stands_out() {
-                put_in(&mut self.marked, txn);
-            }
+        if let Some((place, _)) = self.found(txn) {
+            self.put_at(place, txn, value);
         }
     }
 
@@ -145,7 +167,9 @@ impl<V: Inherit> KeyCells<V> {
             else content_of self.old u) }
         ensures places { (u : ℕ) → holds self.new u ≡ holds self.old u }
     {
-        self.set(txn, V::join(added, self.get(txn)));
+        if let Some((place, had)) = self.found(txn) {
+            self.put_at(place, txn, V::join(added, had));
+        }
     }
 
     // Takes the transaction out, and gives what it had.
@@ -181,7 +205,9 @@ impl<V: Inherit> KeyCells<V> {
         let had = self.remove(child);
         if let Some(value) = had {
             if let Some(parent) = parent {
-                self.set(parent, V::inherit(value, self.get(parent)));
+                if let Some((place, own)) = self.found(parent) {
+                    self.put_at(place, parent, V::inherit(value, own));
+                }
             }
         }
     }
