@@ -18,7 +18,9 @@ fn accessor(event: &Event) -> Option<&Name>
     }
 }
 
-// Attempts a line that is free for its event.
+// Attempts a line that is free for its event. It is part of its caller, which reads of an outcome only whether it waits: so no
+// outcome is moved.
+#[inline(always)]
 fn attempt_free<S: TopStore>(
     manager: &mut Manager<S>,
     by: By,
@@ -39,6 +41,7 @@ fn attempt_free<S: TopStore>(
 }
 
 /// Attempts a line that is free for its event, or by which an access waits: the access is asked for again.
+#[inline(always)]
 pub(crate) fn attempt<S: TopStore>(
     manager: &mut Manager<S>,
     by: By,

@@ -131,6 +131,7 @@ impl Tables {
     }
 
     /// Whether an access that waits by this line is seen at once to be kept out still: it was seen so, and nothing has ended since.
+    #[inline(always)]
     pub(crate) fn is_parked(&self, log: &Log, by: By) -> bool
         requires allowed { AreAllowed log.now.rows log.now.entries }
         requires are { AreTablesOf log.now.rows log.now.entries self.now }
@@ -184,6 +185,7 @@ impl Tables {
 
     /// As `is_parked`, and where a transaction has ended since, the locks are asked once more. Where the access is kept out, that is
     /// remembered until the next one ends.
+    #[inline(always)]
     pub(crate) fn stays_parked(&mut self, log: &Log, by: By) -> bool
         requires allowed { AreAllowed log.now.rows log.now.entries }
         requires are { AreTablesOf log.now.rows log.now.entries self.old }

@@ -56,6 +56,7 @@ fn event_of(name: &Name, asked: &Asked) -> Event
 
 /// Enters an access, which the tables have, and aborts the last begun of those that lie on a cycle of waits, until no cycle is
 /// left. It takes no memory: there is room for the entry, to abort all that wait, and to look for them.
+#[inline(always)]
 pub(crate) fn settle(
     log: &mut Log,
     tables: &mut Tables,

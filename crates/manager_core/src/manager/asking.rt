@@ -24,6 +24,7 @@ impl<S: TopStore> Manager<S> {
     /// line (Waiting); the key is new where 4,096 are known (Full). Else it waits where a lock keeps it out. If a
     /// cycle of waits comes of it, the last begun of those that lie on any is aborted as a victim, until none is
     /// left; the accessing transaction may be one, and then it waits no more.
+    #[inline(always)]
     pub fn access(&mut self, by: By, name: &Name, key: &Key, op: Op) -> Result<Outcome, NoMemory>
         requires free { IsFree self.old.history by (Access name.now key.now op) }
         ensures ok { IfOk result (λ outcome. Answered self.old self.new by (Access name.now key.now op) outcome) }
@@ -47,7 +48,8 @@ impl<S: TopStore> Manager<S> {
         self.ask(by, name, Asked::Over(*group))
     }
 
-    // An operation at a key, or a sum over a group.
+    // An operation at a key, or a sum over a group. It is part of its callers, so that its outcome is made where they want it.
+    #[inline(always)]
     fn ask(&mut self, by: By, name: &Name, asked: Asked) -> Result<Outcome, NoMemory>
         requires free { IsFree self.old.history by (event_of name.now asked) }
         ensures ok { IfOk result (λ outcome. Answered self.old self.new by (event_of name.now asked) outcome) }
