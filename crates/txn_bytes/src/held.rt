@@ -68,13 +68,42 @@ impl<const N: usize> Held<N> {
     }
 }
 
+/// So many bytes are compared as one number.
+const WORD: u8 = 8;
+
+// Whether two words are the same, by the numbers that they make.
+fn is_same_word(ours: &[u8; 8], theirs: &[u8; 8]) -> bool
+    ensures { result ≡ pointwise nat_eq ours.now theirs.now }
+{
+    u64::from_le_bytes(*ours) == u64::from_le_bytes(*theirs)
+}
+
+// Whether two fields begin with the same word, or are the same where one has fewer bytes.
+fn starts_alike(ours: &[u8], theirs: &[u8]) -> bool
+    ensures { result ≡ pointwise nat_eq (take 8 ours.now) (take 8 theirs.now) }
+{
+    match (ours.first_chunk::<8>(), theirs.first_chunk::<8>()) {
+        (Some(ours), Some(theirs)) => is_same_word(ours, theirs),
+        _ => ours == theirs,
+    }
+}
+
 impl<const N: usize> PartialEq for Held<N> {
     ghost eq = { pointwise nat_eq };
 
     ghost laws = { partial_equiv_from_equiv nat_list_eq_equiv };
 
+    // The bytes behind those that are held are zeros in both, so that whole fields may be compared. Most are so short that their
+    // first word tells.
     fn eq(&self, other: &Self) -> bool {
-        self.len == other.len && self.bytes == other.bytes
+        if self.len != other.len {
+            return false;
+        }
+        if self.len <= WORD {
+            starts_alike(&self.bytes, &other.bytes)
+        } else {
+            self.bytes == other.bytes
+        }
     }
 }
 
