@@ -1,5 +1,5 @@
 //! Keys: the names of values.
-ghost use Rattle.std.specs.Prelude.{◌≡◌, ◌<◌, ◌≤◌, length, List, ℕ, IfSome, Some};
+ghost use Rattle.std.specs.Prelude.{◌≡◌, ◌<◌, ◌≤◌, length, List, ℕ, Err, IfOk, IfSome, MatchResult, Ok, Some};
 ghost use Rattle.txn_names.specs.Groups.{IsGroupBefore};
 ghost use Rattle.std.specs.List.{list_all};
 ghost use Rattle.txn_names.specs.Text.{is_key_byte, IsKey};
@@ -74,9 +74,10 @@ fn group_before(bytes: &[u8], place: usize) -> Option<Group>
 }
 
 impl Key {
-    /// Reads a key. Of several faults the first of Empty, BadByte and Long is answered.
-    pub fn parse(bytes: &[u8]) -> Result<Key, KeyFault>
-        ensures { result ≡ key_of bytes.now }
+    /// Whether the bytes are a key, and if not, the first of Empty, BadByte and Long.
+    pub fn check(bytes: &[u8]) -> Result<(), KeyFault>
+        ensures read { MatchResult result (λ _. key_of bytes.now ≡ Ok bytes.now) (λ fault. key_of bytes.now ≡ Err fault) }
+        ensures key { IfOk result (λ _. IsKey bytes.now) }
     {
         if bytes.is_empty() {
             Err(KeyFault::Empty)
@@ -85,14 +86,22 @@ impl Key {
         } else if bytes.len() > MOST_BYTES {
             Err(KeyFault::Long)
         } else {
-            Ok(Key {
-                text: Held::of(bytes),
-            })
+            Ok(())
         }
     }
 
-    // The key of these bytes.
-    pub(crate) fn of(bytes: &[u8]) -> Key
+    /// Reads a key. Of several faults the first of Empty, BadByte and Long is answered.
+    pub fn parse(bytes: &[u8]) -> Result<Key, KeyFault>
+        ensures { result ≡ key_of bytes.now }
+    {
+        match Self::check(bytes) {
+            Ok(()) => Ok(Self::of(bytes)),
+            Err(fault) => Err(fault),
+        }
+    }
+
+    /// The key of these bytes.
+    pub fn of(bytes: &[u8]) -> Key
         requires { IsKey bytes.now }
         ensures { result ≡ bytes.now }
     {
