@@ -7,3 +7,4 @@ pub mod Texts
 pub mod Laws
 pub mod Growing
 pub mod Requests
+pub mod Accesses

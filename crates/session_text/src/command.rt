@@ -1,7 +1,8 @@
 //! Command lines: the words behind the first, read as the first asks.
-ghost use Rattle.std.specs.Prelude.{◌≡◌, if◌then◌else◌};
+ghost use Rattle.std.specs.Prelude.{◌≡◌, if◌then◌else◌, IfOk, IfSome};
 ghost use Rattle.std.specs.Option.{option_copied};
 ghost use Rattle.session_text.specs.Steps.{Gives};
+ghost use Rattle.session_text.specs.Accesses.{AreRead, asked_in};
 ghost use Rattle.session_text.specs.Words.{parts_left};
 ghost use Rattle.session_text.specs.Commands.{abort_of, add_of, after_of, begin_of, commit_of, del_of, event_of, get_of, one, set_of, sum_of, three, two, when_in};
 
@@ -57,37 +58,111 @@ fn when_in(word: &[u8]) -> Result<When, LineKind>
     }
 }
 
-// A line that reads or deletes a key. What is large is read by reference, and moved once, into the event.
-fn keyed(words: Option<&[u8]>, deletes: bool) -> Result<Event, LineKind>
-    ensures { let left = parts_left 32 (option_copied words.entry) in result ≡ (if deletes then del_of left else get_of left) }
+/// The words of a line that asks for an access of a key, which have no fault: what is large is made of them where it is to stand.
+#[derive(Clone, Copy)]
+pub(crate) struct AccessWords<'a> {
+    name: &'a [u8],
+    depth: usize,
+    key: &'a [u8],
+    op: Op,
+}
+
+impl AccessWords<'_> {
+    /// What the line asks.
+    #[inline(always)]
+    pub(crate) fn event(&self) -> Event
+        requires { AreRead self.now }
+        ensures { result ≡ asked_in self.now }
+    {
+        let name = Name::of_spelled(self.name, self.depth);
+        Event::Access(name, Key::of(self.key), self.op)
+    }
+}
+
+// The words of a line that reads or deletes a key.
+fn keyed_words(words: Option<&[u8]>, deletes: bool) -> Result<AccessWords<'_>, LineKind>
+    ensures read { let left = parts_left 32 (option_copied words.entry) in Gives asked_in result (if deletes then del_of left else get_of left) }
+    ensures words { IfOk result AreRead }
 {
-    let (first, second) = two(words)?;
-    let Ok(name) = &Name::parse(first) else {
+    let (name, key) = two(words)?;
+    let Ok(depth) = Name::depth_of(name) else {
         return Err(LineKind::Name);
     };
-    let Ok(key) = &Key::parse(second) else {
+    let Ok(()) = Key::check(key) else {
         return Err(LineKind::Key);
     };
     let op = if deletes { Op::Del } else { Op::Get };
-    Ok(Event::Access(*name, *key, op))
+    Ok(AccessWords {
+        name,
+        depth,
+        key,
+        op,
+    })
+}
+
+// The words of a line that adds a number to the value of a key, or makes it the value.
+fn valued_words(words: Option<&[u8]>, adds: bool) -> Result<AccessWords<'_>, LineKind>
+    ensures read { let left = parts_left 32 (option_copied words.entry) in Gives asked_in result (if adds then add_of left else set_of left) }
+    ensures words { IfOk result AreRead }
+{
+    let (name, key, number) = three(words)?;
+    let Ok(depth) = Name::depth_of(name) else {
+        return Err(LineKind::Name);
+    };
+    let Ok(()) = Key::check(key) else {
+        return Err(LineKind::Key);
+    };
+    let Some(value) = parse_number(number) else {
+        return Err(LineKind::Number);
+    };
+    let op = if adds { Op::Add(value) } else { Op::Set(value) };
+    Ok(AccessWords {
+        name,
+        depth,
+        key,
+        op,
+    })
+}
+
+/// The words of a line that asks for an access of a key, or the kind of its first fault. Of other lines nothing is told.
+pub(crate) fn access_in(bytes: &[u8]) -> Option<Result<AccessWords<'_>, LineKind>>
+    ensures read { IfSome result (λ read. Gives asked_in read (event_of bytes.now)) }
+    ensures words { IfSome result (λ read. IfOk read AreRead) }
+{
+    let (word, words) = cut(bytes, b' ');
+    if is_get(word) {
+        return Some(keyed_words(words, false));
+    }
+    if is_set(word) {
+        return Some(valued_words(words, false));
+    }
+    if is_add(word) {
+        return Some(valued_words(words, true));
+    }
+    if is_del(word) {
+        return Some(keyed_words(words, true));
+    }
+    None
+}
+
+// A line that reads or deletes a key.
+fn keyed(words: Option<&[u8]>, deletes: bool) -> Result<Event, LineKind>
+    ensures { let left = parts_left 32 (option_copied words.entry) in result ≡ (if deletes then del_of left else get_of left) }
+{
+    match keyed_words(words, deletes) {
+        Ok(access) => Ok(access.event()),
+        Err(kind) => Err(kind),
+    }
 }
 
 // A line that adds a number to the value of a key, or makes it the value.
 fn valued(words: Option<&[u8]>, adds: bool) -> Result<Event, LineKind>
     ensures { let left = parts_left 32 (option_copied words.entry) in result ≡ (if adds then add_of left else set_of left) }
 {
-    let (first, second, third) = three(words)?;
-    let Ok(name) = &Name::parse(first) else {
-        return Err(LineKind::Name);
-    };
-    let Ok(key) = &Key::parse(second) else {
-        return Err(LineKind::Key);
-    };
-    let Some(value) = parse_number(third) else {
-        return Err(LineKind::Number);
-    };
-    let op = if adds { Op::Add(value) } else { Op::Set(value) };
-    Ok(Event::Access(*name, *key, op))
+    match valued_words(words, adds) {
+        Ok(access) => Ok(access.event()),
+        Err(kind) => Err(kind),
+    }
 }
 
 // Most lines ask for an access of a key. The others are read apart, since a call makes room for all that is read in it.

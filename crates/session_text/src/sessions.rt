@@ -2,6 +2,7 @@
 ghost use Rattle.std.specs.Prelude.{◌≡◌, ◌==◌, ◌++◌, [], ◌∷◌, length, MatchResult, OnErr, OnOk, Ok, None};
 ghost use Rattle.std.specs.Option.{option_copied};
 ghost use Rattle.serial_spec.specs.declared.event.Event.{Event};
+ghost use Rattle.session_text.specs.Accesses.{AreRead, asked_in};
 ghost use Rattle.session_text.specs.Commands.{event_of};
 ghost use Rattle.session_text.specs.Grammar.{IsText, is_taken};
 ghost use Rattle.session_text.specs.Texts.{Command, Header, IsPlaced, Tells, command_of, header_of, label_at, line_at, line_of, misplaced, open_lines, sessions_of, with_line};
@@ -9,7 +10,7 @@ ghost use Rattle.session_text.specs.Words.{parts_left};
 
 mod growing;
 
-use crate::command::event_of;
+use crate::command::{AccessWords, access_in, event_of};
 use crate::fault::{LineKind, TextFault};
 use crate::header::{labelled, words_of_header};
 use crate::line::Line;
@@ -172,6 +173,38 @@ impl Sessions {
     fn add_command(&mut self, number: usize, bytes: &[u8]) -> Result<(), TextFault>
         ensures { IsPlaced self.old number (command_of bytes.now) self.new result }
     {
+        match access_in(bytes) {
+            Some(Ok(access)) => self.add_access(number, &access, bytes),
+            Some(Err(kind)) => Err(TextFault::Bad { line: number, kind }),
+            None => self.add_other(number, bytes),
+        }
+    }
+
+    // A line more that asks for an access of a key, the line of this number, by its words.
+    fn add_access(
+        &mut self,
+        number: usize,
+        access: &AccessWords<'_>,
+        bytes: &[u8],
+    ) -> Result<(), TextFault>
+        requires read { event_of bytes.now ≡ Ok (asked_in access.now) }
+        requires words { AreRead access.now }
+        ensures { IsPlaced self.old number (command_of bytes.now) self.new result }
+    {
+        match self.fault_of_command() {
+            Some(kind) => Err(TextFault::Bad { line: number, kind }),
+            None => match self.add_event(&access.event(), bytes) {
+                Ok(()) => Ok(()),
+                Err(NoMemory) => Err(TextFault::NoMemory),
+            },
+        }
+    }
+
+    // One command line of any kind more, the line of this number.
+    #[inline(never)]
+    fn add_other(&mut self, number: usize, bytes: &[u8]) -> Result<(), TextFault>
+        ensures { IsPlaced self.old number (command_of bytes.now) self.new result }
+    {
         let misplaced = self.fault_of_command();
         match &event_of(bytes) {
             Err(kind) => Err(TextFault::Bad {
@@ -188,7 +221,9 @@ impl Sessions {
         }
     }
 
-    // The line of an event, which is read off these bytes, behind those of the last session. There is room for it.
+    // The line of an event, which is read off these bytes, behind those of the last session. There is room for it. The event is
+    // made where the line is to stand.
+    #[inline(always)]
     fn add_event(&mut self, event: &Event, bytes: &[u8]) -> Result<(), NoMemory>
         requires read { event_of bytes.now ≡ Ok event.now }
         requires placed { misplaced self.old (Command event.now) ≡ None }

@@ -1,7 +1,7 @@
 use Rattle.std.proofs.Common.{Ok, sym, ap, ◌∙◌}
 use Rattle.session_text.specs.Steps.{◌>>=◌, unless}
 use Rattle.session_text.specs.Texts.{Command, at_line, grown, placed}
-use Rattle.session_text.proofs.sessions.Sessions.add_command.Goals as goal
+use Rattle.session_text.proofs.sessions.Sessions.add_other.Goals as goal
 
 pub add_event-requires-clause-placed : goal.add_event-requires-clause-placed
 add_event-requires-clause-placed c = sym (c.fault_of_command-misplaced.ensures c.in-Ok.event) ∙ c.in-None.is
