@@ -16,3 +16,4 @@ pub mod Places
 pub mod Growing
 pub mod Requests
 pub mod Headers
+pub mod Accesses

@@ -63,7 +63,7 @@ label_lacks c g l h = Lacks-from_all c is_label_byte g.label l h
 pub decimal_lacks : (c : ℕ) → IsGap c → (n : ℕ) → n < 2 ^ 64 → Lacks c (decimal n)
 decimal_lacks c g n h = Lacks-from_all c is_ascii_digit g.digit (decimal n) (digits_decimal own n h)
 
-number_lacks : (c : ℕ) → IsGap c → (v : ℤ) → is_i64 v ≡ true → Lacks c (spelled_number v)
+pub number_lacks : (c : ℕ) → IsGap c → (v : ℤ) → is_i64 v ≡ true → Lacks c (spelled_number v)
 number_lacks c g (pos n) h = decimal_lacks c g n (omega (arith, ltb-true n (2 ^ 63) h))
 number_lacks c g (negsuc n) h =
     Lacks-append c (45 ∷ []) (decimal (suc n)) (Lacks-from_all c is_key_byte g.key (45 ∷ []) refl)

@@ -1,10 +1,10 @@
 //! Command lines: the words behind the first, read as the first asks.
-ghost use Rattle.std.specs.Prelude.{◌≡◌, if◌then◌else◌, IfOk, IfSome};
+ghost use Rattle.std.specs.Prelude.{◌≡◌, if◌then◌else◌, IfOk, IfSome, MatchResult};
 ghost use Rattle.std.specs.Option.{option_copied};
 ghost use Rattle.session_text.specs.Steps.{Gives};
 ghost use Rattle.session_text.specs.Accesses.{AreRead, asked_in};
-ghost use Rattle.session_text.specs.Words.{parts_left};
-ghost use Rattle.session_text.specs.Commands.{abort_of, add_of, after_of, begin_of, commit_of, del_of, event_of, get_of, one, set_of, sum_of, three, two, when_in};
+ghost use Rattle.session_text.specs.Words.{cut_at, parts_left};
+ghost use Rattle.session_text.specs.Commands.{abort_of, add_of, after_of, begin_of, commit_of, del_of, event_of, get_of, one, set_of, sum_of, two, when_in};
 
 use crate::fault::LineKind;
 use crate::number::parse_number;
@@ -35,17 +35,6 @@ fn two(words: Option<&[u8]>) -> Result<(&[u8], &[u8]), LineKind>
     let (first, rest) = cut(bytes, b' ');
     let second = one(rest)?;
     Ok((first, second))
-}
-
-fn three(words: Option<&[u8]>) -> Result<(&[u8], &[u8], &[u8]), LineKind>
-    ensures { Gives (λ w. (w.0.now, w.1.now, w.2.now)) result (three (parts_left 32 (option_copied words.entry))) }
-{
-    let Some(bytes) = words else {
-        return Err(LineKind::Shape);
-    };
-    let (first, rest) = cut(bytes, b' ');
-    let (second, third) = two(rest)?;
-    Ok((first, second, third))
 }
 
 fn when_in(word: &[u8]) -> Result<When, LineKind>
@@ -79,17 +68,32 @@ impl AccessWords<'_> {
     }
 }
 
-// The words of a line that reads or deletes a key.
-fn keyed_words(words: Option<&[u8]>, deletes: bool) -> Result<AccessWords<'_>, LineKind>
-    ensures read { let left = parts_left 32 (option_copied words.entry) in Gives asked_in result (if deletes then del_of left else get_of left) }
+// The fault of a line where an operand has this one, and one word is to stand at its end: words too many are told first.
+#[inline(never)]
+fn fault_before(last: Option<&[u8]>, kind: LineKind) -> LineKind
+    ensures { MatchResult (one (parts_left 32 (option_copied last.entry))) (λ _. result ≡ kind) (λ shape. result ≡ shape) }
+{
+    match one(last) {
+        Ok(_) => kind,
+        Err(shape) => shape,
+    }
+}
+
+// The words of a line that reads or deletes a key. No key has a space, so the last word is not searched for one.
+#[tactic(auto, using(crate::proofs::Accesses::key_alone))]
+fn keyed_words(words: &[u8], deletes: bool) -> Result<AccessWords<'_>, LineKind>
+    ensures read { let left = cut_at 32 words.now in Gives asked_in result (if deletes then del_of left else get_of left) }
     ensures words { IfOk result AreRead }
 {
-    let (name, key) = two(words)?;
+    let (name, last) = cut(words, b' ');
+    let Some(key) = last else {
+        return Err(LineKind::Shape);
+    };
     let Ok(depth) = Name::depth_of(name) else {
-        return Err(LineKind::Name);
+        return Err(fault_before(last, LineKind::Name));
     };
     let Ok(()) = Key::check(key) else {
-        return Err(LineKind::Key);
+        return Err(fault_before(last, LineKind::Key));
     };
     let op = if deletes { Op::Del } else { Op::Get };
     Ok(AccessWords {
@@ -100,20 +104,27 @@ fn keyed_words(words: Option<&[u8]>, deletes: bool) -> Result<AccessWords<'_>, L
     })
 }
 
-// The words of a line that adds a number to the value of a key, or makes it the value.
-fn valued_words(words: Option<&[u8]>, adds: bool) -> Result<AccessWords<'_>, LineKind>
-    ensures read { let left = parts_left 32 (option_copied words.entry) in Gives asked_in result (if adds then add_of left else set_of left) }
+// The words of a line that adds a number to the value of a key, or makes it the value. No number has a space.
+fn valued_words(words: &[u8], adds: bool) -> Result<AccessWords<'_>, LineKind>
+    ensures read { let left = cut_at 32 words.now in Gives asked_in result (if adds then add_of left else set_of left) }
     ensures words { IfOk result AreRead }
 {
-    let (name, key, number) = three(words)?;
+    let (name, rest) = cut(words, b' ');
+    let Some(operands) = rest else {
+        return Err(LineKind::Shape);
+    };
+    let (key, last) = cut(operands, b' ');
+    let Some(number) = last else {
+        return Err(LineKind::Shape);
+    };
     let Ok(depth) = Name::depth_of(name) else {
-        return Err(LineKind::Name);
+        return Err(fault_before(last, LineKind::Name));
     };
     let Ok(()) = Key::check(key) else {
-        return Err(LineKind::Key);
+        return Err(fault_before(last, LineKind::Key));
     };
     let Some(value) = parse_number(number) else {
-        return Err(LineKind::Number);
+        return Err(fault_before(last, LineKind::Number));
     };
     let op = if adds { Op::Add(value) } else { Op::Set(value) };
     Ok(AccessWords {
@@ -129,26 +140,22 @@ pub(crate) fn access_in(bytes: &[u8]) -> Option<Result<AccessWords<'_>, LineKind
     ensures read { IfSome result (λ read. Gives asked_in read (event_of bytes.now)) }
     ensures words { IfSome result (λ read. IfOk read AreRead) }
 {
-    let (word, words) = cut(bytes, b' ');
-    if is_get(word) {
-        return Some(keyed_words(words, false));
+    match bytes {
+        [b'g', b'e', b't', b' ', words @ ..] => Some(keyed_words(words, false)),
+        [b's', b'e', b't', b' ', words @ ..] => Some(valued_words(words, false)),
+        [b'a', b'd', b'd', b' ', words @ ..] => Some(valued_words(words, true)),
+        [b'd', b'e', b'l', b' ', words @ ..] => Some(keyed_words(words, true)),
+        _ => None,
     }
-    if is_set(word) {
-        return Some(valued_words(words, false));
-    }
-    if is_add(word) {
-        return Some(valued_words(words, true));
-    }
-    if is_del(word) {
-        return Some(keyed_words(words, true));
-    }
-    None
 }
 
 // A line that reads or deletes a key.
 fn keyed(words: Option<&[u8]>, deletes: bool) -> Result<Event, LineKind>
     ensures { let left = parts_left 32 (option_copied words.entry) in result ≡ (if deletes then del_of left else get_of left) }
 {
+    let Some(words) = words else {
+        return Err(LineKind::Shape);
+    };
     match keyed_words(words, deletes) {
         Ok(access) => Ok(access.event()),
         Err(kind) => Err(kind),
@@ -159,6 +166,9 @@ fn keyed(words: Option<&[u8]>, deletes: bool) -> Result<Event, LineKind>
 fn valued(words: Option<&[u8]>, adds: bool) -> Result<Event, LineKind>
     ensures { let left = parts_left 32 (option_copied words.entry) in result ≡ (if adds then add_of left else set_of left) }
 {
+    let Some(words) = words else {
+        return Err(LineKind::Shape);
+    };
     match valued_words(words, adds) {
         Ok(access) => Ok(access.event()),
         Err(kind) => Err(kind),
@@ -170,10 +180,11 @@ fn valued(words: Option<&[u8]>, adds: bool) -> Result<Event, LineKind>
 fn begin_of(words: Option<&[u8]>) -> Result<Event, LineKind>
     ensures { result ≡ begin_of (parts_left 32 (option_copied words.entry)) }
 {
-    let Ok(name) = &Name::parse(one(words)?) else {
+    let name = one(words)?;
+    let Ok(depth) = Name::depth_of(name) else {
         return Err(LineKind::Name);
     };
-    Ok(Event::Begin(*name))
+    Ok(Event::Begin(Name::of_spelled(name, depth)))
 }
 
 // It is far less common than an access of a key.
@@ -195,20 +206,22 @@ fn sum_of(words: Option<&[u8]>) -> Result<Event, LineKind>
 fn commit_of(words: Option<&[u8]>) -> Result<Event, LineKind>
     ensures { result ≡ commit_of (parts_left 32 (option_copied words.entry)) }
 {
-    let Ok(name) = &Name::parse(one(words)?) else {
+    let name = one(words)?;
+    let Ok(depth) = Name::depth_of(name) else {
         return Err(LineKind::Name);
     };
-    Ok(Event::Commit(*name))
+    Ok(Event::Commit(Name::of_spelled(name, depth)))
 }
 
 #[inline(never)]
 fn abort_of(words: Option<&[u8]>) -> Result<Event, LineKind>
     ensures { result ≡ abort_of (parts_left 32 (option_copied words.entry)) }
 {
-    let Ok(name) = &Name::parse(one(words)?) else {
+    let name = one(words)?;
+    let Ok(depth) = Name::depth_of(name) else {
         return Err(LineKind::Name);
     };
-    Ok(Event::Abort(*name))
+    Ok(Event::Abort(Name::of_spelled(name, depth)))
 }
 
 #[inline(never)]
