@@ -71,7 +71,8 @@ impl AccessWords<'_> {
 // The fault of a line where an operand has this one, and one word is to stand at its end: words too many are told first.
 #[inline(never)]
 fn fault_before(last: Option<&[u8]>, kind: LineKind) -> LineKind
-    ensures { MatchResult (one (parts_left 32 (option_copied last.entry))) (λ _. result ≡ kind) (λ shape. result ≡ shape) }
+    ensures { MatchResult (one (parts_left 32 (option_copied last.entry)))
+        (λ _. result ≡ kind) (λ shape. result ≡ shape) }
 {
     match one(last) {
         Ok(_) => kind,
@@ -82,7 +83,8 @@ fn fault_before(last: Option<&[u8]>, kind: LineKind) -> LineKind
 // The words of a line that reads or deletes a key. No key has a space, so the last word is not searched for one.
 #[tactic(auto, using(crate::proofs::Accesses::key_alone))]
 fn keyed_words(words: &[u8], deletes: bool) -> Result<AccessWords<'_>, LineKind>
-    ensures read { let left = cut_at 32 words.now in Gives asked_in result (if deletes then del_of left else get_of left) }
+    ensures read { let left = cut_at 32 words.now in
+        Gives asked_in result (if deletes then del_of left else get_of left) }
     ensures words { IfOk result AreRead }
 {
     let (name, last) = cut(words, b' ');
@@ -106,7 +108,8 @@ fn keyed_words(words: &[u8], deletes: bool) -> Result<AccessWords<'_>, LineKind>
 
 // The words of a line that adds a number to the value of a key, or makes it the value. No number has a space.
 fn valued_words(words: &[u8], adds: bool) -> Result<AccessWords<'_>, LineKind>
-    ensures read { let left = cut_at 32 words.now in Gives asked_in result (if adds then add_of left else set_of left) }
+    ensures read { let left = cut_at 32 words.now in
+        Gives asked_in result (if adds then add_of left else set_of left) }
     ensures words { IfOk result AreRead }
 {
     let (name, rest) = cut(words, b' ');
@@ -151,7 +154,8 @@ pub(crate) fn access_in(bytes: &[u8]) -> Option<Result<AccessWords<'_>, LineKind
 
 // A line that reads or deletes a key.
 fn keyed(words: Option<&[u8]>, deletes: bool) -> Result<Event, LineKind>
-    ensures { let left = parts_left 32 (option_copied words.entry) in result ≡ (if deletes then del_of left else get_of left) }
+    ensures { let left = parts_left 32 (option_copied words.entry) in
+        result ≡ (if deletes then del_of left else get_of left) }
 {
     let Some(words) = words else {
         return Err(LineKind::Shape);
@@ -164,7 +168,8 @@ fn keyed(words: Option<&[u8]>, deletes: bool) -> Result<Event, LineKind>
 
 // A line that adds a number to the value of a key, or makes it the value.
 fn valued(words: Option<&[u8]>, adds: bool) -> Result<Event, LineKind>
-    ensures { let left = parts_left 32 (option_copied words.entry) in result ≡ (if adds then add_of left else set_of left) }
+    ensures { let left = parts_left 32 (option_copied words.entry) in
+        result ≡ (if adds then add_of left else set_of left) }
 {
     let Some(words) = words else {
         return Err(LineKind::Shape);

@@ -76,7 +76,8 @@ fn group_before(bytes: &[u8], place: usize) -> Option<Group>
 impl Key {
     /// Whether the bytes are a key, and if not, the first of Empty, BadByte and Long.
     pub fn check(bytes: &[u8]) -> Result<(), KeyFault>
-        ensures read { MatchResult result (λ _. key_of bytes.now ≡ Ok bytes.now) (λ fault. key_of bytes.now ≡ Err fault) }
+        ensures read { MatchResult result (λ _. key_of bytes.now ≡ Ok bytes.now)
+            (λ fault. key_of bytes.now ≡ Err fault) }
         ensures key { IfOk result (λ _. IsKey bytes.now) }
     {
         if bytes.is_empty() {
