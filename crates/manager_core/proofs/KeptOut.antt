@@ -1,7 +1,7 @@
 -- What keeps a line from its answer, by the tables and by the history.
 use Rattle.std.proofs.Common.{◌≡◌, ◌<◌, ℕ, Bool, true, false, not, cond, ◌&&◌, ◌||◌, List, [], ◌∷◌, length, Option, Some, None, option_map, is_some, unwrap_or, refl, sym, ap, subst, ◌∙◌, arith}
 use Rattle.std.specs.Prelude.{IsTrue, ◌↔◌}
-use Rattle.std.proofs.lemmas.Bool.{and_parts, not-true, true≢false}
+use Rattle.std.proofs.lemmas.Bool.{and_parts, eq-eqb, not-true, true≢false}
 use Rattle.serial_spec.specs.declared.target.Asked.{Asked}
 use Rattle.serial_spec.specs.declared.operation.Reply.{Reply}
 use Rattle.serial_spec.specs.declared.operation.Reply.TheVariants.{Ok}
@@ -24,7 +24,7 @@ use Rattle.serial_spec.specs.Waits.{accesses, open_waits, same_line, wait_of}
 use Rattle.serial_spec.specs.Allowed.{when, refused_or, is_full_for, waits_elsewhere, cause_at_end, cause_at_access, has_come, has_waited, answer}
 use Rattle.serial_spec.specs.Legal.{AreAllowed}
 use Rattle.manager_core.specs.Kept.{AreTablesOf}
-use Rattle.manager_core.specs.Lines.{IsWaitOf, waiting_access}
+use Rattle.manager_core.specs.Lines.{IsWaitOf, access_by, waiting_access}
 use Rattle.lock_table.specs.ByAsked.{MayAsk}
 use Rattle.std.specs.List.{IsDistinct}
 use Rattle.txn_names.specs.Path.{path_eq}
@@ -212,6 +212,28 @@ none_waits rows h tables allowed are nobody by (Begin t) waits = waits
 none_waits rows h tables allowed are nobody by (Commit t) waits = waits
 none_waits rows h tables allowed are nobody by (Abort t) waits = waits
 none_waits rows h tables allowed are nobody by (After t when) waits = waits
+
+-- and where no access waits no wait stands
+pub none_stands : (rows : Rows) (h : History) (tables : Tabled) → AreAllowed rows h → AreTablesOf rows h tables → NobodyWaits h
+    → length tables.waits.waits ≡ 0
+none_stands rows h tables allowed are nobody = by tables.waits.waits refl
+  where
+    by : (ws : List Wait) → tables.waits.waits ≡ ws → length ws ≡ 0
+    by [] is = refl
+    by (w ∷ ws) is =
+        let first : kept_wait tables.waits w.txn ≡ Some w =
+        ap (λ xs. wait_in xs w.txn) is ∙ ap (λ b. cond b (Some w) (wait_in ws w.txn)) (eq-eqb w.txn w.txn refl) in
+        let known = (tell_waits rows h tables allowed are).known w.txn w first in
+        let line = known.1.by in
+        let asks : waiting_access (wait_of h known.0) ≡ Some (line, w.asked) =
+        ap waiting_access known.3 ∙ ap (access_by line) known.4 ∙ access_by_at line known.0 w.asked in
+        let waits = waiting_is rows h allowed known.0 line w.asked asks in
+        absurd (nobody line (event_of known.0 w.asked) (is_wait h line known.0 w.asked record {
+          wait = waits.wait;
+          waits = waits.waits;
+          of_line = waits.of_line;
+          event_is = waits.event_is;
+        }))
 
 -- ---- whether an access waits by a line
 

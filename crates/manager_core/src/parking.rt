@@ -72,11 +72,11 @@ impl Tables {
         self.estate.locks().may_ask(&self.tree, txn, asked)
     }
 
-    /// Whether nobody waits, so that no line is one by which an access waits.
+    /// Whether nobody waits: it is so exactly where no access waits by any line.
     pub(crate) fn nobody_waits(&self, _log: &Log) -> bool
         requires allowed { AreAllowed _log.now.rows _log.now.entries }
         requires are { AreTablesOf _log.now.rows _log.now.entries self.now }
-        ensures { IsTrue result → NobodyWaits _log.now.entries }
+        ensures { IsTrue result ↔ NobodyWaits _log.now.entries }
     {
         self.waits.is_empty()
     }

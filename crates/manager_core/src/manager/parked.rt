@@ -51,9 +51,9 @@ impl<S: TopStore> Manager<S> {
         }
     }
 
-    /// Whether nobody waits, so that no line is one by which an access waits. It takes no memory.
+    /// Whether nobody waits: it is so exactly where no access waits by any line. It takes no memory.
     pub fn nobody_waits(&self) -> bool
-        ensures { IsTrue result → NobodyWaits self.now.history }
+        ensures { IsTrue result ↔ NobodyWaits self.now.history }
     {
         self.tables.nobody_waits(&self.log)
     }

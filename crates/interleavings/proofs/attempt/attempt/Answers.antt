@@ -4,7 +4,7 @@ use Rattle.interleavings.proofs.attempt.attempt.Goals as goal
 
 pub attempt_free-requires : goal.attempt_free-requires
 attempt_free-requires g c = record {
-  free = free_where_none_waits c.args.manager.now.history c.args.by c.args.event.now (c.nobody_waits.ensures c.if-nobody_waits.true) c.requires.next;
+  free = free_where_none_waits c.args.manager.now.history c.args.by c.args.event.now (c.nobody_waits.ensures.0 c.if-nobody_waits.true) c.requires.next;
 }
 
 pub attempt_free-requires-in_default : goal.attempt_free-requires-in_default
