@@ -25,10 +25,11 @@ use Rattle.manager_core.specs.Kept.{AreTablesOf, IsTreeOf}
 use Rattle.manager_core.specs.Lines.{IsWaitOf}
 use Rattle.manager_core.specs.Sound.{IsBacked}
 use Rattle.manager_core.specs.Tables.{Tabled, AbortsIn, is_below, wait_at}
-use Rattle.manager_core.specs.Victims.{Breaks}
+use Rattle.manager_core.specs.Victims.{Breaks, IsReadyFor, Settles}
 use Rattle.manager_core.proofs.Events.{is_wait, own_wait}
 use Rattle.manager_core.proofs.Trees.{same_at_abort}
 use Rattle.manager_core.proofs.Facts.{backed_next}
+use Rattle.txn_history.specs.Recorded.{Recorded}
 use Rattle.txn_history.specs.Steps.{unless_by}
 use Rattle.txn_history.proofs.Activity.{active_acts, acts_active}
 use Rattle.manager_core.proofs.Lasting.{wait_aborted}
@@ -183,6 +184,18 @@ broken rows old new tables far quiet =
       victims = all.0;
       after = all.1;
       are = far.are;
+    }
+
+-- where an entry that is ready closes no cycle, there is none to break
+pub settled_quiet : {log last : Recorded} {e : Entry} {tables : Tabled} {pairs : ℕ}
+    → IsReadyFor log e tables pairs → last.rows ≡ log.rows → last.entries ≡ e ∷ log.entries
+    → Quiet (e ∷ log.entries) → Settles log.rows (e ∷ log.entries) last tables tables
+settled_quiet {log = log} {e = e} {tables = tables} ready rows entries quiet =
+    let from = breaking_from log.rows (e ∷ log.entries) tables ready.allowed ready.are in
+    record {
+      rows = rows;
+      breaks = rw entries (broken _ _ _ _ from quiet);
+      table = refl;
     }
 
 -- ---- after them all

@@ -5,8 +5,8 @@ ghost use Rattle.serial_spec.specs.Legal.{AreAllowed};
 ghost use Rattle.serial_spec.specs.Waits.{IsVictim, Quiet};
 ghost use Rattle.txn_history.specs.Laws.{QuietBut};
 ghost use Rattle.manager_core.specs.Kept.{AreTablesOf};
-ghost use Rattle.manager_core.specs.Tables.{HasOtherRoom, rows_in};
-ghost use Rattle.manager_core.specs.Victims.{Breaks};
+ghost use Rattle.manager_core.specs.Tables.{rows_in};
+ghost use Rattle.manager_core.specs.Victims.{HasMadeRoom, HasRoomToStep, Settles};
 
 use crate::log::Log;
 use crate::outcome::Outcome;
@@ -59,9 +59,7 @@ pub(crate) fn break_cycles(log: &mut Log, tables: &mut Tables, breaker: &mut Cyc
     requires room { length tables.old.waits.waits ≤ log.old.room }
     requires marks_room { length tables.old.waits.waits ≤ tables.old.marks.room }
     requires work_room { length tables.old.waits.waits * length tables.old.waits.waits ≤ breaker.old }
-    ensures rows { log.new.rows ≡ log.old.rows }
-    ensures breaks { Breaks log.old.rows log.old.entries log.new.entries tables.new }
-    ensures table { rows_in tables.new ≡ rows_in tables.old }
+    ensures { Settles log.old.rows log.old.entries log.new tables.old tables.new }
 {
     while let Some(name) = next_victim(log, tables, breaker) {
         abort_victim(log, tables, &name);
@@ -105,9 +103,7 @@ pub(crate) fn break_own_cycles(
     requires room { length tables.old.waits.waits ≤ log.old.room }
     requires marks_room { length tables.old.waits.waits ≤ tables.old.marks.room }
     requires work_room { length tables.old.waits.waits * length tables.old.waits.waits ≤ breaker.old }
-    ensures rows { log.new.rows ≡ log.old.rows }
-    ensures breaks { Breaks log.old.rows log.old.entries log.new.entries tables.new }
-    ensures table { rows_in tables.new ≡ rows_in tables.old }
+    ensures { Settles log.old.rows log.old.entries log.new tables.old tables.new }
 {
     while let Some(last) = next_own_victim(log, tables, breaker, name) {
         abort_victim(log, tables, &last);
@@ -120,13 +116,8 @@ pub(crate) fn reserve_step(
     tables: &mut Tables,
     breaker: &mut CycleSearch,
 ) -> Result<(), NoMemory>
-    ensures rows { log.new.rows ≡ log.old.rows }
-    ensures entries { log.new.entries ≡ log.old.entries }
-    ensures same { HasOtherRoom tables.old tables.new }
-    ensures room { OnOk result (length tables.old.waits.waits + 2 ≤ log.new.room) }
-    ensures marks_room { OnOk result (length tables.old.waits.waits + 1 ≤ tables.new.marks.room) }
-    ensures work_room { OnOk result ((length tables.old.waits.waits + 1) * (length tables.old.waits.waits + 1) ≤ breaker.new) }
-    ensures waits { tables.new.waits ≡ tables.old.waits }
+    ensures made { HasMadeRoom log.old log.new tables.old tables.new }
+    ensures room { OnOk result (HasRoomToStep log.new tables.new breaker.new) }
 {
     // One entry of the call, and one for each of those that wait and of one more.
     let Some(entries) = tables.waits.len().checked_add(2) else {

@@ -2,20 +2,16 @@
 //!
 //! Each step looks for pairs of which the first waits for the second only where the step itself can have added one. All pairs
 //! together are as many as those that wait, squared, and most steps add none.
-ghost use Rattle.std.specs.Prelude.{◌≡◌, ◌≤◌, ◌+◌, ◌*◌, ◌∷◌, length, IsFalse};
+ghost use Rattle.std.specs.Prelude.{◌≡◌, ◌∷◌, IsFalse};
 ghost use Rattle.serial_spec.specs.declared.entry.Answer.TheVariants.{Done};
 ghost use Rattle.serial_spec.specs.declared.entry.By.{By};
 ghost use Rattle.serial_spec.specs.declared.operation.Reply.{Reply};
 ghost use Rattle.serial_spec.specs.declared.target.Asked.{Asked};
 ghost use Rattle.serial_spec.specs.History.{History, event_of};
-ghost use Rattle.serial_spec.specs.Legal.{AreAllowed};
 ghost use Rattle.serial_spec.specs.Rows.{Rows};
-ghost use Rattle.serial_spec.specs.Waits.{Quiet};
-ghost use Rattle.manager_core.specs.Kept.{AreTablesOf};
 ghost use Rattle.manager_core.specs.Outcomes.{answer_of};
 ghost use Rattle.manager_core.specs.State.{entry};
-ghost use Rattle.manager_core.specs.Tables.{rows_in};
-ghost use Rattle.manager_core.specs.Victims.{Breaks, StaysQuiet};
+ghost use Rattle.manager_core.specs.Victims.{IsReadyFor, Settles, StaysQuiet};
 
 use crate::accessing::Request;
 use crate::breaking::{break_cycles, break_own_cycles};
@@ -64,21 +60,12 @@ pub(crate) fn settle(
     request: &Request<'_>,
     outcome: &Outcome,
 )
-    requires allowed { AreAllowed log.old.rows
+    requires { IsReadyFor log.old
         (entry request.now.by (event_of request.now.name.now request.now.asked.now)
-        (answer_of outcome.now) ∷ log.old.entries) }
-    requires are { AreTablesOf log.old.rows
+        (answer_of outcome.now)) tables.old breaker.old }
+    ensures { Settles log.old.rows
         (entry request.now.by (event_of request.now.name.now request.now.asked.now)
-        (answer_of outcome.now) ∷ log.old.entries) tables.old }
-    requires quiet { Quiet log.old.entries }
-    requires room { length tables.old.waits.waits + 1 ≤ log.old.room }
-    requires marks_room { length tables.old.waits.waits ≤ tables.old.marks.room }
-    requires work_room { length tables.old.waits.waits * length tables.old.waits.waits ≤ breaker.old }
-    ensures rows { log.new.rows ≡ log.old.rows }
-    ensures breaks { Breaks log.old.rows
-        (entry request.now.by (event_of request.now.name.now request.now.asked.now)
-        (answer_of outcome.now) ∷ log.old.entries) log.new.entries tables.new }
-    ensures table { rows_in tables.new ≡ rows_in tables.old }
+        (answer_of outcome.now) ∷ log.old.entries) log.new tables.old tables.new }
 {
     let Request { by, name, asked } = *request;
     log.add(by, event_of(name, asked), outcome);

@@ -33,7 +33,11 @@ loop-last-preserved c =
       work_room = omega (arith, c.next_own_victim.ensures.room, fewer_pairs _ _ _ fewer so_far.work_room);
     }
 
-pub returns-clause-breaks : goal.returns-clause-breaks
-returns-clause-breaks c =
+pub returns : goal.returns
+returns c =
     let so_far = c.loop-last.invariant in
-    rw (← so_far.rows) (broken _ _ _ _ so_far.far c.in_default.ensures.none)
+    record {
+      rows = so_far.rows;
+      breaks = rw (← so_far.rows) (broken _ _ _ _ so_far.far c.in_default.ensures.none);
+      table = so_far.table;
+    }

@@ -1,245 +1,115 @@
-use Rattle.std.proofs.Common.{◌≡◌, ◌+◌, ◌≤◌, length, is_some, Ok, refl, sym, ap, ◌∙◌, arith}
-use Rattle.wait_cycles.specs.Waiting.{Waiting}
-use Rattle.serial_spec.specs.History.{event_of}
+use Rattle.std.proofs.Common.{◌≡◌, is_some, Ok, refl, sym, ap, ◌∙◌}
 use Rattle.manager_core.specs.declared.outcome.Outcome.{Outcome}
-use Rattle.manager_core.specs.declared.outcome.Outcome.TheVariants.{Done, Waits, Refused}
 use Rattle.manager_core.specs.Calls.{Retried}
-use Rattle.manager_core.specs.Kept.{IsSettled}
-use Rattle.manager_core.specs.Tables.{Tabled}
-use Rattle.manager_core.proofs.Asking.{ended, entered_again, settled_ready, state_of}
+use Rattle.manager_core.proofs.Asking.{AskedAgain, IsSettledIn, again_answered, again_ended}
+use Rattle.manager_core.proofs.Asking.{again_refused, again_waits, ended, reserved, seen}
+use Rattle.manager_core.proofs.Asking.{settled_ready}
 use Rattle.manager_core.proofs.Facts.{sound}
-use Rattle.manager_core.proofs.Kept.{beside_but}
-use Rattle.manager_core.proofs.Retrying.{retried, waiting_is, waits_on}
 use Rattle.manager_core.proofs.Settled.{settled_roomy}
-use Rattle.manager_core.proofs.Tabled.{roomy_beside}
-use Rattle.manager_core.proofs.Victims.{fewer_pairs}
+use Rattle.manager_core.proofs.Retrying.{retried, waiting_is, waits_on}
 use Rattle.manager_core.proofs.WaitTables.{waits_as_access}
 use Rattle.manager_core.proofs.manager.Manager.retry.Given.{Over}
 use Rattle.manager_core.proofs.manager.Manager.retry.Goals as goal
+use Rattle.manager_core.proofs.manager.Manager.retry.Goals.{In_ok-attempt}
 use Rattle.manager_core.proofs.manager.Manager.retry.Goals.{in-Answered, in-Waits, in-Refused}
 
+-- room was made for the step, and the tables were asked, for the access that waits
+again : (g : Over) (c : In_ok-attempt g) → AskedAgain g.S.TopStore c.self.inside
+    c.reserve_step.new.log c.reserve_step.new.tables c.ask_again.new.self
+    c.reserve_step.new.breaker c.unwrap-by.result.0 c.args.name.now c.unwrap-by.result.1
+    c.in_ok-attempt.attempt
+again g c =
+    let log = c.reserve_step.new.log in
+    let room = c.in_ok-reserve_step.ensures.room in
+    let asked = c.in_ok-attempt.ensures in
+    let ready = settled_ready c.self.invariant c.reserve_step.ensures.made in
+    let by = c.waiting_access.ensures log.rows log.entries ready.kept.are in
+    record {
+      reserved = reserved c.self.invariant c.reserve_step.ensures.made room;
+      waiting = waiting_is log.rows log.entries ready.kept.allowed c.args.name.now _ _
+          (sym by ∙ c.unwrap-by.ensures);
+      comes = asked.comes;
+      reaches = asked.reaches;
+      waits = asked.waits;
+      grown = asked.grown;
+      marks = c.ask_again.ensures.marks;
+    }
+
 pub invariant_of-self : goal.invariant_of-self
-invariant_of-self g c =
-    let m = c.self.inside in
-    settled_ready g.S.TopStore m.log c.reserve_step.new.log m.tables c.reserve_step.new.tables
-    m.opened m.store c.self.invariant c.reserve_step.ensures.rows c.reserve_step.ensures.entries
-    c.reserve_step.ensures.same
+invariant_of-self g c = settled_ready c.self.invariant c.reserve_step.ensures.made
 
 pub unwrap-by-requires : goal.unwrap-by-requires
 unwrap-by-requires g c =
-    let m = c.self.inside in
     let log = c.reserve_step.new.log in
-    let tables = c.reserve_step.new.tables in
-    let ready = settled_ready g.S.TopStore m.log log m.tables tables m.opened m.store
-    c.self.invariant c.reserve_step.ensures.rows c.reserve_step.ensures.entries
-    c.reserve_step.ensures.same in
-    let some = rw (← c.self.view_is, ← c.reserve_step.ensures.entries) at c.requires.waits in
-    ap is_some (c.waiting_access.ensures log.rows log.entries ready.kept.are) ∙ waits_as_access
-    log.entries c.args.name.now ∙ some
+    let made = c.reserve_step.ensures.made in
+    let are = (settled_ready c.self.invariant made).kept.are in
+    let some = rw (← c.self.view_is, ← made.entries) at c.requires.waits in
+    ap is_some (c.waiting_access.ensures log.rows log.entries are)
+    ∙ waits_as_access log.entries c.args.name.now ∙ some
 
 pub ask_again-requires-clause-are : goal.ask_again-requires-clause-are
 ask_again-requires-clause-are g c =
-    let m = c.self.inside in
-    let log = c.reserve_step.new.log in
-    let tables = c.reserve_step.new.tables in
-    let ready = settled_ready g.S.TopStore m.log log m.tables tables m.opened m.store
-    c.self.invariant c.reserve_step.ensures.rows c.reserve_step.ensures.entries
-    c.reserve_step.ensures.same in
-    ready.kept.are
+    (settled_ready c.self.invariant c.reserve_step.ensures.made).kept.are
 
 pub invariant_of-self-in_err-attempt : goal.invariant_of-self-in_err-attempt
 invariant_of-self-in_err-attempt g c =
-    let m = c.self.inside in
-    let log = c.reserve_step.new.log in
-    let tables = c.reserve_step.new.tables in
-    let ready = settled_ready g.S.TopStore m.log log m.tables tables m.opened m.store
-    c.self.invariant c.reserve_step.ensures.rows c.reserve_step.ensures.entries
-    c.reserve_step.ensures.same in
-    settled_roomy g.S.TopStore log.rows log.entries tables m.opened m.store ready _
-    c.in_err-attempt.ensures.err
+    let ready = settled_ready c.self.invariant c.reserve_step.ensures.made in
+    settled_roomy _ _ _ _ _ _ ready _ c.in_err-attempt.ensures.err
 
 pub settle-requires : goal.settle-requires
 settle-requires g c =
-    let m = c.self.inside in
-    let log = c.reserve_step.new.log in
-    let tables = c.reserve_step.new.tables in
-    let ready = settled_ready g.S.TopStore m.log log m.tables tables m.opened m.store
-    c.self.invariant c.reserve_step.ensures.rows c.reserve_step.ensures.entries
-    c.reserve_step.ensures.same in
-    let t = c.args.name.now in
-    let by = c.unwrap-by.result.0 in
-    let asked = c.unwrap-by.result.1 in
-    let is = waiting_is log.rows log.entries ready.kept.allowed t by asked
-    (sym (c.waiting_access.ensures log.rows log.entries ready.kept.are) ∙ c.unwrap-by.ensures) in
-    let entered = entered_again g.S.TopStore log tables c.ask_again.new.self m.opened m.store ready
-    by t asked (Done c.in-Answered.reply) (rw c.in-Answered.is at c.in_ok-attempt.ensures.comes) is
-    refl
-    (rw c.in-Answered.is at c.in_ok-attempt.ensures.reaches)
-    (rw c.in-Answered.is at c.in_ok-attempt.ensures.waits) in
-    let many : length c.ask_again.new.self.waits.waits ≤ length m.tables.waits.waits =
-    omega (
-      arith,
-      c.in_ok-attempt.ensures.grown,
-      ap (λ (w : Waiting). length w.waits) c.reserve_step.ensures.waits,
-    ) in
-    record {
-      allowed = entered.kept.allowed;
-      are = entered.kept.are;
-      quiet = ready.quiet;
-      room = omega (arith, many, c.in_ok-reserve_step.ensures.room);
-      marks_room = omega (
-        arith,
-        many,
-        c.in_ok-reserve_step.ensures.marks_room,
-        ap (λ v. v.room) c.ask_again.ensures.marks,
-      );
-      work_room = fewer_pairs _ (length m.tables.waits.waits + 1) _ (omega (arith, many))
-          c.in_ok-reserve_step.ensures.work_room;
-    }
+    let at = (goal.at.settle-requires g c).In_ok-attempt in
+    (again_answered (again g at) c.in-Answered.reply c.in-Answered.is).ready
 
 pub refusal_at_access-requires-clause-are : goal.refusal_at_access-requires-clause-are
 refusal_at_access-requires-clause-are g c =
-    let m = c.self.inside in
-    let log = c.reserve_step.new.log in
-    let tables = c.reserve_step.new.tables in
-    let ready = settled_ready g.S.TopStore m.log log m.tables tables m.opened m.store
-    c.self.invariant c.reserve_step.ensures.rows c.reserve_step.ensures.entries
-    c.reserve_step.ensures.same in
-    let same = roomy_beside tables c.ask_again.new.self
-    (rw c.in-Refused.is at c.in_ok-attempt.ensures.reaches)
-    (rw c.in-Refused.is at c.in_ok-attempt.ensures.waits) in
-    let after = settled_roomy g.S.TopStore log.rows log.entries tables m.opened m.store ready
-    c.ask_again.new.self same in
-    after.kept.are
+    let at = (goal.at.refusal_at_access-requires-clause-are g c).In_ok-attempt in
+    (again_refused (again g at) c.in-Refused.is).settled.kept.are
 
 pub settle-requires-in-Refused : goal.settle-requires-in-Refused
 settle-requires-in-Refused g c =
-    let m = c.self.inside in
-    let log = c.reserve_step.new.log in
-    let tables = c.reserve_step.new.tables in
-    let ready = settled_ready g.S.TopStore m.log log m.tables tables m.opened m.store
-    c.self.invariant c.reserve_step.ensures.rows c.reserve_step.ensures.entries
-    c.reserve_step.ensures.same in
-    let t = c.args.name.now in
-    let by = c.unwrap-by.result.0 in
-    let asked = c.unwrap-by.result.1 in
-    let is = waiting_is log.rows log.entries ready.kept.allowed t by asked
-    (sym (c.waiting_access.ensures log.rows log.entries ready.kept.are) ∙ c.unwrap-by.ensures) in
-    let same = roomy_beside tables c.ask_again.new.self
-    (rw c.in-Refused.is at c.in_ok-attempt.ensures.reaches)
-    (rw c.in-Refused.is at c.in_ok-attempt.ensures.waits) in
-    let after = settled_roomy g.S.TopStore log.rows log.entries tables m.opened m.store ready
-    c.ask_again.new.self same in
-    let entered = entered_again g.S.TopStore log c.ask_again.new.self c.end_wait.new.self m.opened
-    m.store after by t asked (Refused c.refusal_at_access.result) c.refusal_at_access.ensures is
-    refl
-    (beside_but c.ask_again.new.self c.end_wait.new.self c.end_wait.ensures.beside)
-    c.end_wait.ensures.waits in
-    let many : length c.end_wait.new.self.waits.waits ≤ length m.tables.waits.waits =
-    omega (
-      arith,
-      c.end_wait.ensures.grown,
-      c.in_ok-attempt.ensures.grown,
-      ap (λ (w : Waiting). length w.waits) c.reserve_step.ensures.waits,
-    ) in
-    record {
-      allowed = entered.kept.allowed;
-      are = entered.kept.are;
-      quiet = ready.quiet;
-      room = omega (arith, many, c.in_ok-reserve_step.ensures.room);
-      marks_room = omega (
-        arith,
-        many,
-        c.in_ok-reserve_step.ensures.marks_room,
-        ap (λ v. v.room) c.ask_again.ensures.marks,
-        ap (λ (v : Tabled). v.marks.room) c.end_wait.ensures.beside,
-      );
-      work_room = fewer_pairs _ (length m.tables.waits.waits + 1) _ (omega (arith, many))
-          c.in_ok-reserve_step.ensures.work_room;
-    }
+    let at = (goal.at.settle-requires-in-Refused g c).In_ok-attempt in
+    let end = c.end_wait.ensures in
+    (again_ended (again g at) c.in-Refused.is c.refusal_at_access.result c.refusal_at_access.ensures
+    c.end_wait.new.self end.beside end.waits end.grown).ready
 
 -- what each arm leaves
 left : (g : Over) (c : goal.Joined-attempt g)
-    → let old = c.self.inside in
-    let new = c.match-attempt.self-inside in
-    (outcome : Outcome) × (c.match-attempt.result ≡ Ok outcome)
-    × IsSettled g.S.TopStore new.log.rows new.log.entries new.tables new.opened new.store
-    × Retried (state_of old.log old.tables old.opened old.store)
-    (state_of new.log new.tables new.opened new.store) c.args.name.now outcome
+    → (outcome : Outcome) × (c.match-attempt.result ≡ Ok outcome)
+    × IsSettledIn g.S.TopStore c.match-attempt.self-inside
+    × Retried (seen c.self.inside) (seen c.match-attempt.self-inside) c.args.name.now outcome
 left g c =
-    let m = c.self.inside in
-    let log = c.reserve_step.new.log in
-    let tables = c.reserve_step.new.tables in
-    let ready = settled_ready g.S.TopStore m.log log m.tables tables m.opened m.store
-    c.self.invariant c.reserve_step.ensures.rows c.reserve_step.ensures.entries
-    c.reserve_step.ensures.same in
-    let t = c.args.name.now in
-    let by = c.unwrap-by.result.0 in
-    let asked = c.unwrap-by.result.1 in
-    let is = waiting_is log.rows log.entries ready.kept.allowed t by asked
-    (sym (c.waiting_access.ensures log.rows log.entries ready.kept.are) ∙ c.unwrap-by.ensures) in
-    let waited = rw c.reserve_step.ensures.entries at is in
-    let table = c.reserve_step.ensures.same.estate.rows in
+    let again = again g (goal.at.returns-clause-ok g c).In_ok-attempt in
+    let made = c.reserve_step.ensures.made in
+    let is = rw made.entries at again.waiting in
     elim c.match-attempt.branch [
       | in-Answered w ↦
-          let entered = entered_again g.S.TopStore log tables c.ask_again.new.self m.opened m.store
-          ready by t asked (Done w.in-Answered.reply)
-          (rw w.in-Answered.is at c.in_ok-attempt.ensures.comes) is refl
-          (rw w.in-Answered.is at c.in_ok-attempt.ensures.reaches)
-          (rw w.in-Answered.is at c.in_ok-attempt.ensures.waits) in
-          let all = ended g.S.TopStore m.log log w.settle.new.log m.tables tables
-          c.ask_again.new.self w.settle.new.tables m.opened m.store by (event_of t asked)
-          (Done w.in-Answered.reply) entered
-          c.reserve_step.ensures.rows c.reserve_step.ensures.entries table w.settle.ensures.rows
-          w.settle.ensures.breaks w.settle.ensures.table in (
-            Done w.in-Answered.reply,
+          let entered = again_answered again w.in-Answered.reply w.in-Answered.is in
+          let all = ended entered w.settle.ensures w.settle.new.breaker in (
+            _,
             w.result-is,
             rw w.self-inside-is all.settled,
-            rw w.self-inside-is (retried _ _ t by asked waited _ all.answered),
+            rw w.self-inside-is (retried _ _ c.args.name.now _ _ is _ all.answered),
           )
       | in-Waits w ↦
-          let same = roomy_beside tables c.ask_again.new.self
-          (rw w.in-Waits.is at c.in_ok-attempt.ensures.reaches)
-          (rw w.in-Waits.is at c.in_ok-attempt.ensures.waits) in
-          let after = settled_roomy g.S.TopStore log.rows log.entries tables m.opened m.store ready
-          c.ask_again.new.self same in
-          let comes = rw (
-            w.in-Waits.is,
-            c.reserve_step.ensures.rows,
-            c.reserve_step.ensures.entries,
-          ) at c.in_ok-attempt.ensures.comes in (
-            Waits,
+          let same = again_waits again w.in-Waits.is in
+          let comes = rw (w.in-Waits.is, made.rows, made.entries) at again.comes in (
+            _,
             w.result-is,
-            rw w.self-inside-is after,
-            rw (
-              w.self-inside-is,
-              c.reserve_step.ensures.rows,
-              c.reserve_step.ensures.entries,
-              same.estate.rows ∙ table,
-            )
-                (waits_on (state_of m.log m.tables m.opened m.store) t by asked waited comes),
+            rw w.self-inside-is same.settled,
+            rw (w.self-inside-is, made.rows, made.entries, same.table)
+                (waits_on (seen c.self.inside) c.args.name.now _ _ is comes),
           )
       | in-Refused w ↦
-          let same = roomy_beside tables c.ask_again.new.self
-          (rw w.in-Refused.is at c.in_ok-attempt.ensures.reaches)
-          (rw w.in-Refused.is at c.in_ok-attempt.ensures.waits) in
-          let after = settled_roomy g.S.TopStore log.rows log.entries tables m.opened m.store ready
-          c.ask_again.new.self same in
-          let entered = entered_again g.S.TopStore log c.ask_again.new.self w.end_wait.new.self
-          m.opened m.store after by t asked (Refused w.refusal_at_access.result)
-          w.refusal_at_access.ensures is refl
-          (beside_but c.ask_again.new.self w.end_wait.new.self w.end_wait.ensures.beside)
-          w.end_wait.ensures.waits in
-          let all = ended g.S.TopStore m.log log w.settle-in-Refused.new.log m.tables
-          c.ask_again.new.self w.end_wait.new.self w.settle-in-Refused.new.tables m.opened m.store
-          by (event_of t asked) (Refused w.refusal_at_access.result) entered
-          c.reserve_step.ensures.rows c.reserve_step.ensures.entries (same.estate.rows ∙ table)
-          w.settle-in-Refused.ensures.rows w.settle-in-Refused.ensures.breaks
-          w.settle-in-Refused.ensures.table in (
-            Refused w.refusal_at_access.result,
+          let end = w.end_wait.ensures in
+          let entered = again_ended again w.in-Refused.is w.refusal_at_access.result
+          w.refusal_at_access.ensures w.end_wait.new.self end.beside end.waits end.grown in
+          let done = w.settle-in-Refused in
+          let all = ended entered done.ensures done.new.breaker in (
+            _,
             w.result-is,
             rw w.self-inside-is all.settled,
-            rw w.self-inside-is (retried _ _ t by asked waited _ all.answered),
+            rw w.self-inside-is (retried _ _ c.args.name.now _ _ is _ all.answered),
           )
     ]
 
