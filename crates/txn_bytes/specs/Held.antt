@@ -1,5 +1,5 @@
 -- Bytes in a field of fixed length, the rest of which is zeros; and how they hash.
-use Rattle.std.specs.Prelude.{◌≡◌, ℕ, ◌-◌, ◌≤◌, true, List, ◌∷◌, ◌++◌, length, nat_eq, replicate, take, drop}
+use Rattle.std.specs.Prelude.{◌≡◌, ℕ, ◌-◌, ◌≤◌, ◌&&◌, true, List, [], ◌∷◌, ◌++◌, length, nat_eq, nat_lt, replicate, take, drop, if◌then◌else◌}
 use Rattle.std.specs.Cmp.Lexicographic.{pointwise}
 use Rattle.std.specs.Hash as fed
 use Rattle.std.proofs.lemmas.Slice.Eq.{bytes_eq-Decides}
@@ -19,10 +19,11 @@ filled-take n k xs h e z =
     ∙ ap (λ ys. take k xs ++ ys) (sym z)
     ∙ take-append-drop k xs
 
--- the bytes in one write, and then how many they are
-abbrev pub fed_at_once : List ℕ → List (List ℕ)
-fed_at_once bs = bs ∷ fed.u8 (length bs)
+-- Bytes that fit into a word are fed as the word that holds them, where fields of n bytes have one; others in one write, and
+-- then how many they are
+abbrev pub fed_held : ℕ → List ℕ → List (List ℕ)
+fed_held n bs = if nat_lt 7 n && nat_lt (length bs) 9 then filled 8 bs ∷ [] else bs ∷ fed.u8 (length bs)
 
 -- equal bytes hash alike
-pub alike : (x y : List ℕ) → pointwise nat_eq x y ≡ true → fed_at_once x ≡ fed_at_once y
-alike x y h = ap fed_at_once ((bytes_eq-Decides x y).0 h)
+pub alike : (n : ℕ) (x y : List ℕ) → pointwise nat_eq x y ≡ true → fed_held n x ≡ fed_held n y
+alike n x y h = ap (fed_held n) ((bytes_eq-Decides x y).0 h)

@@ -1,9 +1,11 @@
 //! A few bytes, held in the value itself.
 ghost use Rattle.std.specs.Prelude.{◌≡◌, ℕ, ◌+◌, ◌-◌, ◌<◌, ◌≤◌, ◌==◌, ◌↔◌, List, [], ◌∷◌, ◌++◌, length, take, drop, replicate, Some, nat_eq, refl};
+ghost use Rattle.std.specs.Hash as fed;
+ghost use Rattle.std.specs.Int.{from_le_bytes, w64};
 ghost use Rattle.std.specs.Ordering.{nat_cmp};
 ghost use Rattle.std.specs.Cmp.{partial_equiv_from_equiv};
 ghost use Rattle.std.specs.Cmp.Lexicographic.{pointwise, slice_cmp, nat_list_eq_equiv, nat_list_cmp_total, texts_po, texts_ties};
-ghost use Rattle.txn_bytes.specs.Held.{alike, fed_at_once};
+ghost use Rattle.txn_bytes.specs.Held.{alike, fed_held};
 
 use std::cmp::Ordering;
 use std::hash::{Hash, Hasher};
@@ -68,14 +70,15 @@ impl<const N: usize> Held<N> {
     }
 }
 
-/// So many bytes are compared as one number.
+/// So many bytes are compared and hashed as one number.
 const WORD: u8 = 8;
 
-// Whether two words are the same, by the numbers that they make.
-fn is_same_word(ours: &[u8; 8], theirs: &[u8; 8]) -> bool
-    ensures { result ≡ pointwise nat_eq ours.now theirs.now }
+// The number that the bytes of a word make, which is fed to a hash as these bytes.
+fn word_of(bytes: &[u8; 8]) -> u64
+    ensures read { result ≡ from_le_bytes w64 bytes.now }
+    ensures fed { fed.u64 result ≡ bytes.now ∷ [] }
 {
-    u64::from_le_bytes(*ours) == u64::from_le_bytes(*theirs)
+    u64::from_le_bytes(*bytes)
 }
 
 // Whether two fields begin with the same word, or are the same where one has fewer bytes.
@@ -83,7 +86,7 @@ fn starts_alike(ours: &[u8], theirs: &[u8]) -> bool
     ensures { result ≡ pointwise nat_eq (take 8 ours.now) (take 8 theirs.now) }
 {
     match (ours.first_chunk::<8>(), theirs.first_chunk::<8>()) {
-        (Some(ours), Some(theirs)) => is_same_word(ours, theirs),
+        (Some(ours), Some(theirs)) => word_of(ours) == word_of(theirs),
         _ => ours == theirs,
     }
 }
@@ -136,12 +139,17 @@ impl<const N: usize> Ord for Held<N> {
 }
 
 impl<const N: usize> Hash for Held<N> {
-    ghost hash_input = { fed_at_once };
+    ghost hash_input = { fed_held N };
 
-    ghost respects_eq = { alike };
+    ghost respects_eq = { alike N };
 
     fn hash<H: Hasher>(&self, state: &mut H) {
-        state.write(self.as_bytes());
-        state.write_u8(self.len);
+        match self.bytes.first_chunk::<8>() {
+            Some(word) if self.len <= WORD => state.write_u64(word_of(word)),
+            _ => {
+                state.write(self.as_bytes());
+                state.write_u8(self.len);
+            }
+        }
     }
 }
