@@ -2,16 +2,17 @@
 use Rattle.std.proofs.Common.{◌≡◌, ℕ, zero, suc, Bool, true, false, cond, nat_eq, List, [], ◌∷◌, ◌++◌, get_or, length, Option, Some, None, unwrap_or, is_some, refl, sym, ap, subst, ◌∙◌}
 use Rattle.std.specs.Prelude.{IfSome, option_map, slice_get}
 use Rattle.std.specs.List.{position}
-use Rattle.std.specs.Map.{keys_of, lookup, values_of}
+use Rattle.std.specs.Map.{keys_of, values_of}
 use Rattle.std.proofs.lemmas.Bool.{false≢true}
 use Rattle.std.proofs.lemmas.Cmp.{nat_list_eq_equiv}
 use Rattle.std.proofs.lemmas.Map.Entries.{lookup_from_place}
 use Rattle.std.proofs.lemmas.Option.{slice_get-get_or, slice_get-map}
 use Rattle.std.proofs.lemmas.List.Quantifiers.{position-Some}
 use Rattle.indexmap.specs.IndexMap.{IndexMap, IsUnique, with_value_at}
-use Rattle.indexmap.proofs.CallerLemmas.{updates-with_value_at}
+use Rattle.indexmap.proofs.CallerLemmas.{keys-with_value_at, updates-with_value_at}
 use Rattle.txn_names.specs.Path.{label_eq}
 use Rattle.txn_names.proofs.Names.{same_label}
+use Rattle.txn_cells.proofs.Puts.{cond_same, each-put}
 use Rattle.txn_cells.specs.Kept.{AreAt, ArePlaced, AtKeys, Held, Listed, Lists, StayAt, held_at, keys_at, listed_at}
 
 keys-push : (es : Listed) (e : List ℕ × ℕ) → keys_of (es ++ e ∷ []) ≡ keys_of es ++ e.0 ∷ []
@@ -81,11 +82,6 @@ module _ {X : Type 0} where
   entry_at (e ∷ es) zero k v at is = ap (λ (x : List ℕ). Some (x, e.1)) (ap (λ o. unwrap_or o k) at) ∙ ap (λ (y : X). Some (k, y)) (ap (λ o. unwrap_or o v) is)
   entry_at (e ∷ es) (suc p) k v at is = entry_at es p k v at is
 
-  pub some_value : (es : List (List ℕ × X)) (p : ℕ) (k : List ℕ) → slice_get (keys_of es) p ≡ Some k → slice_get (values_of es) p ≡ None → ⊥
-  some_value [] p k at none = false≢true (ap is_some at)
-  some_value (e ∷ es) zero k at none = false≢true (sym (ap is_some none))
-  some_value (e ∷ es) (suc p) k at none = some_value es p k at none
-
 -- a key that is found is at its place
 pub key_at_place : (k : List ℕ) (keys : List (List ℕ)) (p : ℕ) → position (label_eq k) keys ≡ Some p → slice_get keys p ≡ Some k
 key_at_place k keys p e =
@@ -110,18 +106,52 @@ pub keys_pushed : {X : Type 0} (es : List (List ℕ × X)) (k : List ℕ) (v : X
 keys_pushed [] k v = refl
 keys_pushed (e ∷ es) k v = ap (λ (ks : List (List ℕ)). e.0 ∷ ks) (keys_pushed es k v)
 
-module _ {V S : Type 0} (m : IndexMap (List ℕ) (Held V) S) (unique : IsUnique label_eq m) (p : ℕ) (k : List ℕ) (held : Held V) (at : slice_get (keys_of m.entries) p ≡ Some k)
-    (is : slice_get (values_of m.entries) p ≡ Some held) where
+-- at the place p of a map, which is seen as `kept`, the key k stands with what is held there
+pub record IsHeldAt {V S : Type 0} (m : IndexMap (List ℕ) (Held V) S) (kept : AtKeys V) (p : ℕ)
+    (k : List ℕ) (held : Held V) : Type 0 where
+  pub unique : IsUnique label_eq m
+  pub seen : m.entries ≡ kept
+  pub key : slice_get (keys_of kept) p ≡ Some k
+  pub value : slice_get (values_of m.entries) p ≡ Some held
+
+module _ {V S : Type 0} {m : IndexMap (List ℕ) (Held V) S} {kept : AtKeys V} {p : ℕ}
+    {k : List ℕ} {held : Held V} (at : IsHeldAt m kept p k held) where
   entry : slice_get m.entries p ≡ Some (k, held)
-  entry = entry_at m.entries p k held at is
+  entry =
+      entry_at m.entries p k held
+      (ap (λ (es : AtKeys V). slice_get (keys_of es) p) at.seen ∙ at.key) at.value
 
   -- what is kept at the key
-  pub kept_at : held_at m.entries k ≡ held
-  kept_at = ap (λ o. unwrap_or o []) (lookup_from_place nat_list_eq_equiv m.entries p k held unique entry)
+  pub kept_at : held_at kept k ≡ held
+  kept_at =
+      ap (λ (es : AtKeys V). held_at es k) (sym at.seen)
+      ∙ ap (λ o. unwrap_or o [])
+      (lookup_from_place nat_list_eq_equiv m.entries p k held at.unique entry)
 
-  -- and where it is changed by its place
-  pub changed_at : (now : Held V) (q : List ℕ) → lookup (label_eq q) (with_value_at m p now).entries ≡ cond (label_eq k q) (Some now) (lookup (label_eq q) m.entries)
-  changed_at now q = (updates-with_value_at m p now nat_list_eq_equiv unique k held entry).0 q
+  -- ---- where it is changed by its place
+
+  module _ (now : Held V) where
+    abbrev changed : AtKeys V
+    changed = (with_value_at m p now).entries
+
+    pub keys_stay : keys_of changed ≡ keys_of kept
+    keys_stay = keys-with_value_at m p now ∙ ap (λ (es : AtKeys V). keys_of es) at.seen
+
+    module _ {X : Type 0} (read : Held V → X) where
+      -- what is read at each key
+      pub each_at : (put : Held V → X) → read now ≡ put held → (q : List ℕ)
+          → read (held_at changed q)
+          ≡ cond (label_eq k q) (put (held_at kept q)) (read (held_at kept q))
+      each_at put e q =
+          each-put m.entries k now _
+          (updates-with_value_at m p now nat_list_eq_equiv at.unique k held entry).0
+          read (λ r. put (held_at kept r)) (e ∙ ap put (sym kept_at)) q
+          ∙ ap (λ (es : AtKeys V). cond (label_eq k q) (put (held_at kept q)) (read (held_at es q)))
+          at.seen
+
+      pub same_at : read now ≡ read held → (q : List ℕ)
+          → read (held_at changed q) ≡ read (held_at kept q)
+      same_at e q = each_at read e q ∙ cond_same (label_eq k q) (read (held_at kept q))
 
 -- the key of an entry
 pub key_listed : {X : Type 0} (es : List (List ℕ × X)) (i : ℕ) (e : List ℕ × X) → slice_get es i ≡ Some e → slice_get (keys_of es) i ≡ Some e.0

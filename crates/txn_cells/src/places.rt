@@ -104,10 +104,7 @@ impl<V: Inherit> Places<V> {
             ≡ place_kept self.old u q) }
         ensures succeeds { IsTrue (place_kept self.old txn key.now) → IsOk result }
     {
-        match self.holders.get_index_mut(place) {
-            Some(holders) => holders.add(txn),
-            None => Ok(false),
-        }
+        self.holders.get_index_mut(place).unwrap().add(txn)
     }
 
     /// Sets what the transaction has at the key. It takes no memory.
@@ -120,12 +117,8 @@ impl<V: Inherit> Places<V> {
         ensures places { (u : ℕ) → (q : List ℕ) → place_kept self.new u q
             ≡ place_kept self.old u q }
     {
-        let Some(place) = self.index_of(key) else {
-            return;
-        };
-        if let Some(holders) = self.holders.get_index_mut(place) {
-            holders.set(txn, value);
-        }
+        let place = self.index_of(key).unwrap();
+        self.holders.get_index_mut(place).unwrap().set(txn, value);
     }
 
     /// Adds this to what the transaction has at the key, as an access of its own. It takes no memory.
@@ -139,12 +132,8 @@ impl<V: Inherit> Places<V> {
         ensures places { (u : ℕ) → (q : List ℕ) → place_kept self.new u q
             ≡ place_kept self.old u q }
     {
-        let Some(place) = self.index_of(key) else {
-            return;
-        };
-        if let Some(holders) = self.holders.get_index_mut(place) {
-            holders.join(txn, added);
-        }
+        let place = self.index_of(key).unwrap();
+        self.holders.get_index_mut(place).unwrap().join(txn, added);
     }
 
     /// Takes the child out of those at the key that has this index among all keys. Its parent, if there is one, inherits what it had
@@ -162,9 +151,10 @@ impl<V: Inherit> Places<V> {
         ensures places { (u : ℕ) → (q : List ℕ) → place_kept self.new u q
             ≡ (not (nat_eq child u && label_eq key.now q) && place_kept self.old u q) }
     {
-        if let Some(holders) = self.holders.get_index_mut(place) {
-            holders.hand_up(child, parent);
-        }
+        self.holders
+            .get_index_mut(place)
+            .unwrap()
+            .hand_up(child, parent);
     }
 
     /// Hands up what the child has at each key of the list, as `hand_up` does at one.
