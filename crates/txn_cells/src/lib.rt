@@ -2,9 +2,11 @@
 //! dropped without memory.
 #![tactic(auto)]
 
+mod few_numbers;
 mod inherit;
 mod key_cells;
 mod key_lists;
+mod many_numbers;
 mod marks;
 mod numbers;
 mod places;

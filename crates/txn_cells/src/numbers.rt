@@ -3,27 +3,29 @@ ghost use Rattle.std.specs.Prelude.{◌≡◌, ◌≤◌, ◌<◌, ◌||◌, not
 ghost use Rattle.std.specs.List.{insert, list_any, remove};
 ghost use Rattle.std.specs.List.Sorted.{IsStrictlyIncreasing};
 
+use crate::few_numbers::FewNumbers;
+use crate::many_numbers::ManyNumbers;
 use serial_spec::NoMemory;
 use std::alloc::Global;
 use std::marker::Model;
 use txn_tree::TxnNo;
 
-/// Numbers of transactions, the first of which is taken out without moving the others: those that
-/// were first and are taken out stay before the front, until they are more than the others.
+/// Numbers of transactions. Up to four lie in the value itself, so that most keys take no memory
+/// for them. Once there are more, all lie in memory of their own until none is left.
 #[derive(Drop)]
 pub(crate) struct Numbers {
-    items: Vec<TxnNo>,
-    front: usize,
+    few: FewNumbers,
+    many: ManyNumbers,
 }
 
 impl Model for Numbers {
-    ghost use Rattle.std.specs.Prelude.{◌≤◌, List, drop, length, ℕ};
+    ghost use Rattle.std.specs.Prelude.{◌≡◌, ◌<◌, ◌++◌, [], List, length, ℕ};
 
     ghost Value = { List ℕ };
 
-    ghost view = { λ n. drop n.front n.items.items };
+    ghost view = { λ n. n.few ++ n.many };
 
-    ghost invariant = { λ n. n.front ≤ length n.items.items };
+    ghost invariant = { λ n. 0 < length n.many → n.few ≡ [] };
 }
 
 impl Numbers {
@@ -32,8 +34,8 @@ impl Numbers {
         ensures { result ≡ [] }
     {
         Numbers {
-            items: Vec::new(alloc),
-            front: 0,
+            few: FewNumbers::new(),
+            many: ManyNumbers::new(alloc),
         }
     }
 
@@ -41,14 +43,22 @@ impl Numbers {
     pub(crate) fn as_slice(&self) -> &[TxnNo]
         ensures { result.now ≡ self.now }
     {
-        &self.items[self.front..]
+        if self.many.len() == 0 {
+            self.few.as_slice()
+        } else {
+            self.many.as_slice()
+        }
     }
 
     /// How many there are.
     pub(crate) fn len(&self) -> usize
         ensures { result ≡ length self.now }
     {
-        self.items.len() - self.front
+        if self.many.len() == 0 {
+            self.few.len()
+        } else {
+            self.many.len()
+        }
     }
 
     /// Puts the number in at this place. The only error is that memory runs out, and then nothing
@@ -58,8 +68,15 @@ impl Numbers {
         ensures ok { OnOk result (self.new ≡ insert self.old place txn) }
         ensures err { OnErr result (self.new ≡ self.old) }
     {
-        self.items.reserve(1)?;
-        self.items.insert(self.front + place, txn).unwrap();
+        if self.many.len() > 0 {
+            return self.many.insert(place, txn);
+        }
+        if self.few.len() < 4 {
+            self.few.insert(place, txn);
+            return Ok(());
+        }
+        self.many.fill(self.few.as_slice(), place, txn)?;
+        self.few.clear();
         Ok(())
     }
 
@@ -68,24 +85,11 @@ impl Numbers {
         requires { place < length self.old }
         ensures { self.new ≡ remove self.old place }
     {
-        if place > 0 {
-            self.items.remove(self.front + place);
-            return;
+        if self.many.len() == 0 {
+            self.few.remove(place);
+        } else {
+            self.many.remove(place);
         }
-        self.front += 1;
-        if self.front > self.len() {
-            self.let_go();
-        }
-    }
-
-    // Lets go of those before the front.
-    fn let_go(&mut self)
-        ensures { self.new ≡ self.old }
-    {
-        let len = self.len();
-        self.items.rotate_left(self.front);
-        self.items.truncate(len);
-        self.front = 0;
     }
 }
 

@@ -1,6 +1,6 @@
 use Rattle.std.proofs.Common.{◌≤◌, drop, length, length-drop, refl, sym, arith}
 use Rattle.txn_cells.proofs.Fronts.{insert_past}
-use Rattle.txn_cells.proofs.numbers.Numbers.insert.Goals as goal
+use Rattle.txn_cells.proofs.many_numbers.ManyNumbers.insert.Goals as goal
 
 pub returns-clause-ok : goal.returns-clause-ok
 returns-clause-ok c =

@@ -1,6 +1,6 @@
 use Rattle.std.proofs.Common.{◌<◌, drop, length, length-drop, refl, sym, arith, ◌∙◌}
 use Rattle.txn_cells.proofs.Fronts.{remove_first, remove_past}
-use Rattle.txn_cells.proofs.numbers.Numbers.remove.Goals as goal
+use Rattle.txn_cells.proofs.many_numbers.ManyNumbers.remove.Goals as goal
 
 pub returns-then-place-gt0 : goal.returns-then-place-gt0
 returns-then-place-gt0 c =
