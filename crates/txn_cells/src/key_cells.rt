@@ -81,6 +81,7 @@ impl<V: Inherit> KeyCells<V> {
     }
 
     // Where among the others the transaction has its place, and what it has there.
+    #[inline(always)]
     fn found(&self, txn: TxnNo) -> Option<(usize, Option<V>)>
         ensures at { IfSome result (λ found. slice_get (keys_of self.now) found.0 ≡ Some txn) }
         ensures had { IfSome result (λ found. found.1 ≡ content_of self.now txn) }
@@ -135,6 +136,7 @@ impl<V: Inherit> KeyCells<V> {
     }
 
     // Sets what the transaction has, whose place this is.
+    #[inline(always)]
     fn put_at(&mut self, place: usize, txn: TxnNo, value: V)
         requires { slice_get (keys_of self.old) place ≡ Some txn }
         ensures contents { (u : ℕ) → content_of self.new u ≡ (if nat_eq txn u then Some value

@@ -2,7 +2,6 @@
 //! dropped without memory.
 #![tactic(auto)]
 
-mod few_numbers;
 mod inherit;
 mod key_cells;
 mod key_lists;

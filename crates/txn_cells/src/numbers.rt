@@ -3,18 +3,21 @@ ghost use Rattle.std.specs.Prelude.{◌≡◌, ◌≤◌, ◌<◌, ◌||◌, not
 ghost use Rattle.std.specs.List.{insert, list_any, remove};
 ghost use Rattle.std.specs.List.Sorted.{IsStrictlyIncreasing};
 
-use crate::few_numbers::FewNumbers;
 use crate::many_numbers::ManyNumbers;
+use arrayvec::ArrayVec;
 use serial_spec::NoMemory;
 use std::alloc::Global;
 use std::marker::Model;
 use txn_tree::TxnNo;
 
-/// Numbers of transactions. Up to four lie in the value itself, so that most keys take no memory
-/// for them. Once there are more, all lie in memory of their own until none is left.
+/// So many numbers lie in the value itself.
+const IN_VALUE: usize = 4;
+
+/// Numbers of transactions. A few lie in the value itself, so that most keys take no memory for
+/// them. Once there are more, all lie in memory of their own until none is left.
 #[derive(Drop)]
 pub(crate) struct Numbers {
-    few: FewNumbers,
+    few: ArrayVec<TxnNo, IN_VALUE>,
     many: ManyNumbers,
 }
 
@@ -23,9 +26,9 @@ impl Model for Numbers {
 
     ghost Value = { List ℕ };
 
-    ghost view = { λ n. n.few ++ n.many };
+    ghost view = { λ n. n.few.items ++ n.many };
 
-    ghost invariant = { λ n. 0 < length n.many → n.few ≡ [] };
+    ghost invariant = { λ n. 0 < length n.many → n.few.items ≡ [] };
 }
 
 impl Numbers {
@@ -34,7 +37,7 @@ impl Numbers {
         ensures { result ≡ [] }
     {
         Numbers {
-            few: FewNumbers::new(),
+            few: ArrayVec::new(),
             many: ManyNumbers::new(alloc),
         }
     }
@@ -71,7 +74,7 @@ impl Numbers {
         if self.many.len() > 0 {
             return self.many.insert(place, txn);
         }
-        if self.few.len() < 4 {
+        if self.few.len() < IN_VALUE {
             self.few.insert(place, txn);
             return Ok(());
         }
