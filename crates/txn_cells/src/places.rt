@@ -47,18 +47,27 @@ impl<V: Inherit> Places<V> {
         }
     }
 
-    // The place of the key among all keys, if it is among them. The key at the remembered place is
-    // compared first, which costs less than to look the key up.
+    // The remembered place, if it is that of the key. To compare costs less than to look the key up.
+    fn remembered(&self, key: &Key) -> Option<usize>
+        ensures { IfSome result (λ p. slice_get (keys_of self.now) p ≡ Some key.now) }
+    {
+        let (recent, _) = self.holders.get_index(self.recent)?;
+        if *recent == *key {
+            Some(self.recent)
+        } else {
+            None
+        }
+    }
+
+    // The place of the key among all keys, if it is among them.
     fn index_of(&self, key: &Key) -> Option<usize>
         ensures some { IfSome result (λ p. slice_get (keys_of self.now) p ≡ Some key.now) }
         ensures none { IfNone result ((u : ℕ) → IsFalse (place_kept self.now u key.now)) }
     {
-        if let Some((recent, _)) = self.holders.get_index(self.recent) {
-            if *recent == *key {
-                return Some(self.recent);
-            }
+        match self.remembered(key) {
+            Some(place) => Some(place),
+            None => self.holders.get_index_of(key),
         }
-        self.holders.get_index_of(key)
     }
 
     /// What all transactions have at the key, if it is among the keys.
@@ -69,6 +78,43 @@ impl<V: Inherit> Places<V> {
         self.holders.get(key)
     }
 
+    /// What is held at this place among all keys, if the key stands there.
+    pub(crate) fn at_place(&self, place: usize, key: &Key) -> Option<&KeyCells<V>>
+        ensures { IfSome result (λ cells. held_at self.now key.now ≡ cells.now) }
+    {
+        let (found, cells) = self.holders.get_index(place)?;
+        if *found == *key { Some(cells) } else { None }
+    }
+
+    /// As `at`, where the key mostly stands at this place among all keys: it is compared first, which
+    /// costs less than to look the key up.
+    pub(crate) fn near(&self, place: usize, key: &Key) -> Option<&KeyCells<V>>
+        ensures some { IfSome result (λ cells. held_at self.now key.now ≡ cells.now) }
+        ensures none { IfNone result (held_at self.now key.now ≡ []) }
+    {
+        match self.at_place(place, key) {
+            Some(cells) => Some(cells),
+            None => self.at(key),
+        }
+    }
+
+    /// As `at`, where the key's place is mostly the remembered one.
+    pub(crate) fn at_remembered(&self, key: &Key) -> Option<&KeyCells<V>>
+        ensures some { IfSome result (λ cells. held_at self.now key.now ≡ cells.now) }
+        ensures none { IfNone result (held_at self.now key.now ≡ []) }
+    {
+        self.near(self.recent, key)
+    }
+
+    /// Remembers the place of the key, if it is among the keys.
+    pub(crate) fn remember(&mut self, key: &Key)
+        ensures { self.new ≡ self.old }
+    {
+        if let Some(place) = self.holders.get_index_of(key) {
+            self.recent = place;
+        }
+    }
+
     /// The place of the key among all keys. One that is not among them yet goes last, with no holders.
     pub(crate) fn place_for(&mut self, key: &Key) -> Result<usize, NoMemory>
         ensures held { (q : List ℕ) → held_at self.new q ≡ held_at self.old q }
@@ -76,6 +122,9 @@ impl<V: Inherit> Places<V> {
         ensures stay { StayAt (keys_of self.old) (keys_of self.new) }
         ensures succeeds { (u : ℕ) → IsTrue (place_kept self.old u key.now) → IsOk result }
     {
+        if let Some(recent) = self.remembered(key) {
+            return Ok(recent);
+        }
         if let Some(place) = self.holders.get_index_of(key) {
             self.recent = place;
             return Ok(place);

@@ -157,6 +157,40 @@ impl<V: Inherit> CellTable<V> {
         self.places.at(key)
     }
 
+    /// As `at`, of the key that was remembered or reserved last: that is found without a look-up. Any other key is looked up.
+    pub fn at_remembered(&self, key: &Key) -> Option<&KeyCells<V>>
+        ensures some { IfSome result (λ cells. IsAt self.now key.now cells.now) }
+        ensures none { IfNone result (IsBareAt self.now key.now) }
+    {
+        self.places.at_remembered(key)
+    }
+
+    /// Looks the key up and remembers where it stands, so that `at_remembered` and the calls that change what stands there find it
+    /// without another look-up. It takes no memory.
+    pub fn remember(&mut self, key: &Key)
+        ensures { self.new ≡ self.old }
+    {
+        self.places.remember(key);
+    }
+
+    // As `at`, where the key mostly is the transaction's key at this index: its place stands in the list then.
+    fn at_listed(&self, txn: TxnNo, index: usize, key: &Key) -> Option<&KeyCells<V>>
+        ensures some { IfSome result (λ cells. IsAt self.now key.now cells.now) }
+        ensures none { IfNone result (IsBareAt self.now key.now) }
+    {
+        match self.keys.get(txn, index) {
+            Some((_, place)) => self.places.near(place, key),
+            None => self.places.at(key),
+        }
+    }
+
+    /// As `get`, of a key that mostly is the transaction's key at this index in `keys`: that is found without a look-up.
+    pub fn get_listed(&self, txn: TxnNo, index: usize, key: &Key) -> Option<V>
+        ensures { result ≡ content self.now txn key.now }
+    {
+        self.at_listed(txn, index, key)?.get(txn)
+    }
+
     /// What the transaction has at the key.
     pub fn get(&self, txn: TxnNo, key: &Key) -> Option<V>
         ensures { result ≡ content self.now txn key.now }
