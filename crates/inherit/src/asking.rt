@@ -74,6 +74,15 @@ impl Estate {
         }
     }
 
+    /// Whether no lock keeps the transaction from what it asks, as `may_ask` of the locks tells it. A key is looked up once and
+    /// remembered, so that `reserve_asked` and `grant` find its lock without another look-up. Nothing changes, and it takes no memory.
+    pub fn may_ask_remembering(&mut self, tree: &Tree, txn: TxnNo, asked: &Asked) -> bool
+        ensures may { IsTrue result ↔ MayAsk tree.now self.old.locks txn asked.now }
+        ensures same { self.new ≡ self.old }
+    {
+        self.locks.may_ask_remembering(tree, txn, asked)
+    }
+
     /// Does what is asked of a transaction that no lock keeps out, as `may_ask` of the locks told: the reply at what it sees, and the
     /// transaction has locked the key or the group and left what the access leaves. It takes no memory.
     pub fn grant(&mut self, tree: &Tree, txn: TxnNo, asked: &Asked) -> Reply

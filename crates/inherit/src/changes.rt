@@ -12,11 +12,11 @@ use txn_names::{Change, Key};
 use txn_tree::{Tree, TxnNo};
 
 impl Estate {
-    // Whether the transaction locks the key to write.
-    fn writes(&self, txn: TxnNo, key: &Key) -> bool
+    // Whether the transaction locks the key to write. The key mostly is the one at this index among those where it has a place.
+    fn writes(&self, txn: TxnNo, index: usize, key: &Key) -> bool
         ensures { result ≡ writes self.now txn key.now }
     {
-        let (held, retained) = self.locks.modes_of(txn, key);
+        let (held, retained) = self.locks.modes_listed(txn, index, key);
         held.greater(retained) == Mode::Write
     }
 
@@ -27,8 +27,9 @@ impl Estate {
     {
         let mut written = BTreeSet::new(self.alloc);
         let reserved = self.locks.keys(txn);
-        for key in reserved {
-            if self.writes(txn, key) {
+        for index in 0..reserved.len() {
+            let key = &reserved[index];
+            if self.writes(txn, index, key) {
                 written.insert(*key)?;
             }
         }

@@ -1,5 +1,5 @@
 //! Locks by what is asked: an operation at a key, or a sum over a group.
-ghost use Rattle.std.specs.Prelude.{◌↔◌, IsOk, IsTrue, IfOk, OnErr, OnOk};
+ghost use Rattle.std.specs.Prelude.{◌≡◌, ◌↔◌, IsOk, IsTrue, IfOk, OnErr, OnOk};
 ghost use Rattle.serial_spec.specs.Locks.{mode_of};
 ghost use Rattle.serial_spec.specs.Targets.{kind_of, target};
 ghost use Rattle.lock_table.specs.ByAsked.{BlocksAsked, MayAsk, MayHoldAsked, with_marks_asked};
@@ -16,6 +16,18 @@ impl TargetLocks {
     {
         match asked {
             Asked::At(key, op) => self.may(tree, txn, key, op.kind()),
+            Asked::Over(group) => self.may_group(tree, txn, group),
+        }
+    }
+
+    /// As `may_ask`. A key is looked up once and remembered, so that `reserve_asked` and `hold_asked` find its lock without another
+    /// look-up. No lock and no place changes, and it takes no memory.
+    pub fn may_ask_remembering(&mut self, tree: &Tree, txn: TxnNo, asked: &Asked) -> bool
+        ensures may { IsTrue result ↔ MayAsk tree.now self.old txn asked.now }
+        ensures same { self.new ≡ self.old }
+    {
+        match asked {
+            Asked::At(key, op) => self.may_remembering(tree, txn, key, op.kind()),
             Asked::Over(group) => self.may_group(tree, txn, group),
         }
     }

@@ -1,5 +1,5 @@
 //! Locks of keys and of groups.
-ghost use Rattle.std.specs.Prelude.{◌≡◌, ◌↔◌, nat_eq, false, IsFalse, IsOk, IsTrue, IfOk, IfSome, OnErr, OnOk, List, ℕ};
+ghost use Rattle.std.specs.Prelude.{◌≡◌, ◌↔◌, not, nat_eq, false, IsFalse, IsOk, IsTrue, IfOk, IfSome, OnErr, OnOk, List, ℕ};
 ghost use Rattle.std.specs.List.{IsDistinct, list_any};
 ghost use Rattle.std.specs.List.Sorted.{IsStrictlyIncreasing};
 ghost use Rattle.txn_names.specs.Path.{label_eq};
@@ -9,7 +9,7 @@ ghost use Rattle.serial_spec.specs.declared.target.Target.TheVariants as target;
 ghost use Rattle.serial_spec.specs.Locks.{mode_of};
 ghost use Rattle.serial_spec.specs.declared.mode.Mode.TheVariants as mode;
 ghost use Rattle.lock_table.specs.Inherited.{free};
-ghost use Rattle.lock_table.specs.Blocking.{is_under};
+ghost use Rattle.lock_table.specs.Blocking.{is_blocked_in, is_under};
 ghost use Rattle.lock_table.specs.Targeted.{AddsMarkPlaces, AddsPlaces, AreBlockers, AreListed, HasMarkPlaces, HasModes, HasPlaces, IsBlockerAt, MayAt, MayGoUpTo, MayHold, both_of, handed_up_at, has_mark_place, has_place, held_at, is_listed, lists_of, modes_at, modes_left, places_left, with_child_marks, with_childs_at, with_marks, with_place_at};
 
 use crate::groups::{add_summers, make_marks, mark, sum_blocks, sums_let};
@@ -61,6 +61,13 @@ impl TargetLocks {
         self.keys.modes_of(txn, key)
     }
 
+    /// As `modes_of`, of a key that mostly is the transaction's key at this index in `keys`: that is found without a look-up.
+    pub fn modes_listed(&self, txn: TxnNo, index: usize, key: &Key) -> (Mode, Mode)
+        ensures { result ≡ both_of (modes_at self.now txn (target.Key key.now)) }
+    {
+        self.keys.modes_listed(txn, index, key)
+    }
+
     /// The keys at which the transaction has a place, each once. It locks no other key; groups are not among them.
     pub fn keys(&self, txn: TxnNo) -> &[Key]
         ensures each { (q : List ℕ) →
@@ -85,12 +92,30 @@ impl TargetLocks {
     pub fn may(&self, tree: &Tree, txn: TxnNo, key: &Key, kind: Kind) -> bool
         ensures { IsTrue result ↔ MayAt tree.now self.now txn (target.Key key.now) kind }
     {
+        let is_let = self.keys.may(tree, txn, key, kind);
+        self.may_by(is_let, tree, txn, key, kind)
+    }
+
+    // The same, where this says whether nobody keeps the transaction out by a lock on the key.
+    fn may_by(&self, is_let: bool, tree: &Tree, txn: TxnNo, key: &Key, kind: Kind) -> bool
+        requires { is_let ≡ not (is_blocked_in tree.now self.now.keys txn key.now kind) }
+        ensures { IsTrue result ↔ MayAt tree.now self.now txn (target.Key key.now) kind }
+    {
         match kind {
-            Kind::Read => self.keys.may(tree, txn, key, Kind::Read),
-            Kind::Write => {
-                self.keys.may(tree, txn, key, Kind::Write) && sums_let(&self.sums, tree, txn, key)
-            }
+            Kind::Read => is_let,
+            Kind::Write => is_let && sums_let(&self.sums, tree, txn, key),
         }
+    }
+
+    /// As `may`. The key is looked up once and remembered, so that `reserve` and `hold` find its lock without another look-up. No lock
+    /// and no place changes, and it takes no memory.
+    pub fn may_remembering(&mut self, tree: &Tree, txn: TxnNo, key: &Key, kind: Kind) -> bool
+        ensures may { IsTrue result ↔ MayAt tree.now self.old txn (target.Key key.now) kind }
+        ensures same { self.new ≡ self.old }
+    {
+        self.keys.remember(key);
+        let is_let = self.keys.may_remembered(tree, txn, key, kind);
+        self.may_by(is_let, tree, txn, key, kind)
     }
 
     /// Whether nobody keeps the transaction from a sum over the group: by a lock to write on a key of it. It takes no memory.

@@ -134,7 +134,12 @@ impl Versions {
         if txn.place() as usize >= tree.len() {
             return self.base.get(key);
         }
-        let Some(versions) = self.written.at(key) else {
+        // Where nobody has written no key is looked up.
+        if self.written.is_empty() {
+            return self.base.get(key);
+        }
+        // A key that is written is mostly the one at which a place was made last.
+        let Some(versions) = self.written.at_remembered(key) else {
             return self.base.get(key);
         };
         let mut at = Some(txn);
