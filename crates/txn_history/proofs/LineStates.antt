@@ -15,4 +15,4 @@ none_closed n (s, zero) = refl
 none_closed n (s, suc l) = and_right _ _ (ap (leb (suc l)) (none_read n s) ∙ lt-leb (suc l) 0 (omega arith))
 
 pub none_known : (n : ℕ) (s : LineStates) → s.closed ≡ replicate n 0 → IsEmpty s.others → AreLines [] s
-none_known n s closed others = record { each = λ p. rw (closed, none_closed n p, others) refl }
+none_known n s closed others = record { each = λ p. rw (closed, none_closed n p, others) refl; beyond = λ p a. rw others refl }

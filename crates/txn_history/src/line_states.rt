@@ -1,8 +1,9 @@
 //! The states of a history's lines.
-ghost use Rattle.std.specs.Prelude.{◌≡◌, ◌+◌, ◌<◌, ◌≤◌, ◌&&◌, ◌||◌, if◌then◌else◌, [], ◌∷◌, length, Some, OnOk};
+ghost use Rattle.std.specs.Prelude.{◌≡◌, ◌+◌, ◌<◌, ◌≤◌, ◌&&◌, ◌||◌, if◌then◌else◌, [], ◌∷◌, length, IsTrue, IsFalse, None, Some, OnOk};
 ghost use Rattle.indexmap.specs.IndexMap.{get, spare};
 ghost use Rattle.serial_spec.specs.History.{History as Entries};
-ghost use Rattle.txn_history.specs.Tables.{Place, place_eq, alone_at, has_closed, line_state, AreLines};
+ghost use Rattle.serial_spec.specs.Waits.{is_waits};
+ghost use Rattle.txn_history.specs.Tables.{Place, place_eq, alone_at, has_closed, is_beyond, place_of, AreLines};
 
 use indexmap::IndexMap;
 use serial_spec::{Answer, By, Entry, MOST_SESSIONS, NoMemory};
@@ -15,6 +16,8 @@ pub(crate) struct LineStates {
     // For each of the first `MOST_SESSIONS` sessions: its lines from 1 to this one are closed. Since most lines are closed one
     // after the other, most states are told and kept without a look-up.
     closed: [u32; MOST_SESSIONS],
+    // For each of these sessions: the last line of it that `others` has, or 0. So a new line is told without a look-up too.
+    last: [u32; MOST_SESSIONS],
     // The states of all other lines. What it has of a line that was closed since is not asked.
     others: IndexMap<(u32, u32), Option<usize>>,
 }
@@ -28,42 +31,69 @@ fn is_closed(closed: &[u32; MOST_SESSIONS], session: u32, line: u32) -> bool
     at < MOST_SESSIONS && 0 < line && line <= closed[at]
 }
 
-// Closes the line, if all lines of its session before it are closed. Whether it did so.
+// Closes the line by its entry, if that does not wait and all lines of the session before it are closed. Whether it did so.
 #[inline(always)]
-fn close_next(closed: &mut [u32; MOST_SESSIONS], session: u32, line: u32) -> bool
-    ensures { (p : Place) → has_closed closed.new p ≡ has_closed closed.old p || (result && place_eq (session, line) p) }
+fn close_next(closed: &mut [u32; MOST_SESSIONS], session: u32, line: u32, entry: &Entry) -> bool
+    ensures closed { (p : Place) → has_closed closed.new p
+        ≡ has_closed closed.old p || (result && place_eq (session, line) p) }
+    ensures answer { IsTrue result → IsFalse (is_waits entry.now.answer) }
 {
     let at = session as usize;
     if at >= MOST_SESSIONS || line <= closed[at] || line - closed[at] > 1 {
+        return false;
+    }
+    if matches!(entry.answer, Answer::Waits) {
         return false;
     }
     closed[at] = line;
     true
 }
 
-// Keeps the state of a line after the entry at this place.
+// Whether the line is of one of the first sessions, and after the last line of it.
+#[inline(always)]
+fn is_after(last: &[u32; MOST_SESSIONS], session: u32, line: u32) -> bool
+    ensures { result ≡ is_beyond last.now (session, line) }
+{
+    let at = session as usize;
+    at < MOST_SESSIONS && last[at] < line
+}
+
+// Makes the line the last, if it is after the last. Whether it was.
+fn raise(last: &mut [u32; MOST_SESSIONS], session: u32, line: u32) -> bool
+    ensures was { result ≡ is_beyond last.old (session, line) }
+    ensures last { (p : Place) → IsTrue (is_beyond last.new p)
+        → IsTrue (is_beyond last.old p) × IsFalse (place_eq (session, line) p) }
+{
+    if !is_after(last, session, line) {
+        return false;
+    }
+    last[session as usize] = line;
+    true
+}
+
+// Keeps the state of a line after the entry at this place. A line that is new has none, and is not looked up.
 fn put(
     others: &mut IndexMap<(u32, u32), Option<usize>>,
-    session: u32,
-    line: u32,
+    line: (u32, u32),
+    is_new: bool,
     entry: &Entry,
     place: usize,
 )
     requires { 0 < spare others.old }
-    ensures states { (p : Place) → get place_eq others.new p ≡
-        if place_eq (session, line) p
+    ensures states { (IsTrue is_new → get place_eq others.old line ≡ None) → (p : Place)
+        → get place_eq others.new p ≡
+        if place_eq line p
         then Some (alone_at (get place_eq others.old p) entry.now place)
         else get place_eq others.old p }
     ensures room { spare others.old ≤ spare others.new + 1 }
 {
-    // Most entries are no waits, so that the line is looked up once.
     let waits = matches!(entry.answer, Answer::Waits);
-    let state = if waits && !others.contains_key(&(session, line)) {
+    let state = if waits && (is_new || !others.contains_key(&line)) {
         Some(place)
     } else {
         None
     };
-    others.insert((session, line), state).unwrap();
+    others.insert(line, state).unwrap();
 }
 
 impl LineStates {
@@ -73,13 +103,14 @@ impl LineStates {
     {
         LineStates {
             closed: [0; MOST_SESSIONS],
+            last: [0; MOST_SESSIONS],
             others: IndexMap::new(alloc),
         }
     }
 
     /// Makes room for so many more entries.
     pub(crate) fn reserve(&mut self, additional: usize) -> Result<(), NoMemory>
-        ensures states { (p : Place) → line_state self.new p ≡ line_state self.old p }
+        ensures lines { (h : Entries) → AreLines h self.old → AreLines h self.new }
         ensures ok { OnOk result (additional ≤ spare self.new.others) }
         ensures room { spare self.old.others ≤ spare self.new.others }
     {
@@ -90,10 +121,13 @@ impl LineStates {
     /// The state of the line.
     #[inline(always)]
     pub(crate) fn at(&self, session: u32, line: u32) -> Option<Option<usize>>
-        ensures { result ≡ line_state self.now (session, line) }
+        ensures { (h : Entries) → AreLines h self.now → result ≡ place_of h (session, line) }
     {
         if is_closed(&self.closed, session, line) {
             return Some(None);
+        }
+        if is_after(&self.last, session, line) {
+            return None;
         }
         self.others.get(&(session, line)).copied()
     }
@@ -112,10 +146,10 @@ impl LineStates {
         if is_closed(&self.closed, session, line) {
             return;
         }
-        let waits = matches!(entry.answer, Answer::Waits);
-        if !waits && close_next(&mut self.closed, session, line) {
+        if close_next(&mut self.closed, session, line, entry) {
             return;
         }
-        put(&mut self.others, session, line, entry, place);
+        let is_new = raise(&mut self.last, session, line);
+        put(&mut self.others, (session, line), is_new, entry, place);
     }
 }
