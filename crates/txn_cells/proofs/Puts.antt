@@ -73,6 +73,10 @@ pub at_ok : {A E : Type 0} {Q : Type 0} (r : Result A E) → OnOk r Q → is_err
 at_ok (Ok x) q e = q
 at_ok (Err x) q e = absurd (true≢false e)
 
+pub in_err : {A E : Type 0} {Q : Type 0} (r : Result A E) → OnErr r Q → is_err r ≡ true → Q
+in_err (Ok x) q e = absurd (false≢true e)
+in_err (Err x) q e = q
+
 -- where nothing is kept at a key an empty list there is as none
 pub held_empty : {V : Type 0} (kept : AtKeys V) (k : List ℕ) → is_some (lookup (label_eq k) kept) ≡ false
     → (q : List ℕ) → unwrap_or (cond (label_eq k q) (Some []) (lookup (label_eq q) kept)) [] ≡ held_at kept q

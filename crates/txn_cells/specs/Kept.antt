@@ -77,6 +77,10 @@ few = 4
 abbrev pub HasMarksPastFew : {V : Type 0} → (V → Bool) → List ℕ → List (Option V) → List ℕ → ℕ → Type 0
 HasMarksPastFew outstanding numbers contents marked room = few < length numbers → HasMarks outstanding numbers contents marked room
 
+-- so many contents lie in the value itself
+abbrev pub in_value : ℕ
+in_value = 4
+
 -- ---- at all keys
 
 abbrev pub AtKeys : Type 0 → Type 0

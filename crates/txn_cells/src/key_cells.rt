@@ -6,24 +6,23 @@ ghost use Rattle.std.specs.Map.{keys_of};
 ghost use Rattle.txn_cells.specs.Cells.{is_it, merged};
 ghost use Rattle.txn_cells.specs.Kept.{content_of, holds, stands};
 
+use crate::contents::Contents;
 use crate::inherit::Inherit;
 use crate::marks::{FEW, make_room_to_mark};
 use crate::numbers::{Numbers, find, put_in, take_from};
 use serial_spec::NoMemory;
 use std::alloc::Global;
-use std::collections::VecDeque;
 use std::marker::Model;
 use txn_tree::TxnNo;
 
 /// What all transactions have at one key. It has the numbers of those that have a place there, each
-/// once, rising; and in the same order what each has, in a queue, so that what stands near either
-/// end is put in and taken out without moving the rest. Where they are more than a few, at least
-/// those whose content stands out are marked, rising too, and there is room to mark all. Of a few no
-/// marks are kept, since it costs less to go through them all.
+/// once, rising; and in the same order what each has. Where they are more than a few, at least those
+/// whose content stands out are marked, rising too, and there is room to mark all. Of a few no marks
+/// are kept, since it costs less to go through them all.
 #[derive(Drop)]
 pub struct KeyCells<V: Inherit> {
     numbers: Numbers,
-    contents: VecDeque<Option<V>>,
+    contents: Contents<V>,
     marked: Vec<TxnNo>,
 }
 
@@ -35,11 +34,11 @@ impl<V: Inherit> Model for KeyCells<V> {
 
     ghost Value = { Held V };
 
-    ghost view = { λ h. zip h.numbers h.contents.items };
+    ghost view = { λ h. zip h.numbers h.contents };
 
     ghost invariant = { λ h.
-        IsStrictlyIncreasing h.numbers × (length h.contents.items ≡ length h.numbers)
-        × HasMarksPastFew V.outstanding h.numbers h.contents.items h.marked.items
+        IsStrictlyIncreasing h.numbers × (length h.contents ≡ length h.numbers)
+        × HasMarksPastFew V.outstanding h.numbers h.contents h.marked.items
         (vec_capacity h.marked) };
 }
 
@@ -50,7 +49,7 @@ impl<V: Inherit> KeyCells<V> {
     {
         KeyCells {
             numbers: Numbers::new(alloc),
-            contents: VecDeque::new(alloc),
+            contents: Contents::new(alloc),
             marked: Vec::new(alloc),
         }
     }
@@ -88,7 +87,7 @@ impl<V: Inherit> KeyCells<V> {
         ensures none { IfNone result (IsFalse (holds self.now txn)) }
     {
         match find(self.numbers.as_slice(), txn) {
-            Ok(place) => Some((place, self.contents[place])),
+            Ok(place) => Some((place, self.contents.at(place))),
             Err(_) => None,
         }
     }
@@ -112,10 +111,12 @@ impl<V: Inherit> KeyCells<V> {
         ensures err { OnErr result (self.new ≡ self.old) }
     {
         make_room_to_mark(&mut self.marked, self.numbers.as_slice(), &self.contents)?;
-        self.contents.reserve(1)?;
-        self.numbers.insert(place, txn)?;
-        self.contents.insert(place, None).unwrap();
-        Ok(())
+        self.contents.insert(place)?;
+        let put = self.numbers.insert(place, txn);
+        if put.is_err() {
+            self.contents.remove(place);
+        }
+        put
     }
 
     /// Makes an empty place for the transaction, if it has none, and tells whether it had none.
@@ -143,7 +144,7 @@ impl<V: Inherit> KeyCells<V> {
             else content_of self.old u) }
         ensures places { (u : ℕ) → holds self.new u ≡ holds self.old u }
     {
-        self.contents[place] = Some(value);
+        self.contents.put(place, value);
         if self.numbers.len() > FEW && value.stands_out() {
             put_in(&mut self.marked, txn);
         }
@@ -187,7 +188,7 @@ impl<V: Inherit> KeyCells<V> {
                 if self.numbers.len() > FEW {
                     take_from(&mut self.marked, txn);
                 }
-                self.contents.remove(place).unwrap()
+                self.contents.remove(place)
             }
             Err(_) => None,
         }

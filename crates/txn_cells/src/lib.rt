@@ -2,6 +2,8 @@
 //! dropped without memory.
 #![tactic(auto)]
 
+mod contents;
+mod few_contents;
 mod inherit;
 mod key_cells;
 mod key_lists;

@@ -5,9 +5,9 @@ ghost use Rattle.std.specs.List.{zip};
 ghost use Rattle.std.specs.List.Sorted.{IsStrictlyIncreasing};
 ghost use Rattle.txn_cells.specs.Kept.{HasMarks, HasMarksPastFew, content_of, few, stands};
 
+use crate::contents::Contents;
 use crate::inherit::Inherit;
 use serial_spec::NoMemory;
-use std::collections::VecDeque;
 use txn_tree::TxnNo;
 
 /// So few are gone through one by one, and no marks are kept of them.
@@ -28,18 +28,18 @@ fn stands_out<V: Inherit>(content: Option<V>) -> bool
 fn mark_all<V: Inherit>(
     marked: &mut Vec<TxnNo>,
     numbers: &[TxnNo],
-    contents: &VecDeque<Option<V>>,
+    contents: &Contents<V>,
 ) -> Result<(), NoMemory>
     requires rising { IsStrictlyIncreasing numbers.now }
-    requires same { length contents.now.items ≡ length numbers.now }
+    requires same { length contents.now ≡ length numbers.now }
     ensures marks { OnOk result (marked.new.items ≡ filter (λ u. stands V.outstanding
-        (content_of (zip numbers.now contents.now.items) u)) numbers.now) }
+        (content_of (zip numbers.now contents.now) u)) numbers.now) }
     ensures room { OnOk result (length numbers.now < vec_capacity marked.new) }
 {
     marked.clear();
     marked.reserve(numbers.len() + 1)?;
     for (place, txn) in numbers.iter().enumerate() {
-        if stands_out(contents[place]) {
+        if stands_out(contents.at(place)) {
             marked.push(*txn).unwrap();
         }
     }
@@ -51,16 +51,16 @@ fn mark_all<V: Inherit>(
 pub(crate) fn make_room_to_mark<V: Inherit>(
     marked: &mut Vec<TxnNo>,
     numbers: &[TxnNo],
-    contents: &VecDeque<Option<V>>,
+    contents: &Contents<V>,
 ) -> Result<(), NoMemory>
     requires rising { IsStrictlyIncreasing numbers.now }
-    requires same { length contents.now.items ≡ length numbers.now }
-    requires marks { HasMarksPastFew V.outstanding numbers.now contents.now.items
+    requires same { length contents.now ≡ length numbers.now }
+    requires marks { HasMarksPastFew V.outstanding numbers.now contents.now
         marked.old.items (vec_capacity marked.old) }
-    ensures kept { HasMarksPastFew V.outstanding numbers.now contents.now.items
+    ensures kept { HasMarksPastFew V.outstanding numbers.now contents.now
         marked.new.items (vec_capacity marked.new) }
     ensures marks { OnOk result (few ≤ length numbers.now → HasMarks V.outstanding
-        numbers.now contents.now.items marked.new.items (vec_capacity marked.new)) }
+        numbers.now contents.now marked.new.items (vec_capacity marked.new)) }
     ensures room { OnOk result (few ≤ length numbers.now →
         length numbers.now < vec_capacity marked.new) }
 {

@@ -7,7 +7,7 @@ pub returns-then-count-eq-FEW-clause-marks : goal.returns-then-count-eq-FEW-clau
 returns-then-count-eq-FEW-clause-marks g c =
     let out = g.V.Inherit.outstanding in
     let ns : List ℕ = c.args.numbers.now in
-    let cs = c.args.contents.now.items in
+    let cs = c.args.contents.now in
     let room : ℕ = vec_capacity c.mark_all.new.marked in
     both_on_ok c.mark_all.result (λ is more _.
     subst (λ (ms : List ℕ). HasMarks out ns cs ms room) (sym is) (marks_made out ns cs c.requires.rising c.requires.same room more)) c.mark_all.ensures.marks c.mark_all.ensures.room

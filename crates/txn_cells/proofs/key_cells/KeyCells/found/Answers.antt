@@ -1,5 +1,6 @@
 use Rattle.std.proofs.Common.{ap, slice_get, sym, ◌∙◌}
 use Rattle.std.proofs.lemmas.Map.Made.{keys_of-zip}
+use Rattle.std.proofs.lemmas.Option.{get_or_from_slice_get}
 use Rattle.txn_cells.proofs.Holding.{has_content, not_there}
 use Rattle.txn_cells.proofs.key_cells.KeyCells.found.Goals as goal
 
@@ -9,7 +10,7 @@ returns-in-Ok-clause-at g c =
     let i = c.self.invariant in
     let at = rw c.as_slice.ensures at c.in-Ok.ensures.there in
     rw (sym c.self.view_is)
-    (ap (λ ns. slice_get ns c.in-Ok.place) (keys_of-zip h.numbers h.contents.items i.1) ∙ at)
+    (ap (λ ns. slice_get ns c.in-Ok.place) (keys_of-zip h.numbers h.contents i.1) ∙ at)
 
 pub returns-in-Ok-clause-had : goal.returns-in-Ok-clause-had
 returns-in-Ok-clause-had g c =
@@ -17,11 +18,11 @@ returns-in-Ok-clause-had g c =
     let i = c.self.invariant in
     let at = rw c.as_slice.ensures at c.in-Ok.ensures.there in
     rw (sym c.self.view_is)
-    (c.index.ensures
-    ∙ sym (has_content h.numbers h.contents.items i.0 i.1 c.args.txn c.in-Ok.place at c.index.result.now))
+    (sym (get_or_from_slice_get h.contents c.in-Ok.place c.at.result c.at.result c.at.ensures)
+    ∙ sym (has_content h.numbers h.contents i.0 i.1 c.args.txn c.in-Ok.place at c.at.result))
 
 pub returns-in-Err-clause-none : goal.returns-in-Err-clause-none
 returns-in-Err-clause-none g c =
     let h = c.self.inside in
     let absent = rw c.as_slice.ensures at c.in-Err.ensures.absent in
-    rw (sym c.self.view_is) (not_there h.numbers h.contents.items c.self.invariant.1 c.args.txn absent)
+    rw (sym c.self.view_is) (not_there h.numbers h.contents c.self.invariant.1 c.args.txn absent)

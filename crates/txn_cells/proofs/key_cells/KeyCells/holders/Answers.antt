@@ -6,4 +6,4 @@ use Rattle.txn_cells.proofs.key_cells.KeyCells.holders.Goals as goal
 pub returns-clause-each : goal.returns-clause-each
 returns-clause-each g c =
     let h = c.self.inside in
-    rw (sym c.self.view_is) (λ u. ap (list_any (nat_eq u)) c.as_slice.ensures ∙ sym (listed h.numbers h.contents.items c.self.invariant.1 u))
+    rw (sym c.self.view_is) (λ u. ap (list_any (nat_eq u)) c.as_slice.ensures ∙ sym (listed h.numbers h.contents c.self.invariant.1 u))

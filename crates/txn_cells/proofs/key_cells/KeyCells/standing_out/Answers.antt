@@ -9,12 +9,12 @@ pub returns-then-len-le-FEW-clause-all : goal.returns-then-len-le-FEW-clause-all
 returns-then-len-le-FEW-clause-all g c =
     let h = c.self.inside in
     rw (sym c.self.view_is, c.as_slice.ensures)
-    (λ u e. sym (listed h.numbers h.contents.items c.self.invariant.1 u) ∙ has_place g.V.Inherit.outstanding (zip h.numbers h.contents.items) u e)
+    (λ u e. sym (listed h.numbers h.contents c.self.invariant.1 u) ∙ has_place g.V.Inherit.outstanding (zip h.numbers h.contents) u e)
 
 pub returns-then-len-le-FEW-clause-places : goal.returns-then-len-le-FEW-clause-places
 returns-then-len-le-FEW-clause-places g c =
     let h = c.self.inside in
-    rw (sym c.self.view_is, c.as_slice.ensures) (λ u e. listed h.numbers h.contents.items c.self.invariant.1 u ∙ e)
+    rw (sym c.self.view_is, c.as_slice.ensures) (λ u e. listed h.numbers h.contents c.self.invariant.1 u ∙ e)
 
 pub returns-else-len-le-FEW-clause-places : goal.returns-else-len-le-FEW-clause-places
 returns-else-len-le-FEW-clause-places g c =
@@ -22,4 +22,4 @@ returns-else-len-le-FEW-clause-places g c =
     let numbers : List ℕ = h.numbers in
     let many : few < length numbers = omega (arith, c.if-len-le-FEW.false, c.len.ensures) in
     rw (sym c.self.view_is, c.as_slice-else-len-le-FEW.ensures.value)
-    (λ u e. listed h.numbers h.contents.items c.self.invariant.1 u ∙ (c.self.invariant.2 many).among.within u e)
+    (λ u e. listed h.numbers h.contents c.self.invariant.1 u ∙ (c.self.invariant.2 many).among.within u e)
