@@ -102,7 +102,7 @@ impl Tables {
         };
         // One that has to wait takes no place at what it asks for, so that those with a place are
         // those with a lock.
-        if !self.may(txn, asked) {
+        if !self.may_remembering(txn, asked) {
             return Ok(Attempt::Waits);
         }
         self.estate.reserve_asked(txn, asked)?;

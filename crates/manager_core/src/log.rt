@@ -4,16 +4,17 @@ ghost use Rattle.std.specs.List.{list_any};
 ghost use Rattle.txn_names.specs.Path.{label_eq};
 ghost use Rattle.serial_spec.specs.declared.entry.Answer.TheVariants.{Stuck};
 ghost use Rattle.serial_spec.specs.Allowed.{known};
+ghost use Rattle.serial_spec.specs.History.{event_of};
 ghost use Rattle.txn_history.specs.Lines.{IsLineFree, OnlyWaits};
 ghost use Rattle.manager_core.specs.State.{entry};
 ghost use Rattle.manager_core.specs.Outcomes.{answer_of};
 
 use crate::outcome::Outcome;
-use serial_spec::{Answer, By, Entry, Event, NoMemory, PlainTable};
+use serial_spec::{Answer, Asked, By, Entry, Event, NoMemory, PlainTable};
 use std::alloc::Global;
 use std::marker::Model;
 use txn_history::History;
-use txn_names::Key;
+use txn_names::{Key, Name};
 
 /// The entries over the opening rows.
 #[derive(Drop)]
@@ -72,6 +73,21 @@ impl Log {
     {
         let answer = outcome.answer();
         self.history.push(&Entry { by, event, answer });
+    }
+
+    /// Adds the entry of what is asked of a transaction. Each arm makes its event where it is to stand, so that it is copied once.
+    #[inline(always)]
+    pub(crate) fn add_asked(&mut self, by: By, name: &Name, asked: &Asked, outcome: &Outcome)
+        requires { 0 < self.old.room }
+        ensures rows { self.new.rows ≡ self.old.rows }
+        ensures entries { self.new.entries
+            ≡ entry by (event_of name.now asked.now) (answer_of outcome.now) ∷ self.old.entries }
+        ensures room { self.old.room ≤ self.new.room + 1 }
+    {
+        match asked {
+            Asked::At(key, op) => self.add(by, Event::Access(*name, *key, *op), outcome),
+            Asked::Over(group) => self.add(by, Event::Sum(*name, *group), outcome),
+        }
     }
 
     /// Adds the entry of a line that is given up.

@@ -72,6 +72,18 @@ impl Tables {
         self.estate.locks().may_ask(&self.tree, txn, asked)
     }
 
+    /// As `may`. A key is looked up once and remembered, so that the place and the lock of the access find it without another
+    /// look-up. It takes no memory.
+    pub(crate) fn may_remembering(&mut self, txn: TxnNo, asked: &Asked) -> bool
+        ensures blocked { (t : Path) → IsNumberOf self.old.tree t txn → (rows : Rows) (h : History)
+            → AreTablesOf rows h self.old → result ≡ not (is_blocked h t asked.now) }
+        ensures locks { IsTrue result
+            ↔ MayAsk self.old.tree self.old.estate.locks txn asked.now }
+        ensures same { self.new ≡ self.old }
+    {
+        self.estate.may_ask_remembering(&self.tree, txn, asked)
+    }
+
     /// Whether nobody waits: it is so exactly where no access waits by any line.
     pub(crate) fn nobody_waits(&self, _log: &Log) -> bool
         requires allowed { AreAllowed _log.now.rows _log.now.entries }

@@ -18,7 +18,7 @@ use crate::breaking::{break_cycles, break_own_cycles};
 use crate::log::Log;
 use crate::outcome::Outcome;
 use crate::tables::Tables;
-use serial_spec::{Asked, Event};
+use serial_spec::Asked;
 use txn_names::Name;
 use wait_graph::{CycleSearch, any_edge_by_way_of};
 
@@ -39,17 +39,6 @@ fn may_close_cycle(tables: &Tables, name: &Name, asked: &Asked) -> bool
     any_edge_by_way_of(tree, locks, waits, txn, &asked.target())
 }
 
-// The event of a line that asks this of the transaction.
-#[inline(always)]
-fn event_of(name: &Name, asked: &Asked) -> Event
-    ensures { result ≡ event_of name.now asked.now }
-{
-    match asked {
-        Asked::At(key, op) => Event::Access(*name, *key, *op),
-        Asked::Over(group) => Event::Sum(*name, *group),
-    }
-}
-
 /// Enters an access, which the tables have, and aborts the last begun of those that lie on a cycle of waits, until no cycle is
 /// left. It takes no memory: there is room for the entry, to abort all that wait, and to look for them.
 #[inline(always)]
@@ -68,7 +57,7 @@ pub(crate) fn settle(
         (answer_of outcome.now) ∷ log.old.entries) log.new tables.old tables.new }
 {
     let Request { by, name, asked } = *request;
-    log.add(by, event_of(name, asked), outcome);
+    log.add_asked(by, name, asked, outcome);
     match outcome {
         // One that began to wait adds pairs of its own transaction alone, so that each cycle goes through it.
         Outcome::Waits => break_own_cycles(log, tables, breaker, name),

@@ -9,27 +9,27 @@ use Rattle.manager_core.proofs.tables.Tables.access.Goals as goal
 pub grant-reply-requires-clause-may : goal.grant-reply-requires-clause-may
 grant-reply-requires-clause-may c =
     let m = c.self.inside in
-    let locks = rw (← c.self.view_is) at c.may.ensures.locks in
-    may_same m.tree m.estate.locks c.reserve_asked.new.self.locks c.reserve_asked.ensures.same.modes c.in-Some.txn c.args.request.now.asked.now (locks.0 c.if-not-may.false)
+    let locks = rw (← (c.self.view_is ∙ c.may_remembering.ensures.same)) at c.may_remembering.ensures.locks in
+    may_same m.tree m.estate.locks c.reserve_asked.new.self.locks c.reserve_asked.ensures.same.modes c.in-Some.txn c.args.request.now.asked.now (locks.0 c.if-not-may_remembering.false)
 
 pub returns-clause-comes : goal.returns-clause-comes
 returns-clause-comes c =
     let log = c.args.log.now in
     let asked = c.args.request.now in
     let m : Tabled = record { tree = c.self.inside.tree; marks = c.self.inside.marks; estate = c.self.inside.estate; waits = c.self.inside.waits } in
-    let are = rw (← c.self.view_is) at c.requires.are in
+    let are = rw (← (c.self.view_is ∙ c.may_remembering.ensures.same)) at c.requires.are in
     let mid : Tabled = record { tree = m.tree; marks = m.marks; estate = c.reserve_asked.new.self; waits = m.waits } in
     let same : HasOtherRoom m mid = record { tree = refl; marks = refl; estate = c.reserve_asked.ensures.same; waits = λ n. refl } in
-    let number = rw (← c.self.view_is) at c.in-Some.ensures.number in
-    let locks = rw (← c.self.view_is) at c.may.ensures.locks in
-    let may = may_same m.tree m.estate.locks c.reserve_asked.new.self.locks c.reserve_asked.ensures.same.modes c.in-Some.txn asked.asked.now (locks.0 c.if-not-may.false) in
+    let number = rw (← (c.self.view_is ∙ c.may_remembering.ensures.same)) at c.in-Some.ensures.number in
+    let locks = rw (← (c.self.view_is ∙ c.may_remembering.ensures.same)) at c.may_remembering.ensures.locks in
+    let may = may_same m.tree m.estate.locks c.reserve_asked.new.self.locks c.reserve_asked.ensures.same.modes c.in-Some.txn asked.asked.now (locks.0 c.if-not-may_remembering.false) in
     comes_done log.rows log.entries m mid c.requires.allowed are same asked.name.now c.in-Some.txn number asked.asked.now asked.by c.in-Some.ensures.some c.grant-reply.result may c.grant-reply.ensures.reply
 
-pub returns-then-not-may-clause-comes : goal.returns-then-not-may-clause-comes
-returns-then-not-may-clause-comes c =
+pub returns-then-not-may_remembering-clause-comes : goal.returns-then-not-may_remembering-clause-comes
+returns-then-not-may_remembering-clause-comes c =
     let log = c.args.log.now in (
       c.in-Some.ensures.some,
-      kept_by_lock _ c.may.result (c.may.ensures.blocked c.args.request.now.name.now c.in-Some.ensures.number log.rows log.entries c.requires.are) c.if-not-may.true,
+      kept_by_lock _ c.may_remembering.result (c.may_remembering.ensures.blocked c.args.request.now.name.now c.in-Some.ensures.number log.rows log.entries c.requires.are) c.if-not-may_remembering.true,
     )
 
 pub returns-clause-reaches : goal.returns-clause-reaches
@@ -37,13 +37,13 @@ returns-clause-reaches c =
     let log = c.args.log.now in
     let asked = c.args.request.now in
     let m : Tabled = record { tree = c.self.inside.tree; marks = c.self.inside.marks; estate = c.self.inside.estate; waits = c.self.inside.waits } in
-    let are = rw (← c.self.view_is) at c.requires.are in
+    let are = rw (← (c.self.view_is ∙ c.may_remembering.ensures.same)) at c.requires.are in
     let mid : Tabled = record { tree = m.tree; marks = m.marks; estate = c.reserve_asked.new.self; waits = m.waits } in
     let roomy = c.reserve_asked.ensures.same in
     let same : HasOtherRoom m mid = record { tree = refl; marks = refl; estate = roomy; waits = λ n. refl } in
-    let number = rw (← c.self.view_is) at c.in-Some.ensures.number in
+    let number = rw (← (c.self.view_is ∙ c.may_remembering.ensures.same)) at c.in-Some.ensures.number in
     let has = c.grant-reply.ensures.accessed in
-    rw (← c.self.view_is) (record {
+    rw (← (c.self.view_is ∙ c.may_remembering.ensures.same)) (record {
       tree = refl;
       marks = refl;
       modes = modes_by_name log.rows log.entries m mid c.requires.allowed are same asked.name.now c.in-Some.txn number asked.asked.now c.grant-reply.new.self c.grant-reply.result has;
