@@ -36,26 +36,12 @@ impl<V: Copy> FewContents<V> {
     pub(crate) fn new() -> Self
         ensures { result ≡ [] }
     {
-        Self::of(0, None, None, None, None)
-    }
-
-    // The first so many of these contents.
-    fn of(
-        count: usize,
-        first: Option<V>,
-        second: Option<V>,
-        third: Option<V>,
-        fourth: Option<V>,
-    ) -> Self
-        requires { count ≤ in_value }
-        ensures { result ≡ take count (first ∷ second ∷ third ∷ fourth ∷ []) }
-    {
         FewContents {
-            count,
-            first,
-            second,
-            third,
-            fourth,
+            count: 0,
+            first: None,
+            second: None,
+            third: None,
+            fourth: None,
         }
     }
 
@@ -99,13 +85,25 @@ impl<V: Copy> FewContents<V> {
         requires room { length self.old < in_value }
         ensures { self.new ≡ insert self.old place None }
     {
-        let count = self.count + 1;
-        *self = match place {
-            0 => Self::of(count, None, self.first, self.second, self.third),
-            1 => Self::of(count, self.first, None, self.second, self.third),
-            2 => Self::of(count, self.first, self.second, None, self.third),
-            _ => Self::of(count, self.first, self.second, self.third, None),
-        };
+        match place {
+            0 => {
+                self.fourth = self.third;
+                self.third = self.second;
+                self.second = self.first;
+                self.first = None;
+            }
+            1 => {
+                self.fourth = self.third;
+                self.third = self.second;
+                self.second = None;
+            }
+            2 => {
+                self.fourth = self.third;
+                self.third = None;
+            }
+            _ => self.fourth = None,
+        }
+        self.count += 1;
     }
 
     /// Takes out the content at this place, and gives it.
@@ -115,13 +113,20 @@ impl<V: Copy> FewContents<V> {
         ensures left { self.new ≡ remove self.old place }
     {
         let had = self.at(place);
-        let count = self.count - 1;
-        *self = match place {
-            0 => Self::of(count, self.second, self.third, self.fourth, None),
-            1 => Self::of(count, self.first, self.third, self.fourth, None),
-            2 => Self::of(count, self.first, self.second, self.fourth, None),
-            _ => Self::of(count, self.first, self.second, self.third, None),
-        };
+        match place {
+            0 => {
+                self.first = self.second;
+                self.second = self.third;
+                self.third = self.fourth;
+            }
+            1 => {
+                self.second = self.third;
+                self.third = self.fourth;
+            }
+            2 => self.third = self.fourth,
+            _ => {}
+        }
+        self.count -= 1;
         had
     }
 }

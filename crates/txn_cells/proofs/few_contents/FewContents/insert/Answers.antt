@@ -16,16 +16,16 @@ returns g c =
     let room : n < 4 = omega (arith, left, long) in
     elim c.match-place.branch [
       | in-0 w ↦
-          rw (c.self-2.view_is, sym c.self.view_is, w.self-is, w.of.ensures)
+          rw (w.self-inside-is, sym c.self.view_is)
           (put_in_first n (n + 1) i xs (None ∷ f.first ∷ f.second ∷ f.third ∷ []) None f.fourth refl (rw w.in-0.is refl) room within c.self.invariant)
       | in-1 w ↦
-          rw (c.self-2.view_is, sym c.self.view_is, w.self-is, w.of-in-1.ensures)
+          rw (w.self-inside-is, sym c.self.view_is)
           (put_in_first n (n + 1) i xs (f.first ∷ None ∷ f.second ∷ f.third ∷ []) None f.fourth refl (rw w.in-1.is refl) room within c.self.invariant)
       | in-2 w ↦
-          rw (c.self-2.view_is, sym c.self.view_is, w.self-is, w.of-in-2.ensures)
+          rw (w.self-inside-is, sym c.self.view_is)
           (put_in_first n (n + 1) i xs (f.first ∷ f.second ∷ None ∷ f.third ∷ []) None f.fourth refl (rw w.in-2.is refl) room within c.self.invariant)
       | in_default w ↦
           let last : i ≡ 3 = omega (arith, within, room, w.in_default) in
-          rw (c.self-2.view_is, sym c.self.view_is, w.self-is, w.of-in_default.ensures)
+          rw (w.self-inside-is, sym c.self.view_is)
           (put_in_first n (n + 1) i xs (f.first ∷ f.second ∷ f.third ∷ None ∷ []) None f.fourth refl (rw last refl) room within c.self.invariant)
     ]

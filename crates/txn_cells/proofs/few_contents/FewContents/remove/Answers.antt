@@ -15,16 +15,16 @@ returns-clause-left g c =
     let within : i < n = omega (arith, asked, long) in
     elim c.match-place.branch [
       | in-0 w ↦
-          rw (c.self-2.view_is, sym c.self.view_is, w.self-is, w.of.ensures)
-          (taken_from_first n (n - 1) i xs (f.second ∷ f.third ∷ f.fourth ∷ None ∷ []) None refl (rw w.in-0.is refl) within fits)
+          rw (w.self-inside-is, sym c.self.view_is)
+          (taken_from_first n (n - 1) i xs (f.second ∷ f.third ∷ f.fourth ∷ f.fourth ∷ []) f.fourth refl (rw w.in-0.is refl) within fits)
       | in-1 w ↦
-          rw (c.self-2.view_is, sym c.self.view_is, w.self-is, w.of-in-1.ensures)
-          (taken_from_first n (n - 1) i xs (f.first ∷ f.third ∷ f.fourth ∷ None ∷ []) None refl (rw w.in-1.is refl) within fits)
+          rw (w.self-inside-is, sym c.self.view_is)
+          (taken_from_first n (n - 1) i xs (f.first ∷ f.third ∷ f.fourth ∷ f.fourth ∷ []) f.fourth refl (rw w.in-1.is refl) within fits)
       | in-2 w ↦
-          rw (c.self-2.view_is, sym c.self.view_is, w.self-is, w.of-in-2.ensures)
-          (taken_from_first n (n - 1) i xs (f.first ∷ f.second ∷ f.fourth ∷ None ∷ []) None refl (rw w.in-2.is refl) within fits)
+          rw (w.self-inside-is, sym c.self.view_is)
+          (taken_from_first n (n - 1) i xs (f.first ∷ f.second ∷ f.fourth ∷ f.fourth ∷ []) f.fourth refl (rw w.in-2.is refl) within fits)
       | in_default w ↦
           let last : i ≡ 3 = omega (arith, within, fits, w.in_default) in
-          rw (c.self-2.view_is, sym c.self.view_is, w.self-is, w.of-in_default.ensures)
-          (taken_from_first n (n - 1) i xs (f.first ∷ f.second ∷ f.third ∷ None ∷ []) None refl (rw last refl) within fits)
+          rw (w.self-inside-is, sym c.self.view_is)
+          (taken_from_first n (n - 1) i xs (f.first ∷ f.second ∷ f.third ∷ f.fourth ∷ []) f.fourth refl (rw last refl) within fits)
     ]
