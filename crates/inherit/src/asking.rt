@@ -76,6 +76,7 @@ impl Estate {
 
     /// Whether no lock keeps the transaction from what it asks, as `may_ask` of the locks tells it. A key is looked up once and
     /// remembered, so that `reserve_asked` and `grant` find its lock without another look-up. Nothing changes, and it takes no memory.
+    #[inline(always)]
     pub fn may_ask_remembering(&mut self, tree: &Tree, txn: TxnNo, asked: &Asked) -> bool
         ensures may { IsTrue result ↔ MayAsk tree.now self.old.locks txn asked.now }
         ensures same { self.new ≡ self.old }

@@ -22,6 +22,7 @@ impl TargetLocks {
 
     /// As `may_ask`. A key is looked up once and remembered, so that `reserve_asked` and `hold_asked` find its lock without another
     /// look-up. No lock and no place changes, and it takes no memory.
+    #[inline(always)]
     pub fn may_ask_remembering(&mut self, tree: &Tree, txn: TxnNo, asked: &Asked) -> bool
         ensures may { IsTrue result ↔ MayAsk tree.now self.old txn asked.now }
         ensures same { self.new ≡ self.old }

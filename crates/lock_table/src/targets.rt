@@ -97,6 +97,7 @@ impl TargetLocks {
     }
 
     // The same, where this says whether nobody keeps the transaction out by a lock on the key.
+    #[inline(always)]
     fn may_by(&self, is_let: bool, tree: &Tree, txn: TxnNo, key: &Key, kind: Kind) -> bool
         requires { is_let ≡ not (is_blocked_in tree.now self.now.keys txn key.now kind) }
         ensures { IsTrue result ↔ MayAt tree.now self.now txn (target.Key key.now) kind }
@@ -109,6 +110,7 @@ impl TargetLocks {
 
     /// As `may`. The key is looked up once and remembered, so that `reserve` and `hold` find its lock without another look-up. No lock
     /// and no place changes, and it takes no memory.
+    #[inline(always)]
     pub fn may_remembering(&mut self, tree: &Tree, txn: TxnNo, key: &Key, kind: Kind) -> bool
         ensures may { IsTrue result ↔ MayAt tree.now self.old txn (target.Key key.now) kind }
         ensures same { self.new ≡ self.old }

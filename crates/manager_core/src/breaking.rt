@@ -111,6 +111,7 @@ pub(crate) fn break_own_cycles(
 }
 
 /// Makes room for an entry after which one more may wait, and for breaking the cycles that come of it.
+#[inline(always)]
 pub(crate) fn reserve_step(
     log: &mut Log,
     tables: &mut Tables,

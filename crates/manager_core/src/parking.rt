@@ -74,6 +74,7 @@ impl Tables {
 
     /// As `may`. A key is looked up once and remembered, so that the place and the lock of the access find it without another
     /// look-up. It takes no memory.
+    #[inline(always)]
     pub(crate) fn may_remembering(&mut self, txn: TxnNo, asked: &Asked) -> bool
         ensures blocked { (t : Path) → IsNumberOf self.old.tree t txn → (rows : Rows) (h : History)
             → AreTablesOf rows h self.old → result ≡ not (is_blocked h t asked.now) }

@@ -25,6 +25,7 @@ use wait_graph::{CycleSearch, any_edge_by_way_of};
 // Whether the access that was answered last may have closed a cycle of waits. No cycle stood before, and it adds pairs of those
 // alone whom its lock keeps out of what has a key in common with it, and those that wait in its branch: so it closes none unless
 // there are both. Where nobody waits no cycle stands. It takes no memory.
+#[inline(always)]
 fn may_close_cycle(tables: &Tables, name: &Name, asked: &Asked) -> bool
     ensures { IsFalse result → (rows : Rows) (h : History) (by : By) (reply : Reply) →
         StaysQuiet rows (entry by (event_of name.now asked.now) (Done reply)) h tables.now }

@@ -39,6 +39,7 @@ impl<V: Copy> Contents<V> {
     }
 
     /// The content at this place.
+    #[inline(always)]
     pub(crate) fn at(&self, place: usize) -> Option<V>
         requires { place < length self.now }
         ensures { slice_get self.now place ≡ Some result }
@@ -51,6 +52,7 @@ impl<V: Copy> Contents<V> {
     }
 
     /// Sets the content at this place. It takes no memory.
+    #[inline(always)]
     pub(crate) fn put(&mut self, place: usize, value: V)
         requires { place < length self.old }
         ensures { self.new ≡ slice_set self.old place (Some value) }
@@ -83,6 +85,7 @@ impl<V: Copy> Contents<V> {
     }
 
     /// Takes out the content at this place, and gives it. It takes no memory.
+    #[inline(always)]
     pub(crate) fn remove(&mut self, place: usize) -> Option<V>
         requires { place < length self.old }
         ensures had { slice_get self.old place ≡ Some result }

@@ -54,6 +54,7 @@ impl<V: Copy> FewContents<V> {
     }
 
     /// The content at this place.
+    #[inline(always)]
     pub(crate) fn at(&self, place: usize) -> Option<V>
         requires { place < length self.now }
         ensures { slice_get self.now place ≡ Some result }
@@ -67,6 +68,7 @@ impl<V: Copy> FewContents<V> {
     }
 
     /// Sets the content at this place.
+    #[inline(always)]
     pub(crate) fn put(&mut self, place: usize, content: Option<V>)
         requires { place < length self.old }
         ensures { self.new ≡ slice_set self.old place content }
@@ -80,6 +82,7 @@ impl<V: Copy> FewContents<V> {
     }
 
     /// Puts an empty content in at this place. There is room for it.
+    #[inline(always)]
     pub(crate) fn insert(&mut self, place: usize)
         requires within { place ≤ length self.old }
         requires room { length self.old < in_value }
@@ -107,6 +110,7 @@ impl<V: Copy> FewContents<V> {
     }
 
     /// Takes out the content at this place, and gives it.
+    #[inline(always)]
     pub(crate) fn remove(&mut self, place: usize) -> Option<V>
         requires { place < length self.old }
         ensures had { slice_get self.old place ≡ Some result }
