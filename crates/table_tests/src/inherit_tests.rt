@@ -289,6 +289,7 @@ fn sum_past(rt: &impl Abort, tree: &mut Tree, estate: &mut Estate) {
     assert!(rt; sum(rt, estate, tree, &b, &g) == Some(Reply::Value(most)));
     estate.abort(tree, other);
     assert!(rt; estate.locks().may_ask(tree, top, &removal));
+    assert!(rt; estate.may_ask_remembering(tree, top, &removal));
 }
 
 #[test]

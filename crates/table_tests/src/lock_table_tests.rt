@@ -87,6 +87,7 @@ fn share(rt: &impl Abort, tree: &mut Tree, locks: &mut Locks) {
     }
     for (txn, wanted) in [(a, FREE), (l, (Mode::Read, Mode::None))] {
         assert!(rt; locks.modes_of(txn, &x) == wanted);
+        assert!(rt; locks.modes_listed(txn, 0, &x) == wanted);
     }
     assert!(rt; locks.may(tree, c, &x, Kind::Read) && !locks.may(tree, c, &x, Kind::Write));
     assert!(rt;

@@ -127,7 +127,8 @@ fn nest(rt: &impl Abort, tree: &mut Tree, locks: &mut TargetLocks) {
     ] {
         assert!(rt; may_write(rt, locks, tree, txn, text) == wanted);
     }
-    assert!(rt; locks.may(tree, b, &key(rt, b"g.h.x"), Kind::Read));
+    assert!(rt; locks.may_remembering(tree, b, &key(rt, b"g.h.x"), Kind::Read));
+    assert!(rt; !locks.may_remembering(tree, b, &key(rt, b"g.h.x"), Kind::Write));
     assert!(rt; may_sum(rt, locks, tree, b, b"g.h") && may_sum(rt, locks, tree, b, b"g"));
     hand_up(rt, locks, l, a);
     assert!(rt; locks.group_modes_of(a, &group(rt, b"g.h")) == (Mode::None, Mode::Read));
@@ -167,6 +168,7 @@ fn shut(rt: &impl Abort, tree: &mut Tree, locks: &mut TargetLocks) {
     assert!(rt; locks.blocks_group(tree, l, b, &group(rt, b"g")));
     hand_up(rt, locks, l, a);
     assert!(rt; locks.modes_of(a, &key(rt, b"g.h.x")) == (Mode::None, Mode::Write));
+    assert!(rt; locks.modes_listed(a, 0, &key(rt, b"g.h.x")) == (Mode::None, Mode::Write));
     assert!(rt; may_sum(rt, locks, tree, r, b"g") && !may_sum(rt, locks, tree, b, b"g"));
     assert!(rt; group_blockers(rt, locks, tree, b, b"g.h") == (1, Some(a), Some(a)));
     assert!(rt; locks.keys(a) == [key(rt, b"g.h.x")].as_slice());

@@ -163,7 +163,10 @@ fn one_look_tells_what_all_have(rt: HostRuntime) {
     if join_once(&mut table, txn, &first, Latest(3)).is_err() {
         join_once(&mut table, txn, &first, Latest(3)).expect(&rt, "memory");
     }
-    let seen = table.at(&first).expect(&rt, "somebody has a place");
+    table.remember(&first);
+    let seen = table
+        .at_remembered(&first)
+        .expect(&rt, "somebody has a place");
     assert!(rt; seen.get(top) == Some(Latest(1)) && seen.get(txn) == Some(Latest(3)));
-    assert!(rt; table.get(txn, &key(&rt, 1)) == Some(Latest(2)));
+    assert!(rt; table.get_listed(txn, 1, &key(&rt, 1)) == Some(Latest(2)));
 }
