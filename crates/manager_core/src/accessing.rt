@@ -47,9 +47,10 @@ impl Tables {
         ensures marks { self.new.marks ≡ self.old.marks }
         ensures err { OnErr result (HasOtherRoom self.old self.new) }
     {
-        self.waits.reserve(1)?;
         let attempt = self.access(log, request)?;
         if let Attempt::Waits = attempt {
+            // Nothing has changed yet, so that room for the wait is made where one is to begin.
+            self.waits.reserve(1)?;
             self.start_wait(request);
         }
         Ok(attempt)
