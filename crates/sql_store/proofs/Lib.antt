@@ -13,11 +13,14 @@ pub mod Putting
 pub mod Upserts
 pub mod Updates
 pub mod Inserts
+pub mod Adding
 pub mod Ways
 pub mod Loaded
 pub mod Loads
 pub mod Transactions
 pub mod Composed
+pub mod Pieces
+pub mod Params
 pub mod Counted
 pub mod Forgotten
 pub mod Moving

@@ -35,11 +35,11 @@ either : (b : Bool) (x : Value) → cond b x x ≡ x
 either true x = refl
 either false x = refl
 
-cast_null : cast Integer Null ≡ Null
+pub cast_null : cast Integer Null ≡ Null
 unfolding unary
 cast_null = either _ Null
 
-cast_int : (v : ℤ) → cast Integer (Int v) ≡ Int v
+pub cast_int : (v : ℤ) → cast Integer (Int v) ≡ Int v
 unfolding unary
 cast_int v = either _ (Int v)
 

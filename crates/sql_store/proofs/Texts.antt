@@ -1,5 +1,5 @@
 -- What the texts mean.
-use Rattle.std.proofs.Common.{◌≡◌, ◌≤◌, ℕ, List, [], ◌∷◌, ◌++◌, length, codes, None, Some, Result, Ok, Err, refl, ap, arith, lit≤, false, pos, negsuc}
+use Rattle.std.proofs.Common.{◌≡◌, ◌≤◌, ◌+◌, ℕ, zero, suc, List, [], ◌∷◌, ◌++◌, length, codes, None, Some, Result, Ok, Err, refl, ap, arith, lit≤, false, pos, negsuc}
 use Rattle.sqlite.specs.Schema.{Schema}
 use Rattle.sqlite.specs.declared.types.Value.{Value}
 use Rattle.sqlite_resolve.specs.declared.compiled.Compiled.{Compiled}
@@ -22,7 +22,7 @@ use Rattle.sqlite_tied.specs.Compute.{everything}
 use Rattle.sqlite.specs.Listing.{understood, reads_listing}
 use Rattle.sqlite.proofs.Callers.{IsPlain, command_of, statement_of}
 use Rattle.sql_store.specs.Results.{old_results, results, defined_results, old_schema, both_schema, listed_old, listed_both, key_index, no_schema}
-pub use Rattle.sql_store.specs.Asked.{create_old_text, create_text, upsert_text, update_text, insert_text, delete_text, empty_text}
+pub use Rattle.sql_store.specs.Asked.{create_old_text, create_text, upsert_text, update_text, insert_text, insert_4_text, insert_16_text, delete_text, empty_text}
 use Rattle.sql_store.specs.Load.{load_text, load_query, old_text, old_query, ids_text, ids_query, old_ids_text, old_ids_query}
 
 abbrev pub probe_text : List ℕ
@@ -90,6 +90,11 @@ empty_query = plain_query 0 [] (col 1 0 ∷ [])
 abbrev pub insert_terms : List Term
 insert_terms = lit Null ∷ col 0 0 ∷ col 0 1 ∷ col 0 2 ∷ []
 
+-- as many such rows, whose parameters stand one row after another from a place on
+abbrev pub rows_terms : ℕ → ℕ → List Term
+rows_terms from zero = []
+rows_terms from (suc count) = lit Null ∷ col 0 from ∷ col 0 (from + 1) ∷ col 0 (from + 2) ∷ rows_terms (from + 3) count
+
 -- The row that has the rowid of the one that was met, with the new value and number. The three parameters are followed
 -- by that rowid and by the rowid, the key, the value and the number of the row that was to go in.
 abbrev pub upsert_query : Query
@@ -121,6 +126,14 @@ update_is = refl
 pub insert_is : command_of (understood both_schema insert_text) ≡ Insert 1 (Values insert_terms 4)
 unfolding understood everything
 insert_is = refl
+
+pub insert_4_is : command_of (understood both_schema insert_4_text) ≡ Insert 1 (Values (rows_terms 0 4) 4)
+unfolding understood everything
+insert_4_is = refl
+
+pub insert_16_is : command_of (understood both_schema insert_16_text) ≡ Insert 1 (Values (rows_terms 0 16) 4)
+unfolding understood everything
+insert_16_is = refl
 
 pub load_is : command_of (understood both_schema load_text) ≡ Select (record { lets = []; body = load_query }) (codes "k" ∷ codes "v" ∷ codes "n" ∷ [])
 unfolding understood everything
@@ -177,6 +190,14 @@ update_plain = (refl, refl)
 pub insert_plain : IsPlain (understood both_schema insert_text)
 unfolding understood everything
 insert_plain = (refl, refl)
+
+pub insert_4_plain : IsPlain (understood both_schema insert_4_text)
+unfolding understood everything
+insert_4_plain = (refl, refl)
+
+pub insert_16_plain : IsPlain (understood both_schema insert_16_text)
+unfolding understood everything
+insert_16_plain = (refl, refl)
 
 pub load_plain : IsPlain (understood both_schema load_text) × (reads_listing both_schema load_text ≡ false)
 unfolding understood everything

@@ -1,11 +1,12 @@
 -- What a store asked of its connection, and what it was answered, whatever the database has.
-use Rattle.std.specs.Prelude.{◌≡◌, ◌⊎◌, ◌<◌, ℕ, ℤ, false, true, List, [], ◌∷◌, ◌++◌, map, codes, Option, Some, None, Result, Ok, Err, IsTrue}
+use Rattle.std.specs.Prelude.{◌≡◌, ◌⊎◌, ◌<◌, ℕ, ℤ, pos, Bool, false, true, List, [], ◌∷◌, ◌++◌, length, map, codes, Option, Some, None, is_some, unwrap_or, Result, Ok, Err, IsTrue}
+use Rattle.std.specs.List.{list_all}
 use Rattle.sqlite.specs.declared.types.Value.TheVariants.{Text, Int}
 use Rattle.sqlite.specs.declared.error.Error.{Error}
 use Rattle.sqlite.specs.Order.{Row as Values}
 use Rattle.sqlite.specs.Store.{Ghosts}
 use Rattle.sqlite.specs.Held.{Held, state}
-use Rattle.sqlite.specs.State.{Shown, Shows, IsUnchanged, ExecutesInside}
+use Rattle.sqlite.specs.State.{HasCleanDisk, Shown, Shows, IsUnchanged, ExecutesInside}
 use Rattle.txn_names.specs.declared.change.Change.{Change}
 use Rattle.durable_top.specs.declared.store.Row.{Row}
 use Rattle.sql_store.specs.Faults.{breaks_rule}
@@ -27,6 +28,13 @@ update_text = codes "UPDATE results2 SET v = ?2, n = ?3 WHERE k = ?1"
 abbrev pub insert_text : List ℕ
 insert_text = codes "INSERT INTO results2 (k, v, n) VALUES (?1, ?2, ?3)"
 
+-- the same for 4 rows, and for 16
+abbrev pub insert_4_text : List ℕ
+insert_4_text = codes "INSERT INTO results2 (k, v, n) VALUES (?1, ?2, ?3), (?4, ?5, ?6), (?7, ?8, ?9), (?10, ?11, ?12)"
+
+abbrev pub insert_16_text : List ℕ
+insert_16_text = codes "INSERT INTO results2 (k, v, n) VALUES (?1, ?2, ?3), (?4, ?5, ?6), (?7, ?8, ?9), (?10, ?11, ?12), (?13, ?14, ?15), (?16, ?17, ?18), (?19, ?20, ?21), (?22, ?23, ?24), (?25, ?26, ?27), (?28, ?29, ?30), (?31, ?32, ?33), (?34, ?35, ?36), (?37, ?38, ?39), (?40, ?41, ?42), (?43, ?44, ?45), (?46, ?47, ?48)"
+
 abbrev pub delete_text : List ℕ
 delete_text = codes "DELETE FROM results2 WHERE k = ?1"
 
@@ -40,7 +48,38 @@ params_for number key value = Text key ∷ Int value ∷ Int number ∷ []
 abbrev pub params_of : Row → Values
 params_of r = params_for r.commit r.key r.value
 
+-- none of the changes is a removal
+abbrev pub have_values : List Change → Bool
+have_values = list_all (λ c. is_some c.value)
+
+-- the value that a change gives its key, and 0 at a removal, which is never among the rows of an insert
+abbrev pub value_of : Change → ℤ
+value_of c = unwrap_or c.value (pos 0)
+
+-- the parameters of the statements that give each key its value under a number, row after row
+abbrev pub params_all : ℤ → List Change → Values
+params_all number [] = []
+params_all number (c ∷ more) = Text c.key ∷ Int (value_of c) ∷ Int number ∷ params_all number more
+
+-- 4 or 16 changes, of which none is a removal
+pub record AreRows (changes : List Change) : Type 0 where
+  pub values : IsTrue (have_values changes)
+  pub count : (length changes ≡ 4) ⊎ (length changes ≡ 16)
+
+-- what is made by itself or by one statement
+abbrev pub IsPiece : List Change → Type 0
+IsPiece changes = (length changes ≡ 1) ⊎ AreRows changes
+
+-- changes that stand one behind another, cut into pieces
+abbrev pub joined : List (List Change) → List Change
+joined [] = []
+joined (piece ∷ more) = piece ++ joined more
+
 module _ {S : Type 0} (g : Ghosts S) where
+  -- this holds of a call that was made in a transaction, as long as the disk returns what was written
+  abbrev pub IfInside : Held S → Held S → Type 0 → Type 0
+  IfInside old new P = HasCleanDisk (state g new) → IsTrue (state g old).in_transaction → P
+
   -- the statement was executed in a transaction, and this was its answer
   abbrev pub Answered : List ℕ → Values → Held S → Held S → Result ℕ Error → Type 0
   Answered text params old new = ExecutesInside 0 text params (state g old) (state g new)
@@ -83,22 +122,75 @@ module _ {S : Type 0} (g : Ghosts S) where
   FailsToChange number key None old new e = Answered delete_text (Text key ∷ []) old new (Err e)
   FailsToChange number key (Some value) old new e = PutGives (params_for number key value) old new e
 
-  -- each change was made, in turn
-  abbrev pub ExecutedEach : ℤ → List Change → Held S → Held S → Type 0
-  ExecutedEach number [] old new = new ≡ old
-  ExecutedEach number (c ∷ more) old new =
-      (next : Held S) × MakesChange number c.key c.value old next × ExecutedEach number more next new
+  -- each of these changes was made by statements of its own, in turn
+  abbrev pub MakesEach : ℤ → List Change → Held S → Held S → Type 0
+  MakesEach number [] old new = new ≡ old
+  MakesEach number (c ∷ more) old new =
+      (next : Held S) × MakesChange number c.key c.value old next × MakesEach number more next new
 
-  -- the changes before one of them were made in a transaction that was begun, and a statement of that one gave the error
-  pub record ChangeGives (number : ℤ) (changes : List Change) (old : Held S) (e : Error) : Type 0 where
+  -- the changes before one of these were made in turn, and a statement of that one gave the error
+  pub record EachGives (number : ℤ) (changes : List Change) (old new : Held S) (e : Error) : Type 0 where
     pub before : List Change
     pub change : Change
     pub after : List Change
     pub are : changes ≡ before ++ change ∷ after
     pub last : Held S
+    pub executed : MakesEach number before old last
+    pub gives : FailsToChange number change.key change.value last new e
+
+  -- one insert that was to add the rows of all these changes was executed, and this was its answer
+  abbrev pub AnsweredRows : ℤ → List Change → Held S → Held S → Result ℕ Error → Type 0
+  AnsweredRows number rows old new result =
+      IsTrue (have_values rows)
+      × (((length rows ≡ 4) × Answered insert_4_text (params_all number rows) old new result)
+      ⊎ ((length rows ≡ 16) × Answered insert_16_text (params_all number rows) old new result))
+
+  -- that insert was refused since it would have broken a rule of the table
+  abbrev pub AreLeft : ℤ → List Change → Held S → Held S → Type 0
+  AreLeft number rows old new =
+      (e : Error) × IsTrue (breaks_rule e) × AnsweredRows number rows old new (Err e)
+
+  -- Several changes were made: by one insert of all their rows, or each in turn where that left them.
+  abbrev pub MakesRows : ℤ → List Change → Held S → Held S → Type 0
+  MakesRows number rows old new =
+      ((count : ℕ) × AnsweredRows number rows old new (Ok count))
+      ⊎ ((next : Held S) × AreLeft number rows old next × MakesEach number rows next new)
+
+  -- that insert gave the error, or a statement of one of the changes that it left
+  abbrev pub RowsGive : ℤ → List Change → Held S → Held S → Error → Type 0
+  RowsGive number rows old new e =
+      ((breaks_rule e ≡ false) × AnsweredRows number rows old new (Err e))
+      ⊎ ((next : Held S) × AreLeft number rows old next × EachGives number rows next new e)
+
+  -- a piece of the changes was made: one change, or several
+  abbrev pub MakesPiece : ℤ → List Change → Held S → Held S → Type 0
+  MakesPiece number piece old new =
+      ((length piece ≡ 1) × MakesEach number piece old new) ⊎ MakesRows number piece old new
+
+  abbrev pub PieceGives : ℤ → List Change → Held S → Held S → Error → Type 0
+  PieceGives number piece old new e =
+      ((length piece ≡ 1) × EachGives number piece old new e) ⊎ RowsGive number piece old new e
+
+  abbrev pub MakesPieces : ℤ → List (List Change) → Held S → Held S → Type 0
+  MakesPieces number [] old new = new ≡ old
+  MakesPieces number (piece ∷ more) old new =
+      (next : Held S) × MakesPiece number piece old next × MakesPieces number more next new
+
+  -- each change was made: they are cut into pieces, which were made in turn
+  abbrev pub ExecutedEach : ℤ → List Change → Held S → Held S → Type 0
+  ExecutedEach number changes old new =
+      (pieces : List (List Change)) × (changes ≡ joined pieces) × MakesPieces number pieces old new
+
+  -- the changes before a piece were made in a transaction that was begun, and a statement of that piece gave the error
+  pub record ChangeGives (number : ℤ) (changes : List Change) (old : Held S) (e : Error) : Type 0 where
+    pub before : List Change
+    pub piece : List Change
+    pub after : List Change
+    pub are : changes ≡ before ++ piece ++ after
+    pub last : Held S
     pub left : Held S
     pub executed : ExecutedEach number before old last
-    pub gives : FailsToChange number change.key change.value last left e
+    pub gives : PieceGives number piece last left e
 
   -- a transaction was begun, each change was made in it, and it was committed
   pub record Transacted (number : ℤ) (changes : List Change) (old new : Held S) : Type 0 where

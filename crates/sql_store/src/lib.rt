@@ -12,6 +12,7 @@ mod memory;
 mod open;
 mod puts;
 mod reading;
+mod rows;
 mod schema;
 mod statements;
 mod store;

@@ -1,20 +1,59 @@
 //! Changes of the table in one transaction.
-ghost use Rattle.std.specs.Prelude.{◌≡◌, ◌<◌, ◌⊎◌, length, false, true, Some, None, OnOk, OnErr, IfErr, IsTrue, IsErrOf};
+ghost use Rattle.std.specs.Prelude.{◌≡◌, ◌<◌, ◌≤◌, ◌⊎◌, length, take, false, true, Some, None, is_some, OnOk, OnErr, IfErr, IsTrue, IsErrOf};
 ghost use Rattle.sqlite.specs.Held.{state};
 ghost use Rattle.sqlite.specs.State.{HasCleanDisk, Survives, KeepsCommit};
 ghost use Rattle.durable_top.specs.Numbered.{under};
 ghost use Rattle.sql_store.specs.Table.{Makes, IsReady};
 ghost use Rattle.sql_store.specs.Writes.{MakesAll, Stores, IsStored};
 ghost use Rattle.sql_store.specs.Faults.{fault_of, IsCaused, HasFailed};
-ghost use Rattle.sql_store.specs.Asked.{MakesChange, FailsToChange, ExecutedEach, ChangeGives, Transacted, Committed};
+ghost use Rattle.sql_store.specs.Asked.{IfInside, have_values, AreRows, IsPiece, MakesChange, FailsToChange, MakesEach, EachGives, MakesRows, RowsGive, MakesPiece, PieceGives, ExecutedEach, ChangeGives, Transacted, Committed};
 ghost use Rattle.sql_store.specs.Refusals.{CannotWrite};
 
-use crate::faults::{fault_of, settle};
+use crate::faults::{breaks_rule, fault_of, settle};
 use crate::puts::put_either;
+use crate::rows::insert_rows;
 use crate::statements::remove;
 use durable_top::{NumberTable, Row, StoreFault};
 use sqlite::{Alter, Connection, Error, ErrorCode, Transaction};
 use txn_names::Change;
+
+/// Whether the change gives a value to a key that is likely to have no row.
+fn is_new(numbers: &NumberTable, change: &Change) -> bool
+    ensures { IsTrue result → IsTrue (is_some change.now.value) }
+{
+    change.value.is_some() && numbers.number(&change.key).is_none()
+}
+
+/// How many changes from the first on are such, up to 16, or 0 where there are not 4 changes.
+fn new_len(numbers: &NumberTable, changes: &[Change]) -> usize
+    ensures within { result ≤ length changes.now }
+    ensures values { IsTrue (have_values (take result changes.now)) }
+{
+    if changes.len() < 4 {
+        return 0;
+    }
+    let mut count = 0;
+    while count < 16 && count < changes.len() && is_new(numbers, &changes[count]) {
+        count += 1;
+    }
+    count
+}
+
+/// How many changes from the first on go together: 16 or 4 that are likely new, or else one.
+fn piece_len(numbers: &NumberTable, changes: &[Change]) -> usize
+    requires some { 0 < length changes.now }
+    ensures within { result ≤ length changes.now }
+    ensures piece { IsPiece (take result changes.now) }
+{
+    let count = new_len(numbers, changes);
+    if count >= 16 {
+        16
+    } else if count >= 4 {
+        4
+    } else {
+        1
+    }
+}
 
 /// Gives the key the value of the change under this number, or takes its row away. The numbers say whether the key
 /// is likely to have a row.
@@ -52,7 +91,92 @@ fn make<S: Alter>(
     }
 }
 
-/// Makes the changes one after another.
+/// Makes the changes one after another, each by statements of its own.
+fn make_each<S: Alter>(
+    tx: &mut Transaction<'_, S>,
+    numbers: &NumberTable,
+    number: i64,
+    changes: &[Change],
+) -> Result<(), Error>
+    ensures same_reference { tx.new.conn.ghost_name ≡ tx.old.conn.ghost_name }
+    ensures kept { IfInside S.Store tx.old.conn.now tx.new.conn.now
+        (KeepsCommit (state S.Store tx.old.conn.now) (state S.Store tx.new.conn.now)) }
+    ensures survives { Survives (state S.Store tx.old.conn.now)
+        (state S.Store tx.new.conn.now) (λ _. ⊥) }
+    ensures cause { IfInside S.Store tx.old.conn.now tx.new.conn.now
+        (IfErr result (IsCaused (state S.Store tx.old.conn.now) (state S.Store tx.new.conn.now))) }
+    ensures refused { IfInside S.Store tx.old.conn.now tx.new.conn.now
+        (IfErr result (EachGives S.Store number changes.now tx.old.conn.now tx.new.conn.now)) }
+    ensures asked { IfInside S.Store tx.old.conn.now tx.new.conn.now
+        (OnOk result (MakesEach S.Store number changes.now tx.old.conn.now tx.new.conn.now)) }
+{
+    for change in changes {
+        make(tx, numbers, number, change)?;
+    }
+    Ok(())
+}
+
+/// Makes 4 or 16 changes whose keys are likely to be new, by one statement. Where that would break a rule, since a key
+/// has a row after all, it changed nothing, and each change is made by itself.
+fn make_rows<S: Alter>(
+    tx: &mut Transaction<'_, S>,
+    numbers: &NumberTable,
+    number: i64,
+    rows: &[Change],
+) -> Result<(), Error>
+    requires rows { AreRows rows.now }
+    ensures same_reference { tx.new.conn.ghost_name ≡ tx.old.conn.ghost_name }
+    ensures kept { IfInside S.Store tx.old.conn.now tx.new.conn.now
+        (KeepsCommit (state S.Store tx.old.conn.now) (state S.Store tx.new.conn.now)) }
+    ensures survives { Survives (state S.Store tx.old.conn.now)
+        (state S.Store tx.new.conn.now) (λ _. ⊥) }
+    ensures cause { IfInside S.Store tx.old.conn.now tx.new.conn.now
+        (IfErr result (IsCaused (state S.Store tx.old.conn.now) (state S.Store tx.new.conn.now))) }
+    ensures refused { IfInside S.Store tx.old.conn.now tx.new.conn.now
+        (IfErr result (RowsGive S.Store number rows.now tx.old.conn.now tx.new.conn.now)) }
+    ensures asked { IfInside S.Store tx.old.conn.now tx.new.conn.now
+        (OnOk result (MakesRows S.Store number rows.now tx.old.conn.now tx.new.conn.now)) }
+{
+    match insert_rows(tx, number, rows) {
+        Ok(_) => Ok(()),
+        Err(error) => {
+            if breaks_rule(error) {
+                make_each(tx, numbers, number, rows)
+            } else {
+                Err(error)
+            }
+        }
+    }
+}
+
+/// Makes one change, or several by one statement.
+fn make_piece<S: Alter>(
+    tx: &mut Transaction<'_, S>,
+    numbers: &NumberTable,
+    number: i64,
+    piece: &[Change],
+) -> Result<(), Error>
+    requires piece { IsPiece piece.now }
+    ensures same_reference { tx.new.conn.ghost_name ≡ tx.old.conn.ghost_name }
+    ensures kept { IfInside S.Store tx.old.conn.now tx.new.conn.now
+        (KeepsCommit (state S.Store tx.old.conn.now) (state S.Store tx.new.conn.now)) }
+    ensures survives { Survives (state S.Store tx.old.conn.now)
+        (state S.Store tx.new.conn.now) (λ _. ⊥) }
+    ensures cause { IfInside S.Store tx.old.conn.now tx.new.conn.now
+        (IfErr result (IsCaused (state S.Store tx.old.conn.now) (state S.Store tx.new.conn.now))) }
+    ensures refused { IfInside S.Store tx.old.conn.now tx.new.conn.now
+        (IfErr result (PieceGives S.Store number piece.now tx.old.conn.now tx.new.conn.now)) }
+    ensures asked { IfInside S.Store tx.old.conn.now tx.new.conn.now
+        (OnOk result (MakesPiece S.Store number piece.now tx.old.conn.now tx.new.conn.now)) }
+{
+    if piece.len() == 1 {
+        make_each(tx, numbers, number, piece)
+    } else {
+        make_rows(tx, numbers, number, piece)
+    }
+}
+
+/// Makes the changes in their order, as many by one statement as can be.
 fn make_all<S: Alter>(
     tx: &mut Transaction<'_, S>,
     numbers: &NumberTable,
@@ -70,8 +194,11 @@ fn make_all<S: Alter>(
     ensures refused { HasCleanDisk (state S.Store tx.new.conn.now) → IfErr result (ChangeGives S.Store number changes.now tx.old.conn.now) }
     ensures asked { HasCleanDisk (state S.Store tx.new.conn.now) → OnOk result (ExecutedEach S.Store number changes.now tx.old.conn.now tx.new.conn.now) }
 {
-    for change in changes {
-        make(tx, numbers, number, change)?;
+    let mut place = 0;
+    while place < changes.len() {
+        let count = piece_len(numbers, &changes[place..]);
+        make_piece(tx, numbers, number, &changes[place..place + count])?;
+        place += count;
     }
     Ok(())
 }

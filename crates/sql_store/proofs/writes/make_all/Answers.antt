@@ -1,64 +1,121 @@
 use Rattle.std.proofs.lemmas.Int.{to_z-of_z}
-use Rattle.std.proofs.Common.{Err, append_assoc, drop, rules, SFits, w64, ◌≡◌, ◌∙◌, ◌+◌, ◌++◌, ◌∷◌, [], List, ℕ, take, sym, ap, subst, arith}
-use Rattle.std.proofs.lemmas.List.{take_more, take-append-drop}
+use Rattle.std.proofs.Common.{Err, drop, length, rules, SFits, w64, ◌≡◌, ◌∙◌, ◌+◌, ◌-◌, ◌++◌, List, ℕ, take, sym, ap, subst, arith}
+use Rattle.std.proofs.Math.Seq.{take-add, take-length}
+use Rattle.std.proofs.lemmas.List.{take-append-drop}
 use Rattle.sqlite.specs.Held.{state}
 use Rattle.sqlite.specs.State.{HasCleanDisk}
 use Rattle.sqlite.proofs.StateLemmas.{survives_then}
 use Rattle.txn_names.specs.declared.change.Change.{Change}
-use Rattle.sql_store.specs.Asked.{ExecutedEach, ChangeGives}
+use Rattle.sql_store.specs.Asked.{ExecutedEach, ChangeGives, MakesPiece, PieceGives}
+use Rattle.sql_store.proofs.Causes.{caused_from}
+use Rattle.sql_store.proofs.Composed.{keeps_then}
+use Rattle.sql_store.proofs.Pieces.{executed_goes, executed_all}
 use Rattle.sql_store.proofs.Transactions.{executed_more}
-use Rattle.sql_store.specs.Writes.{MakesAll}
-use Rattle.sql_store.proofs.Composed.{makes_more, keeps_then}
 use Rattle.sql_store.proofs.writes.make_all.Goals as goal
 
-pub loop-change-preserved : goal.loop-change-preserved
-loop-change-preserved g c =
-    let x = state g.S.Store c.args.tx.now.conn.now in
-    let y = state g.S.Store c.loop-change.tx.conn.now in
-    let z = state g.S.Store c.make.new.tx.conn.now in
+-- the piece behind a place, as it is cut out
+piece_is : (changes : List Change) (place count : ℕ) → take (place + count - place) (drop place changes) ≡ take count (drop place changes)
+piece_is changes place count = let same : place + count - place ≡ count = omega arith in ap (λ n. take n (drop place changes)) same
+
+whole : (changes : List Change) (place : ℕ) → length changes ≡ place → take place changes ≡ changes
+whole changes place same = ap (λ n. take n changes) (sym same) ∙ take-length changes
+
+pub loop-place-preserved : goal.loop-place-preserved
+loop-place-preserved g c =
+    let old = c.args.tx.now.conn.now in
+    let last = c.loop-place.tx.conn.now in
+    let new = c.make_piece.new.tx.conn.now in
     let changes : List Change = c.args.changes.now in
-    let i : ℕ = c.loop-change.change-index in
-    let d : Change = c.change-item.result in
-    let more : take (i + 1) changes ≡ take i changes ++ d ∷ [] = take_more changes i d (omega arith) ∙ ap (λ w. take i changes ++ w ∷ []) (sym c.change-item.is) in
+    let place : ℕ = c.loop-place.place in
+    let count : ℕ = c.piece_len-count.result in
     let fits : SFits w64 c.args.number = c.ranges.number in
-    let was = λ (clean : HasCleanDisk z). let h : HasCleanDisk y = omega (arith, c.make.ensures.survives.clean, clean) in h in
     record {
-      same = c.make.ensures.same_reference ∙ c.loop-change.invariant.same;
-      made = λ clean ready.
-          let all = c.loop-change.invariant.made (was clean) ready in
-          let one = c.in_ok-make.ensures.made clean (c.loop-change.invariant.inside (was clean)) in
-          simp to_z-of_z (subst (λ cs. MakesAll c.args.number cs x z) (sym more) (makes_more c.args.number (take i changes) d x y z (simp to_z-of_z at all) (simp to_z-of_z at one)));
+      within = omega (arith, c.piece_len-count.ensures.within);
+      same = c.make_piece.ensures.same_reference ∙ c.loop-place.invariant.same;
       asked = λ clean.
-          let all = c.loop-change.invariant.asked (was clean) in
-          let one = c.in_ok-make.ensures.asked clean (c.loop-change.invariant.inside (was clean)) in
-          simp to_z-of_z (subst (λ cs. ExecutedEach g.S.Store c.args.number cs c.args.tx.now.conn.now c.make.new.tx.conn.now) (sym more)
-          (executed_more g.S.Store c.args.number (take i changes) d c.args.tx.now.conn.now c.loop-change.tx.conn.now c.make.new.tx.conn.now (simp to_z-of_z at all) (simp to_z-of_z at one)));
-      opened = λ clean some. (c.loop-change.invariant.kept (was clean)).was_open (c.in_ok-make.ensures.made clean (c.loop-change.invariant.inside (was clean))).was_open;
-      inside = λ clean. (c.in_ok-make.ensures.made clean (c.loop-change.invariant.inside (was clean))).inside;
-      kept = λ clean. keeps_then x y z (c.loop-change.invariant.kept (was clean)) (c.make.ensures.kept clean (c.loop-change.invariant.inside (was clean)));
-      survives = survives_then x y z _ _ (λ _. ⊥) (λ _ db none. none) (λ _ db none. none) c.loop-change.invariant.survives c.make.ensures.survives;
+          let was : HasCleanDisk (state g.S.Store last) = omega (arith, c.make_piece.ensures.survives.clean, clean) in
+          let all : ExecutedEach g.S.Store c.args.number (take place changes) old last = simp to_z-of_z at (c.loop-place.invariant.asked was) in
+          let now = (executed_goes g.S.Store c.args.number (take place changes) old last c.requires.inside all).inside in
+          let made = simp to_z-of_z at (c.in_ok-make_piece.ensures.asked clean now) in
+          let one : MakesPiece g.S.Store c.args.number (take count (drop place changes)) last new = subst (λ p. MakesPiece g.S.Store c.args.number p last new) (piece_is changes place count) made in
+          let both : ExecutedEach g.S.Store c.args.number (take (place + count) changes) old new =
+          subst (λ cs. ExecutedEach g.S.Store c.args.number cs old new) (sym (take-add place count changes))
+          (executed_more g.S.Store c.args.number (take place changes) (take count (drop place changes)) old last new all one) in
+          simp to_z-of_z both;
+      survives = survives_then (state g.S.Store old) (state g.S.Store last) (state g.S.Store new) _ _ (λ _. ⊥) (λ _ db none. none) (λ _ db none. none) c.loop-place.invariant.survives c.make_piece.ensures.survives;
     }
 
-pub returns-in_err-make-clause-refused : goal.returns-in_err-make-clause-refused
-returns-in_err-make-clause-refused g c clean =
-    let changes : List Change = c.args.changes.now in
-    let i : ℕ = c.loop-change.change-index in
-    let d : Change = c.change-item.result in
-    let more : take (i + 1) changes ≡ take i changes ++ d ∷ [] = take_more changes i d (omega arith) ∙ ap (λ w. take i changes ++ w ∷ []) (sym c.change-item.is) in
+pub returns-in_err-make_piece-clause-kept : goal.returns-in_err-make_piece-clause-kept
+returns-in_err-make_piece-clause-kept g c clean =
+    let old = c.args.tx.now.conn.now in
+    let last = c.loop-place.tx.conn.now in
     let fits : SFits w64 c.args.number = c.ranges.number in
-    let was : HasCleanDisk (state g.S.Store c.loop-change.tx.conn.now) = omega (arith, c.make.ensures.survives.clean, clean) in
-    let e = c.in_err-make.field-0.0 in
+    let was : HasCleanDisk (state g.S.Store last) = omega (arith, c.make_piece.ensures.survives.clean, clean) in
+    let all : ExecutedEach g.S.Store c.args.number (take c.loop-place.place c.args.changes.now) old last = simp to_z-of_z at (c.loop-place.invariant.asked was) in
+    let made = executed_goes g.S.Store c.args.number (take c.loop-place.place c.args.changes.now) old last c.requires.inside all in
+    keeps_then (state g.S.Store old) (state g.S.Store last) (state g.S.Store c.make_piece.new.tx.conn.now) made.kept (c.make_piece.ensures.kept clean made.inside)
+
+pub returns-in_err-make_piece-clause-cause : goal.returns-in_err-make_piece-clause-cause
+returns-in_err-make_piece-clause-cause g c clean =
+    let old = c.args.tx.now.conn.now in
+    let last = c.loop-place.tx.conn.now in
+    let fits : SFits w64 c.args.number = c.ranges.number in
+    let was : HasCleanDisk (state g.S.Store last) = omega (arith, c.make_piece.ensures.survives.clean, clean) in
+    let all : ExecutedEach g.S.Store c.args.number (take c.loop-place.place c.args.changes.now) old last = simp to_z-of_z at (c.loop-place.invariant.asked was) in
+    let made = executed_goes g.S.Store c.args.number (take c.loop-place.place c.args.changes.now) old last c.requires.inside all in
+    let e = c.in_err-make_piece.field-0.0 in
     let same : c.from_residual.result ≡ Err e = search rules in
-    let all = c.loop-change.invariant.asked was in
-    let gave = c.in_err-make.ensures.refused clean (c.loop-change.invariant.inside was) in
-    let given : ChangeGives g.S.Store c.args.number changes c.args.tx.now.conn.now e = record {
-      before = take i changes;
-      change = d;
-      after = drop (i + 1) changes;
-      are = sym (take-append-drop (i + 1) changes) ∙ ap (λ l. l ++ drop (i + 1) changes) more ∙ append_assoc (take i changes) (d ∷ []) (drop (i + 1) changes);
-      last = c.loop-change.tx.conn.now;
-      left = c.make.new.tx.conn.now;
-      executed = simp to_z-of_z at all;
-      gives = simp to_z-of_z at gave;
+    rw same (caused_from (state g.S.Store old) (state g.S.Store last) (state g.S.Store c.make_piece.new.tx.conn.now) e c.loop-place.invariant.survives was c.make_piece.ensures.survives (c.in_err-make_piece.ensures.cause clean made.inside))
+
+pub returns-in_err-make_piece-clause-refused : goal.returns-in_err-make_piece-clause-refused
+returns-in_err-make_piece-clause-refused g c clean =
+    let old = c.args.tx.now.conn.now in
+    let last = c.loop-place.tx.conn.now in
+    let new = c.make_piece.new.tx.conn.now in
+    let changes : List Change = c.args.changes.now in
+    let place : ℕ = c.loop-place.place in
+    let count : ℕ = c.piece_len-count.result in
+    let fits : SFits w64 c.args.number = c.ranges.number in
+    let was : HasCleanDisk (state g.S.Store last) = omega (arith, c.make_piece.ensures.survives.clean, clean) in
+    let all : ExecutedEach g.S.Store c.args.number (take place changes) old last = simp to_z-of_z at (c.loop-place.invariant.asked was) in
+    let made = executed_goes g.S.Store c.args.number (take place changes) old last c.requires.inside all in
+    let e = c.in_err-make_piece.field-0.0 in
+    let same : c.from_residual.result ≡ Err e = search rules in
+    let gave = simp to_z-of_z at (c.in_err-make_piece.ensures.refused clean made.inside) in
+    let given : ChangeGives g.S.Store c.args.number changes old e = record {
+      before = take place changes;
+      piece = take count (drop place changes);
+      after = drop (place + count) changes;
+      are = sym (take-append-drop (place + count) changes) ∙ ap (λ l. l ++ drop (place + count) changes) (take-add place count changes);
+      last = last;
+      left = new;
+      executed = all;
+      gives = subst (λ p. PieceGives g.S.Store c.args.number p last new e) (piece_is changes place count) gave;
     } in
     rw same given
+
+pub returns-clause-made : goal.returns-clause-made
+returns-clause-made g c clean ready =
+    let fits : SFits w64 c.args.number = c.ranges.number in
+    let all : ExecutedEach g.S.Store c.args.number (take c.loop-place.place c.args.changes.now) c.args.tx.now.conn.now c.loop-place.tx.conn.now = simp to_z-of_z at (c.loop-place.invariant.asked clean) in
+    executed_all g.S.Store c.args.number c.args.changes.now c.args.tx.now.conn.now c.loop-place.tx.conn.now c.requires.inside
+    (subst (λ cs. ExecutedEach g.S.Store c.args.number cs c.args.tx.now.conn.now c.loop-place.tx.conn.now) (whole c.args.changes.now c.loop-place.place (omega (arith, c.loop-place.invariant.within))) all) ready
+
+pub returns-clause-opened : goal.returns-clause-opened
+returns-clause-opened g c clean some =
+    let fits : SFits w64 c.args.number = c.ranges.number in
+    let all : ExecutedEach g.S.Store c.args.number (take c.loop-place.place c.args.changes.now) c.args.tx.now.conn.now c.loop-place.tx.conn.now = simp to_z-of_z at (c.loop-place.invariant.asked clean) in
+    (executed_goes g.S.Store c.args.number c.args.changes.now c.args.tx.now.conn.now c.loop-place.tx.conn.now c.requires.inside
+    (subst (λ cs. ExecutedEach g.S.Store c.args.number cs c.args.tx.now.conn.now c.loop-place.tx.conn.now) (whole c.args.changes.now c.loop-place.place (omega (arith, c.loop-place.invariant.within))) all)).was_open some
+
+pub returns-clause-kept : goal.returns-clause-kept
+returns-clause-kept g c clean =
+    let fits : SFits w64 c.args.number = c.ranges.number in
+    let all : ExecutedEach g.S.Store c.args.number (take c.loop-place.place c.args.changes.now) c.args.tx.now.conn.now c.loop-place.tx.conn.now = simp to_z-of_z at (c.loop-place.invariant.asked clean) in
+    (executed_goes g.S.Store c.args.number (take c.loop-place.place c.args.changes.now) c.args.tx.now.conn.now c.loop-place.tx.conn.now c.requires.inside all).kept
+
+pub returns-clause-inside : goal.returns-clause-inside
+returns-clause-inside g c clean =
+    let fits : SFits w64 c.args.number = c.ranges.number in
+    let all : ExecutedEach g.S.Store c.args.number (take c.loop-place.place c.args.changes.now) c.args.tx.now.conn.now c.loop-place.tx.conn.now = simp to_z-of_z at (c.loop-place.invariant.asked clean) in
+    (executed_goes g.S.Store c.args.number (take c.loop-place.place c.args.changes.now) c.args.tx.now.conn.now c.loop-place.tx.conn.now c.requires.inside all).inside
