@@ -43,6 +43,74 @@ table
 end
 ";
 
+/// One commit adds 23 rows: by a statement of 16, one of 4, and three of one. The next changes a row, takes one away and adds 5.
+const ADDED_AT_ONCE: &str = "\
+open
+s 1 begin a -> ok
+s 2 set a k00 0 -> ok
+s 3 set a k01 1 -> ok
+s 4 set a k02 2 -> ok
+s 5 set a k03 3 -> ok
+s 6 set a k04 4 -> ok
+s 7 set a k05 5 -> ok
+s 8 set a k06 6 -> ok
+s 9 set a k07 7 -> ok
+s 10 set a k08 8 -> ok
+s 11 set a k09 9 -> ok
+s 12 set a k10 10 -> ok
+s 13 set a k11 11 -> ok
+s 14 set a k12 12 -> ok
+s 15 set a k13 13 -> ok
+s 16 set a k14 14 -> ok
+s 17 set a k15 15 -> ok
+s 18 set a k16 16 -> ok
+s 19 set a k17 17 -> ok
+s 20 set a k18 18 -> ok
+s 21 set a k19 19 -> ok
+s 22 set a k20 20 -> ok
+s 23 set a k21 21 -> ok
+s 24 set a k22 22 -> ok
+s 25 commit a -> ok
+s 26 begin b -> ok
+s 27 set b k05 7 -> ok
+s 28 del b k06 -> ok
+s 29 set b k23 23 -> ok
+s 30 set b k24 24 -> ok
+s 31 set b k25 25 -> ok
+s 32 set b k26 26 -> ok
+s 33 set b k27 27 -> ok
+s 34 commit b -> ok
+table
+k00=0
+k01=1
+k02=2
+k03=3
+k04=4
+k05=7
+k07=7
+k08=8
+k09=9
+k10=10
+k11=11
+k12=12
+k13=13
+k14=14
+k15=15
+k16=16
+k17=17
+k18=18
+k19=19
+k20=20
+k21=21
+k22=22
+k23=23
+k24=24
+k25=25
+k26=26
+k27=27
+end
+";
+
 /// The store refuses every commit.
 const NEVER_STORED: &str = "\
 open
@@ -157,6 +225,13 @@ fn databases_with_rows(rt: HostRuntime) {
         let store = database(&rt, rt.alloc(), value);
         assert!(rt; is_run_over(&rt, rt.alloc(), store, report), "{report}");
     }
+}
+
+// Many keys are new at once.
+#[test]
+fn many_rows_at_once(rt: HostRuntime) {
+    let store = SqlStore::in_memory(rt.alloc()).expect(&rt, "memory");
+    assert!(rt; is_run_over(&rt, rt.alloc(), store, ADDED_AT_ONCE));
 }
 
 // What a database's report says is a serial run.
