@@ -5,8 +5,8 @@ ghost use Rattle.std.specs.List.{list_all};
 ghost use Rattle.txn_names.specs.Text.{is_key_byte, IsKey};
 ghost use Rattle.txn_names.specs.Reading.{key_of};
 
+use crate::classes::is_key_byte;
 use crate::group::Group;
-use crate::label::is_label_byte;
 use std::marker::Model;
 use txn_bytes::Held;
 
@@ -41,12 +41,6 @@ pub enum KeyFault {
     Empty,
     BadByte,
     Long,
-}
-
-fn is_key_byte(b: u8) -> bool
-    ensures { result ≡ is_key_byte b }
-{
-    is_label_byte(b) || b == b'.' || b == b'_' || b == b'-'
 }
 
 pub(crate) fn are_key_bytes(bytes: &[u8]) -> bool
