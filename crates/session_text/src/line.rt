@@ -54,13 +54,13 @@ impl Line {
 impl Line {
     /// The line of an event that is read off these bytes. It is made where it is to stand, so that the event is copied once.
     #[inline(always)]
-    pub(crate) fn of(event: &Event, bytes: &[u8]) -> Line
-        requires read { event_of bytes.now ≡ Ok event.now }
-        ensures value { result ≡ event.now }
-        ensures valid { IsEvent event.now }
+    pub(crate) fn of(event: Event, bytes: &[u8]) -> Line
+        requires read { event_of bytes.now ≡ Ok event }
+        ensures value { result ≡ event }
+        ensures valid { IsEvent event }
     {
         Line {
-            event: *event,
+            event,
             bytes: filled(bytes),
             len: bytes.len() as u16,
         }
@@ -85,7 +85,7 @@ pub fn parse_line(bytes: &[u8]) -> Result<Line, LineKind>
     ensures valid { IfOk result IsEvent }
 {
     let event = command::event_of(bytes)?;
-    Ok(Line::of(&event, bytes))
+    Ok(Line::of(event, bytes))
 }
 
 /// What a command line asks, as `parse_line` reads it, where its text is not wanted.

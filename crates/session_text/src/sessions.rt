@@ -193,7 +193,7 @@ impl Sessions {
     {
         match self.fault_of_command() {
             Some(kind) => Err(TextFault::Bad { line: number, kind }),
-            None => match self.add_event(&access.event(), bytes) {
+            None => match self.add_event(access.event(), bytes) {
                 Ok(()) => Ok(()),
                 Err(NoMemory) => Err(TextFault::NoMemory),
             },
@@ -213,7 +213,7 @@ impl Sessions {
             }),
             Ok(event) => match misplaced {
                 Some(kind) => Err(TextFault::Bad { line: number, kind }),
-                None => match self.add_event(event, bytes) {
+                None => match self.add_event(*event, bytes) {
                     Ok(()) => Ok(()),
                     Err(NoMemory) => Err(TextFault::NoMemory),
                 },
@@ -224,10 +224,10 @@ impl Sessions {
     // The line of an event, which is read off these bytes, behind those of the last session. There is room for it. The event is
     // made where the line is to stand.
     #[inline(always)]
-    fn add_event(&mut self, event: &Event, bytes: &[u8]) -> Result<(), NoMemory>
-        requires read { event_of bytes.now ≡ Ok event.now }
-        requires placed { misplaced self.old (Command event.now) ≡ None }
-        ensures ok { OnOk result (self.new ≡ with_line self.old event.now) }
+    fn add_event(&mut self, event: Event, bytes: &[u8]) -> Result<(), NoMemory>
+        requires read { event_of bytes.now ≡ Ok event }
+        requires placed { misplaced self.old (Command event) ≡ None }
+        ensures ok { OnOk result (self.new ≡ with_line self.old event) }
         ensures err { OnErr result (self.new ≡ self.old) }
     {
         let last = self.sessions.len() - 1;
@@ -237,12 +237,15 @@ impl Sessions {
 }
 
 impl Session {
+    // A line more. Room is made first, so that the line is moved once, to where it is to stand.
+    #[inline(always)]
     fn push(&mut self, line: Line) -> Result<(), NoMemory>
         ensures label { self.new.label ≡ self.old.label }
         ensures ok { OnOk result (self.new.lines ≡ self.old.lines ++ line ∷ []) }
         ensures err { OnErr result (self.new.lines ≡ self.old.lines) }
     {
-        self.lines.push(line)?;
+        self.lines.reserve(1)?;
+        self.lines.push_reserved(line);
         Ok(())
     }
 }

@@ -10,7 +10,7 @@ use Rattle.session_text.proofs.sessions.Sessions.add_event.Goals as goal
 pub invariant_of-self : goal.invariant_of-self
 invariant_of-self c =
     let items : List Session = c.self.inside.sessions.items in
-    let e = c.args.event.now in
+    let e = c.args.event in
     let len : c.len-last.result ≡ length items = search rules in
     let placed : misplaced items (Command e) ≡ None = subst (λ (ss : List Session). misplaced ss (Command e) ≡ None) (sym c.self.view_is) c.requires.placed in
     let same : set items (c.len-last.result - 1) c.push.new.self ≡ items =
@@ -21,7 +21,7 @@ invariant_of-self c =
 pub returns-in_err-push-clause-err : goal.returns-in_err-push-clause-err
 returns-in_err-push-clause-err c =
     let items : List Session = c.self.inside.sessions.items in
-    let e = c.args.event.now in
+    let e = c.args.event in
     let len : c.len-last.result ≡ length items = search rules in
     let placed : misplaced items (Command e) ≡ None = subst (λ (ss : List Session). misplaced ss (Command e) ≡ None) (sym c.self.view_is) c.requires.placed in
     on_err c.from_residual.result
@@ -31,7 +31,7 @@ returns-in_err-push-clause-err c =
 pub invariant_of-self-2 : goal.invariant_of-self-2
 invariant_of-self-2 c =
     let items : List Session = c.self.inside.sessions.items in
-    let e = c.args.event.now in
+    let e = c.args.event in
     let len : c.len-last.result ≡ length items = search rules in
     let placed : misplaced items (Command e) ≡ None = subst (λ (ss : List Session). misplaced ss (Command e) ≡ None) (sym c.self.view_is) c.requires.placed in
     let grows : set items (c.len-last.result - 1) c.push.new.self ≡ with_line items e =
@@ -42,7 +42,7 @@ invariant_of-self-2 c =
 pub returns-clause-ok : goal.returns-clause-ok
 returns-clause-ok c =
     let items : List Session = c.self.inside.sessions.items in
-    let e = c.args.event.now in
+    let e = c.args.event in
     let len : c.len-last.result ≡ length items = search rules in
     let placed : misplaced items (Command e) ≡ None = subst (λ (ss : List Session). misplaced ss (Command e) ≡ None) (sym c.self.view_is) c.requires.placed in
     pushed items c.len-last.result c.index_mut.result.now c.push.new.self e (Command e) len refl placed
