@@ -19,15 +19,20 @@ pub struct CycleSearch {
     edges: Vec<(TxnNo, TxnNo)>,
     marks: Vec<bool>,
     work: Work,
+    // For so many that wait each part has room.
+    ready: usize,
 }
 
 impl Model for CycleSearch {
-    ghost use Rattle.std.specs.Prelude.{◌*◌, ℕ, min, vec_capacity};
+    ghost use Rattle.std.specs.Prelude.{◌≤◌, ◌*◌, ℕ, min, vec_capacity};
 
     // For how many edges there is room, and for the marks of so many that wait, squared.
     ghost Value = { ℕ };
 
     ghost view = { λ b. min (vec_capacity b.edges) (min (vec_capacity b.marks * vec_capacity b.marks) b.work) };
+
+    ghost invariant = { λ b. b.ready * b.ready
+        ≤ min (vec_capacity b.edges) (min (vec_capacity b.marks * vec_capacity b.marks) b.work) };
 }
 
 impl CycleSearch {
@@ -39,12 +44,26 @@ impl CycleSearch {
             edges: Vec::new(alloc),
             marks: Vec::new(alloc),
             work: Work::new(alloc),
+            ready: 0,
         }
     }
 
     /// Makes room for the edges among so many that wait. The only error is that there is no memory for them, or that they are more
     /// than can be counted. Then there is no less room than before.
+    #[inline(always)]
     pub fn reserve(&mut self, waiting: usize) -> Result<(), NoMemory>
+        ensures ok { OnOk result (waiting * waiting ≤ self.new) }
+        ensures kept { self.old ≤ self.new }
+    {
+        if waiting <= self.ready {
+            return Ok(());
+        }
+        self.make_room(waiting)
+    }
+
+    // Makes that room in each part, and notes it.
+    #[inline(never)]
+    fn make_room(&mut self, waiting: usize) -> Result<(), NoMemory>
         ensures ok { OnOk result (waiting * waiting ≤ self.new) }
         ensures kept { self.old ≤ self.new }
     {
@@ -55,7 +74,9 @@ impl CycleSearch {
         self.edges.reserve(edges)?;
         self.marks.clear();
         self.marks.reserve(waiting)?;
-        self.work.reserve(edges)
+        self.work.reserve(edges)?;
+        self.ready = waiting;
+        Ok(())
     }
 
     /// One that lies on a cycle and was begun no earlier than any on a cycle through the transaction, if there is such a cycle. So where

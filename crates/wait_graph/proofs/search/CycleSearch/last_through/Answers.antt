@@ -1,10 +1,16 @@
-use Rattle.std.proofs.Common.{sym, subst}
+use Rattle.std.proofs.Common.{sym, subst, arith}
+use Rattle.std.proofs.Math.Nat.{mul-le-mul, le-min, min-le_left, min-le_right}
 use Rattle.wait_cycles.specs.Cycles.{IsCycle, IsLastOn, Pairs}
 use Rattle.wait_graph.specs.Edges.{edges_among}
 use Rattle.wait_graph.specs.Walks.{IsWayOf}
 use Rattle.wait_graph.proofs.Alike.{none_told, some_told}
 use Rattle.wait_graph.proofs.Walking.{last_on_way}
 use Rattle.wait_graph.proofs.search.CycleSearch.last_through.Goals as goal
+
+pub invariant_of-self-2 : goal.invariant_of-self-2
+invariant_of-self-2 c =
+    let wider = mul-le-mul c.collect_way.ensures.marks_capacity c.collect_way.ensures.marks_capacity in
+    grind (arith, wider, le-min, min-le_left, min-le_right, c.self.invariant)
 
 pub returns-clause-some : goal.returns-clause-some
 returns-clause-some c =
