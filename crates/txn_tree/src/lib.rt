@@ -4,6 +4,7 @@
 
 mod active;
 mod fault;
+mod linking;
 mod node;
 mod number;
 mod register;

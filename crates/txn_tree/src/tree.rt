@@ -1,5 +1,5 @@
 //! The tree of transactions.
-ghost use Rattle.std.specs.Prelude.{◌≡◌, ◌≢◌, ◌↔◌, ◌<◌, ◌+◌, ◌-◌, ◌^◌, [], ◌∷◌, ◌++◌, is_some, length, false, not, option_map, position, slice_get, true, None, Some, if◌then◌else◌, IsFalse, IsTrue, IfNone, IfOk, IfSome, OnErr, OnOk};
+ghost use Rattle.std.specs.Prelude.{◌≡◌, ◌≢◌, ◌↔◌, ◌<◌, ◌+◌, ◌-◌, [], ◌∷◌, ◌++◌, is_some, length, false, not, option_map, position, slice_get, true, None, Some, if◌then◌else◌, IsFalse, IsTrue, IfNone, IfOk, IfSome, OnErr, OnOk};
 ghost use Rattle.std.specs.Option.{option_copied};
 ghost use Rattle.std.specs.Result.{result_err};
 ghost use Rattle.txn_names.specs.Path.{Path, parent, path_eq};
@@ -8,16 +8,16 @@ ghost use Rattle.txn_tree.specs.States.{IsTree, is_aborted, is_live, names, stat
 ghost use Rattle.txn_tree.specs.Asked.{IsNumberOf, IsRootless, ended_by_abort, is_absent_in, is_active_in, live_children_of, top_aborted_in};
 ghost use Rattle.txn_tree.specs.Numbered.{IsClosed, IsUpward, RisesDown, ended_at, is_active_at, is_below_orphan, has_parent, is_parent_of, is_under, live_children_at, status_at};
 ghost use Rattle.txn_tree.specs.Siblings.{HasBranches, IsFirst, IsNext, is_child_at, is_sibling_at, is_top_at};
-ghost use Rattle.txn_tree.specs.Linked.{begun_node, below, children_in, followed, kept_next, kept_parent, top_with, with_below, with_child, with_one_ended};
 ghost use Rattle.txn_tree.specs.Causes.{cause_at_abort, cause_at_begin, cause_at_commit, cause_at_parent, refusal_of};
 
 use crate::fault::TreeFault;
+use crate::linking::{add_node, append_child, children_at, end_child, next_in, parent_in};
 use crate::node::{Children, Node};
 use crate::number::TxnNo;
 use crate::register::Register;
 use crate::status::Status;
 use serial_spec::Refusal;
-use std::alloc::{AllocError, Global};
+use std::alloc::Global;
 use std::marker::Model;
 use txn_names::Name;
 
@@ -44,98 +44,6 @@ impl Model for Tree {
     ghost view = { λ t. t.register };
 
     ghost invariant = { λ t. IsTree t.register × IsLinked t.register t.nodes.items t.tops × IsUpward t.register };
-}
-
-// The kept number of the parent.
-fn parent_in(nodes: &Vec<Node>, txn: TxnNo) -> Option<TxnNo>
-    ensures { result ≡ kept_parent (slice_get nodes.now.items txn) }
-{
-    nodes.get(txn.place() as usize)?.parent
-}
-
-// The kept number of the next sibling.
-fn next_in(nodes: &Vec<Node>, txn: TxnNo) -> Option<TxnNo>
-    ensures { result ≡ kept_next (slice_get nodes.now.items txn) }
-{
-    nodes.get(txn.place() as usize)?.next
-}
-
-// What is kept of the children of a transaction.
-fn children_at(nodes: &Vec<Node>, txn: TxnNo) -> Children
-    ensures { result ≡ children_in (slice_get nodes.now.items txn) }
-{
-    match nodes.get(txn.place() as usize) {
-        Some(node) => node.children,
-        None => Children::none(),
-    }
-}
-
-// A node for a transaction that begins.
-fn add_node(nodes: &mut Vec<Node>, parent: Option<TxnNo>) -> Result<(), AllocError>
-    ensures ok { OnOk result (nodes.new.items ≡ nodes.old.items ++ begun_node parent ∷ []) }
-    ensures err { OnErr result (nodes.new.items ≡ nodes.old.items) }
-{
-    let children = Children::none();
-    nodes.push(Node {
-        parent,
-        next: None,
-        children,
-    })?;
-    Ok(())
-}
-
-// A child more, of the parent or of the root. It gives who was the last one before.
-fn add_child(
-    nodes: &mut [Node],
-    tops: &mut Children,
-    parent: Option<TxnNo>,
-    child: TxnNo,
-) -> Option<TxnNo>
-    requires within { IfSome parent (λ p. p < length nodes.old) }
-    requires fits { (below nodes.old tops.old parent).live + 1 < 2 ^ 32 }
-    ensures last { result ≡ (below nodes.old tops.old parent).last }
-    ensures nodes { nodes.new ≡ with_below nodes.old parent (with_child child (below nodes.old tops.old parent)) }
-    ensures tops { tops.new ≡ top_with tops.old parent (with_child child (below nodes.old tops.old parent)) }
-{
-    match parent {
-        Some(txn) => nodes[txn.place() as usize].children.add(child),
-        None => tops.add(child),
-    }
-}
-
-// Who was last has a next sibling.
-fn put_next(nodes: &mut [Node], last: Option<TxnNo>, child: TxnNo)
-    requires within { IfSome last (λ l. l < length nodes.old) }
-    ensures { nodes.new ≡ followed nodes.old last child }
-{
-    if let Some(txn) = last {
-        nodes[txn.place() as usize].next = Some(child);
-    }
-}
-
-// Puts the child behind the others of the parent or of the root.
-fn append_child(nodes: &mut [Node], tops: &mut Children, parent: Option<TxnNo>, child: TxnNo)
-    requires within { IfSome parent (λ p. p < length nodes.old) }
-    requires last { IfSome (below nodes.old tops.old parent).last (λ l. l < length nodes.old) }
-    requires fits { (below nodes.old tops.old parent).live + 1 < 2 ^ 32 }
-    ensures nodes { nodes.new ≡ followed (with_below nodes.old parent (with_child child (below nodes.old tops.old parent))) (below nodes.old tops.old parent).last child }
-    ensures tops { tops.new ≡ top_with tops.old parent (with_child child (below nodes.old tops.old parent)) }
-{
-    let last = add_child(nodes, tops, parent, child);
-    put_next(nodes, last, child);
-}
-
-// A live child less, of the parent or of the root.
-fn end_child(nodes: &mut [Node], tops: &mut Children, parent: Option<TxnNo>)
-    requires within { IfSome parent (λ p. p < length nodes.old) }
-    requires some { 0 < (below nodes.old tops.old parent).live }
-    ensures nodes { nodes.new ≡ with_below nodes.old parent (with_one_ended (below nodes.old tops.old parent)) }
-    ensures tops { tops.new ≡ top_with tops.old parent (with_one_ended (below nodes.old tops.old parent)) }
-{
-    match parent {
-        Some(txn) => nodes[txn.place() as usize].children.end_one(),
-        None => tops.end_one(),
-    }
 }
 
 impl Tree {

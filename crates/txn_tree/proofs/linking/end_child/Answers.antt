@@ -1,6 +1,6 @@
 use Rattle.txn_tree.specs.Linked.{with_one_ended}
 use Rattle.txn_tree.proofs.Places.{counted}
-use Rattle.txn_tree.proofs.tree.end_child.Goals as goal
+use Rattle.txn_tree.proofs.linking.end_child.Goals as goal
 
 pub returns-in-Some-clause-nodes : goal.returns-in-Some-clause-nodes
 returns-in-Some-clause-nodes c =

@@ -1,5 +1,5 @@
 use Rattle.txn_tree.proofs.Places.{linked_to}
-use Rattle.txn_tree.proofs.tree.put_next.Goals as goal
+use Rattle.txn_tree.proofs.linking.put_next.Goals as goal
 
 pub returns-in-Some : goal.returns-in-Some
 returns-in-Some c =

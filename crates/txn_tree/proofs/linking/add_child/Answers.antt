@@ -1,6 +1,6 @@
 use Rattle.txn_tree.specs.Linked.{with_child}
 use Rattle.txn_tree.proofs.Places.{counted}
-use Rattle.txn_tree.proofs.tree.add_child.Goals as goal
+use Rattle.txn_tree.proofs.linking.add_child.Goals as goal
 
 pub returns-in-Some-clause-nodes : goal.returns-in-Some-clause-nodes
 returns-in-Some-clause-nodes c =
