@@ -5,6 +5,7 @@ pub mod Climbing
 pub mod Counts
 pub mod Ended
 pub mod Endings
+pub mod Inactive
 pub mod Links
 pub mod Nodes
 pub mod Numbers
@@ -17,3 +18,4 @@ pub mod Threads
 pub mod Siblings
 pub mod Tops
 pub mod Under
+pub mod Written

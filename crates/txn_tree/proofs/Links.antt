@@ -3,7 +3,6 @@ use Rattle.std.proofs.Common.{◌≡◌, ℕ, ◌+◌, ◌<◌, ◌≤◌, nat_e
 use Rattle.std.specs.Cmp.{both_ways}
 use Rattle.std.specs.Prelude.{slice_get, Result, Ok, Err, OnOk, OnErr}
 use Rattle.std.specs.Result.{is_err}
-use Rattle.std.proofs.lemmas.List.{nil_from_length}
 use Rattle.std.specs.List.{IsDistinct}
 use Rattle.std.proofs.lemmas.Bool.{false≢true, eqb-true, eq-eqb}
 use Rattle.std.proofs.lemmas.Option.{slice_get_within, slice_get_cases, get_or_from_slice_get}
@@ -11,7 +10,7 @@ use Rattle.std.proofs.lemmas.List.Elements.{All-get_or}
 use Rattle.std.proofs.lemmas.Map.Entries.{length-keys_of}
 use Rattle.txn_names.specs.Path.{Path, path_eq, parent}
 use Rattle.txn_names.specs.Text.{IsName}
-use Rattle.txn_names.proofs.Names.{same_path, path_eq-from, path_eq_self, length-parent}
+use Rattle.txn_names.proofs.Names.{same_path, path_eq-from, path_eq_self}
 use Rattle.txn_tree.specs.declared.node.Children.{Children}
 use Rattle.txn_tree.specs.declared.node.Node.{Node}
 use Rattle.txn_tree.specs.declared.status.Status.{Status}
@@ -144,6 +143,3 @@ on_err (Err x) P e h = h
 -- the number of the parent
 pub parent_some : (tree : States) (t q : Path) (p : ℕ) → slice_get (names tree) p ≡ Some q → q ≡ parent t → IsParentAt (names tree) (length tree) t (Some p)
 parent_some tree t q p at e = let within = slice_get_within (names tree) p q at in (omega (arith, within, length-keys_of tree), at ∙ ap Some e)
-
-pub parent_none : (t : Path) → length t ≡ 1 → parent t ≡ []
-parent_none t e = nil_from_length (parent t) (omega (arith, e, length-parent t))

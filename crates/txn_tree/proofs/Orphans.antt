@@ -9,10 +9,10 @@ use Rattle.txn_tree.specs.declared.status.Status.{Status}
 use Rattle.txn_tree.specs.declared.status.Status.TheVariants.{Absent, Live, Committed, Aborted}
 use Rattle.txn_tree.specs.States.{States, names, status_in, is_absent, is_live, is_committed, is_aborted}
 use Rattle.txn_tree.specs.Asked.{ended_by_abort, has_aborted_in, is_absent_in, is_active_in, is_live_in, is_orphan_in, has_committed_in, top_aborted_in, live_children_of}
-use Rattle.txn_tree.specs.Causes.{cause_at_abort, cause_at_begin}
+use Rattle.txn_tree.specs.Causes.{cause_at_begin}
 use Rattle.serial_spec.specs.History.{or_else}
 use Rattle.serial_spec.specs.Allowed.{when, most_transactions}
-use Rattle.serial_spec.specs.declared.entry.Refusal.TheVariants.{Unknown, Used, NoParent, Done, Orphan, Full}
+use Rattle.serial_spec.specs.declared.entry.Refusal.TheVariants.{Used, NoParent, Orphan, Full}
 use Rattle.txn_tree.specs.Numbered.{IsUpward, is_active_at, is_active_named, is_below_orphan, is_below_orphan_named}
 use Rattle.txn_tree.proofs.Counts.{count_has, count_none}
 use Rattle.txn_tree.proofs.Told.{row_place}
@@ -98,7 +98,7 @@ own_orphan tree (l ∷ ls) some e = front_last (has_aborted_in tree) l ls ∙ ri
     right false b f = f
 
 -- whoever has begun, has not committed and is no orphan is active
-begun_active : (tree : States) (u : Path) → is_absent_in tree u ≡ false → has_committed_in tree u ≡ false → is_orphan_in tree u ≡ false → is_active_in tree u ≡ true
+pub begun_active : (tree : States) (u : Path) → is_absent_in tree u ≡ false → has_committed_in tree u ≡ false → is_orphan_in tree u ≡ false → is_active_in tree u ≡ true
 begun_active tree [] begun going upright = refl
 begun_active tree (l ∷ ls) begun going upright = active_from tree (l ∷ ls) (by (status_in tree (l ∷ ls)) refl begun going) upright
   where
@@ -122,18 +122,6 @@ begins_below_active tree t e =
     by true false (Some p) d f g = absurd (true≢false (ap is_some g))
     by true true o d f g = absurd (true≢false (ap is_some g))
     by false b o d f g = absurd (true≢false (ap is_some g))
-
--- what may abort is active
-pub active_to_end : (tree : States) (t : Path) → cause_at_abort tree t ≡ None → is_active_in tree t ≡ true
-active_to_end tree t e =
-    let w = by (is_absent_in tree t) (top_aborted_in tree t) (has_committed_in tree t) e in
-    begun_active tree t w.0 w.2 w.1
-  where
-    by : (b : Bool) (o : Option Path) (d : Bool) → or_else (when b Unknown) (or_else (option_map (λ p. Orphan p) o) (when d Done)) ≡ None → (b ≡ false) × (is_some o ≡ false) × (d ≡ false)
-    by false None false g = (refl, refl, refl)
-    by false None true g = absurd (true≢false (ap is_some g))
-    by false (Some p) d g = absurd (true≢false (ap is_some g))
-    by true o d g = absurd (true≢false (ap is_some g))
 
 pub below_active : (tree : States) (n : ℕ) → is_active_at tree n ≡ true → is_below_orphan tree n ≡ false
 below_active tree n = by (slice_get (names tree) n)

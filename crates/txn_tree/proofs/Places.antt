@@ -74,6 +74,12 @@ module _ (ns : List Path) (distinct : IsDistinct path_eq ns) (t : Path) where
         ]
       ]
 
+  -- nobody before has the name
+  pub not_before : (n : ℕ) → slice_get ns n ≡ Some t → (k : ℕ) → k < n → path_eq t (get_or ns k t) ≡ false
+  not_before n at k less =
+      false_from_ne_true (path_eq t (get_or ns k t)) (λ e.
+      clash k n (slice_get-get_or ns k t (omega (arith, less, slice_get_within ns n t at)) ∙ ap Some (sym (same_path t (get_or ns k t) e))) at less)
+
   -- and are found there
   pub found_at : (n : ℕ) → slice_get ns n ≡ Some t → position (path_eq t) ns ≡ Some n
   found_at n at =
@@ -82,13 +88,8 @@ module _ (ns : List Path) (distinct : IsDistinct path_eq ns) (t : Path) where
       within : n < length ns
       within = slice_get_within ns n t at
 
-      before : (k : ℕ) → k < n → path_eq t (get_or ns k t) ≡ false
-      before k less =
-          false_from_ne_true (path_eq t (get_or ns k t)) (λ e.
-          clash k n (slice_get-get_or ns k t (omega (arith, less, within)) ∙ ap Some (sym (same_path t (get_or ns k t) e))) at less)
-
       first : position_or_len (path_eq t) ns ≡ n
-      first = position_or_len_is (path_eq t) ns n t (omega (arith, within)) before (λ _. path_eq-from t (get_or ns n t) (sym (get_or_from_slice_get ns n t t at)))
+      first = position_or_len_is (path_eq t) ns n t (omega (arith, within)) (not_before n at) (λ _. path_eq-from t (get_or ns n t) (sym (get_or_from_slice_get ns n t t at)))
 
 -- ---- a node written to, as the code does it
 

@@ -1,29 +1,23 @@
 -- What is told of a transaction by its number.
-use Rattle.std.proofs.Common.{◌≡◌, ℕ, zero, suc, ◌<◌, nat_lt, Bool, true, false, not, cond, List, [], ◌∷◌, length, Option, Some, None, is_some, unwrap_or, option_map, inl, inr, refl, sym, ap, subst, ◌∙◌, true≢false, arith}
+use Rattle.std.proofs.Common.{◌≡◌, ℕ, suc, ◌<◌, nat_lt, Bool, true, false, not, List, [], ◌∷◌, length, Option, Some, None, is_some, unwrap_or, inl, inr, refl, sym, ap, subst, ◌∙◌, true≢false, arith}
 use Rattle.std.specs.Prelude.{slice_get, IfSome}
 use Rattle.std.specs.Map.{lookup}
 use Rattle.std.proofs.lemmas.Bool.{false≢true, eq-eqb, lt-ltb, le-ltb, not-true, not-false}
 use Rattle.std.proofs.lemmas.Option.{slice_get_within, slice_get_cases, slice_get_past, get_or_from_slice_get}
 use Rattle.std.proofs.lemmas.List.Elements.{All-get_or}
 use Rattle.std.proofs.lemmas.Map.Entries.{length-keys_of, lookup_tail}
-use Rattle.txn_names.specs.Path.{Path, path_eq, parent, top_of}
+use Rattle.txn_names.specs.Path.{Path, path_eq, parent}
 use Rattle.txn_names.specs.Text.{IsName}
 use Rattle.txn_names.proofs.Names.{same_path, path_eq-from, length-parent}
-use Rattle.serial_spec.specs.History.{or_else}
-use Rattle.serial_spec.specs.Allowed.{when}
-use Rattle.serial_spec.specs.declared.entry.Refusal.{Refusal}
-use Rattle.serial_spec.specs.declared.entry.Refusal.TheVariants.{Unknown, Done, Orphan}
 use Rattle.txn_tree.specs.declared.node.Children.{Children}
 use Rattle.txn_tree.specs.declared.node.Node.{Node}
 use Rattle.txn_tree.specs.declared.status.Status.{Status}
-use Rattle.txn_tree.specs.declared.status.Status.TheVariants.{Absent, Live, Committed, Aborted}
-use Rattle.txn_tree.specs.States.{States, IsTree, names, status_in, is_absent, is_committed, is_aborted}
-use Rattle.txn_tree.specs.Asked.{IsNumberOf, is_name, is_absent_in, has_aborted_in, live_children_of, top_aborted_in}
-use Rattle.txn_tree.specs.Causes.{cause_at_abort, cause_at_commit, orphaned}
+use Rattle.txn_tree.specs.declared.status.Status.TheVariants.{Absent}
+use Rattle.txn_tree.specs.States.{States, IsTree, names, is_absent}
+use Rattle.txn_tree.specs.Asked.{IsNumberOf, is_name, is_absent_in, live_children_of}
 use Rattle.txn_tree.specs.Numbered.{IsClosed, has_parent, is_parent_of}
 use Rattle.txn_tree.specs.Linked.{IsLinked, IsParentAt, kept_parent}
 use Rattle.txn_tree.proofs.Numbers.{is_begun}
-use Rattle.txn_tree.proofs.Children.{cause_by_children}
 use Rattle.txn_tree.proofs.Links.{node_at, no_live_child}
 use Rattle.txn_tree.proofs.Under.{nowhere, absent_nowhere}
 
@@ -34,44 +28,6 @@ named_at tree t n is = by (slice_get (names tree) n) (sym (is n) ∙ eq-eqb n n 
     by : (o : Option Path) → is_name o t ≡ true → o ≡ Some t
     by None e = absurd (false≢true e)
     by (Some u) e = ap Some (sym (same_path t u e))
-
--- one that passes has a topmost one that does
-top_some : (passes : Path → Bool) (l : List ℕ) (ls : Path) → passes (l ∷ ls) ≡ true → is_some (top_of passes (l ∷ ls)) ≡ true
-top_some passes l [] e = rw e refl
-top_some passes l (m ∷ ms) e = by (passes (l ∷ [])) (top_some (λ u. passes (l ∷ u)) m ms e)
-  where
-    mapped : (o : Option Path) → is_some o ≡ true → is_some (option_map (λ u. l ∷ u) o) ≡ true
-    mapped None f = absurd (false≢true f)
-    mapped (Some u) f = refl
-
-    by : (b : Bool) → is_some (top_of (λ u. passes (l ∷ u)) (m ∷ ms)) ≡ true → is_some (cond b (Some (l ∷ [])) (option_map (λ u. l ∷ u) (top_of (λ u. passes (l ∷ u)) (m ∷ ms)))) ≡ true
-    by true f = refl
-    by false f = mapped (top_of (λ u. passes (l ∷ u)) (m ∷ ms)) f
-
--- what may end is live
-pub live_to_end : (tree : States) (t : Path) → cause_at_abort tree t ≡ None → status_in tree t ≡ Live
-live_to_end tree [] e = refl
-live_to_end tree (l ∷ ls) e = by (status_in tree (l ∷ ls)) refl
-  where
-    t : Path
-    t = l ∷ ls
-
-    by : (s : Status) → status_in tree (l ∷ ls) ≡ s → s ≡ Live
-    by Absent q = absurd (no_cause (orphaned tree (l ∷ ls)) (sym (ap (λ s. or_else (when (is_absent s) Unknown) (or_else (orphaned tree (l ∷ ls)) (when (is_committed s) Done))) q) ∙ e))
-      where
-        no_cause : (o : Option Refusal) → or_else (when true Unknown) (or_else o (when false Done)) ≡ None → ⊥
-        no_cause o f = true≢false (ap is_some f)
-    by Live q = refl
-    by Committed q = absurd (no_cause (orphaned tree (l ∷ ls)) (sym (ap (λ s. or_else (when (is_absent s) Unknown) (or_else (orphaned tree (l ∷ ls)) (when (is_committed s) Done))) q) ∙ e))
-      where
-        no_cause : (o : Option Refusal) → or_else (when false Unknown) (or_else o (when true Done)) ≡ None → ⊥
-        no_cause None f = true≢false (ap is_some f)
-        no_cause (Some r) f = true≢false (ap is_some f)
-    by Aborted q = absurd (no_cause (top_aborted_in tree (l ∷ ls)) (top_some (has_aborted_in tree) l ls (ap is_aborted q)) (sym (ap (λ s. or_else (when (is_absent s) Unknown) (or_else (orphaned tree (l ∷ ls)) (when (is_committed s) Done))) q) ∙ e))
-      where
-        no_cause : (o : Option Path) → is_some o ≡ true → or_else (when false Unknown) (or_else (option_map (λ a. Orphan a) o) (when false Done)) ≡ None → ⊥
-        no_cause None g f = false≢true g
-        no_cause (Some a) g f = true≢false (ap is_some f)
 
 -- a name with a row stands at a number
 pub row_place : (tree : States) (t : Path) → is_some (lookup (path_eq t) tree) ≡ true → (n : ℕ) × (slice_get (names tree) n ≡ Some t)
@@ -135,19 +91,3 @@ nobody_below tree nodes tops is linked t name absent =
     labelled : (u : Path) → IsName u → path_eq [] u ≡ false
     labelled [] n = absurd (omega (arith, n.some))
     labelled (l ∷ ls) n = refl
-
--- what may commit may abort
-pub commit_ends : (tree : States) (t : Path) → None ≡ cause_at_commit tree t → cause_at_abort tree t ≡ None
-commit_ends tree t e = by _ (cause_at_abort tree t) (sym e)
-  where
-    by : (q o : Option Refusal) → or_else o q ≡ None → o ≡ None
-    by q None f = refl
-    by q (Some r) f = absurd (true≢false (ap is_some f))
-
--- what may commit has no live child
-pub childless : (tree : States) (t : Path) → None ≡ cause_at_commit tree t → live_children_of tree t ≡ 0
-childless tree t e = by (live_children_of tree t) refl
-  where
-    by : (k : ℕ) → live_children_of tree t ≡ k → k ≡ 0
-    by zero f = refl
-    by (suc k) f = absurd (true≢false (ap is_some (cause_by_children tree t (sym (commit_ends tree t e)) (omega (arith, f)) ∙ sym e)))

@@ -1,18 +1,17 @@
 //! The names and the states of the transactions that have begun.
-ghost use Rattle.std.specs.Prelude.{◌≡◌, ◌≢◌, ◌↔◌, [], ◌∷◌, ◌++◌, is_some, length, not, position, slice_get, false, None, Some, if◌then◌else◌, IfSome, IsTrue, OnErr, OnOk};
+ghost use Rattle.std.specs.Prelude.{◌≡◌, ◌≢◌, ◌↔◌, ◌<◌, [], ◌∷◌, ◌++◌, is_some, length, not, position, slice_get, false, None, Some, if◌then◌else◌, IfSome, IsTrue, OnErr, OnOk};
 ghost use Rattle.std.specs.Option.{option_copied};
-ghost use Rattle.txn_names.specs.Path.{Path, parent, path_eq};
+ghost use Rattle.txn_names.specs.Path.{Path, path_eq};
 ghost use Rattle.txn_names.specs.Text.{IsName};
 ghost use Rattle.txn_tree.specs.States.{IsTree, names, status_in};
-ghost use Rattle.txn_tree.specs.Asked.{IsNumberOf, IsRootless, is_absent_in, top_aborted_in};
+ghost use Rattle.txn_tree.specs.Asked.{IsNumberOf, IsRootless, is_absent_in, is_active_in, top_aborted_in};
 ghost use Rattle.txn_tree.specs.Numbered.{is_under, status_at};
-ghost use Rattle.txn_tree.specs.Linked.{IsParentAt};
 ghost use Rattle.txn_tree.specs.Causes.{cause_at_abort, cause_at_begin, cause_at_parent};
 
 use crate::number::TxnNo;
 use crate::status::Status;
 use indexmap::IndexMap;
-use serial_spec::{MOST_TRANSACTIONS, Refusal};
+use serial_spec::Refusal;
 use std::alloc::{AllocError, Global};
 use std::marker::Model;
 use txn_names::Name;
@@ -113,56 +112,32 @@ impl Register {
         None
     }
 
-    // Why the transaction can have no more children.
-    pub(crate) fn cause_at_parent(&self, parent: &Name) -> Option<Refusal>
-        ensures { result ≡ cause_at_parent self.now parent.now }
+    // Why a transaction that is not active can have no more children.
+    pub(crate) fn cause_at_parent(&self, parent: &Name) -> Refusal
+        requires inactive { is_active_in self.now parent.now ≡ false }
+        ensures { Some result ≡ cause_at_parent self.now parent.now }
     {
-        let status = self.status(parent);
-        if status == Status::Absent {
-            Some(Refusal::NoParent)
+        if self.status(parent) == Status::Absent {
+            Refusal::NoParent
         } else if let Some(top) = self.top_aborted(parent) {
-            Some(Refusal::Orphan(top))
-        } else if status == Status::Committed {
-            Some(Refusal::NoParent)
+            Refusal::Orphan(top)
         } else {
-            None
+            // It has committed.
+            Refusal::NoParent
         }
     }
 
-    // Why a begin is refused.
-    pub(crate) fn cause_at_begin(&self, name: &Name) -> Option<Refusal>
-        ensures cause { result ≡ cause_at_begin self.now name.now }
-        ensures name { IsName name.now }
+    // Why an abort of a transaction that is not active is refused.
+    pub(crate) fn cause_at_abort(&self, name: &Name) -> Refusal
+        requires inactive { is_active_in self.now name.now ≡ false }
+        ensures { Some result ≡ cause_at_abort self.now name.now }
     {
-        if self.status(name) != Status::Absent {
-            return Some(Refusal::Used);
-        }
-        if let Some(parent) = name.parent() {
-            if let Some(cause) = self.cause_at_parent(&parent) {
-                return Some(cause);
-            }
-        }
-        if self.len() < MOST_TRANSACTIONS {
-            None
-        } else {
-            Some(Refusal::Full)
-        }
-    }
-
-    // Why an abort is refused.
-    pub(crate) fn cause_at_abort(&self, name: &Name) -> Option<Refusal>
-        ensures cause { result ≡ cause_at_abort self.now name.now }
-        ensures name { IsName name.now }
-    {
-        let status = self.status(name);
-        if status == Status::Absent {
-            Some(Refusal::Unknown)
+        if self.status(name) == Status::Absent {
+            Refusal::Unknown
         } else if let Some(top) = self.top_aborted(name) {
-            Some(Refusal::Orphan(top))
-        } else if status == Status::Committed {
-            Some(Refusal::Done)
+            Refusal::Orphan(top)
         } else {
-            None
+            Refusal::Done
         }
     }
 
@@ -176,25 +151,6 @@ impl Register {
                 None => false,
             },
             None => false,
-        }
-    }
-
-    // The number of a transaction that has begun.
-    pub(crate) fn number(&self, name: &Name) -> TxnNo
-        requires begun { is_absent_in self.now name.now ≡ false }
-        ensures { slice_get (names self.now) result ≡ Some name.now }
-    {
-        self.no_of(name).unwrap()
-    }
-
-    // The number of the parent, if that is not the root.
-    pub(crate) fn number_of_parent(&self, name: &Name) -> Option<TxnNo>
-        requires begun { is_absent_in self.now (parent name.now) ≡ false }
-        ensures { IsParentAt (names self.now) (length self.now) name.now result }
-    {
-        match name.parent() {
-            Some(parent) => Some(self.number(&parent)),
-            None => None,
         }
     }
 
@@ -219,14 +175,15 @@ impl Register {
         }
     }
 
-    // Gives a transaction that has begun another state. It takes no memory.
-    pub(crate) fn set(&mut self, name: &Name, status: Status)
-        requires name { IsName name.now }
-        requires begun { status_in self.old name.now ≢ Status.Absent }
+    // Gives the transaction with this number another state. It takes no memory.
+    pub(crate) fn set_at(&mut self, txn: TxnNo, status: Status)
+        requires begun { txn < length self.old }
         requires other { status ≢ Status.Absent }
         ensures names { names self.new ≡ names self.old }
-        ensures status { (u : Path) → status_in self.new u ≡ (if path_eq name.now u then status else status_in self.old u) }
+        ensures status { (t : Path) → slice_get (names self.old) txn ≡ Some t
+            → (u : Path) → status_in self.new u
+            ≡ (if path_eq t u then status else status_in self.old u) }
     {
-        *self.states.get_mut(name).unwrap() = status;
+        *self.states.get_index_mut(txn.place() as usize).unwrap() = status;
     }
 }

@@ -8,6 +8,7 @@ ghost use Rattle.txn_tree.specs.States.{IsTree, is_aborted, is_live, names, stat
 ghost use Rattle.txn_tree.specs.Asked.{IsNumberOf, IsRootless, ended_by_abort, is_absent_in, is_active_in, live_children_of, top_aborted_in};
 ghost use Rattle.txn_tree.specs.Numbered.{IsClosed, IsUpward, RisesDown, ended_at, is_active_at, is_below_orphan, has_parent, is_parent_of, is_under, live_children_at, status_at};
 ghost use Rattle.txn_tree.specs.Siblings.{HasBranches, IsFirst, IsNext, is_child_at, is_sibling_at, is_top_at};
+ghost use Rattle.txn_tree.specs.Linked.{IsParentAt};
 ghost use Rattle.txn_tree.specs.Causes.{cause_at_abort, cause_at_begin, cause_at_commit, cause_at_parent, refusal_of};
 
 use crate::fault::TreeFault;
@@ -16,7 +17,7 @@ use crate::node::{Children, Node};
 use crate::number::TxnNo;
 use crate::register::Register;
 use crate::status::Status;
-use serial_spec::Refusal;
+use serial_spec::{MOST_TRANSACTIONS, Refusal};
 use std::alloc::Global;
 use std::marker::Model;
 use txn_names::Name;
@@ -185,17 +186,46 @@ impl Tree {
         self.tops.live
     }
 
-    // Why a commit is refused.
-    fn cause_at_commit(&self, name: &Name) -> Option<Refusal>
-        ensures cause { result ≡ cause_at_commit self.now name.now }
+    // The number of the parent, or none if that is the root. The error is why it can have no more children.
+    fn number_of_parent(&self, name: &Name) -> Result<Option<TxnNo>, Refusal>
+        ensures refused { result_err result ≡ cause_at_parent self.now (parent name.now) }
+        ensures number { IfOk result (IsParentAt (names self.now) (length self.now) name.now) }
+    {
+        let Some(parent) = name.parent() else {
+            return Ok(None);
+        };
+        match self.active_no_of(&parent) {
+            Some(txn) => Ok(Some(txn)),
+            None => Err(self.register.cause_at_parent(&parent)),
+        }
+    }
+
+    // The same where the transaction may begin. The error is why it may not.
+    fn parent_to_begin(&self, name: &Name) -> Result<Option<TxnNo>, Refusal>
+        ensures refused { result_err result ≡ cause_at_begin self.now name.now }
+        ensures number { IfOk result (IsParentAt (names self.now) (length self.now) name.now) }
         ensures name { IsName name.now }
     {
-        if let Some(cause) = self.register.cause_at_abort(name) {
-            Some(cause)
-        } else if self.live_children(name) > 0 {
-            Some(Refusal::Children)
+        if self.status(name) != Status::Absent {
+            return Err(Refusal::Used);
+        }
+        let parent = self.number_of_parent(name)?;
+        if self.len() < MOST_TRANSACTIONS {
+            Ok(parent)
         } else {
-            None
+            Err(Refusal::Full)
+        }
+    }
+
+    // The number of the transaction, which is active. The error is why it may not be aborted.
+    fn number_to_end(&self, name: &Name) -> Result<TxnNo, Refusal>
+        ensures refused { result_err result ≡ cause_at_abort self.now name.now }
+        ensures named { IfOk result (λ n. slice_get (names self.now) n ≡ Some name.now) }
+        ensures active { IfOk result (λ n. is_active_at self.now n ≡ true) }
+    {
+        match self.active_no_of(name) {
+            Some(txn) => Ok(txn),
+            None => Err(self.register.cause_at_abort(name)),
         }
     }
 
@@ -210,11 +240,11 @@ impl Tree {
         ensures live { OnOk result ((u : Path) → status_in self.new u ≡ (if path_eq name.now u then Status.Live else status_in self.old u)) }
         ensures err { OnErr result (self.new ≡ self.old) }
     {
-        if let Some(cause) = self.register.cause_at_begin(name) {
-            return Err(TreeFault::Refused(cause));
-        }
+        let parent = match self.parent_to_begin(name) {
+            Ok(parent) => parent,
+            Err(cause) => return Err(TreeFault::Refused(cause)),
+        };
         let place = self.register.len();
-        let parent = self.register.number_of_parent(name);
         let above = parent;
         if add_node(&mut self.nodes, above).is_err() {
             return Err(TreeFault::NoMemory);
@@ -233,18 +263,19 @@ impl Tree {
         Ok(TxnNo::new(place as u32))
     }
 
-    // Gives a live transaction the state that ends it. It takes no memory.
-    fn end(&mut self, txn: TxnNo, name: &Name, status: Status)
-        requires named { slice_get (names self.old) txn ≡ Some name.now }
-        requires live { status_in self.old name.now ≡ Status.Live }
+    // Gives an active transaction the state that ends it. It takes no memory.
+    fn end(&mut self, txn: TxnNo, status: Status)
+        requires active { is_active_at self.old txn ≡ true }
         requires begun { status ≢ Status.Absent }
         requires ended { is_live status ≡ false }
-        requires lone { is_aborted status ≡ false → live_children_of self.old name.now ≡ 0 }
+        requires lone { is_aborted status ≡ false → live_children_at self.old txn ≡ 0 }
         ensures names { names self.new ≡ names self.old }
-        ensures status { (u : Path) → status_in self.new u ≡ (if path_eq name.now u then status else status_in self.old u) }
+        ensures status { (t : Path) → slice_get (names self.old) txn ≡ Some t
+            → (u : Path) → status_in self.new u
+            ≡ (if path_eq t u then status else status_in self.old u) }
     {
         let parent = self.nodes[txn.place() as usize].parent;
-        self.register.set(name, status);
+        self.register.set_at(txn, status);
         self.register.is_tree();
         end_child(&mut self.nodes, &mut self.tops, parent);
     }
@@ -284,9 +315,7 @@ impl Tree {
             → (u : Path) → status_in self.new u ≡ (if path_eq t u then Status.Committed else status_in self.old u) }
         ensures names { names self.new ≡ names self.old }
     {
-        if let Some(name) = self.name_of(txn).copied() {
-            self.end(txn, &name, Status::Committed);
-        }
+        self.end(txn, Status::Committed);
     }
 
     /// Aborts the transaction with this number, which the caller knows to be live and no orphan. Its own state is
@@ -299,14 +328,9 @@ impl Tree {
             → (u : Path) → status_in self.new u ≡ (if path_eq t u then Status.Aborted else status_in self.old u) }
         ensures names { names self.new ≡ names self.old }
     {
-        match self.name_of(txn).copied() {
-            Some(name) => {
-                let ended = self.ended_at(txn);
-                self.end(txn, &name, Status::Aborted);
-                ended
-            }
-            None => 0,
-        }
+        let ended = self.ended_at(txn);
+        self.end(txn, Status::Aborted);
+        ended
     }
 
     /// Commits the transaction: its own state is Committed. It takes no memory. A commit is refused by the first
@@ -318,11 +342,11 @@ impl Tree {
         ensures names { OnOk result (names self.new ≡ names self.old) }
         ensures err { OnErr result (self.new ≡ self.old) }
     {
-        if let Some(cause) = self.cause_at_commit(name) {
-            return Err(cause);
+        let txn = self.number_to_end(name)?;
+        if self.live_children_at(txn) > 0 {
+            return Err(Refusal::Children);
         }
-        let txn = self.register.number(name);
-        self.end(txn, name, Status::Committed);
+        self.commit_at(txn);
         Ok(())
     }
 
@@ -337,12 +361,7 @@ impl Tree {
         ensures names { OnOk result (names self.new ≡ names self.old) }
         ensures err { OnErr result (self.new ≡ self.old) }
     {
-        if let Some(cause) = self.register.cause_at_abort(name) {
-            return Err(cause);
-        }
-        let txn = self.register.number(name);
-        let ended = self.ended_at(txn);
-        self.end(txn, name, Status::Aborted);
-        Ok(ended)
+        let txn = self.number_to_end(name)?;
+        Ok(self.abort_at(txn))
     }
 }
