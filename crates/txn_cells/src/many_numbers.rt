@@ -97,7 +97,7 @@ impl ManyNumbers {
         ensures { self.new ≡ self.old }
     {
         let len = self.len();
-        self.items.rotate_left(self.front);
+        self.items.copy_within(self.front.., 0);
         self.items.truncate(len);
         self.front = 0;
     }
