@@ -1,19 +1,19 @@
--- Rising numbers: the holders of a key, and which of them are marked.
-use Rattle.std.proofs.Common.{◌≡◌, ℕ, zero, suc, ◌<◌, ◌≤◌, Bool, true, false, cond, not, nat_eq, ◌&&◌, ◌||◌, filter, List, [], ◌∷◌, length, get_or, Some, unwrap_or, is_some, Result, Ok, Err, inl, inr, refl, sym, ap, subst, ◌∙◌, arith}
+-- Rising numbers: the holders of a key, and those that are marked.
+use Rattle.std.proofs.Common.{◌≡◌, ℕ, zero, suc, ◌<◌, ◌≤◌, Bool, true, false, cond, not, nat_eq, ◌&&◌, ◌||◌, filter, List, [], ◌∷◌, length, length-take, get_or, take, Some, unwrap_or, is_some, Result, Ok, Err, inl, inr, refl, sym, ap, subst, ◌∙◌, arith}
 use Rattle.std.specs.Prelude.{insert, remove, slice_get, slice_index_or}
 use Rattle.std.specs.List.{list_any, IsDistinct, AllByRecursion}
 use Rattle.std.specs.List.Sorted.{IsBinarySearchResult, IsStrictlyIncreasing}
 use Rattle.std.specs.Ordering.{nat_cmp}
 use Rattle.std.specs.Result.{MatchResult}
-use Rattle.std.proofs.lemmas.Bool.{and_from, and_parts, cases_lt, eq-eqb, eqb-true, false≢true, ne_eqb, or_cases, or_left, or_parts, or_right}
+use Rattle.std.proofs.lemmas.Bool.{cases_lt, eq-eqb, eqb-true, false≢true, ne_eqb, or_cases, or_left, or_parts, or_right}
 use Rattle.std.proofs.lemmas.Cmp.{nat_eq_equiv}
-use Rattle.std.proofs.lemmas.List.{get_or_default}
+use Rattle.std.proofs.lemmas.List.{get_or-take, get_or_default}
+use Rattle.std.proofs.lemmas.Option.{get_or_from_slice_get, slice_get_within}
 use Rattle.std.proofs.lemmas.List.Kept.{IsStrictlyIncreasing-filter}
 use Rattle.std.proofs.lemmas.List.Sorted.{IsPermutation-insert, IsNonDecreasingBy-insert, list_any-IsPermutation, searched}
 use Rattle.std.proofs.lemmas.Map.Made.{length-le_from_is_member}
 use Rattle.std.proofs.lemmas.Map.Views.{any-filter_same}
 use Rattle.std.proofs.lemmas.Map.Keys.{IsDistinct-IsPermutation, IsDistinct-cons, IsDistinct-from_apart, IsStrictlyIncreasing-from_distinct, sorted_from_strictly_increasing, non_decreasing_from_sorted, below_from_sorted}
-use Rattle.txn_cells.specs.Kept.{AreAmong}
 
 eqb_comm : (a b : ℕ) → nat_eq a b ≡ nat_eq b a
 eqb_comm = nat_eq_equiv.symm
@@ -25,7 +25,7 @@ absent : (t : ℕ) (xs : List ℕ) → list_any (nat_eq t) xs ≡ false → AllB
 absent t [] e = tt
 absent t (x ∷ xs) e = let parts = or_parts (nat_eq t x) (list_any (nat_eq t) xs) e in (parts.0, absent t xs parts.1)
 
-distinct : (xs : List ℕ) → IsStrictlyIncreasing xs → IsDistinct nat_eq xs
+pub distinct : (xs : List ℕ) → IsStrictlyIncreasing xs → IsDistinct nat_eq xs
 distinct xs rising =
     IsDistinct-from_apart nat_eq xs (λ i j d before within.
     let below = below_from_sorted xs i j d (sorted_from_strictly_increasing xs rising) before within in
@@ -53,7 +53,7 @@ any-without xs t u =
     any-filter_same (nat_eq u) (λ v. not (nat_eq v t)) (not (nat_eq t u)) (λ k same. ap not (ap (λ v. nat_eq v t) (sym (eqb-true u k same)) ∙ eqb_comm u t)) xs
 
 -- a number that is at no place is not among them
-not_among : (t : ℕ) (xs : List ℕ) → ((k : ℕ) → k < length xs → get_or xs k 0 ≡ t → ⊥) → list_any (nat_eq t) xs ≡ false
+pub not_among : (t : ℕ) (xs : List ℕ) → ((k : ℕ) → k < length xs → get_or xs k 0 ≡ t → ⊥) → list_any (nat_eq t) xs ≡ false
 not_among t [] other = refl
 not_among t (x ∷ xs) other =
     ap (λ b. b || list_any (nat_eq t) xs) (ne_eqb t x (λ same. other 0 (omega arith) (sym same)))
@@ -124,45 +124,36 @@ module _ (xs : List ℕ) (t : ℕ) (rising : IsStrictlyIncreasing xs) where
         (λ k d before. let less = ends.1 k before in omega (arith, less, ends.0, get_or_default xs k d 0 (omega (arith, before, ends.0))))
         (λ k d since within. let more = ends.2 k since within in omega (arith, more, get_or_default xs k d 0 within))
 
--- ---- some numbers among others
-
--- one more among all
-pub among_put : (some all : List ℕ) (t i : ℕ) → AreAmong some all → AreAmong some (insert all i t)
-among_put some all t i are = record {
-  rising = are.rising;
-  within = λ u e. any-insert all t i u ∙ or_right (nat_eq t u) (list_any (nat_eq u) all) (are.within u e);
-}
-
--- one more of them
-pub among_one : (some more all : List ℕ) (t : ℕ) → AreAmong some all → list_any (nat_eq t) all ≡ true → IsStrictlyIncreasing more
-    → ((u : ℕ) → list_any (nat_eq u) more ≡ (nat_eq t u || list_any (nat_eq u) some)) → AreAmong more all
-among_one some more all t are there rising each = record {
-  rising = rising;
-  within = λ u e.
-      elim (or_cases (nat_eq t u) (list_any (nat_eq u) some) (sym (each u) ∙ e)) [
-        | inl same ↦ subst (λ (v : ℕ). list_any (nat_eq v) all ≡ true) (eqb-true t u same) there
-        | inr before ↦ are.within u before
-      ];
-}
-
--- where one leaves both
-pub among_left : (some all : List ℕ) (t : ℕ) → AreAmong some all → AreAmong (filter (λ v. not (nat_eq v t)) some) (filter (λ v. not (nat_eq v t)) all)
-among_left some all t are = record {
-  rising = IsStrictlyIncreasing-filter (λ v. not (nat_eq v t)) some are.rising;
-  within = λ u e.
-      let parts = and_parts (not (nat_eq t u)) (list_any (nat_eq u) some) (sym (any-without some t u) ∙ e) in
-      any-without all t u ∙ and_from (not (nat_eq t u)) (list_any (nat_eq u) all) parts.0 (are.within u parts.1);
-}
-
 -- there is room for one that is not among them yet
-pub one_fits : (some all : List ℕ) (t : ℕ) → AreAmong some all → list_any (nat_eq t) all ≡ true → list_any (nat_eq t) some ≡ false → length some < length all
-one_fits some all t are there fresh =
-    let most = length-le_from_is_member nat_eq_equiv (t ∷ some) all (IsDistinct-cons nat_eq t some (absent t some fresh) (distinct some are.rising)) (λ q e.
+pub one_fits : (some all : List ℕ) (t : ℕ) → IsStrictlyIncreasing some → ((u : ℕ) → list_any (nat_eq u) some ≡ true → list_any (nat_eq u) all ≡ true)
+    → list_any (nat_eq t) all ≡ true → list_any (nat_eq t) some ≡ false → length some < length all
+one_fits some all t rising within there fresh =
+    let most = length-le_from_is_member nat_eq_equiv (t ∷ some) all (IsDistinct-cons nat_eq t some (absent t some fresh) (distinct some rising)) (λ q e.
     elim (or_cases (nat_eq q t) (list_any (nat_eq q) some) e) [
       | inl same ↦ subst (λ (v : ℕ). list_any (nat_eq v) all ≡ true) (sym (eqb-true q t same)) there
-      | inr before ↦ are.within q before
+      | inr before ↦ within q before
     ]) in
     omega (arith, most)
+
+-- the number at a place is taken out
+module _ (xs : List ℕ) (t i : ℕ) (rising : IsStrictlyIncreasing xs) (at : slice_get xs i ≡ Some t) where
+  taken_at : remove xs i ≡ filter (λ v. not (nat_eq v t)) xs
+  taken_at = removed xs t i (rises xs t rising) (slice_get_within xs i t at) (get_or_from_slice_get xs i t 0 at)
+
+  pub rising_without : IsStrictlyIncreasing (remove xs i)
+  rising_without = subst (λ (ys : List ℕ). IsStrictlyIncreasing ys) (sym taken_at) (IsStrictlyIncreasing-filter (λ v. not (nat_eq v t)) xs rising)
+
+  pub any-taken : (u : ℕ) → list_any (nat_eq u) (remove xs i) ≡ (not (nat_eq t u) && list_any (nat_eq u) xs)
+  any-taken u = ap (list_any (nat_eq u)) taken_at ∙ any-without xs t u
+
+  -- it is not among those before it
+  pub none_before : list_any (nat_eq t) (take i xs) ≡ false
+  none_before =
+      not_among t (take i xs) (λ k less same.
+      let within = slice_get_within xs i t at in
+      let before : k < i = omega (arith, less, length-take i xs) in
+      let up = rises xs t rising k i before within in
+      omega (arith, up, get_or-take i xs k 0 before, same, get_or_from_slice_get xs i t 0 at))
 
 -- no more pass than there are
 pub fewer_pass : (p : ℕ → Bool) (xs : List ℕ) → length (filter p xs) ≤ length xs

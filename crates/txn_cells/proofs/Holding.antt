@@ -1,47 +1,131 @@
--- The holders of a key, as one of them is looked for, put in, set and taken out.
-use Rattle.std.proofs.Common.{◌≡◌, ◌<◌, ◌≤◌, ℕ, suc, true, false, cond, not, nat_eq, ◌&&◌, ◌||◌, filter, List, [], ◌∷◌, length, get_or, set, Option, Some, None, unwrap_or, is_some, refl, sym, ap, subst, ◌∙◌, arith}
+-- What is held at a key, as one of those that hold it is looked for, put in, set and taken out.
+use Rattle.std.proofs.Common.{◌≡◌, ◌<◌, ◌≤◌, ◌+◌, ℕ, suc, Bool, true, false, cond, not, nat_eq, ◌&&◌, ◌||◌, List, [], ◌∷◌, length, get_or, set, Option, Some, None, unwrap_or, is_some, refl, sym, ap, subst, ◌∙◌, arith}
 use Rattle.std.specs.Prelude.{slice_get}
-use Rattle.std.specs.List.{insert, list_any, remove, zip}
+use Rattle.std.specs.List.{insert, remove, zip}
 use Rattle.std.specs.List.Sorted.{IsStrictlyIncreasing}
-use Rattle.std.specs.Map.{lookup}
+use Rattle.std.specs.Map.{keys_of, lookup}
 use Rattle.std.proofs.lemmas.Cmp.{nat_eq_equiv}
-use Rattle.std.proofs.lemmas.List.{length-set}
 use Rattle.std.proofs.lemmas.List.Edits.{length-insert, length-remove}
-use Rattle.std.proofs.lemmas.List.Kept.{IsStrictlyIncreasing-filter}
 use Rattle.std.proofs.lemmas.Map.{lookup-insert, none_passes_from_lookup}
-use Rattle.std.proofs.lemmas.Option.{get_or_from_slice_get, slice_get_within}
-use Rattle.txn_cells.specs.Kept.{Held, content_of, holds}
-use Rattle.txn_cells.proofs.ByKey.{removed, rises}
+use Rattle.std.proofs.lemmas.Map.Entries.{length-keys_of}
+use Rattle.std.proofs.lemmas.Option.{get_or_from_slice_get, slice_get-get_or, slice_get_within}
+use Rattle.txn_cells.specs.Kept.{Held, IsChangedAt, content_of, holds}
+use Rattle.txn_cells.proofs.ByKey.{any_at, rises, rising_without}
 use Rattle.txn_cells.proofs.Puts.{none_from, on_number}
-use Rattle.txn_cells.proofs.Zipped.{content-put, content-taken, empty_as_none, found-remove, found-set, found_at, holds-put, holds-taken, listed, still}
+use Rattle.txn_cells.proofs.Reserving.{found_by_key}
+use Rattle.txn_cells.proofs.Zipped.{found-remove, found-set, found_at, zip-insert}
 
 pub length-zip : {K X : Type 0} (ns : List K) (cs : List X) → length cs ≡ length ns → length (zip ns cs) ≡ length ns
 length-zip [] cs same = refl
 length-zip (n ∷ ns) [] same = absurd (omega (arith, same))
 length-zip (n ∷ ns) (c ∷ cs) same = ap suc (length-zip ns cs (omega (arith, same)))
 
--- ---- one put in
+pub bare_from : {X : Type 0} (xs : List X) → length xs ≡ 0 → xs ≡ []
+bare_from [] none = refl
+bare_from (x ∷ xs) none = absurd (omega (arith, none))
 
-module _ {V : Type 0} (old : Held V) (t i : ℕ) (fresh : holds old t ≡ false) where
-  put_cell : (u : ℕ) → lookup (nat_eq u) (insert old i (t, None)) ≡ cond (nat_eq t u) (Some None) (lookup (nat_eq u) old)
-  put_cell u = lookup-insert nat_eq_equiv t None u old i (none_passes_from_lookup (nat_eq t) old (none_from (lookup (nat_eq t) old) fresh))
+-- ---- one is changed
 
-  pub put_contents : (u : ℕ) → content_of (insert old i (t, None)) u ≡ content_of old u
-  put_contents u = content-put t u old (insert old i (t, None)) None (put_cell u) ∙ empty_as_none old t u fresh
-
-  pub put_holds : (u : ℕ) → holds (insert old i (t, None)) u ≡ (nat_eq t u || holds old u)
-  put_holds u = holds-put t u old (insert old i (t, None)) None (put_cell u)
-
--- who has no place has nothing to lose
-pub out_already : {V : Type 0} (old : Held V) (t u : ℕ) → holds old t ≡ false → holds old u ≡ (not (nat_eq t u) && holds old u)
-out_already old t u fresh =
-    on_number t u (λ b. holds old u ≡ (not b && holds old u))
-    (λ e. subst (λ (v : ℕ). holds old v ≡ false) e fresh)
+-- one that has a place has it still, and no more do
+still : {V : Type 0} (held : Held V) (t u : ℕ) → holds held t ≡ true → cond (nat_eq t u) true (holds held u) ≡ holds held u
+still held t u there =
+    on_number t u (λ b. cond b true (holds held u) ≡ holds held u)
+    (λ e. subst (λ (v : ℕ). true ≡ holds held v) e (sym there))
     (λ _. refl)
 
+pub still_or : {V : Type 0} (held : Held V) (t u : ℕ) → holds held t ≡ true → (nat_eq t u || holds held u) ≡ holds held u
+still_or held t u there =
+    on_number t u (λ b. (b || holds held u) ≡ holds held u)
+    (λ e. subst (λ (v : ℕ). true ≡ holds held v) e (sym there))
+    (λ _. refl)
+
+-- an empty place is as none
+empty_as_none : {V : Type 0} (held : Held V) (t u : ℕ) → holds held t ≡ false → cond (nat_eq t u) None (content_of held u) ≡ content_of held u
+empty_as_none held t u none =
+    on_number t u (λ b. cond b None (content_of held u) ≡ content_of held u)
+    (λ e. subst (λ (v : ℕ). None ≡ content_of held v) e (sym (ap (λ o. unwrap_or o None) (none_from (lookup (nat_eq t) held) none))))
+    (λ _. refl)
+
+module _ {V : Type 0} (old new : Held V) (t : ℕ) (now : Option (Option V)) (changed : IsChangedAt old new t now) (u : ℕ) where
+  pub changed_content : content_of new u ≡ cond (nat_eq t u) (unwrap_or now None) (content_of old u)
+  changed_content = ap (λ o. unwrap_or o None) (changed u) ∙ by (nat_eq t u)
+    where
+      by : (b : Bool) → unwrap_or (cond b now (lookup (nat_eq u) old)) None ≡ cond b (unwrap_or now None) (content_of old u)
+      by true = refl
+      by false = refl
+
+  pub changed_holds : holds new u ≡ cond (nat_eq t u) (is_some now) (holds old u)
+  changed_holds = ap is_some (changed u) ∙ by (nat_eq t u)
+    where
+      by : (b : Bool) → is_some (cond b now (lookup (nat_eq u) old)) ≡ cond b (is_some now) (holds old u)
+      by true = refl
+      by false = refl
+
+module _ {V : Type 0} (old new : Held V) (t : ℕ) where
+  -- ---- an empty place is put in
+
+  module _ (changed : IsChangedAt old new t (Some None)) (u : ℕ) where
+    pub put_contents : holds old t ≡ false → content_of new u ≡ content_of old u
+    put_contents fresh = changed_content old new t (Some None) changed u ∙ empty_as_none old t u fresh
+
+    pub put_holds : holds new u ≡ (nat_eq t u || holds old u)
+    put_holds = changed_holds old new t (Some None) changed u ∙ by (nat_eq t u)
+      where
+        by : (b : Bool) → cond b true (holds old u) ≡ (b || holds old u)
+        by true = refl
+        by false = refl
+
+  -- ---- one is set
+
+  pub set_holds : (c : Option V) → IsChangedAt old new t (Some c) → holds old t ≡ true → (u : ℕ) → holds new u ≡ holds old u
+  set_holds c changed there u = changed_holds old new t (Some c) changed u ∙ still old t u there
+
+  -- ---- one is taken out
+
+  pub taken_holds : IsChangedAt old new t None → (u : ℕ) → holds new u ≡ (not (nat_eq t u) && holds old u)
+  taken_holds changed u = changed_holds old new t None changed u ∙ by (nat_eq t u)
+    where
+      by : (b : Bool) → cond b false (holds old u) ≡ (not b && holds old u)
+      by true = refl
+      by false = refl
+
+-- who has no place has nothing to lose
+module _ {V : Type 0} (held : Held V) (t : ℕ) (fresh : holds held t ≡ false) where
+  pub nothing_had : content_of held t ≡ None
+  nothing_had = ap (λ o. unwrap_or o None) (none_from (lookup (nat_eq t) held) fresh)
+
+  pub out_already : IsChangedAt held held t None
+  out_already u =
+      on_number t u (λ b. lookup (nat_eq u) held ≡ cond b None (lookup (nat_eq u) held))
+      (λ e. subst (λ (v : ℕ). lookup (nat_eq v) held ≡ None) e (none_from (lookup (nat_eq t) held) fresh))
+      (λ _. refl)
+
+-- who stands at an index has a place
+pub holds_at : {V : Type 0} (held : Held V) (t i : ℕ) → slice_get (keys_of held) i ≡ Some t → holds held t ≡ true
+holds_at held t i at = found_by_key (nat_eq t) held ∙ any_at (keys_of held) t i at
+
+-- the same numbers are as many
+pub as_many : {V : Type 0} (old new : Held V) → keys_of new ≡ keys_of old → length new ≤ length old
+as_many old new same = omega (arith, ap length same, length-keys_of old, length-keys_of new)
+
+pub key_within : {V : Type 0} (held : Held V) (i : ℕ) → i < length held → (t : ℕ) × (slice_get (keys_of held) i ≡ Some t)
+key_within held i within = (get_or (keys_of held) i 0, slice_get-get_or (keys_of held) i 0 (omega (arith, within, length-keys_of held)))
+
+-- ---- rising numbers, and beside each what it has
+
 module _ {V : Type 0} (ns : List ℕ) (cs : List (Option V)) (rising : IsStrictlyIncreasing ns) (same : length cs ≡ length ns) (t i : ℕ) where
-  pub put_same : i ≤ length ns → length (insert cs i None) ≡ length (insert ns i t)
-  put_same within = let a = length-insert ns i t within in let b = length-insert cs i None (omega (arith, within, same)) in omega (arith, a, b, same)
+  -- an empty place
+  module _ (within : i ≤ length ns) where
+    pub put_same : length (insert cs i None) ≡ length (insert ns i t)
+    put_same = let a = length-insert ns i t within in let b = length-insert cs i None (omega (arith, within, same)) in omega (arith, a, b, same)
+
+    pub put_cell : holds (zip ns cs) t ≡ false → IsChangedAt (zip ns cs) (zip (insert ns i t) (insert cs i None)) t (Some None)
+    put_cell fresh u =
+        ap (λ (h : Held V). lookup (nat_eq u) h) (zip-insert ns cs i t None same within)
+        ∙ lookup-insert nat_eq_equiv t None u (zip ns cs) i (none_passes_from_lookup (nat_eq t) (zip ns cs) (none_from (lookup (nat_eq t) (zip ns cs)) fresh))
+
+    pub put_more : length (zip (insert ns i t) (insert cs i None)) ≡ length (zip ns cs) + 1
+    put_more = let a = length-zip ns cs same in let b = length-zip (insert ns i t) (insert cs i None) put_same in let c = length-insert ns i t within in omega (arith, a, b, c)
 
   module _ (at : slice_get ns i ≡ Some t) where
     within : i < length ns
@@ -53,55 +137,19 @@ module _ {V : Type 0} (ns : List ℕ) (cs : List (Option V)) (rising : IsStrictl
     pub has_content : (d : Option V) → content_of (zip ns cs) t ≡ get_or cs i d
     has_content d = ap (λ o. unwrap_or o None) (found_at ns cs t i d (rises ns t rising) same within number)
 
-    pub has_place_there : holds (zip ns cs) t ≡ true
-    has_place_there = ap is_some (found_at ns cs t i None (rises ns t rising) same within number)
-
-    pub there : list_any (nat_eq t) ns ≡ true
-    there = sym (listed ns cs same t) ∙ has_place_there
-
-    -- ---- set
-
-    module _ (c : Option V) where
-      set_cell : (u : ℕ) → lookup (nat_eq u) (zip ns (set cs i c)) ≡ cond (nat_eq t u) (Some c) (lookup (nat_eq u) (zip ns cs))
-      set_cell = found-set ns cs t i c (rises ns t rising) same within number
-
-      pub set_contents : (u : ℕ) → content_of (zip ns (set cs i c)) u ≡ cond (nat_eq t u) c (content_of (zip ns cs) u)
-      set_contents u = content-put t u (zip ns cs) (zip ns (set cs i c)) c (set_cell u)
-
-      pub set_holds : (u : ℕ) → holds (zip ns (set cs i c)) u ≡ holds (zip ns cs) u
-      set_holds u = holds-put t u (zip ns cs) (zip ns (set cs i c)) c (set_cell u) ∙ still (zip ns cs) t u has_place_there
-
-      pub set_same : length (set cs i c) ≡ length ns
-      set_same = length-set cs i c ∙ same
+    pub set_cell : (c : Option V) → IsChangedAt (zip ns cs) (zip ns (set cs i c)) t (Some c)
+    set_cell c = found-set ns cs t i c (rises ns t rising) same within number
 
     -- ---- taken out
 
-    taken_cell : (u : ℕ) → lookup (nat_eq u) (zip (remove ns i) (remove cs i)) ≡ cond (nat_eq t u) None (lookup (nat_eq u) (zip ns cs))
+    pub taken_cell : IsChangedAt (zip ns cs) (zip (remove ns i) (remove cs i)) t None
     taken_cell = found-remove ns cs t i (rises ns t rising) same within number
 
-    pub taken_contents : (u : ℕ) → content_of (zip (remove ns i) (remove cs i)) u ≡ cond (nat_eq t u) None (content_of (zip ns cs) u)
-    taken_contents u = content-taken t u (zip ns cs) (zip (remove ns i) (remove cs i)) (taken_cell u)
-
-    pub taken_holds : (u : ℕ) → holds (zip (remove ns i) (remove cs i)) u ≡ (not (nat_eq t u) && holds (zip ns cs) u)
-    taken_holds u = holds-taken t u (zip ns cs) (zip (remove ns i) (remove cs i)) (taken_cell u)
-
-    pub left : remove ns i ≡ filter (λ v. not (nat_eq v t)) ns
-    left = removed ns t i (rises ns t rising) within number
-
     pub taken_rising : IsStrictlyIncreasing (remove ns i)
-    taken_rising = subst (λ (xs : List ℕ). IsStrictlyIncreasing xs) (sym left) (IsStrictlyIncreasing-filter (λ v. not (nat_eq v t)) ns rising)
-
-    pub fewer : suc (length (remove ns i)) ≡ length ns
-    fewer = let a = length-remove ns i within in omega (arith, a, within)
+    taken_rising = rising_without ns t i rising at
 
     pub taken_same : length (remove cs i) ≡ length (remove ns i)
     taken_same = let a = length-remove ns i within in let b = length-remove cs i (omega (arith, within, same)) in omega (arith, a, b, same)
 
--- ---- one that is not there
-
-module _ {V : Type 0} (ns : List ℕ) (cs : List (Option V)) (same : length cs ≡ length ns) (t : ℕ) (absent : list_any (nat_eq t) ns ≡ false) where
-  pub not_there : holds (zip ns cs) t ≡ false
-  not_there = listed ns cs same t ∙ absent
-
-  pub nothing_had : content_of (zip ns cs) t ≡ None
-  nothing_had = ap (λ o. unwrap_or o None) (none_from (lookup (nat_eq t) (zip ns cs)) not_there)
+    pub taken_fewer : length (zip (remove ns i) (remove cs i)) ≤ length (zip ns cs)
+    taken_fewer = let a = length-zip ns cs same in let b = length-zip (remove ns i) (remove cs i) taken_same in let c = length-remove ns i within in omega (arith, a, b, c)

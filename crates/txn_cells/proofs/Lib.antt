@@ -1,5 +1,6 @@
 pub mod ByKey
 mod Dropping
+mod Finding
 mod First
 mod Fronts
 mod HandedUp

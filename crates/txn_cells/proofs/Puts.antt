@@ -1,6 +1,6 @@
 -- What stands at each key after what stands at one has changed.
-use Rattle.std.proofs.Common.{◌≡◌, ℕ, Bool, true, false, cond, nat_eq, ◌&&◌, List, [], Option, Some, None, unwrap_or, is_some, refl, sym, ap, subst, ◌∙◌, true≢false}
-use Rattle.std.specs.Prelude.{Result, Ok, Err, OnErr, OnOk, is_err}
+use Rattle.std.proofs.Common.{◌≡◌, ℕ, Bool, true, false, cond, nat_eq, ◌&&◌, List, [], Option, Some, None, unwrap_or, is_some, refl, sym, ap, subst, ◌∙◌, true≢false, rules}
+use Rattle.std.specs.Prelude.{IsSome, Result, Ok, Err, OnErr, OnOk, is_err}
 use Rattle.std.specs.Map.{lookup}
 use Rattle.std.proofs.lemmas.Bool.{eqb-true, false≢true}
 use Rattle.txn_names.specs.Path.{label_eq}
@@ -13,6 +13,10 @@ on_number a b P f g = on_test (nat_eq a b) P (λ e. f (eqb-true a b e)) g
 pub none_from : {X : Type 0} (o : Option X) → is_some o ≡ false → o ≡ None
 none_from None e = refl
 none_from (Some x) e = absurd (true≢false e)
+
+pub some_from : {X : Type 0} (o : Option X) → is_some o ≡ true → IsSome o
+some_from None e = absurd (false≢true e)
+some_from (Some x) e = search rules
 
 module _ {V : Type 0} (table : AtKeys V) (k : List ℕ) where
   pub held_found : (held : Held V) → lookup (label_eq k) table ≡ Some held → held_at table k ≡ held

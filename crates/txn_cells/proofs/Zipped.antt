@@ -1,11 +1,10 @@
 -- What a look-up finds in rising numbers beside what belongs to each.
-use Rattle.std.proofs.Common.{◌≡◌, ℕ, zero, suc, ◌<◌, ◌≤◌, Bool, true, false, cond, not, nat_eq, ◌&&◌, ◌||◌, List, [], ◌∷◌, ◌++◌, length, get_or, set, Option, Some, None, unwrap_or, is_some, refl, sym, ap, subst, ◌∙◌, arith}
+use Rattle.std.proofs.Common.{◌≡◌, ℕ, zero, suc, ◌<◌, ◌≤◌, false, cond, nat_eq, ◌||◌, List, [], ◌∷◌, ◌++◌, length, get_or, set, Some, None, unwrap_or, is_some, refl, sym, ap, ◌∙◌, arith}
 use Rattle.std.specs.Prelude.{slice_get}
 use Rattle.std.specs.List.{insert, list_any, remove, zip}
-use Rattle.std.specs.Map.{keys_of, lookup}
+use Rattle.std.specs.Map.{lookup}
 use Rattle.std.proofs.lemmas.Bool.{eq-eqb, false≢true, ne_eqb}
 use Rattle.std.proofs.lemmas.Map.Made.{keys_of-zip}
-use Rattle.txn_cells.specs.Kept.{Held, content_of, holds}
 use Rattle.txn_cells.proofs.Puts.{none_from, on_number}
 use Rattle.txn_cells.proofs.Reserving.{found_by_key}
 
@@ -75,50 +74,6 @@ module _ {X : Type 0} where
   zip-insert (n ∷ ns) [] (suc i) t c same within = absurd (omega (arith, same))
   zip-insert (n ∷ ns) (b ∷ cs) (suc i) t c same within = ap (λ es. (n, b) ∷ es) (zip-insert ns cs i t c (omega (arith, same)) (omega (arith, within)))
 
--- what is had of what a look-up finds
-module _ {V : Type 0} (t u : ℕ) (old new : Held V) where
-  pub content-put : (c : Option V) → lookup (nat_eq u) new ≡ cond (nat_eq t u) (Some c) (lookup (nat_eq u) old) → content_of new u ≡ cond (nat_eq t u) c (content_of old u)
-  content-put c e = ap (λ o. unwrap_or o None) e ∙ by (nat_eq t u)
-    where
-      by : (b : Bool) → unwrap_or (cond b (Some c) (lookup (nat_eq u) old)) None ≡ cond b c (content_of old u)
-      by true = refl
-      by false = refl
-
-  pub holds-put : (c : Option V) → lookup (nat_eq u) new ≡ cond (nat_eq t u) (Some c) (lookup (nat_eq u) old) → holds new u ≡ (nat_eq t u || holds old u)
-  holds-put c e = ap is_some e ∙ by (nat_eq t u)
-    where
-      by : (b : Bool) → is_some (cond b (Some c) (lookup (nat_eq u) old)) ≡ (b || holds old u)
-      by true = refl
-      by false = refl
-
-  pub content-taken : lookup (nat_eq u) new ≡ cond (nat_eq t u) None (lookup (nat_eq u) old) → content_of new u ≡ cond (nat_eq t u) None (content_of old u)
-  content-taken e = ap (λ o. unwrap_or o None) e ∙ by (nat_eq t u)
-    where
-      by : (b : Bool) → unwrap_or (cond b None (lookup (nat_eq u) old)) None ≡ cond b None (content_of old u)
-      by true = refl
-      by false = refl
-
-  pub holds-taken : lookup (nat_eq u) new ≡ cond (nat_eq t u) None (lookup (nat_eq u) old) → holds new u ≡ (not (nat_eq t u) && holds old u)
-  holds-taken e = ap is_some e ∙ by (nat_eq t u)
-    where
-      by : (b : Bool) → is_some (cond b None (lookup (nat_eq u) old)) ≡ (not b && holds old u)
-      by true = refl
-      by false = refl
-
--- one that has a place has it still, and no more do
-pub still : {V : Type 0} (held : Held V) (t u : ℕ) → holds held t ≡ true → (nat_eq t u || holds held u) ≡ holds held u
-still held t u there =
-    on_number t u (λ b. (b || holds held u) ≡ holds held u)
-    (λ e. subst (λ (v : ℕ). true ≡ holds held v) e (sym there))
-    (λ _. refl)
-
--- an empty place is as none
-pub empty_as_none : {V : Type 0} (held : Held V) (t u : ℕ) → holds held t ≡ false → cond (nat_eq t u) None (content_of held u) ≡ content_of held u
-empty_as_none held t u none =
-    on_number t u (λ b. cond b None (content_of held u) ≡ content_of held u)
-    (λ e. subst (λ (v : ℕ). None ≡ content_of held v) e (sym (ap (λ o. unwrap_or o None) (none_from (lookup (nat_eq t) held) none))))
-    (λ _. refl)
-
 pub zip-push : {K X : Type 0} (ks : List K) (xs : List X) (k : K) (x : X) → length xs ≡ length ks → zip (ks ++ k ∷ []) (xs ++ x ∷ []) ≡ zip ks xs ++ (k, x) ∷ []
 zip-push [] [] k x same = refl
 zip-push [] (y ∷ ys) k x same = absurd (omega (arith, same))
@@ -131,6 +86,8 @@ zip-get (j ∷ ks) [] i k x at is = absurd (false≢true (ap is_some is))
 zip-get (j ∷ ks) (y ∷ ys) zero k x at is = ap (λ a. Some (a, y)) (ap (λ o. unwrap_or o k) at) ∙ ap (λ b. Some (k, b)) (ap (λ o. unwrap_or o x) is)
 zip-get (j ∷ ks) (y ∷ ys) (suc i) k x at is = zip-get ks ys i k x at is
 
--- the key at a place is that of the pair there
-pub number_at : {K X : Type 0} (ks : List K) (xs : List X) (i : ℕ) (k : K) → length xs ≡ length ks → slice_get (keys_of (zip ks xs)) i ≡ Some k → slice_get ks i ≡ Some k
-number_at ks xs i k same at = sym (ap (λ ns. slice_get ns i) (keys_of-zip ks xs same)) ∙ at
+-- what is put in is found where it was put
+pub insert_at : {X : Type 0} (xs : List X) (i : ℕ) (x : X) → i ≤ length xs → slice_get (insert xs i x) i ≡ Some x
+insert_at xs zero x within = refl
+insert_at [] (suc i) x within = absurd (omega (arith, within))
+insert_at (y ∷ xs) (suc i) x within = insert_at xs i x (omega (arith, within))

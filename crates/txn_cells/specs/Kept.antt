@@ -1,8 +1,8 @@
 -- Cells as callers see them: for each transaction that has any, a list of its keys, each with what stands there. And as they
 -- are kept: at each key the transactions with a place there, each with what it has, and beside that the keys of each
 -- transaction, at its number, each with its place among all keys.
-use Rattle.std.specs.Prelude.{◌≡◌, ◌+◌, ◌<◌, ◌≤◌, ℕ, suc, Bool, true, false, nat_eq, List, [], ◌∷◌, Option, Some, None, is_some, unwrap_or, slice_get, length, map}
-use Rattle.std.specs.List.{AllByRecursion, list_any, zip}
+use Rattle.std.specs.Prelude.{◌≡◌, ◌+◌, ◌<◌, ◌≤◌, ℕ, suc, Bool, true, false, cond, nat_eq, List, [], ◌∷◌, Option, Some, None, is_some, unwrap_or, slice_get, length, map}
+use Rattle.std.specs.List.{AllByRecursion, list_any}
 use Rattle.std.specs.List.Sorted.{IsStrictlyIncreasing}
 use Rattle.std.specs.Map.{lookup, keys_of}
 use Rattle.txn_names.specs.Path.{label_eq}
@@ -53,31 +53,37 @@ holds held t = is_some (lookup (nat_eq t) held)
 abbrev pub content_of : {V : Type 0} → Held V → ℕ → Option V
 content_of held t = unwrap_or (lookup (nat_eq t) held) None
 
--- each once, rising, and all of them are among the others
-pub record AreAmong (some all : List ℕ) : Type 0 where
-  pub rising : IsStrictlyIncreasing some
-  pub within : (u : ℕ) → list_any (nat_eq u) some ≡ true → list_any (nat_eq u) all ≡ true
+-- of all transactions t alone has something else: this content, or no place where there is none
+abbrev pub IsChangedAt : {V : Type 0} → Held V → Held V → ℕ → Option (Option V) → Type 0
+IsChangedAt old new t now = (u : ℕ) → lookup (nat_eq u) new ≡ cond (nat_eq t u) now (lookup (nat_eq u) old)
+
+-- these are the numbers of those that have a place, each once, rising
+pub record AreHolders {V : Type 0} (numbers : List ℕ) (held : Held V) : Type 0 where
+  pub rising : IsStrictlyIncreasing numbers
+  pub each : (u : ℕ) → list_any (nat_eq u) numbers ≡ holds held u
+  pub count : length numbers ≡ length held
 
 -- whoever has what stands out is marked
 abbrev pub AreMarked : {V : Type 0} → (V → Bool) → Held V → List ℕ → Type 0
 AreMarked outstanding held marked = (u : ℕ) → stands outstanding (content_of held u) ≡ true → list_any (nat_eq u) marked ≡ true
 
--- of these numbers, each with what it has, some are marked: at least those that have what stands out.
--- There is room to mark all
-pub record HasMarks {V : Type 0} (outstanding : V → Bool) (numbers : List ℕ) (contents : List (Option V)) (marked : List ℕ) (room : ℕ) : Type 0 where
-  pub among : AreAmong marked numbers
-  pub fits : length numbers ≤ room
-  pub all : AreMarked outstanding (zip numbers contents) marked
+-- of those that have a place some are marked, rising: at least those that have what stands out. There is
+-- room to mark all
+pub record HasMarks {V : Type 0} (outstanding : V → Bool) (held : Held V) (marked : List ℕ) (room : ℕ) : Type 0 where
+  pub rising : IsStrictlyIncreasing marked
+  pub within : (u : ℕ) → list_any (nat_eq u) marked ≡ true → holds held u ≡ true
+  pub fits : length held ≤ room
+  pub all : AreMarked outstanding held marked
 
 -- so few are gone through one by one, and no marks are kept of them
 abbrev pub few : ℕ
 few = 4
 
--- where there are more than a few numbers, marks are kept
-abbrev pub HasMarksPastFew : {V : Type 0} → (V → Bool) → List ℕ → List (Option V) → List ℕ → ℕ → Type 0
-HasMarksPastFew outstanding numbers contents marked room = few < length numbers → HasMarks outstanding numbers contents marked room
+-- where more than a few have a place, marks are kept
+abbrev pub HasMarksPastFew : {V : Type 0} → (V → Bool) → Held V → List ℕ → ℕ → Type 0
+HasMarksPastFew outstanding held marked room = few < length held → HasMarks outstanding held marked room
 
--- so many contents lie in the value itself
+-- so many transactions and what they have lie in the value itself
 abbrev pub in_value : ℕ
 in_value = 4
 

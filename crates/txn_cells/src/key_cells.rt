@@ -1,45 +1,42 @@
 //! What all transactions have at one key.
-ghost use Rattle.std.specs.Prelude.{◌≡◌, ◌≤◌, ◌<◌, ◌&&◌, ◌||◌, not, nat_eq, [], length, slice_get, vec_capacity, IsFalse, IsOk, IsTrue, IfOk, IfNone, IfSome, OnErr, OnOk, Option, ℕ, if◌then◌else◌, Some, None};
-ghost use Rattle.std.specs.List.{insert, list_any, zip};
+ghost use Rattle.std.specs.Prelude.{◌≡◌, ◌&&◌, ◌||◌, not, nat_eq, [], slice_get, IsFalse, IsOk, IsTrue, IfOk, IfNone, IfSome, OnErr, OnOk, Option, ℕ, if◌then◌else◌, Some, None};
+ghost use Rattle.std.specs.List.{list_any};
 ghost use Rattle.std.specs.List.Sorted.{IsStrictlyIncreasing};
 ghost use Rattle.std.specs.Map.{keys_of};
 ghost use Rattle.txn_cells.specs.Cells.{is_it, merged};
 ghost use Rattle.txn_cells.specs.Kept.{content_of, holds, stands};
 
-use crate::contents::Contents;
+use crate::cells::Cells;
 use crate::inherit::Inherit;
 use crate::marks::{FEW, make_room_to_mark};
-use crate::numbers::{Numbers, find, put_in, take_from};
+use crate::numbers::{put_in, take_from};
 use serial_spec::NoMemory;
 use std::alloc::Global;
 use std::marker::Model;
 use txn_tree::TxnNo;
 
-/// What all transactions have at one key. It has the numbers of those that have a place there, each
-/// once, rising; and in the same order what each has. Where they are more than a few, at least those
-/// whose content stands out are marked, rising too, and there is room to mark all. Of a few no marks
-/// are kept, since it costs less to go through them all.
+/// What all transactions have at one key. Where those with a place are more than a few, at least
+/// those whose content stands out are marked by their numbers, rising, and there is room to mark all.
+/// Of a few no marks are kept, since it costs less to go through them all. The index of the one that
+/// `add` found or made last is remembered, since what is set is mostly set right after a place was
+/// asked for.
 #[derive(Drop)]
 pub struct KeyCells<V: Inherit> {
-    numbers: Numbers,
-    contents: Contents<V>,
+    cells: Cells<V>,
     marked: Vec<TxnNo>,
+    recent: usize,
 }
 
 impl<V: Inherit> Model for KeyCells<V> {
-    ghost use Rattle.std.specs.Prelude.{◌≡◌, length, vec_capacity};
-    ghost use Rattle.std.specs.List.{zip};
-    ghost use Rattle.std.specs.List.Sorted.{IsStrictlyIncreasing};
+    ghost use Rattle.std.specs.Prelude.{vec_capacity};
     ghost use Rattle.txn_cells.specs.Kept.{HasMarksPastFew, Held};
 
     ghost Value = { Held V };
 
-    ghost view = { λ h. zip h.numbers h.contents };
+    ghost view = { λ h. h.cells };
 
     ghost invariant = { λ h.
-        IsStrictlyIncreasing h.numbers × (length h.contents ≡ length h.numbers)
-        × HasMarksPastFew V.outstanding h.numbers h.contents h.marked.items
-        (vec_capacity h.marked) };
+        HasMarksPastFew V.outstanding h.cells h.marked.items (vec_capacity h.marked) };
 }
 
 impl<V: Inherit> KeyCells<V> {
@@ -48,9 +45,9 @@ impl<V: Inherit> KeyCells<V> {
         ensures { result ≡ [] }
     {
         KeyCells {
-            numbers: Numbers::new(alloc),
-            contents: Contents::new(alloc),
+            cells: Cells::new(alloc),
             marked: Vec::new(alloc),
+            recent: 0,
         }
     }
 
@@ -60,7 +57,7 @@ impl<V: Inherit> KeyCells<V> {
         ensures rising { IsStrictlyIncreasing result.now }
         ensures elsewhere { (u : ℕ) → IsFalse (holds self.now u) → content_of self.now u ≡ None }
     {
-        self.numbers.as_slice()
+        self.cells.numbers()
     }
 
     /// Of these all whose content stands out, in the same order, and maybe some whose content does
@@ -72,23 +69,24 @@ impl<V: Inherit> KeyCells<V> {
             IsTrue (holds self.now u) }
         ensures rising { IsStrictlyIncreasing result.now }
     {
-        if self.numbers.len() <= FEW {
-            self.numbers.as_slice()
+        if self.cells.len() <= FEW {
+            self.cells.numbers()
         } else {
             self.marked.as_slice()
         }
     }
 
-    // Where among the others the transaction has its place, and what it has there.
+    // The index at which the transaction stands, and what it has here. The remembered index is
+    // compared first, which costs less than to look the number up.
     #[inline(always)]
     fn found(&self, txn: TxnNo) -> Option<(usize, Option<V>)>
         ensures at { IfSome result (λ found. slice_get (keys_of self.now) found.0 ≡ Some txn) }
         ensures had { IfSome result (λ found. found.1 ≡ content_of self.now txn) }
         ensures none { IfNone result (IsFalse (holds self.now txn)) }
     {
-        match find(self.numbers.as_slice(), txn) {
-            Ok(place) => Some((place, self.contents.at(place))),
-            Err(_) => None,
+        match self.cells.recall(self.recent, txn) {
+            Some(had) => Some((self.recent, had)),
+            None => self.cells.found(txn),
         }
     }
 
@@ -96,27 +94,7 @@ impl<V: Inherit> KeyCells<V> {
     pub fn get(&self, txn: TxnNo) -> Option<V>
         ensures { result ≡ content_of self.now txn }
     {
-        match self.found(txn) {
-            Some((_, had)) => had,
-            None => None,
-        }
-    }
-
-    // Puts an empty place where the number belongs.
-    fn insert(&mut self, place: usize, txn: TxnNo) -> Result<(), NoMemory>
-        requires fresh { IsFalse (holds self.old txn) }
-        requires within { place ≤ length self.old }
-        requires rising { IsStrictlyIncreasing (insert (keys_of self.old) place txn) }
-        ensures ok { OnOk result (self.new ≡ insert self.old place (txn, None)) }
-        ensures err { OnErr result (self.new ≡ self.old) }
-    {
-        make_room_to_mark(&mut self.marked, self.numbers.as_slice(), &self.contents)?;
-        self.contents.insert(place)?;
-        let put = self.numbers.insert(place, txn);
-        if put.is_err() {
-            self.contents.remove(place);
-        }
-        put
+        self.cells.get(txn)
     }
 
     /// Makes an empty place for the transaction, if it has none, and tells whether it had none.
@@ -127,25 +105,25 @@ impl<V: Inherit> KeyCells<V> {
         ensures err { OnErr result (self.new ≡ self.old) }
         ensures succeeds { IsTrue (holds self.old txn) → IsOk result }
     {
-        match find(self.numbers.as_slice(), txn) {
-            Ok(_) => Ok(false),
-            Err(place) => {
-                self.insert(place, txn)?;
-                Ok(true)
-            }
+        if let Some((index, _)) = self.found(txn) {
+            self.recent = index;
+            return Ok(false);
         }
+        make_room_to_mark(&mut self.marked, &self.cells)?;
+        self.recent = self.cells.insert(txn)?;
+        Ok(true)
     }
 
-    // Sets what the transaction has, whose place this is.
+    // Sets what the transaction has, which stands at this index.
     #[inline(always)]
-    fn put_at(&mut self, place: usize, txn: TxnNo, value: V)
-        requires { slice_get (keys_of self.old) place ≡ Some txn }
+    fn put_at(&mut self, index: usize, txn: TxnNo, value: V)
+        requires { slice_get (keys_of self.old) index ≡ Some txn }
         ensures contents { (u : ℕ) → content_of self.new u ≡ (if nat_eq txn u then Some value
             else content_of self.old u) }
         ensures places { (u : ℕ) → holds self.new u ≡ holds self.old u }
     {
-        self.contents.put(place, value);
-        if self.numbers.len() > FEW && value.stands_out() {
+        self.cells.put(index, value);
+        if self.cells.len() > FEW && value.stands_out() {
             put_in(&mut self.marked, txn);
         }
     }
@@ -157,8 +135,8 @@ impl<V: Inherit> KeyCells<V> {
             else content_of self.old u) }
         ensures places { (u : ℕ) → holds self.new u ≡ holds self.old u }
     {
-        if let Some((place, _)) = self.found(txn) {
-            self.put_at(place, txn, value);
+        if let Some((index, _)) = self.found(txn) {
+            self.put_at(index, txn, value);
         }
     }
 
@@ -170,8 +148,8 @@ impl<V: Inherit> KeyCells<V> {
             else content_of self.old u) }
         ensures places { (u : ℕ) → holds self.new u ≡ holds self.old u }
     {
-        if let Some((place, had)) = self.found(txn) {
-            self.put_at(place, txn, V::join(added, had));
+        if let Some((index, had)) = self.found(txn) {
+            self.put_at(index, txn, V::join(added, had));
         }
     }
 
@@ -182,16 +160,11 @@ impl<V: Inherit> KeyCells<V> {
             else content_of self.old u) }
         ensures places { (u : ℕ) → holds self.new u ≡ (not (nat_eq txn u) && holds self.old u) }
     {
-        match find(self.numbers.as_slice(), txn) {
-            Ok(place) => {
-                self.numbers.remove(place);
-                if self.numbers.len() > FEW {
-                    take_from(&mut self.marked, txn);
-                }
-                self.contents.remove(place)
-            }
-            Err(_) => None,
+        let had = self.cells.remove(txn);
+        if self.cells.len() > FEW {
+            take_from(&mut self.marked, txn);
         }
+        had
     }
 
     /// Takes the child out. Its parent, if there is one, inherits what it had. It takes no memory.
@@ -208,8 +181,8 @@ impl<V: Inherit> KeyCells<V> {
         let had = self.remove(child);
         if let Some(value) = had {
             if let Some(parent) = parent {
-                if let Some((place, own)) = self.found(parent) {
-                    self.put_at(place, parent, V::inherit(value, own));
+                if let Some((index, own)) = self.found(parent) {
+                    self.put_at(index, parent, V::inherit(value, own));
                 }
             }
         }

@@ -2,11 +2,13 @@
 //! dropped without memory.
 #![tactic(auto)]
 
-mod contents;
+mod cells;
+mod few_cells;
 mod few_contents;
 mod inherit;
 mod key_cells;
 mod key_lists;
+mod many_cells;
 mod many_numbers;
 mod marks;
 mod numbers;

@@ -1,11 +1,11 @@
 //! Marks of those at a key whose content stands out, so that they are found without going through
 //! all that have a place there.
-ghost use Rattle.std.specs.Prelude.{◌≡◌, ◌≤◌, ◌<◌, filter, length, vec_capacity, OnOk};
-ghost use Rattle.std.specs.List.{zip};
+ghost use Rattle.std.specs.Prelude.{◌≡◌, ◌≤◌, ◌<◌, ◌&&◌, nat_eq, length, vec_capacity, OnOk, ℕ};
+ghost use Rattle.std.specs.List.{list_any};
 ghost use Rattle.std.specs.List.Sorted.{IsStrictlyIncreasing};
-ghost use Rattle.txn_cells.specs.Kept.{HasMarks, HasMarksPastFew, content_of, few, stands};
+ghost use Rattle.txn_cells.specs.Kept.{HasMarks, HasMarksPastFew, content_of, few, holds, stands};
 
-use crate::contents::Contents;
+use crate::cells::Cells;
 use crate::inherit::Inherit;
 use serial_spec::NoMemory;
 use txn_tree::TxnNo;
@@ -23,53 +23,45 @@ fn stands_out<V: Inherit>(content: Option<V>) -> bool
     }
 }
 
-// Marks those of the numbers whose content stands out, and no others. There is room to mark all of
-// them, and one more.
-fn mark_all<V: Inherit>(
-    marked: &mut Vec<TxnNo>,
-    numbers: &[TxnNo],
-    contents: &Contents<V>,
-) -> Result<(), NoMemory>
-    requires rising { IsStrictlyIncreasing numbers.now }
-    requires same { length contents.now ≡ length numbers.now }
-    ensures marks { OnOk result (marked.new.items ≡ filter (λ u. stands V.outstanding
-        (content_of (zip numbers.now contents.now) u)) numbers.now) }
-    ensures room { OnOk result (length numbers.now < vec_capacity marked.new) }
+// Marks those whose content stands out, and no others. There is room to mark all of them, and one
+// more.
+fn mark_all<V: Inherit>(marked: &mut Vec<TxnNo>, cells: &Cells<V>) -> Result<(), NoMemory>
+    ensures rising { OnOk result (IsStrictlyIncreasing marked.new.items) }
+    ensures each { OnOk result ((u : ℕ) → list_any (nat_eq u) marked.new.items
+        ≡ (stands V.outstanding (content_of cells.now u) && holds cells.now u)) }
+    ensures room { OnOk result (length cells.now < vec_capacity marked.new) }
 {
+    let numbers = cells.numbers();
     marked.clear();
     marked.reserve(numbers.len() + 1)?;
-    for (place, txn) in numbers.iter().enumerate() {
-        if stands_out(contents.at(place)) {
+    for txn in numbers {
+        if stands_out(cells.get(*txn)) {
             marked.push(*txn).unwrap();
         }
     }
     Ok(())
 }
 
-/// Makes ready for one number more. If there will be more than a few, those of these whose content
-/// stands out are marked, and there is room to mark all.
+/// Makes ready for one transaction more. If there will be more than a few, those of these whose
+/// content stands out are marked, and there is room to mark all.
 pub(crate) fn make_room_to_mark<V: Inherit>(
     marked: &mut Vec<TxnNo>,
-    numbers: &[TxnNo],
-    contents: &Contents<V>,
+    cells: &Cells<V>,
 ) -> Result<(), NoMemory>
-    requires rising { IsStrictlyIncreasing numbers.now }
-    requires same { length contents.now ≡ length numbers.now }
-    requires marks { HasMarksPastFew V.outstanding numbers.now contents.now
-        marked.old.items (vec_capacity marked.old) }
-    ensures kept { HasMarksPastFew V.outstanding numbers.now contents.now
+    requires { HasMarksPastFew V.outstanding cells.now marked.old.items (vec_capacity marked.old) }
+    ensures kept { HasMarksPastFew V.outstanding cells.now
         marked.new.items (vec_capacity marked.new) }
-    ensures marks { OnOk result (few ≤ length numbers.now → HasMarks V.outstanding
-        numbers.now contents.now marked.new.items (vec_capacity marked.new)) }
-    ensures room { OnOk result (few ≤ length numbers.now →
-        length numbers.now < vec_capacity marked.new) }
+    ensures marks { OnOk result (few ≤ length cells.now → HasMarks V.outstanding
+        cells.now marked.new.items (vec_capacity marked.new)) }
+    ensures room { OnOk result (few ≤ length cells.now →
+        length cells.now < vec_capacity marked.new) }
 {
-    let count = numbers.len();
+    let count = cells.len();
     if count < FEW {
         return Ok(());
     }
     if count == FEW {
-        return mark_all(marked, numbers, contents);
+        return mark_all(marked, cells);
     }
     marked.reserve(count + 1)?;
     Ok(())

@@ -1,4 +1,4 @@
-use Rattle.std.proofs.Common.{◌≡◌, ◌-◌, ◌<◌, ◌≤◌, ℕ, [], ◌∷◌, None, arith, length, length-take-le, refl, sym, take}
+use Rattle.std.proofs.Common.{◌≡◌, ◌-◌, ◌<◌, ◌≤◌, ℕ, [], ◌∷◌, arith, length, length-take-le, refl, sym, take}
 use Rattle.txn_cells.proofs.First.{taken_from_first}
 use Rattle.txn_cells.proofs.few_contents.FewContents.remove.Goals as goal
 use Rattle.txn_cells.proofs.few_contents.FewContents.remove.Goals.{in-0, in-1, in-2, in_default}
