@@ -2,13 +2,12 @@
 use Rattle.std.proofs.Common.{◌≡◌, ◌⊎◌, inl, inr, ℤ, pos, ◌+ℤ◌, ◌≤ℤ◌, true, List, refl, sym, ap, subst, ◌∙◌}
 use Rattle.sqlite.specs.Store.{Ghosts}
 use Rattle.sqlite.specs.Held.{Held, state}
-use Rattle.sqlite.specs.State.{HasCleanDisk, Survives, KeepsCommit}
+use Rattle.sqlite.specs.State.{HasCleanDisk, Survives}
 use Rattle.txn_names.specs.declared.change.Change.{Change}
 use Rattle.serial_spec.specs.Serial.{Map}
 use Rattle.durable_top.specs.Numbered.{Numbered, numbers_of, overlay_numbered, last_number, Follows}
 use Rattle.durable_top.specs.Numbers.{renumbered, IsTopIn}
 use Rattle.durable_top.proofs.Numbering.{greatest_from, numbers_after}
-use Rattle.sql_store.specs.Table.{table_of}
 use Rattle.sql_store.specs.Stored.{numbered, may_leave_numbered, IsKept, IsCounted}
 use Rattle.sql_store.specs.Writes.{Stores, IsStored}
 
@@ -40,10 +39,3 @@ module _ {S : Type 0} (g : Ghosts S) (number : ℤ) (changes : List Change) (num
     | inl before ↦ inl (may.0, before, may.2)
     | inr stored ↦ inr (follows_by number top changes numbers (numbered g old) left greatest (counted refl clean stored.0) next fits (may.2 ∙ stored.1 (kept refl clean stored.0).ready))
   ]
-
--- what keeps the commit keeps the numbers
-pub counted_kept : {S : Type 0} (g : Ghosts S) (numbers : Map) (old new : Held S) → (HasCleanDisk (state g new) → HasCleanDisk (state g old)) → (HasCleanDisk (state g new) → KeepsCommit (state g old) (state g new))
-    → IsCounted g true numbers old → IsCounted g true numbers new
-counted_kept g numbers old new was keeps counted yes_known sound open_now =
-    let it = keeps sound in
-    counted refl (was sound) (it.was_open open_now) ∙ ap (λ d. numbers_of (table_of d)) (sym (it.committed open_now))

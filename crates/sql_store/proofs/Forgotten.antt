@@ -19,9 +19,6 @@ rows_forgotten (Ok rows) m h = sym (values_in_rows rows.items) ∙ ap values_of 
 rows_forgotten (Err fault) m h = tt
 
 module _ {S : Type 0} (g : Ghosts S) where
-  pub left_forgotten : (h : Held S) (left : Numbered) → may_leave_numbered g h left → may_leave g h (values_of left)
-  left_forgotten h left may = (may.0, may.1, ap values_of may.2)
-
   module _ (old new : Held S) where
     pub same_forgotten : ((left : Numbered) → may_leave_numbered g new left → may_leave_numbered g old left) → (left : Map) → may_leave g new left → may_leave g old left
     same_forgotten crash left may = let it = crash (map_of (may.0 2)) (may.0, may.1, refl) in (it.0, it.1, may.2 ∙ ap values_of it.2)

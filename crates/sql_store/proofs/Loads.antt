@@ -7,10 +7,7 @@ use Rattle.sqlite.specs.declared.error.Error.{Error}
 use Rattle.sqlite.specs.Command.TheVariants.{Select}
 use Rattle.sqlite.specs.Query.{IsAnswer}
 use Rattle.sqlite.specs.Program.{overlay}
-use Rattle.sqlite.specs.Tree.{Trees}
-use Rattle.sqlite.specs.State.{State, Shown, ShowsRows, IsUnchanged, KeepsCommit, IsNotRun, FailsToQuery, FailsToShow, Fails, IsTooLate, Survives, CommitsShowing, HasCleanDisk}
-use Rattle.sqlite.specs.Effect.{Database}
-use Rattle.sql_store.specs.Table.{IsKnown}
+use Rattle.sqlite.specs.State.{State, Shown, ShowsRows, IsUnchanged, KeepsCommit, IsNotRun, FailsToQuery, FailsToShow, Fails, IsTooLate, Survives, CommitsShowing}
 use Rattle.sqlite.specs.Clock.{timed}
 use Rattle.sqlite.specs.Listing.{understood}
 use Rattle.sqlite.proofs.Callers.{IsPlain, reads_as, never_commits}
@@ -43,15 +40,6 @@ only_shows text plain old new rows has h =
 pub stays : (old new : State) (rows : List Row) → old.now.schema ≡ both_schema → Shown load_text [] old new rows → IsUnchanged old new
 stays = only_shows load_text load_plain.0
 
-pub old_stays : (old new : State) (rows : List Row) → old.now.schema ≡ both_schema → Shown old_text [] old new rows → IsUnchanged old new
-old_stays = only_shows old_text old_plain.0
-
-pub old_ids_stay : (old new : State) (rows : List Row) → old.now.schema ≡ both_schema → Shown old_ids_text [] old new rows → IsUnchanged old new
-old_ids_stay = only_shows old_ids_text old_ids_plain.0
-
-pub ids_stay : (old new : State) (rows : List Row) → old.now.schema ≡ both_schema → Shown ids_text [] old new rows → IsUnchanged old new
-ids_stay = only_shows ids_text ids_plain.0
-
 pub same_commit : (old new : State) → IsUnchanged old new → KeepsCommit old new
 same_commit old new same = record { was_open = λ _. same.0.was_open; committed = λ _. same.0.committed_is }
 
@@ -77,15 +65,6 @@ pub reads_only : (old new : State) → old.now.schema ≡ both_schema → Surviv
 reads_only old new has h = survives_weaker old new (CommitsShowing load_text [] old) (λ _. ⊥) (λ _ db shows. never_commits load_text [] old db (subst (λ s. IsPlain (understood s load_text)) (sym has) load_plain.0) shows) h
 
 -- ---- after a probe that went well
-
-pub still_known : (a b : State) → IsKnown a → IsUnchanged a b → b.now.schema ≡ both_schema
-still_known a b known same = ap (λ (d : Database). d.schema) same.0.now_is ∙ known same.0.was_open
-
-pub still_answers : (a b : State) (rows : List Row) → IsUnchanged a b → IsAnswer load_query (overlay b.now.trees []) [] rows → IsAnswer load_query (overlay a.now.trees []) [] rows
-still_answers a b rows same h = subst (λ (d : Database). IsAnswer load_query (overlay d.trees []) [] rows) same.0.now_is h
-
-pub left_before : (a b : State) → HasCleanDisk b → Survives a b (λ _. ⊥) → (db : Trees) → b.may_leave db → a.may_leave db
-left_before a b clean h db may = elim (h.crash clean db may) [ inl was ↦ was | inr none ↦ absurd none ]
 
 -- ---- a query inside a transaction
 

@@ -22,9 +22,6 @@ use Rattle.sql_store.specs.Inside.{AreMade, IsOpened, AreRead, Settles, KnowsApa
 
 -- ---- rows laid over a table, from the last on
 
-pub laid_none : (m : Numbered) → laid [] m ≡ m
-laid_none m = λ i k. m k
-
 pub laid_more : (rows : List Row) (i : ℕ) (r : Row) (m : Numbered) → i < length rows → r ≡ get_or rows i r → put (laid (drop (i + 1) rows) m) r.key (Some (r.value, r.commit)) ≡ laid (drop i rows) m
 laid_more rows i r m within at =
     let each : (k : List ℕ) → put (laid (drop (i + 1) rows) m) r.key (Some (r.value, r.commit)) k ≡ laid (r ∷ drop (i + 1) rows) m k = λ k. go (label_eq r.key k) (entries_in (drop (i + 1) rows) k) (m k) in

@@ -1,5 +1,5 @@
 -- What a call that fails or only reads leaves, whatever the database has.
-use Rattle.std.proofs.Common.{ℕ, List, inl, inr, false, Err, Option, Some, None, sym, ◌∙◌, refl}
+use Rattle.std.proofs.Common.{ℕ, List, inl, inr, false, Err, Option, Some, None, sym, ◌∙◌}
 use Rattle.std.proofs.lemmas.Bool.{cases_Bool}
 use Rattle.sqlite_resolve.specs.declared.compiled.Compiled.{Compiled}
 use Rattle.sqlite.specs.Order.{Row}
@@ -7,9 +7,6 @@ use Rattle.sqlite.specs.Clock.{timed}
 use Rattle.sqlite.specs.declared.error.Error.{Error}
 use Rattle.sqlite.specs.State.{State, Fails, IsUnchanged, IsRolledBack, IsNotRun, FailsToQuery, FailsToShow, RunsCommand, ExecutesIn, Executes, shows_rows}
 use Rattle.sql_store.specs.Kept.{IsSettled, Spares}
-
-pub spares_all : (a : State) → Spares a a
-spares_all a = record { was_open = λ h. h; now_is = λ h. refl; committed_is = λ h. refl; mode = refl }
 
 pub same_spares : (old new : State) → IsUnchanged old new → Spares old new
 same_spares old new h = record { was_open = λ _. h.0.was_open; now_is = λ _. h.0.now_is; committed_is = λ _. h.0.committed_is; mode = h.0.mode }
@@ -52,14 +49,3 @@ executes_spares old new sql params e settled (inr h) = elim (cases_Bool (shows_r
   | inl shows ↦ same_spares old new (rw shows at h.2).1
   | inr runs ↦ command_spares old new sql h.0 _ e settled (rw runs at h.2)
 ]
-
-pub spares_then : (a b c : State) → Spares a b → Spares b c → Spares a c
-spares_then a b c p q = record {
-  was_open = λ h. p.was_open (q.was_open h);
-  now_is = λ h. q.now_is h ∙ p.now_is (q.was_open h);
-  committed_is = λ h. q.committed_is h ∙ p.committed_is (q.was_open h);
-  mode = q.mode ∙ p.mode;
-}
-
-pub settled_then : (a b : State) → IsSettled a → Spares a b → IsSettled b
-settled_then a b settled s = (s.mode ∙ settled.0, λ h. s.now_is h ∙ settled.1 (s.was_open h) ∙ sym (s.committed_is h))

@@ -19,9 +19,6 @@ module _ {S : Type 0} (g : Ghosts S) where
   pieces_more number [] piece x y z same one = let first = subst (λ h. MakesPiece g number piece h z) same one in (z, first, refl)
   pieces_more number (p ∷ pieces) piece x y z all one = (all.0, all.1, pieces_more number pieces piece all.0 y z all.2 one)
 
-  pub executed_none : (number : ℤ) (x : Held S) → ExecutedEach g number [] x x
-  executed_none number x = ([], refl, refl)
-
   pub executed_more : (number : ℤ) (cs piece : List Change) (x y z : Held S) → ExecutedEach g number cs x y → MakesPiece g number piece y z → ExecutedEach g number (cs ++ piece) x z
   executed_more number cs piece x y z all one =
       (all.0 ++ piece ∷ [], ap (λ l. l ++ piece) all.1 ∙ sym (joined_push all.0 piece), pieces_more number all.0 piece x y z all.2 one)
