@@ -1,4 +1,4 @@
--- What an insert of several rows leaves.
+-- What an insert leaves, of one row or of several.
 use Rattle.std.proofs.Common.{◌≡◌, ◌+◌, ◌/◌, ℕ, ℤ, pos, Bool, true, false, cond, List, [], ◌∷◌, ◌++◌, length, map, drop, None, Some, Option, is_some, unwrap_or, Ok, append_assoc, append-nil, length-append, inl, inr, sym, ap, subst, ◌∙◌, refl, true≢false, arith}
 use Rattle.std.proofs.Math.Seq.{get_or-append_seam}
 use Rattle.std.proofs.lemmas.List.{get_or-append-add}
@@ -16,7 +16,7 @@ use Rattle.sqlite.specs.Effect.{Database, value_rows}
 use Rattle.sqlite.specs.Rows.{Written}
 use Rattle.sqlite.specs.Tree.{Trees}
 use Rattle.sqlite.specs.Listing.{understood}
-use Rattle.sqlite.specs.State.{State, mode_of, Executes}
+use Rattle.sqlite.specs.State.{State, mode_of, Executes, ExecutesInside}
 use Rattle.sqlite.proofs.Callers.{IsPlain, command_of, statement_of, runs_as, one_step}
 use Rattle.sqlite_schema.specs.declared.schema.Keys.TheVariants.{Enforced}
 use Rattle.sqlite_schema.specs.Rules.{Fits}
@@ -32,10 +32,12 @@ use Rattle.durable_top.specs.Numbered.{Numbered, under, entry_or, overlay_number
 use Rattle.sql_store.specs.Asked.{have_values, value_of, params_all}
 use Rattle.sql_store.specs.Laid.{put}
 use Rattle.sql_store.specs.Results.{results, both_schema}
-use Rattle.sql_store.specs.Table.{is_key, map_of, table_of, AreApart, IsReady}
-use Rattle.sql_store.proofs.Texts.{rows_terms}
+use Rattle.sql_store.specs.Table.{is_key, map_of, table_of, AreApart, IsReady, Makes}
+use Rattle.sql_store.specs.Writes.{MakesAll}
+use Rattle.sql_store.proofs.Texts.{insert_text, insert_is, insert_plain, rows_terms}
 use Rattle.sql_store.proofs.Creates.{went, same_value}
 use Rattle.sql_store.proofs.Putting.{row_of, cast_null, cast_int, key_is, same_key, denied, untaken}
+use Rattle.sql_store.proofs.Steps.{makes_by}
 use Rattle.sql_store.proofs.Tables.{own_id, has_own, map_added, apart_put}
 
 -- ---- the rows that it is given
@@ -134,11 +136,6 @@ module _ (number : ℤ) (next : Trees) (fits : Fits both_schema next) where
 
 -- ---- the statement
 
-pub record Adds (number : ℤ) (cs : List Change) (old new : Database) : Type 0 where
-  pub ready : IsReady new
-  pub table : table_of new ≡ overlay_numbered number cs (table_of old)
-  pub others : new.trees 0 ≡ old.trees 0
-
 added_by : (number : ℤ) (cs : List Change) (db next : Trees) (rows : List Row) → have_values cs ≡ true → AreApart (db 2) → rows ≡ map (source number) cs
     → Applies both_schema Enforced db (edit_of db results [] Chosen 0 rows) next → Added number cs (db 2) (next 2)
 added_by number cs db next rows values apart is step =
@@ -147,7 +144,7 @@ added_by number cs db next rows values apart is step =
     added number next step.fits cs (db 2) values apart (step.rows ∙ ap (put_all (db 2)) news) (subst (λ all. are_fresh (db 2) all ≡ true) news step.fresh)
 
 pub adds_all : (text : List ℕ) (size : ℕ) → command_of (understood both_schema text) ≡ Insert 1 (Values (rows_terms 0 size) 4) → IsPlain (understood both_schema text) → length (rows_terms 0 size) / 4 ≡ size
-    → (old new : State) (number : ℤ) (cs : List Change) (count : ℕ) → length cs ≡ size → have_values cs ≡ true → IsReady old.now → Executes text (params_all number cs) old new (Ok count) → Adds number cs old.now new.now
+    → (old new : State) (number : ℤ) (cs : List Change) (count : ℕ) → length cs ≡ size → have_values cs ≡ true → IsReady old.now → Executes text (params_all number cs) old new (Ok count) → MakesAll number cs old new
 adds_all text size is plain whole old new number cs count len values ready h =
     let params : Row = params_all number cs in
     let db : Trees = old.now.trees in
@@ -172,3 +169,11 @@ adds_all text size is plain whole old new number cs count len values ready h =
       table = ap (λ (t : Trees). map_of (t 2)) last ∙ it.table;
       others = ap (λ (t : Trees). t 0) last ∙ others;
     }
+
+-- an insert of one row makes its change
+pub adds : (old new : State) (key : List ℕ) (value number : ℤ) (count : ℕ) → ExecutesInside 0 insert_text (Text key ∷ Int value ∷ Int number ∷ []) old new (Ok count) → Makes key (Some (value, number)) old new
+adds old new key value number count h =
+    let c : Change = record { key = key; value = Some value } in
+    makes_by insert_text _ old new key _ count h (λ ready.
+    let it = adds_all insert_text 1 insert_is insert_plain refl old new number (c ∷ []) count refl refl ready h.0 in
+    (it.ready, it.table ∙ sym (overlay_first number c [] (table_of old.now)), it.others))

@@ -30,7 +30,7 @@ use Rattle.sql_store.specs.Results.{old_results, results, both_schema}
 use Rattle.sql_store.specs.Table.{is_key, map_of, table_of, AreApart, IsReady, Makes}
 use Rattle.sql_store.proofs.Texts.{delete_text, delete_is, delete_plain, delete_query, empty_text, empty_is, empty_plain, empty_query}
 use Rattle.sql_store.proofs.Creates.{went, same_value}
-use Rattle.sql_store.proofs.Steps.{kept_by}
+use Rattle.sql_store.proofs.Steps.{makes_by}
 use Rattle.sql_store.proofs.Tables.{key_test, rows_with, rows_without, shown_ids, removed, all_removed, apart_kept, map_removed}
 
 pub told : (b : Bool) → is_true (from_truth (Some b)) ≡ b
@@ -87,20 +87,13 @@ deletes old new key count has h =
       schema = ap (λ (d : Database). d.schema) now;
     }
 
-pub deleted : (old new : Database) (key : List ℕ) → IsReady old → Deletes key old new → IsReady new × (table_of new ≡ put (table_of old) key None)
+deleted : (old new : Database) (key : List ℕ) → IsReady old → Deletes key old new → IsReady new × (table_of new ≡ put (table_of old) key None) × (new.trees 0 ≡ old.trees 0)
 deleted old new key ready it =
     let rows = it.rows ready.apart in
-    (record { schema = it.schema; apart = subst AreApart (sym rows) (apart_kept _ (old.trees 2) ready.apart) }, ap map_of rows ∙ map_removed key (old.trees 2))
+    (record { schema = it.schema; apart = subst AreApart (sym rows) (apart_kept _ (old.trees 2) ready.apart) }, ap map_of rows ∙ map_removed key (old.trees 2), it.others)
 
 pub removes : (old new : State) (key : List ℕ) (count : ℕ) → ExecutesInside 0 delete_text (Text key ∷ []) old new (Ok count) → Makes key None old new
-removes old new key count h = record {
-  was_open = h.1.was_open;
-  inside = h.1.mode;
-  kept = kept_by delete_text (Text key ∷ []) old new (Ok count) h;
-  ready = λ ready. (deleted old.now new.now key ready (deletes old new key count ready.schema h.0)).0;
-  table = λ ready. (deleted old.now new.now key ready (deletes old new key count ready.schema h.0)).1;
-  others = λ ready. (deletes old new key count ready.schema h.0).others;
-}
+removes old new key count h = makes_by delete_text _ old new key _ count h (λ ready. deleted old.now new.now key ready (deletes old new key count ready.schema h.0))
 
 -- ---- all rows of the old table go
 

@@ -12,7 +12,6 @@ pub mod Again
 pub mod Putting
 pub mod Upserts
 pub mod Updates
-pub mod Inserts
 pub mod Adding
 pub mod Ways
 pub mod Loaded

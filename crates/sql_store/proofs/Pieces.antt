@@ -2,7 +2,6 @@
 use Rattle.std.proofs.Common.{◌≡◌, ◌<◌, ◌/◌, inl, inr, true, ℕ, ℤ, List, [], ◌∷◌, ◌++◌, length, Option, Some, None, Result, Ok, Err, OnOk, IfErr, refl, sym, ap, subst, ◌∙◌, arith}
 use Rattle.std.specs.Prelude.{IsTrue}
 use Rattle.sqlite.specs.declared.error.Error.{Error}
-use Rattle.sqlite.specs.declared.types.Value.TheVariants.{Text}
 use Rattle.sqlite.specs.Command.TheVariants.{Insert}
 use Rattle.sqlite.specs.Source.TheVariants.{Values}
 use Rattle.sqlite.specs.Listing.{understood}
@@ -12,19 +11,19 @@ use Rattle.sqlite.specs.State.{State, KeepsCommit, IsUnchanged, ExecutesInside}
 use Rattle.sqlite.proofs.Callers.{IsPlain, command_of}
 use Rattle.txn_names.specs.declared.change.Change.{Change}
 use Rattle.durable_top.specs.Numbered.{Numbered, under, overlay_numbered}
-use Rattle.sql_store.specs.Asked.{have_values, params_all, MakesChange, FailsToChange, MakesEach, EachGives, AnsweredRows, AreLeft, MakesRows, RowsGive, MakesPiece, PieceGives, MakesPieces, ExecutedEach, joined}
+use Rattle.sql_store.specs.Asked.{have_values, params_all, MakesChange, MakesEach, EachGives, AnsweredRows, AreLeft, MakesRows, RowsGive, MakesPiece, PieceGives, MakesPieces, ExecutedEach, joined}
 use Rattle.sql_store.specs.Faults.{breaks_rule, IsCaused}
 use Rattle.sql_store.specs.Laid.{put}
 use Rattle.sql_store.specs.Results.{both_schema}
 use Rattle.sql_store.specs.Table.{table_of, IsReady, Makes}
 use Rattle.sql_store.specs.Writes.{MakesAll}
-use Rattle.sql_store.proofs.Texts.{insert_4_text, insert_16_text, delete_text, rows_terms, insert_4_is, insert_16_is, insert_4_plain, insert_16_plain}
+use Rattle.sql_store.proofs.Texts.{insert_4_text, insert_16_text, rows_terms, insert_4_is, insert_16_is, insert_4_plain, insert_16_plain}
 use Rattle.sql_store.proofs.Steps.{kept_by, on_ok_then}
 use Rattle.sql_store.proofs.Causes.{inside_caused}
 use Rattle.sql_store.proofs.Composed.{keeps_then, keeps_all}
 use Rattle.sql_store.proofs.Deletes.{removes}
 use Rattle.sql_store.proofs.Adding.{overlay_first, adds_all}
-use Rattle.sql_store.proofs.Ways.{stands, makes_put, keeps_put}
+use Rattle.sql_store.proofs.Ways.{Passes, passes_unchanged, stands, makes_put}
 
 -- the changes were made in a transaction, one after another
 pub record Goes (number : ℤ) (cs : List Change) (old new : State) : Type 0 where
@@ -67,16 +66,8 @@ goes_then number cs ds a b c p q = record {
     opened [] p q some = p.kept.was_open (q.was_open some)
     opened (d ∷ cs) p q some = p.was_open (omega arith)
 
--- what a statement leaves that would have broken a rule
-goes_left : (number : ℤ) (old new : State) → IsTrue old.in_transaction → IsUnchanged old new → KeepsCommit old new → Goes number [] old new
-goes_left number old new inside same kept = record {
-  was_open = λ some. absurd (omega (arith, some));
-  inside = same.0.mode ∙ inside;
-  kept = kept;
-  ready = λ ready. subst IsReady (sym same.0.now_is) ready;
-  table = λ ready. ap table_of same.0.now_is;
-  others = λ ready. ap (λ d. d.trees 0) same.0.now_is;
-}
+goes_left : (number : ℤ) (old new : State) → Passes old new → Goes number [] old new
+goes_left number old new p = record { was_open = λ some. p.was_open; inside = p.inside; kept = p.kept; ready = p.ready; table = p.table; others = p.others }
 
 -- one insert of all rows makes the changes
 rows_by : (text : List ℕ) (size : ℕ) → command_of (understood both_schema text) ≡ Insert 1 (Values (rows_terms 0 size) 4) → IsPlain (understood both_schema text) → length (rows_terms 0 size) / 4 ≡ size
@@ -97,20 +88,11 @@ module _ {S : Type 0} (g : Ghosts S) (number : ℤ) where
   change_made key None old new inside h = removes (state g old) (state g new) key h.0 h.1
   change_made key (Some value) old new inside h = makes_put g key value number old new inside h
 
-  change_kept : (key : List ℕ) (value : Option ℤ) (old new : Held S) (e : Error) → IsTrue (state g old).in_transaction → FailsToChange g number key value old new e → KeepsCommit (state g old) (state g new)
-  change_kept key None old new e inside h = kept_by delete_text (Text key ∷ []) (state g old) (state g new) (Err e) h
-  change_kept key (Some value) old new e inside h = keeps_put g key value number old new e inside h
-
   pub each_goes : (cs : List Change) (old new : Held S) → IsTrue (state g old).in_transaction → MakesEach g number cs old new → Goes number cs (state g old) (state g new)
   each_goes [] old new inside same = subst (λ h. Goes number [] (state g old) (state g h)) (sym same) (goes_none number (state g old) inside)
   each_goes (c ∷ cs) old new inside h =
       let one = goes_one number c (state g old) (state g h.0) (change_made c.key c.value old h.0 inside h.1) in
       goes_then number (c ∷ []) cs (state g old) (state g h.0) (state g new) one (each_goes cs h.0 new one.inside h.2)
-
-  pub each_kept : (cs : List Change) (old new : Held S) (e : Error) → IsTrue (state g old).in_transaction → EachGives g number cs old new e → KeepsCommit (state g old) (state g new)
-  each_kept cs old new e inside h =
-      let made = each_goes h.before old h.last inside h.executed in
-      keeps_then (state g old) (state g h.last) (state g new) made.kept (change_kept h.change.key h.change.value h.last new e made.inside h.gives)
 
   rows_added : (rows : List Change) (old new : Held S) (count : ℕ) → AnsweredRows g number rows old new (Ok count) → Goes number rows (state g old) (state g new)
   rows_added rows old new count (values, inl (len, h)) = rows_by insert_4_text 4 insert_4_is insert_4_plain refl number rows (state g old) (state g new) count len values h
@@ -130,7 +112,7 @@ module _ {S : Type 0} (g : Ghosts S) (number : ℤ) where
 
   -- an insert that would have broken a rule changed nothing
   pub left_goes : (rows : List Change) (old new : Held S) → IsTrue (state g old).in_transaction → AreLeft g number rows old new → Goes number [] (state g old) (state g new)
-  left_goes rows old new inside (e, breaks, h) = goes_left number (state g old) (state g new) inside (rows_stand rows old new e breaks h) (rows_kept rows old new (Err e) h)
+  left_goes rows old new inside (e, breaks, h) = goes_left number (state g old) (state g new) (passes_unchanged (state g old) (state g new) inside (rows_kept rows old new (Err e) h) (rows_stand rows old new e breaks h))
 
   rows_go : (rows : List Change) (old new : Held S) → IsTrue (state g old).in_transaction → MakesRows g number rows old new → Goes number rows (state g old) (state g new)
   rows_go rows old new inside (inl (count, h)) = rows_added rows old new count h

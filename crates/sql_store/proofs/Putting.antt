@@ -127,20 +127,6 @@ module _ (key : List ℕ) (value number : ℤ) (db : Trees) (apart : AreApart (d
         table = ap map_of rows ∙ map_added key value number new refl refl refl (db 2) none free;
       }
 
-  -- where it is added, and behind it each key is there once, no row had its key
-  pub had_none : (id : ℤ) (next : Trees) → next 2 ≡ put_row (row_of id key value number) (db 2) → are_fresh (db 2) (row_of id key value number ∷ []) ≡ true → Fits both_schema next
-      → (r : Row) → Has (db 2) r → is_key key (column r 1) ≡ false
-  had_none id next rows fresh fits r has =
-      let new = row_of id key value number in
-      let own = own_id (db 2) r apart has in
-      let other = untaken (db 2) new (unless _ fresh) r has in
-      let there = subst (λ all. Has all new) (sym rows) (has_put new (db 2)) in
-      let kept = subst (λ all. Has all r) (sym rows) (put_all_keeps (new ∷ []) (db 2) r fresh has) in
-      elim (cases_Bool (is_key key (column r 1))) [
-        | inl e ↦ absurd (true≢false (sym (has_own r own) ∙ subst (λ i. has_rowid i r ≡ false) (sym (same_key key next new r fits there kept refl (key_is key (column r 1) e) refl own)) other))
-        | inr e ↦ e
-      ]
-
   -- the row of the key gets the value and the number
   pub changed_in : (r : Row) (next : Trees) → Has (db 2) r → is_key key (column r 1) ≡ true → next 0 ≡ db 0 → next 2 ≡ put_row (row_of (id_of r) key value number) (without_rowid (id_of r) (db 2)) → Fits both_schema next
       → are_fresh (without_rowid (id_of r) (db 2)) (row_of (id_of r) key value number ∷ []) ≡ true → PutsIn key value number db next

@@ -1,5 +1,5 @@
 -- One statement in a transaction, and several.
-use Rattle.std.proofs.Common.{◌≡◌, ap, ℕ, List, Ok, Err, Result, OnOk, OnErr, IfOk, IfErr, IsErrOf, inl, inr, refl, ◌∙◌, arith}
+use Rattle.std.proofs.Common.{◌≡◌, ap, ℕ, ℤ, List, Option, Ok, Err, Result, OnOk, OnErr, IfOk, IfErr, IsErrOf, inl, inr, refl, ◌∙◌, arith}
 use Rattle.sqlite.proofs.StateLemmas.{survives_then}
 use Rattle.std.specs.Global.{Vec}
 use Rattle.sqlite.specs.Order.{Row as Values}
@@ -10,6 +10,8 @@ use Rattle.sqlite.specs.declared.error.Error.{Error}
 use Rattle.std.specs.Prelude.{IsTrue}
 use Rattle.sqlite.specs.State.{State, HasCleanDisk, Survives, ExecutesInside, KeepsCommit}
 use Rattle.sql_store.specs.Inside.{Steps, GoesOn}
+use Rattle.sql_store.specs.Laid.{put}
+use Rattle.sql_store.specs.Table.{table_of, IsReady, Makes}
 
 -- what holds anyway holds at an error
 pub on_err : {T E Q : Type 0} (r : Result T E) → Q → OnErr r Q
@@ -21,6 +23,18 @@ kept_by sql params old new (Ok n) h = record { was_open = λ _. h.1.was_open; co
 kept_by sql params old new (Err e) (inl (ran, inl same)) = record { was_open = λ _. same.0.was_open; committed = λ _. same.0.committed_is }
 kept_by sql params old new (Err e) (inl (ran, inr back)) = record { was_open = back.was_open; committed = λ h. (back.undone h).1 }
 kept_by sql params old new (Err e) (inr late) = record { was_open = λ _. late.2.0.was_open; committed = λ _. late.2.0.committed_is }
+
+-- a statement makes the change that it makes of the table
+pub makes_by : (sql : List ℕ) (params : Values) (old new : State) (key : List ℕ) (entry : Option (ℤ × ℤ)) (count : ℕ) → ExecutesInside 0 sql params old new (Ok count)
+    → (IsReady old.now → IsReady new.now × (table_of new.now ≡ put (table_of old.now) key entry) × (new.now.trees 0 ≡ old.now.trees 0)) → Makes key entry old new
+makes_by sql params old new key entry count h done = record {
+  was_open = h.1.was_open;
+  inside = h.1.mode;
+  kept = kept_by sql params old new (Ok count) h;
+  ready = λ ready. (done ready).0;
+  table = λ ready. (done ready).1;
+  others = λ ready. (done ready).2;
+}
 
 pub at_both : {T E : Type 0} (r : Result T E) (P : T → Type 0) (Q : E → Type 0) (R : Type 0) → ((x : T) → P x → R) → ((e : E) → Q e → R) → IfOk r P → IfErr r Q → R
 at_both (Ok x) P Q R f g h k = f x h

@@ -86,11 +86,7 @@ delete_query = plain_query 2 (op2 (Compare Eq Binary) (col 1 1) (col 0 0) ∷ []
 abbrev pub empty_query : Query
 empty_query = plain_query 0 [] (col 1 0 ∷ [])
 
--- a row of the parameters, whose rowid is chosen
-abbrev pub insert_terms : List Term
-insert_terms = lit Null ∷ col 0 0 ∷ col 0 1 ∷ col 0 2 ∷ []
-
--- as many such rows, whose parameters stand one row after another from a place on
+-- so many rows of the parameters, which stand one row after another from a place on; their rowids are chosen
 abbrev pub rows_terms : ℕ → ℕ → List Term
 rows_terms from zero = []
 rows_terms from (suc count) = lit Null ∷ col 0 from ∷ col 0 (from + 1) ∷ col 0 (from + 2) ∷ rows_terms (from + 3) count
@@ -115,7 +111,7 @@ pub empty_is : command_of (understood both_schema empty_text) ≡ Delete 0 (reco
 unfolding understood everything
 empty_is = refl
 
-pub upsert_is : command_of (understood both_schema upsert_text) ≡ InsertOr 1 Abort (Values insert_terms 4) (upsert_clause ∷ [])
+pub upsert_is : command_of (understood both_schema upsert_text) ≡ InsertOr 1 Abort (Values (rows_terms 0 1) 4) (upsert_clause ∷ [])
 unfolding understood everything
 upsert_is = refl
 
@@ -123,7 +119,7 @@ pub update_is : command_of (understood both_schema update_text) ≡ Update 1 (re
 unfolding understood everything
 update_is = refl
 
-pub insert_is : command_of (understood both_schema insert_text) ≡ Insert 1 (Values insert_terms 4)
+pub insert_is : command_of (understood both_schema insert_text) ≡ Insert 1 (Values (rows_terms 0 1) 4)
 unfolding understood everything
 insert_is = refl
 

@@ -42,7 +42,7 @@ use Rattle.sql_store.proofs.Texts.{update_text, update_is, update_plain, update_
 use Rattle.sql_store.proofs.Creates.{went, same_value}
 use Rattle.sql_store.proofs.Deletes.{equal_key}
 use Rattle.sql_store.proofs.Putting.{row_of, key_is, same_key, denied, untaken, PutsIn, cast_new, changed_in}
-use Rattle.sql_store.proofs.Steps.{kept_by}
+use Rattle.sql_store.proofs.Steps.{makes_by}
 use Rattle.sql_store.proofs.Tables.{own_id, has_permuted, has_mapped, rows_with}
 
 module _ (key : List ℕ) (value number : ℤ) where
@@ -163,12 +163,4 @@ updated old new key value number schema it = (record { schema = schema; apart = 
 -- an update that met a row makes the change
 pub renews : (old new : State) (key : List ℕ) (value number : ℤ) (count : ℕ) → 0 < count → ExecutesInside 0 update_text (Text key ∷ Int value ∷ Int number ∷ []) old new (Ok count) → Makes key (Some (value, number)) old new
 renews old new key value number count met h =
-    let done = λ (ready : IsReady old.now). let it = updates old new key value number count ready h.0 in updated old.now new.now key value number it.schema (it.some met) in
-    record {
-      was_open = h.1.was_open;
-      inside = h.1.mode;
-      kept = kept_by update_text (Text key ∷ Int value ∷ Int number ∷ []) old new (Ok count) h;
-      ready = λ ready. (done ready).0;
-      table = λ ready. (done ready).1;
-      others = λ ready. (done ready).2;
-    }
+    makes_by update_text _ old new key _ count h (λ ready. let it = updates old new key value number count ready h.0 in updated old.now new.now key value number it.schema (it.some met))

@@ -40,11 +40,11 @@ use Rattle.sqlite_rules.proofs.ListLemmas.{all_has}
 use Rattle.sql_store.specs.Laid.{put}
 use Rattle.sql_store.specs.Results.{results, both_schema}
 use Rattle.sql_store.specs.Table.{is_key, id_of, table_of, AreApart, IsReady, Makes}
-use Rattle.sql_store.proofs.Texts.{upsert_text, upsert_is, upsert_plain, upsert_query, upsert_clause, insert_terms}
+use Rattle.sql_store.proofs.Texts.{upsert_text, upsert_is, upsert_plain, upsert_query, upsert_clause, rows_terms}
 use Rattle.sql_store.proofs.Creates.{went, same_value}
 use Rattle.sql_store.proofs.Deletes.{told, equal_key}
 use Rattle.sql_store.proofs.Putting.{row_of, key_is, other_id, PutsIn, cast_new, new_is, added_in, changed_in}
-use Rattle.sql_store.proofs.Steps.{kept_by}
+use Rattle.sql_store.proofs.Steps.{makes_by}
 use Rattle.sql_store.proofs.Tables.{own_id, has_own}
 
 -- ---- what a row meets
@@ -172,7 +172,7 @@ pub puts_in : (old new : State) (key : List ℕ) (value number : ℤ) (count : �
 puts_in old new key value number count ready h =
     let params : Row = Text key ∷ Int value ∷ Int number ∷ [] in
     let db : Trees = old.now.trees in
-    let command = InsertOr 1 Abort (Values insert_terms 4) (upsert_clause ∷ []) in
+    let command = InsertOr 1 Abort (Values (rows_terms 0 1) 4) (upsert_clause ∷ []) in
     let w = runs_as upsert_text params old new both_schema ready.schema command upsert_is upsert_plain count h in
     let text = statement_of upsert_text (understood both_schema upsert_text) in
     let done = went (subst (λ s. Does old.step_limit (mode_of old) params (record old.now { schema = s }) text None command (Ok (w.tally, new.now))) ready.schema w.changed) in
@@ -185,11 +185,4 @@ puts_in old new key value number count ready h =
     (record { schema = ap (λ (d : Database). d.schema) now; apart = it.apart }, it.table, it.others)
 
 pub enters : (old new : State) (key : List ℕ) (value number : ℤ) (count : ℕ) → ExecutesInside 0 upsert_text (Text key ∷ Int value ∷ Int number ∷ []) old new (Ok count) → Makes key (Some (value, number)) old new
-enters old new key value number count h = record {
-  was_open = h.1.was_open;
-  inside = h.1.mode;
-  kept = kept_by upsert_text (Text key ∷ Int value ∷ Int number ∷ []) old new (Ok count) h;
-  ready = λ ready. (puts_in old new key value number count ready h.0).0;
-  table = λ ready. (puts_in old new key value number count ready h.0).1;
-  others = λ ready. (puts_in old new key value number count ready h.0).2;
-}
+enters old new key value number count h = makes_by upsert_text _ old new key _ count h (λ ready. puts_in old new key value number count ready h.0)

@@ -19,7 +19,7 @@ use Rattle.sql_store.proofs.Texts.{upsert_text, update_text, insert_text}
 use Rattle.sql_store.proofs.Steps.{kept_by, on_ok_then}
 use Rattle.sql_store.proofs.Composed.{keeps_then}
 use Rattle.sql_store.proofs.Updates.{updates, renews}
-use Rattle.sql_store.proofs.Inserts.{adds}
+use Rattle.sql_store.proofs.Adding.{adds}
 use Rattle.sql_store.proofs.Upserts.{enters}
 
 -- ---- a rule that would have been broken
@@ -67,7 +67,7 @@ pub record Passes (old new : State) : Type 0 where
   pub table : IsReady old.now → table_of new.now ≡ table_of old.now
   pub others : IsReady old.now → new.now.trees 0 ≡ old.now.trees 0
 
-passes_unchanged : (old new : State) → IsTrue old.in_transaction → KeepsCommit old new → IsUnchanged old new → Passes old new
+pub passes_unchanged : (old new : State) → IsTrue old.in_transaction → KeepsCommit old new → IsUnchanged old new → Passes old new
 passes_unchanged old new inside kept same = record {
   was_open = same.0.was_open;
   inside = same.0.mode ∙ inside;
@@ -120,13 +120,6 @@ module _ {S : Type 0} (g : Ghosts S) (key : List ℕ) (value number : ℤ) where
   makes_put old new inside (inr (inl (count, h))) = adds (state g old) (state g new) key value number count h
   makes_put old new inside (inr (inr (next, was_left, (count, h)))) =
       makes_after (state g old) (state g next) (state g new) key (Some (value, number)) (passes old next inside was_left) (enters (state g next) (state g new) key value number count h)
-
-  -- where one of them gave an error, nothing is committed
-  pub keeps_put : (old new : Held S) (e : Error) → IsTrue (state g old).in_transaction → PutGives g params old new e → KeepsCommit (state g old) (state g new)
-  keeps_put old new e inside (inl h) = kept_by update_text params (state g old) (state g new) (Err e) h
-  keeps_put old new e inside (inr (inl h)) = kept_by insert_text params (state g old) (state g new) (Err e) h.1
-  keeps_put old new e inside (inr (inr (next, was_left, h))) =
-      keeps_then (state g old) (state g next) (state g new) (passes old next inside was_left).kept (kept_by upsert_text params (state g next) (state g new) (Err e) h)
 
   -- what the upsert to which the row was left answers
   pub puts_left : (r : Result (Unit {0}) Error) (old next new : Held S) → IsLeft g params old next → OnOk r (Executed g upsert_text params next new) → OnOk r (PutsRow g params old new)
