@@ -6,6 +6,7 @@ pub mod Causes
 pub mod Bare
 pub mod Spared
 pub mod Steps
+pub mod Answering
 pub mod Creates
 pub mod Deletes
 pub mod Again

@@ -1,5 +1,5 @@
 -- The parameters of several rows, filled in one row after another.
-use Rattle.std.proofs.Common.{◌≡◌, ◌<◌, ◌≤◌, ◌+◌, ◌*◌, ℕ, zero, suc, ℤ, true, List, [], ◌∷◌, ◌++◌, length, take, set, get_or, is_some, refl, sym, ap, ◌∙◌, append_assoc, length-set, arith}
+use Rattle.std.proofs.Common.{◌≡◌, ◌<◌, ◌≤◌, ◌+◌, ◌-◌, ◌*◌, inl, inr, subst, drop, length-take, ℕ, zero, suc, ℤ, true, List, [], ◌∷◌, ◌++◌, length, take, set, get_or, is_some, refl, sym, ap, ◌∙◌, append_assoc, length-set, arith}
 use Rattle.std.proofs.lemmas.Bool.{and_parts}
 use Rattle.std.proofs.lemmas.List.{take_more, take_more_set, map-append}
 use Rattle.sqlite_value.specs.declared.value.ValueRef.{ValueRef}
@@ -7,7 +7,7 @@ use Rattle.sqlite_value.specs.Value.{owned}
 use Rattle.sqlite.specs.declared.types.Value.TheVariants.{Text, Int}
 use Rattle.sqlite.specs.Values.{bound, bound_value}
 use Rattle.txn_names.specs.declared.change.Change.{Change}
-use Rattle.sql_store.specs.Asked.{have_values, value_of, params_all}
+use Rattle.sql_store.specs.Asked.{have_values, value_of, params_all, IsPiece, IsPieceLen}
 
 params_push : (number : ℤ) (cs : List Change) (c : Change) → params_all number (cs ++ c ∷ []) ≡ params_all number cs ++ (Text c.key ∷ Int (value_of c) ∷ Int number ∷ [])
 params_push number [] c = refl
@@ -54,3 +54,22 @@ fewer zero n cs low h = refl
 fewer (suc m) zero cs low h = absurd (omega (arith, low))
 fewer (suc m) (suc n) [] low h = refl
 fewer (suc m) (suc n) (c ∷ cs) low h = let parts = and_parts (is_some c.value) (have_values (take n cs)) h in rw parts.0 (fewer m n cs (omega (arith, low)) parts.1)
+
+-- nor of those that are left behind some of them
+pub later : (m n k : ℕ) (cs : List Change) → k ≡ n - m → have_values (take n cs) ≡ true → have_values (take k (drop m cs)) ≡ true
+later zero n k cs is h = let same : n ≡ k = omega arith in subst (λ j. have_values (take j cs) ≡ true) same h
+later (suc m) zero k cs is h = let none : 0 ≡ k = omega arith in subst (λ j. have_values (take j (drop (suc m) cs)) ≡ true) none refl
+later (suc m) (suc n) zero [] is h = refl
+later (suc m) (suc n) (suc k) [] is h = refl
+later (suc m) (suc n) k (c ∷ cs) is h = later m n k cs (omega arith) (and_parts (is_some c.value) (have_values (take n cs)) h).1
+
+-- so many changes of which so many are likely new begin with a piece, and those are left that stand behind it
+pub piece_of : (fresh size : ℕ) (cs : List Change) → 0 < length cs → fresh ≤ length cs → have_values (take fresh cs) ≡ true → IsPieceLen fresh size → IsPiece (take size cs)
+piece_of fresh size cs some low values (inl (few, is)) = inl (omega (arith, length-take size cs))
+piece_of fresh size cs some low values (inr (inl (four, less, is))) = inr (record { values = fewer size fresh cs (omega arith) values; count = inl (omega (arith, length-take size cs)) })
+piece_of fresh size cs some low values (inr (inr (many, is))) = inr (record { values = fewer size fresh cs (omega arith) values; count = inr (omega (arith, length-take size cs)) })
+
+pub piece_within : (fresh size most : ℕ) → 0 < most → fresh ≤ most → IsPieceLen fresh size → size + (fresh - size) ≤ most
+piece_within fresh size most some low (inl (few, is)) = omega arith
+piece_within fresh size most some low (inr (inl (four, less, is))) = omega arith
+piece_within fresh size most some low (inr (inr (many, is))) = omega arith

@@ -1,5 +1,5 @@
 -- What the changes of a piece make of the table, and those of several pieces.
-use Rattle.std.proofs.Common.{◌≡◌, ◌<◌, ◌/◌, inl, inr, true, ℕ, ℤ, List, [], ◌∷◌, ◌++◌, length, Option, Some, None, Result, Ok, Err, OnOk, IfErr, refl, sym, ap, subst, ◌∙◌, arith}
+use Rattle.std.proofs.Common.{◌≡◌, ◌<◌, ◌/◌, inl, inr, true, false, ℕ, ℤ, List, [], ◌∷◌, ◌++◌, length, Option, Some, None, Result, Ok, Err, refl, sym, ap, subst, ◌∙◌, arith}
 use Rattle.std.specs.Prelude.{IsTrue}
 use Rattle.sqlite.specs.declared.error.Error.{Error}
 use Rattle.sqlite.specs.Command.TheVariants.{Insert}
@@ -7,18 +7,21 @@ use Rattle.sqlite.specs.Source.TheVariants.{Values}
 use Rattle.sqlite.specs.Listing.{understood}
 use Rattle.sqlite.specs.Store.{Ghosts}
 use Rattle.sqlite.specs.Held.{Held, state}
-use Rattle.sqlite.specs.State.{State, KeepsCommit, IsUnchanged, ExecutesInside}
+use Rattle.sqlite.specs.State.{Survives, State, KeepsCommit, IsUnchanged, ExecutesInside}
 use Rattle.sqlite.proofs.Callers.{IsPlain, command_of}
 use Rattle.txn_names.specs.declared.change.Change.{Change}
 use Rattle.durable_top.specs.Numbered.{Numbered, under, overlay_numbered}
-use Rattle.sql_store.specs.Asked.{have_values, params_all, MakesChange, MakesEach, EachGives, AnsweredRows, AreLeft, MakesRows, RowsGive, MakesPiece, PieceGives, MakesPieces, ExecutedEach, joined}
+use Rattle.sql_store.specs.Asked.{IfInside, Answers, ChangeGives, have_values, params_all, MakesChange, FailsToChange, MakesEach, EachGives, AnsweredRows, AreLeft, MakesRows, RowsGive, MakesPiece, PieceGives, MakesPieces, ExecutedEach, joined}
 use Rattle.sql_store.specs.Faults.{breaks_rule, IsCaused}
+use Rattle.sql_store.specs.Inside.{Steps}
 use Rattle.sql_store.specs.Laid.{put}
 use Rattle.sql_store.specs.Results.{both_schema}
 use Rattle.sql_store.specs.Table.{table_of, IsReady, Makes}
 use Rattle.sql_store.specs.Writes.{MakesAll}
 use Rattle.sql_store.proofs.Texts.{insert_4_text, insert_16_text, rows_terms, insert_4_is, insert_16_is, insert_4_plain, insert_16_plain}
-use Rattle.sql_store.proofs.Steps.{kept_by, on_ok_then}
+use Rattle.sql_store.proofs.Steps.{kept_by, on_ok_then, steps_from}
+use Rattle.sql_store.proofs.Answering.{did_so, gave_so, answers_then}
+use Rattle.sql_store.proofs.Transactions.{each_more, executed_more}
 use Rattle.sql_store.proofs.Causes.{inside_caused}
 use Rattle.sql_store.proofs.Composed.{keeps_then, keeps_all}
 use Rattle.sql_store.proofs.Deletes.{removes}
@@ -137,20 +140,40 @@ module _ {S : Type 0} (g : Ghosts S) (number : ℤ) where
   pub executed_all : (cs : List Change) (old new : Held S) → IsTrue (state g old).in_transaction → ExecutedEach g number cs old new → IsReady (state g old).now → MakesAll number cs (state g old) (state g new)
   executed_all cs old new inside h ready = let it = executed_goes cs old new inside h in record { ready = it.ready ready; table = it.table ready; others = it.others ready }
 
-  -- ---- the answers of the functions that make them
+  -- ---- what the functions say that make them
 
-  -- the changes that an insert left are made, or one of their statements gives the error
-  pub rows_left_make : (rows : List Change) (r : Result (Unit {0}) Error) (old next new : Held S) → AreLeft g number rows old next → OnOk r (MakesEach g number rows next new) → OnOk r (MakesRows g number rows old new)
-  rows_left_make rows r old next new were_left h = on_ok_then r (λ made. inr (next, were_left, made)) h
+  -- a change behind others, and those that are left behind it
+  pub each_then : (cs after : List Change) (c : Change) {old last new : Held S} {r : Result (Unit {0}) Error} → Steps (state g old) (state g last) → IfInside g old last (MakesEach g number cs old last)
+      → Answers g (MakesChange g number c.key c.value) (FailsToChange g number c.key c.value) last new r → Answers g (MakesEach g number (cs ++ c ∷ [])) (EachGives g number (cs ++ c ∷ after)) old new r
+  each_then cs after c {old = old} {last = last} {new = new} {r = r} steps all h =
+      answers_then g steps (λ clean inside. (each_goes cs old last inside (all clean inside)).inside)
+      (λ was inside. on_ok_then r (λ one. each_more g number cs c old last new (all was inside) one))
+      (λ was inside e gave. record { before = cs; change = c; after = after; are = refl; last = last; executed = all was inside; gives = gave }) h
 
-  pub rows_left_give : (rows : List Change) (r : Result (Unit {0}) Error) (old next new : Held S) → AreLeft g number rows old next → IfErr r (EachGives g number rows next new) → IfErr r (RowsGive g number rows old new)
-  rows_left_give rows (Ok x) old next new were_left h = tt
-  rows_left_give rows (Err e) old next new were_left h = inr (next, were_left, h)
+  -- a piece behind others, and those that are left behind it
+  pub piece_then : (cs piece after : List Change) {old last new : Held S} {r : Result (Unit {0}) Error} → Steps (state g old) (state g last) → IfInside g old last (ExecutedEach g number cs old last)
+      → Answers g (MakesPiece g number piece) (PieceGives g number piece) last new r → Answers g (ExecutedEach g number (cs ++ piece)) (λ first _ e. ChangeGives g number (cs ++ piece ++ after) first e) old new r
+  piece_then cs piece after {old = old} {last = last} {new = new} {r = r} steps all h =
+      answers_then g steps (λ clean inside. (executed_goes cs old last inside (all clean inside)).inside)
+      (λ was inside. on_ok_then r (λ one. executed_more g number cs piece old last new (all was inside) one))
+      (λ was inside e gave. record { before = cs; piece = piece; after = after; are = refl; last = last; left = new; executed = all was inside; gives = gave }) h
 
-  -- several changes are a piece
-  pub rows_piece : (rows : List Change) (r : Result (Unit {0}) Error) (old new : Held S) → OnOk r (MakesRows g number rows old new) → OnOk r (MakesPiece g number rows old new)
-  rows_piece rows r old new h = on_ok_then r (λ made. inr made) h
+  -- one insert of several rows
+  rows_steps : (rows : List Change) (old new : Held S) (r : Result ℕ Error) → IfInside g old new (AnsweredRows g number rows old new r) → Survives (state g old) (state g new) (λ _. ⊥) → Steps (state g old) (state g new)
+  rows_steps rows old new r h = steps_from (state g old) (state g new) (λ clean inside. rows_kept rows old new r (h clean inside))
 
-  pub rows_piece_give : (rows : List Change) (r : Result (Unit {0}) Error) (old new : Held S) → IfErr r (RowsGive g number rows old new) → IfErr r (PieceGives g number rows old new)
-  rows_piece_give rows (Ok x) old new h = tt
-  rows_piece_give rows (Err e) old new h = inr h
+  pub rows_ran : {rows : List Change} {old new : Held S} (count : ℕ) → IfInside g old new (AnsweredRows g number rows old new (Ok count)) → Survives (state g old) (state g new) (λ _. ⊥)
+      → Answers g (MakesRows g number rows) (RowsGive g number rows) old new (Ok tt)
+  rows_ran {rows = rows} {old = old} {new = new} count h survives = did_so g (rows_steps rows old new (Ok count) h survives) (λ clean inside. inl (count, h clean inside))
+
+  pub rows_failed : {rows : List Change} {old new : Held S} {e : Error} → breaks_rule e ≡ false → IfInside g old new (AnsweredRows g number rows old new (Err e)) → Survives (state g old) (state g new) (λ _. ⊥)
+      → Answers g (MakesRows g number rows) (RowsGive g number rows) old new (Err e)
+  rows_failed {rows = rows} {old = old} {new = new} {e = e} other h survives =
+      gave_so g (rows_steps rows old new (Err e) h survives) (λ clean inside. rows_caused rows old new e (h clean inside)) (λ clean inside. inl (other, h clean inside))
+
+  -- each change is made that such an insert left
+  pub rows_left : {rows : List Change} {old next new : Held S} {r : Result (Unit {0}) Error} (e : Error) → breaks_rule e ≡ true → IfInside g old next (AnsweredRows g number rows old next (Err e))
+      → Survives (state g old) (state g next) (λ _. ⊥) → Answers g (MakesEach g number rows) (EachGives g number rows) next new r → Answers g (MakesRows g number rows) (RowsGive g number rows) old new r
+  rows_left {rows = rows} {old = old} {next = next} {r = r} e breaks ran survives h =
+      answers_then g (rows_steps rows old next (Err e) ran survives) (λ clean inside. (left_goes rows old next inside (e, breaks, ran clean inside)).inside)
+      (λ was inside. on_ok_then r (λ made. inr (next, (e, breaks, ran was inside), made))) (λ was inside x gave. inr (next, (e, breaks, ran was inside), gave)) h

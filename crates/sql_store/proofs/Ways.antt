@@ -1,5 +1,5 @@
 -- What stands behind a statement that left a row to the next one.
-use Rattle.std.proofs.Common.{◌≡◌, inl, inr, ℕ, ℤ, true, false, List, [], ◌∷◌, Option, Some, Result, Ok, Err, OnOk, IfErr, refl, sym, ap, subst, ◌∙◌}
+use Rattle.std.proofs.Common.{◌≡◌, inl, inr, ℕ, ℤ, true, false, List, [], ◌∷◌, Option, Some, Result, Ok, Err, refl, sym, ap, subst, ◌∙◌}
 use Rattle.std.specs.Prelude.{IsTrue}
 use Rattle.std.proofs.lemmas.Bool.{cases_Bool, false≢true}
 use Rattle.sqlite.specs.declared.types.Value.TheVariants.{Int, Text}
@@ -8,15 +8,16 @@ use Rattle.sqlite.specs.Order.{Row as Values}
 use Rattle.sqlite.specs.Effect.{Database}
 use Rattle.sqlite.specs.Held.{Held, state}
 use Rattle.sqlite.specs.Store.{Ghosts}
-use Rattle.sqlite.specs.State.{State, KeepsCommit, Executes, ExecutesInside, ExecutesIn, IsNotRun, RunsAlone, RunsCommand, IsUnchanged, Fails, shows_rows}
+use Rattle.sqlite.specs.State.{State, HasCleanDisk, Survives, KeepsCommit, Executes, ExecutesInside, ExecutesIn, IsNotRun, RunsAlone, RunsCommand, IsUnchanged, Fails, shows_rows}
 use Rattle.sqlite_resolve.specs.declared.compiled.Compiled.{Compiled}
 use Rattle.sqlite_trees.specs.declared.error.StoreError.TheVariants as cause
-use Rattle.sql_store.specs.Asked.{Executed, IsLeft, PutsRow, PutGives}
+use Rattle.sql_store.specs.Asked.{IfInside, Answers, RunsStatement, IsLeft, PutsRow, PutGives}
 use Rattle.sql_store.specs.Faults.{breaks_rule}
 use Rattle.sql_store.specs.Laid.{put}
 use Rattle.sql_store.specs.Table.{map_of, table_of, AreApart, IsReady, Makes}
 use Rattle.sql_store.proofs.Texts.{upsert_text, update_text, insert_text}
-use Rattle.sql_store.proofs.Steps.{kept_by, on_ok_then}
+use Rattle.sql_store.proofs.Steps.{kept_by, on_ok_then, steps_from}
+use Rattle.sql_store.proofs.Answering.{answers_then}
 use Rattle.sql_store.proofs.Composed.{keeps_then}
 use Rattle.sql_store.proofs.Updates.{updates, renews}
 use Rattle.sql_store.proofs.Adding.{adds}
@@ -111,9 +112,6 @@ module _ {S : Type 0} (g : Ghosts S) (key : List ℕ) (value number : ℤ) where
   passes old new inside (inr (e, breaks, h)) =
       passes_unchanged (state g old) (state g new) inside (kept_by insert_text params (state g old) (state g new) (Err e) h) (stands insert_text params (state g old) (state g new) e breaks h)
 
-  pub left_inside : (old new : Held S) → IsTrue (state g old).in_transaction → IsLeft g params old new → IsTrue (state g new).in_transaction
-  left_inside old new inside h = (passes old new inside h).inside
-
   -- whichever statement put it, the change is made
   pub makes_put : (old new : Held S) → IsTrue (state g old).in_transaction → PutsRow g params old new → Makes key (Some (value, number)) (state g old) (state g new)
   makes_put old new inside (inl (count, met, h)) = renews (state g old) (state g new) key value number count met h
@@ -121,11 +119,10 @@ module _ {S : Type 0} (g : Ghosts S) (key : List ℕ) (value number : ℤ) where
   makes_put old new inside (inr (inr (next, was_left, (count, h)))) =
       makes_after (state g old) (state g next) (state g new) key (Some (value, number)) (passes old next inside was_left) (enters (state g next) (state g new) key value number count h)
 
-  -- what the upsert to which the row was left answers
-  pub puts_left : (r : Result (Unit {0}) Error) (old next new : Held S) → IsLeft g params old next → OnOk r (Executed g upsert_text params next new) → OnOk r (PutsRow g params old new)
-  puts_left r old next new was_left h = on_ok_then r (λ ran. inr (inr (next, was_left, ran))) h
-
-  pub gives_left : (r : Result (Unit {0}) Error) (old next new : Held S) → IsLeft g params old next → IfErr r (λ e. ExecutesInside 0 upsert_text params (state g next) (state g new) (Err e))
-      → IfErr r (PutGives g params old new)
-  gives_left (Ok x) old next new was_left h = tt
-  gives_left (Err e) old next new was_left h = inr (inr (next, was_left, h))
+  -- the upsert puts the row that was left to it
+  pub left_put : {old next new : Held S} {r : Result (Unit {0}) Error} → IfInside g old next (IsLeft g params old next) → Survives (state g old) (state g next) (λ _. ⊥)
+      → RunsStatement g upsert_text params next new r → Answers g (PutsRow g params) (PutGives g params) old new r
+  left_put {old = old} {next = next} {r = r} were_left survives h =
+      let stood = λ (clean : HasCleanDisk (state g next)) (inside : IsTrue (state g old).in_transaction). passes old next inside (were_left clean inside) in
+      answers_then g (steps_from (state g old) (state g next) (λ clean inside. (stood clean inside).kept) survives) (λ clean inside. (stood clean inside).inside)
+      (λ was inside. on_ok_then r (λ ran. inr (inr (next, were_left was inside, ran)))) (λ was inside e gave. inr (inr (next, were_left was inside, gave))) h

@@ -1,5 +1,5 @@
 -- What a store asked of its connection, and what it was answered, whatever the database has.
-use Rattle.std.specs.Prelude.{◌≡◌, ◌⊎◌, ◌<◌, ℕ, ℤ, pos, Bool, false, true, List, [], ◌∷◌, ◌++◌, length, map, codes, Option, Some, None, is_some, unwrap_or, Result, Ok, Err, IsTrue}
+use Rattle.std.specs.Prelude.{◌≡◌, ◌⊎◌, ◌<◌, ◌≤◌, ℕ, ℤ, pos, Bool, false, true, List, [], ◌∷◌, ◌++◌, length, map, codes, Option, Some, None, is_some, unwrap_or, Result, Ok, Err, OnOk, IfErr, IsTrue}
 use Rattle.std.specs.List.{list_all}
 use Rattle.sqlite.specs.declared.types.Value.TheVariants.{Text, Int}
 use Rattle.sqlite.specs.declared.error.Error.{Error}
@@ -9,7 +9,8 @@ use Rattle.sqlite.specs.Held.{Held, state}
 use Rattle.sqlite.specs.State.{HasCleanDisk, Shown, Shows, IsUnchanged, ExecutesInside}
 use Rattle.txn_names.specs.declared.change.Change.{Change}
 use Rattle.durable_top.specs.declared.store.Row.{Row}
-use Rattle.sql_store.specs.Faults.{breaks_rule}
+use Rattle.sql_store.specs.Faults.{breaks_rule, IsCaused}
+use Rattle.sql_store.specs.Inside.{Steps}
 use Rattle.sql_store.specs.Load.{load_text, old_text}
 use Rattle.sql_store.specs.Reading.{told, seen, seen_old}
 
@@ -70,6 +71,10 @@ pub record AreRows (changes : List Change) : Type 0 where
 abbrev pub IsPiece : List Change → Type 0
 IsPiece changes = (length changes ≡ 1) ⊎ AreRows changes
 
+-- where so many changes are likely new, 16 or 4 of them go together, or else one change by itself
+abbrev pub IsPieceLen : ℕ → ℕ → Type 0
+IsPieceLen fresh size = ((fresh < 4) × (size ≡ 1)) ⊎ (((4 ≤ fresh) × (fresh < 16) × (size ≡ 4)) ⊎ ((16 ≤ fresh) × (size ≡ 16)))
+
 -- changes that stand one behind another, cut into pieces
 abbrev pub joined : List (List Change) → List Change
 joined [] = []
@@ -80,6 +85,15 @@ module _ {S : Type 0} (g : Ghosts S) where
   abbrev pub IfInside : Held S → Held S → Type 0 → Type 0
   IfInside old new P = HasCleanDisk (state g new) → IsTrue (state g old).in_transaction → P
 
+  -- What a call in a transaction says: nothing is committed, a crash leaves what it could leave before, and an error
+  -- that stands for a failure of the device has one as its cause. The call did the one, or gave an error as the other
+  -- says.
+  pub record Answers (Did : Held S → Held S → Type 0) (Gave : Held S → Held S → Error → Type 0) (old new : Held S) (result : Result (Unit {0}) Error) : Type 0 where
+    pub steps : Steps (state g old) (state g new)
+    pub cause : IfInside old new (IfErr result (IsCaused (state g old) (state g new)))
+    pub refused : IfInside old new (IfErr result (Gave old new))
+    pub asked : IfInside old new (OnOk result (Did old new))
+
   -- the statement was executed in a transaction, and this was its answer
   abbrev pub Answered : List ℕ → Values → Held S → Held S → Result ℕ Error → Type 0
   Answered text params old new = ExecutesInside 0 text params (state g old) (state g new)
@@ -87,6 +101,14 @@ module _ {S : Type 0} (g : Ghosts S) where
   -- it was executed without an error
   abbrev pub Executed : List ℕ → Values → Held S → Held S → Type 0
   Executed text params old new = (count : ℕ) × Answered text params old new (Ok count)
+
+  -- it gave the error
+  abbrev pub StatementGives : List ℕ → Values → Held S → Held S → Error → Type 0
+  StatementGives text params old new e = Answered text params old new (Err e)
+
+  -- a call that executes one statement
+  abbrev pub RunsStatement : List ℕ → Values → Held S → Held S → Result (Unit {0}) Error → Type 0
+  RunsStatement text params = Answers (Executed text params) (StatementGives text params)
 
   -- the update met a row of the key
   abbrev pub Updated : Values → Held S → Held S → Type 0
@@ -233,11 +255,15 @@ module _ {S : Type 0} (g : Ghosts S) where
   PutsEach [] old new = new ≡ old
   PutsEach (r ∷ rows) old new = (next : Held S) × PutsEach rows old next × Executed upsert_text (params_of r) next new
 
-  -- where the old table has rows the new one has none, and they were put into it and deleted
+  -- the same, and then the old table was emptied
+  abbrev pub MovesOver : List Row → Held S → Held S → Type 0
+  MovesOver rows old new = (put : Held S) × PutsEach rows old put × Executed empty_text [] put new
+
+  -- where the old table has rows the new one has none, and they were moved into it
   abbrev pub MovesRows : List Row → List Row → Held S → Held S → Type 0
   MovesRows [] new_rows old new = new ≡ old
   MovesRows (r ∷ rows) new_rows old new =
-      (new_rows ≡ []) × (put : Held S) × PutsEach (r ∷ rows) old put × Executed empty_text [] put new
+      (new_rows ≡ []) × MovesOver (r ∷ rows) old new
 
   -- the tables were read, and their rowids were asked for
   abbrev pub Finds : Held S → Held S → List Row → List Row → Type 0

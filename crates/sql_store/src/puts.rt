@@ -6,7 +6,7 @@ ghost use Rattle.sqlite.specs.Held.{state};
 ghost use Rattle.sqlite.specs.State.{HasCleanDisk, Survives, KeepsCommit};
 ghost use Rattle.sql_store.specs.Table.{Makes};
 ghost use Rattle.sql_store.specs.Faults.{IsCaused};
-ghost use Rattle.sql_store.specs.Asked.{update_text, insert_text, params_of, Answered, PutsRow, PutGives};
+ghost use Rattle.sql_store.specs.Asked.{IfInside, Answers, update_text, insert_text, params_of, Answered, PutsRow, PutGives};
 
 use crate::faults::breaks_rule;
 use crate::statements::{of_row, put};
@@ -16,9 +16,8 @@ use sqlite::{Alter, Error, Transaction};
 // Gives the key of the row its value and its number where it has a row, and answers how many rows it met.
 fn update<S: Alter>(tx: &mut Transaction<'_, S>, row: &Row) -> Result<usize, Error>
     ensures same_reference { tx.new.conn.ghost_name ≡ tx.old.conn.ghost_name }
-    ensures runs { HasCleanDisk (state S.Store tx.new.conn.now)
-        → IsTrue (state S.Store tx.old.conn.now).in_transaction
-        → Answered S.Store update_text (params_of row.now) tx.old.conn.now tx.new.conn.now result }
+    ensures runs { IfInside S.Store tx.old.conn.now tx.new.conn.now (Answered S.Store
+        update_text (params_of row.now) tx.old.conn.now tx.new.conn.now result) }
     ensures survives { Survives (state S.Store tx.old.conn.now) (state S.Store tx.new.conn.now) (λ _. ⊥) }
 {
     tx.execute(
@@ -30,9 +29,8 @@ fn update<S: Alter>(tx: &mut Transaction<'_, S>, row: &Row) -> Result<usize, Err
 // Adds the row. Where its key has one already, that is refused.
 fn insert<S: Alter>(tx: &mut Transaction<'_, S>, row: &Row) -> Result<usize, Error>
     ensures same_reference { tx.new.conn.ghost_name ≡ tx.old.conn.ghost_name }
-    ensures runs { HasCleanDisk (state S.Store tx.new.conn.now)
-        → IsTrue (state S.Store tx.old.conn.now).in_transaction
-        → Answered S.Store insert_text (params_of row.now) tx.old.conn.now tx.new.conn.now result }
+    ensures runs { IfInside S.Store tx.old.conn.now tx.new.conn.now (Answered S.Store
+        insert_text (params_of row.now) tx.old.conn.now tx.new.conn.now result) }
     ensures survives { Survives (state S.Store tx.old.conn.now) (state S.Store tx.new.conn.now) (λ _. ⊥) }
 {
     tx.execute(
@@ -44,16 +42,8 @@ fn insert<S: Alter>(tx: &mut Transaction<'_, S>, row: &Row) -> Result<usize, Err
 // Puts the row of a key that is likely to have one.
 fn put_known<S: Alter>(tx: &mut Transaction<'_, S>, row: &Row) -> Result<(), Error>
     ensures same_reference { tx.new.conn.ghost_name ≡ tx.old.conn.ghost_name }
-    ensures survives { Survives (state S.Store tx.old.conn.now) (state S.Store tx.new.conn.now) (λ _. ⊥) }
-    ensures cause { HasCleanDisk (state S.Store tx.new.conn.now)
-        → IsTrue (state S.Store tx.old.conn.now).in_transaction
-        → IfErr result (IsCaused (state S.Store tx.old.conn.now) (state S.Store tx.new.conn.now)) }
-    ensures refused { HasCleanDisk (state S.Store tx.new.conn.now)
-        → IsTrue (state S.Store tx.old.conn.now).in_transaction
-        → IfErr result (PutGives S.Store (params_of row.now) tx.old.conn.now tx.new.conn.now) }
-    ensures asked { HasCleanDisk (state S.Store tx.new.conn.now)
-        → IsTrue (state S.Store tx.old.conn.now).in_transaction
-        → OnOk result (PutsRow S.Store (params_of row.now) tx.old.conn.now tx.new.conn.now) }
+    ensures answers { Answers S.Store (PutsRow S.Store (params_of row.now))
+        (PutGives S.Store (params_of row.now)) tx.old.conn.now tx.new.conn.now result }
 {
     let count = update(tx, row)?;
     let is_left = count == 0;
@@ -63,16 +53,8 @@ fn put_known<S: Alter>(tx: &mut Transaction<'_, S>, row: &Row) -> Result<(), Err
 // Puts the row of a key that is likely to have none.
 fn put_new<S: Alter>(tx: &mut Transaction<'_, S>, row: &Row) -> Result<(), Error>
     ensures same_reference { tx.new.conn.ghost_name ≡ tx.old.conn.ghost_name }
-    ensures survives { Survives (state S.Store tx.old.conn.now) (state S.Store tx.new.conn.now) (λ _. ⊥) }
-    ensures cause { HasCleanDisk (state S.Store tx.new.conn.now)
-        → IsTrue (state S.Store tx.old.conn.now).in_transaction
-        → IfErr result (IsCaused (state S.Store tx.old.conn.now) (state S.Store tx.new.conn.now)) }
-    ensures refused { HasCleanDisk (state S.Store tx.new.conn.now)
-        → IsTrue (state S.Store tx.old.conn.now).in_transaction
-        → IfErr result (PutGives S.Store (params_of row.now) tx.old.conn.now tx.new.conn.now) }
-    ensures asked { HasCleanDisk (state S.Store tx.new.conn.now)
-        → IsTrue (state S.Store tx.old.conn.now).in_transaction
-        → OnOk result (PutsRow S.Store (params_of row.now) tx.old.conn.now tx.new.conn.now) }
+    ensures answers { Answers S.Store (PutsRow S.Store (params_of row.now))
+        (PutGives S.Store (params_of row.now)) tx.old.conn.now tx.new.conn.now result }
 {
     match insert(tx, row) {
         Ok(_) => Ok(()),
@@ -94,23 +76,11 @@ pub(crate) fn put_either<S: Alter>(
     row: &Row,
 ) -> Result<(), Error>
     ensures same_reference { tx.new.conn.ghost_name ≡ tx.old.conn.ghost_name }
-    ensures made { HasCleanDisk (state S.Store tx.new.conn.now)
-        → IsTrue (state S.Store tx.old.conn.now).in_transaction
-        → OnOk result (Makes row.now.key (Some (row.now.value, row.now.commit))
-        (state S.Store tx.old.conn.now) (state S.Store tx.new.conn.now)) }
-    ensures kept { HasCleanDisk (state S.Store tx.new.conn.now)
-        → IsTrue (state S.Store tx.old.conn.now).in_transaction
-        → KeepsCommit (state S.Store tx.old.conn.now) (state S.Store tx.new.conn.now) }
-    ensures survives { Survives (state S.Store tx.old.conn.now) (state S.Store tx.new.conn.now) (λ _. ⊥) }
-    ensures cause { HasCleanDisk (state S.Store tx.new.conn.now)
-        → IsTrue (state S.Store tx.old.conn.now).in_transaction
-        → IfErr result (IsCaused (state S.Store tx.old.conn.now) (state S.Store tx.new.conn.now)) }
-    ensures refused { HasCleanDisk (state S.Store tx.new.conn.now)
-        → IsTrue (state S.Store tx.old.conn.now).in_transaction
-        → IfErr result (PutGives S.Store (params_of row.now) tx.old.conn.now tx.new.conn.now) }
-    ensures asked { HasCleanDisk (state S.Store tx.new.conn.now)
-        → IsTrue (state S.Store tx.old.conn.now).in_transaction
-        → OnOk result (PutsRow S.Store (params_of row.now) tx.old.conn.now tx.new.conn.now) }
+    ensures made { IfInside S.Store tx.old.conn.now tx.new.conn.now
+        (OnOk result (Makes row.now.key (Some (row.now.value, row.now.commit))
+        (state S.Store tx.old.conn.now) (state S.Store tx.new.conn.now))) }
+    ensures answers { Answers S.Store (PutsRow S.Store (params_of row.now))
+        (PutGives S.Store (params_of row.now)) tx.old.conn.now tx.new.conn.now result }
 {
     if is_likely {
         put_known(tx, row)

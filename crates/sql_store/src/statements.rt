@@ -13,7 +13,7 @@ ghost use Rattle.sql_store.specs.Table.{Makes, AreApart};
 ghost use Rattle.sql_store.specs.Inside.{Steps, GoesOn};
 ghost use Rattle.sql_store.specs.Faults.{fault_of, IsCaused, Lasts, HasFailed};
 ghost use Rattle.sql_store.specs.Kept.{IsSettled, Spares};
-ghost use Rattle.sql_store.specs.Asked.{create_old_text, create_text, upsert_text, delete_text, empty_text, params_of, Executed};
+ghost use Rattle.sql_store.specs.Asked.{IfInside, RunsStatement, create_old_text, create_text, upsert_text, delete_text, empty_text, params_of, Executed};
 
 use durable_top::{Row, StoreFault};
 use sqlite::types::ValueRef;
@@ -40,12 +40,11 @@ pub(crate) fn of_row(row: &Row) -> [ValueRef<'_>; 3]
 /// Takes the row of the key away, if there is one.
 pub(crate) fn remove<S: Alter>(tx: &mut Transaction<'_, S>, key: &Key) -> Result<(), Error>
     ensures same_reference { tx.new.conn.ghost_name ≡ tx.old.conn.ghost_name }
-    ensures made { HasCleanDisk (state S.Store tx.new.conn.now) → IsTrue (state S.Store tx.old.conn.now).in_transaction → OnOk result (Makes key.now None (state S.Store tx.old.conn.now) (state S.Store tx.new.conn.now)) }
-    ensures kept { HasCleanDisk (state S.Store tx.new.conn.now) → IsTrue (state S.Store tx.old.conn.now).in_transaction → KeepsCommit (state S.Store tx.old.conn.now) (state S.Store tx.new.conn.now) }
-    ensures survives { Survives (state S.Store tx.old.conn.now) (state S.Store tx.new.conn.now) (λ _. ⊥) }
-    ensures cause { HasCleanDisk (state S.Store tx.new.conn.now) → IsTrue (state S.Store tx.old.conn.now).in_transaction → IfErr result (IsCaused (state S.Store tx.old.conn.now) (state S.Store tx.new.conn.now)) }
-    ensures refused { HasCleanDisk (state S.Store tx.new.conn.now) → IsTrue (state S.Store tx.old.conn.now).in_transaction → IfErr result (λ e. ExecutesInside 0 delete_text (Text key.now ∷ []) (state S.Store tx.old.conn.now) (state S.Store tx.new.conn.now) (Err e)) }
-    ensures asked { HasCleanDisk (state S.Store tx.new.conn.now) → IsTrue (state S.Store tx.old.conn.now).in_transaction → OnOk result (Executed S.Store delete_text (Text key.now ∷ []) tx.old.conn.now tx.new.conn.now) }
+    ensures made { IfInside S.Store tx.old.conn.now tx.new.conn.now
+        (OnOk result (Makes key.now None
+        (state S.Store tx.old.conn.now) (state S.Store tx.new.conn.now))) }
+    ensures answers { RunsStatement S.Store delete_text (Text key.now ∷ [])
+        tx.old.conn.now tx.new.conn.now result }
 {
     tx.execute("DELETE FROM results2 WHERE k = ?1", &of_key(key))?;
     Ok(())
@@ -54,12 +53,11 @@ pub(crate) fn remove<S: Alter>(tx: &mut Transaction<'_, S>, key: &Key) -> Result
 /// Gives the key of the row its value and its number, whether or not it has one.
 pub(crate) fn put<S: Alter>(tx: &mut Transaction<'_, S>, row: &Row) -> Result<(), Error>
     ensures same_reference { tx.new.conn.ghost_name ≡ tx.old.conn.ghost_name }
-    ensures made { HasCleanDisk (state S.Store tx.new.conn.now) → IsTrue (state S.Store tx.old.conn.now).in_transaction → OnOk result (Makes row.now.key (Some (row.now.value, row.now.commit)) (state S.Store tx.old.conn.now) (state S.Store tx.new.conn.now)) }
-    ensures kept { HasCleanDisk (state S.Store tx.new.conn.now) → IsTrue (state S.Store tx.old.conn.now).in_transaction → KeepsCommit (state S.Store tx.old.conn.now) (state S.Store tx.new.conn.now) }
-    ensures survives { Survives (state S.Store tx.old.conn.now) (state S.Store tx.new.conn.now) (λ _. ⊥) }
-    ensures cause { HasCleanDisk (state S.Store tx.new.conn.now) → IsTrue (state S.Store tx.old.conn.now).in_transaction → IfErr result (IsCaused (state S.Store tx.old.conn.now) (state S.Store tx.new.conn.now)) }
-    ensures refused { HasCleanDisk (state S.Store tx.new.conn.now) → IsTrue (state S.Store tx.old.conn.now).in_transaction → IfErr result (λ e. ExecutesInside 0 upsert_text (params_of row.now) (state S.Store tx.old.conn.now) (state S.Store tx.new.conn.now) (Err e)) }
-    ensures asked { HasCleanDisk (state S.Store tx.new.conn.now) → IsTrue (state S.Store tx.old.conn.now).in_transaction → OnOk result (Executed S.Store upsert_text (params_of row.now) tx.old.conn.now tx.new.conn.now) }
+    ensures made { IfInside S.Store tx.old.conn.now tx.new.conn.now
+        (OnOk result (Makes row.now.key (Some (row.now.value, row.now.commit))
+        (state S.Store tx.old.conn.now) (state S.Store tx.new.conn.now))) }
+    ensures answers { RunsStatement S.Store upsert_text (params_of row.now)
+        tx.old.conn.now tx.new.conn.now result }
 {
     tx.execute(
         "INSERT INTO results2 (k, v, n) VALUES (?1, ?2, ?3) ON CONFLICT (k) DO UPDATE SET v = excluded.v, n = excluded.n",
@@ -71,14 +69,11 @@ pub(crate) fn put<S: Alter>(tx: &mut Transaction<'_, S>, row: &Row) -> Result<()
 /// Takes all rows of the old table away.
 pub(crate) fn empty<S: Alter>(tx: &mut Transaction<'_, S>) -> Result<(), Error>
     ensures same_reference { tx.new.conn.ghost_name ≡ tx.old.conn.ghost_name }
-    ensures steps { Steps (state S.Store tx.old.conn.now) (state S.Store tx.new.conn.now) }
     ensures on { OnOk result (GoesOn (state S.Store tx.old.conn.now) (state S.Store tx.new.conn.now)) }
     ensures schema { HasCleanDisk (state S.Store tx.new.conn.now) → IsTrue (state S.Store tx.old.conn.now).in_transaction → OnOk result ((state S.Store tx.old.conn.now).now.schema ≡ both_schema → (state S.Store tx.new.conn.now).now.schema ≡ both_schema) }
     ensures others { HasCleanDisk (state S.Store tx.new.conn.now) → IsTrue (state S.Store tx.old.conn.now).in_transaction → OnOk result ((state S.Store tx.old.conn.now).now.schema ≡ both_schema → (state S.Store tx.new.conn.now).now.trees 2 ≡ (state S.Store tx.old.conn.now).now.trees 2) }
     ensures gone { HasCleanDisk (state S.Store tx.new.conn.now) → IsTrue (state S.Store tx.old.conn.now).in_transaction → OnOk result ((state S.Store tx.old.conn.now).now.schema ≡ both_schema → AreApart ((state S.Store tx.old.conn.now).now.trees 0) → (state S.Store tx.new.conn.now).now.trees 0 ≡ []) }
-    ensures cause { HasCleanDisk (state S.Store tx.new.conn.now) → IsTrue (state S.Store tx.old.conn.now).in_transaction → IfErr result (IsCaused (state S.Store tx.old.conn.now) (state S.Store tx.new.conn.now)) }
-    ensures refused { HasCleanDisk (state S.Store tx.new.conn.now) → IsTrue (state S.Store tx.old.conn.now).in_transaction → IfErr result (λ e. ExecutesInside 0 empty_text ([]) (state S.Store tx.old.conn.now) (state S.Store tx.new.conn.now) (Err e)) }
-    ensures asked { HasCleanDisk (state S.Store tx.new.conn.now) → IsTrue (state S.Store tx.old.conn.now).in_transaction → OnOk result (Executed S.Store empty_text ([]) tx.old.conn.now tx.new.conn.now) }
+    ensures answers { RunsStatement S.Store empty_text ([]) tx.old.conn.now tx.new.conn.now result }
 {
     tx.execute("DELETE FROM results", &[])?;
     Ok(())
@@ -87,14 +82,12 @@ pub(crate) fn empty<S: Alter>(tx: &mut Transaction<'_, S>) -> Result<(), Error>
 /// Makes the old table where there is none.
 pub(crate) fn create_old<S: Alter>(tx: &mut Transaction<'_, S>) -> Result<(), Error>
     ensures same_reference { tx.new.conn.ghost_name ≡ tx.old.conn.ghost_name }
-    ensures steps { Steps (state S.Store tx.old.conn.now) (state S.Store tx.new.conn.now) }
     ensures on { OnOk result (GoesOn (state S.Store tx.old.conn.now) (state S.Store tx.new.conn.now)) }
     ensures made { HasCleanDisk (state S.Store tx.new.conn.now) → IsTrue (state S.Store tx.old.conn.now).in_transaction → OnOk result ((state S.Store tx.old.conn.now).now.schema ≡ no_schema → ((state S.Store tx.new.conn.now).now.schema ≡ old_schema) × ((state S.Store tx.new.conn.now).now.trees 0 ≡ [])) }
     ensures first { HasCleanDisk (state S.Store tx.new.conn.now) → IsTrue (state S.Store tx.old.conn.now).in_transaction → OnOk result ((state S.Store tx.old.conn.now).now.schema ≡ old_schema → (state S.Store tx.new.conn.now).now ≡ (state S.Store tx.old.conn.now).now) }
     ensures both { HasCleanDisk (state S.Store tx.new.conn.now) → IsTrue (state S.Store tx.old.conn.now).in_transaction → OnOk result ((state S.Store tx.old.conn.now).now.schema ≡ both_schema → (state S.Store tx.new.conn.now).now ≡ (state S.Store tx.old.conn.now).now) }
-    ensures cause { HasCleanDisk (state S.Store tx.new.conn.now) → IsTrue (state S.Store tx.old.conn.now).in_transaction → IfErr result (IsCaused (state S.Store tx.old.conn.now) (state S.Store tx.new.conn.now)) }
-    ensures refused { HasCleanDisk (state S.Store tx.new.conn.now) → IsTrue (state S.Store tx.old.conn.now).in_transaction → IfErr result (λ e. ExecutesInside 0 create_old_text ([]) (state S.Store tx.old.conn.now) (state S.Store tx.new.conn.now) (Err e)) }
-    ensures asked { HasCleanDisk (state S.Store tx.new.conn.now) → IsTrue (state S.Store tx.old.conn.now).in_transaction → OnOk result (Executed S.Store create_old_text ([]) tx.old.conn.now tx.new.conn.now) }
+    ensures answers { RunsStatement S.Store create_old_text ([])
+        tx.old.conn.now tx.new.conn.now result }
 {
     tx.execute(
         "CREATE TABLE IF NOT EXISTS results (k TEXT NOT NULL PRIMARY KEY, v INTEGER NOT NULL) STRICT",
@@ -106,13 +99,11 @@ pub(crate) fn create_old<S: Alter>(tx: &mut Transaction<'_, S>) -> Result<(), Er
 /// Makes the new table where there is none.
 pub(crate) fn create<S: Alter>(tx: &mut Transaction<'_, S>) -> Result<(), Error>
     ensures same_reference { tx.new.conn.ghost_name ≡ tx.old.conn.ghost_name }
-    ensures steps { Steps (state S.Store tx.old.conn.now) (state S.Store tx.new.conn.now) }
     ensures on { OnOk result (GoesOn (state S.Store tx.old.conn.now) (state S.Store tx.new.conn.now)) }
     ensures made { HasCleanDisk (state S.Store tx.new.conn.now) → IsTrue (state S.Store tx.old.conn.now).in_transaction → OnOk result ((state S.Store tx.old.conn.now).now.schema ≡ old_schema → ((state S.Store tx.new.conn.now).now.schema ≡ both_schema) × ((state S.Store tx.new.conn.now).now.trees 2 ≡ []) × ((state S.Store tx.new.conn.now).now.trees 0 ≡ (state S.Store tx.old.conn.now).now.trees 0)) }
     ensures both { HasCleanDisk (state S.Store tx.new.conn.now) → IsTrue (state S.Store tx.old.conn.now).in_transaction → OnOk result ((state S.Store tx.old.conn.now).now.schema ≡ both_schema → (state S.Store tx.new.conn.now).now ≡ (state S.Store tx.old.conn.now).now) }
-    ensures cause { HasCleanDisk (state S.Store tx.new.conn.now) → IsTrue (state S.Store tx.old.conn.now).in_transaction → IfErr result (IsCaused (state S.Store tx.old.conn.now) (state S.Store tx.new.conn.now)) }
-    ensures refused { HasCleanDisk (state S.Store tx.new.conn.now) → IsTrue (state S.Store tx.old.conn.now).in_transaction → IfErr result (λ e. ExecutesInside 0 create_text ([]) (state S.Store tx.old.conn.now) (state S.Store tx.new.conn.now) (Err e)) }
-    ensures asked { HasCleanDisk (state S.Store tx.new.conn.now) → IsTrue (state S.Store tx.old.conn.now).in_transaction → OnOk result (Executed S.Store create_text ([]) tx.old.conn.now tx.new.conn.now) }
+    ensures answers { RunsStatement S.Store create_text ([])
+        tx.old.conn.now tx.new.conn.now result }
 {
     tx.execute(
         "CREATE TABLE IF NOT EXISTS results2 (k TEXT NOT NULL PRIMARY KEY, v INTEGER NOT NULL, n INTEGER NOT NULL) STRICT",

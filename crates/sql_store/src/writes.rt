@@ -6,7 +6,7 @@ ghost use Rattle.durable_top.specs.Numbered.{under};
 ghost use Rattle.sql_store.specs.Table.{Makes, IsReady};
 ghost use Rattle.sql_store.specs.Writes.{MakesAll, Stores, IsStored};
 ghost use Rattle.sql_store.specs.Faults.{fault_of, IsCaused, HasFailed};
-ghost use Rattle.sql_store.specs.Asked.{IfInside, have_values, AreRows, IsPiece, MakesChange, FailsToChange, MakesEach, EachGives, MakesRows, RowsGive, MakesPiece, PieceGives, ExecutedEach, ChangeGives, Transacted, Committed};
+ghost use Rattle.sql_store.specs.Asked.{Answers, IsPieceLen, IfInside, have_values, AreRows, IsPiece, MakesChange, FailsToChange, MakesEach, EachGives, MakesRows, RowsGive, MakesPiece, PieceGives, ExecutedEach, ChangeGives, Transacted, Committed};
 ghost use Rattle.sql_store.specs.Refusals.{CannotWrite};
 
 use crate::faults::{breaks_rule, fault_of, settle};
@@ -24,13 +24,16 @@ fn is_new(numbers: &NumberTable, change: &Change) -> bool
     change.value.is_some() && numbers.number(&change.key).is_none()
 }
 
-/// How many changes from the first on are such, up to 16, or 0 where there are not 4 changes.
-fn new_len(numbers: &NumberTable, changes: &[Change]) -> usize
+/// How many changes from the first on are such, up to 16, or 0 where there are not 4 changes. What is left of those
+/// that were counted before is not counted again.
+fn new_len(numbers: &NumberTable, changes: &[Change], counted: usize) -> usize
+    requires within { counted ≤ length changes.now }
+    requires values { IsTrue (have_values (take counted changes.now)) }
     ensures within { result ≤ length changes.now }
     ensures values { IsTrue (have_values (take result changes.now)) }
 {
-    if changes.len() < 4 {
-        return 0;
+    if counted > 0 || changes.len() < 4 {
+        return counted;
     }
     let mut count = 0;
     while count < 16 && count < changes.len() && is_new(numbers, &changes[count]) {
@@ -39,16 +42,13 @@ fn new_len(numbers: &NumberTable, changes: &[Change]) -> usize
     count
 }
 
-/// How many changes from the first on go together: 16 or 4 that are likely new, or else one.
-fn piece_len(numbers: &NumberTable, changes: &[Change]) -> usize
-    requires some { 0 < length changes.now }
-    ensures within { result ≤ length changes.now }
-    ensures piece { IsPiece (take result changes.now) }
+/// How many changes go together where so many are likely new: 16 or 4, or else one.
+fn piece_len(fresh: usize) -> usize
+    ensures { IsPieceLen fresh result }
 {
-    let count = new_len(numbers, changes);
-    if count >= 16 {
+    if fresh >= 16 {
         16
-    } else if count >= 4 {
+    } else if fresh >= 4 {
         4
     } else {
         1
@@ -64,18 +64,11 @@ fn make<S: Alter>(
     change: &Change,
 ) -> Result<(), Error>
     ensures same_reference { tx.new.conn.ghost_name ≡ tx.old.conn.ghost_name }
-    ensures made { HasCleanDisk (state S.Store tx.new.conn.now) → IsTrue (state S.Store tx.old.conn.now).in_transaction → OnOk result (Makes change.now.key (under number change.now.value) (state S.Store tx.old.conn.now) (state S.Store tx.new.conn.now)) }
-    ensures kept { HasCleanDisk (state S.Store tx.new.conn.now) → IsTrue (state S.Store tx.old.conn.now).in_transaction → KeepsCommit (state S.Store tx.old.conn.now) (state S.Store tx.new.conn.now) }
-    ensures survives { Survives (state S.Store tx.old.conn.now) (state S.Store tx.new.conn.now) (λ _. ⊥) }
-    ensures cause { HasCleanDisk (state S.Store tx.new.conn.now) → IsTrue (state S.Store tx.old.conn.now).in_transaction → IfErr result (IsCaused (state S.Store tx.old.conn.now) (state S.Store tx.new.conn.now)) }
-    ensures refused { HasCleanDisk (state S.Store tx.new.conn.now)
-        → IsTrue (state S.Store tx.old.conn.now).in_transaction
-        → IfErr result (FailsToChange S.Store number change.now.key change.now.value
-        tx.old.conn.now tx.new.conn.now) }
-    ensures asked { HasCleanDisk (state S.Store tx.new.conn.now)
-        → IsTrue (state S.Store tx.old.conn.now).in_transaction
-        → OnOk result (MakesChange S.Store number change.now.key change.now.value
-        tx.old.conn.now tx.new.conn.now) }
+    ensures made { IfInside S.Store tx.old.conn.now tx.new.conn.now
+        (OnOk result (Makes change.now.key (under number change.now.value)
+        (state S.Store tx.old.conn.now) (state S.Store tx.new.conn.now))) }
+    ensures answers { Answers S.Store (MakesChange S.Store number change.now.key change.now.value)
+        (FailsToChange S.Store number change.now.key change.now.value) tx.old.conn.now tx.new.conn.now result }
 {
     match change.value {
         Some(value) => put_either(
@@ -99,16 +92,8 @@ fn make_each<S: Alter>(
     changes: &[Change],
 ) -> Result<(), Error>
     ensures same_reference { tx.new.conn.ghost_name ≡ tx.old.conn.ghost_name }
-    ensures kept { IfInside S.Store tx.old.conn.now tx.new.conn.now
-        (KeepsCommit (state S.Store tx.old.conn.now) (state S.Store tx.new.conn.now)) }
-    ensures survives { Survives (state S.Store tx.old.conn.now)
-        (state S.Store tx.new.conn.now) (λ _. ⊥) }
-    ensures cause { IfInside S.Store tx.old.conn.now tx.new.conn.now
-        (IfErr result (IsCaused (state S.Store tx.old.conn.now) (state S.Store tx.new.conn.now))) }
-    ensures refused { IfInside S.Store tx.old.conn.now tx.new.conn.now
-        (IfErr result (EachGives S.Store number changes.now tx.old.conn.now tx.new.conn.now)) }
-    ensures asked { IfInside S.Store tx.old.conn.now tx.new.conn.now
-        (OnOk result (MakesEach S.Store number changes.now tx.old.conn.now tx.new.conn.now)) }
+    ensures answers { Answers S.Store (MakesEach S.Store number changes.now)
+        (EachGives S.Store number changes.now) tx.old.conn.now tx.new.conn.now result }
 {
     for change in changes {
         make(tx, numbers, number, change)?;
@@ -126,16 +111,8 @@ fn make_rows<S: Alter>(
 ) -> Result<(), Error>
     requires rows { AreRows rows.now }
     ensures same_reference { tx.new.conn.ghost_name ≡ tx.old.conn.ghost_name }
-    ensures kept { IfInside S.Store tx.old.conn.now tx.new.conn.now
-        (KeepsCommit (state S.Store tx.old.conn.now) (state S.Store tx.new.conn.now)) }
-    ensures survives { Survives (state S.Store tx.old.conn.now)
-        (state S.Store tx.new.conn.now) (λ _. ⊥) }
-    ensures cause { IfInside S.Store tx.old.conn.now tx.new.conn.now
-        (IfErr result (IsCaused (state S.Store tx.old.conn.now) (state S.Store tx.new.conn.now))) }
-    ensures refused { IfInside S.Store tx.old.conn.now tx.new.conn.now
-        (IfErr result (RowsGive S.Store number rows.now tx.old.conn.now tx.new.conn.now)) }
-    ensures asked { IfInside S.Store tx.old.conn.now tx.new.conn.now
-        (OnOk result (MakesRows S.Store number rows.now tx.old.conn.now tx.new.conn.now)) }
+    ensures answers { Answers S.Store (MakesRows S.Store number rows.now)
+        (RowsGive S.Store number rows.now) tx.old.conn.now tx.new.conn.now result }
 {
     match insert_rows(tx, number, rows) {
         Ok(_) => Ok(()),
@@ -158,16 +135,8 @@ fn make_piece<S: Alter>(
 ) -> Result<(), Error>
     requires piece { IsPiece piece.now }
     ensures same_reference { tx.new.conn.ghost_name ≡ tx.old.conn.ghost_name }
-    ensures kept { IfInside S.Store tx.old.conn.now tx.new.conn.now
-        (KeepsCommit (state S.Store tx.old.conn.now) (state S.Store tx.new.conn.now)) }
-    ensures survives { Survives (state S.Store tx.old.conn.now)
-        (state S.Store tx.new.conn.now) (λ _. ⊥) }
-    ensures cause { IfInside S.Store tx.old.conn.now tx.new.conn.now
-        (IfErr result (IsCaused (state S.Store tx.old.conn.now) (state S.Store tx.new.conn.now))) }
-    ensures refused { IfInside S.Store tx.old.conn.now tx.new.conn.now
-        (IfErr result (PieceGives S.Store number piece.now tx.old.conn.now tx.new.conn.now)) }
-    ensures asked { IfInside S.Store tx.old.conn.now tx.new.conn.now
-        (OnOk result (MakesPiece S.Store number piece.now tx.old.conn.now tx.new.conn.now)) }
+    ensures answers { Answers S.Store (MakesPiece S.Store number piece.now)
+        (PieceGives S.Store number piece.now) tx.old.conn.now tx.new.conn.now result }
 {
     if piece.len() == 1 {
         make_each(tx, numbers, number, piece)
@@ -187,18 +156,19 @@ fn make_all<S: Alter>(
     ensures same_reference { tx.new.conn.ghost_name ≡ tx.old.conn.ghost_name }
     ensures made { HasCleanDisk (state S.Store tx.new.conn.now) → IsReady (state S.Store tx.old.conn.now).now → OnOk result (MakesAll number changes.now (state S.Store tx.old.conn.now) (state S.Store tx.new.conn.now)) }
     ensures opened { HasCleanDisk (state S.Store tx.new.conn.now) → OnOk result (0 < length changes.now → IsTrue (state S.Store tx.old.conn.now).is_open) }
-    ensures kept { HasCleanDisk (state S.Store tx.new.conn.now) → KeepsCommit (state S.Store tx.old.conn.now) (state S.Store tx.new.conn.now) }
-    ensures survives { Survives (state S.Store tx.old.conn.now) (state S.Store tx.new.conn.now) (λ _. ⊥) }
-    ensures cause { HasCleanDisk (state S.Store tx.new.conn.now) → IfErr result (IsCaused (state S.Store tx.old.conn.now) (state S.Store tx.new.conn.now)) }
     ensures inside { HasCleanDisk (state S.Store tx.new.conn.now) → OnOk result (IsTrue (state S.Store tx.new.conn.now).in_transaction) }
-    ensures refused { HasCleanDisk (state S.Store tx.new.conn.now) → IfErr result (ChangeGives S.Store number changes.now tx.old.conn.now) }
-    ensures asked { HasCleanDisk (state S.Store tx.new.conn.now) → OnOk result (ExecutedEach S.Store number changes.now tx.old.conn.now tx.new.conn.now) }
+    ensures answers { Answers S.Store (ExecutedEach S.Store number changes.now)
+        (λ old _ e. ChangeGives S.Store number changes.now old e)
+        tx.old.conn.now tx.new.conn.now result }
 {
     let mut place = 0;
+    let mut fresh = 0;
     while place < changes.len() {
-        let count = piece_len(numbers, &changes[place..]);
+        fresh = new_len(numbers, &changes[place..], fresh);
+        let count = piece_len(fresh);
         make_piece(tx, numbers, number, &changes[place..place + count])?;
         place += count;
+        fresh = fresh.saturating_sub(count);
     }
     Ok(())
 }

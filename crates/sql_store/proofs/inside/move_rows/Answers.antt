@@ -7,7 +7,8 @@ use Rattle.durable_top.specs.declared.store.Row.{Row}
 use Rattle.sql_store.specs.Asked.{PutsEach}
 use Rattle.sql_store.specs.Laid.{laid, put}
 use Rattle.sql_store.specs.Table.{table_of}
-use Rattle.sql_store.proofs.Steps.{steps_then, steps_from, clean_before}
+use Rattle.sql_store.proofs.Steps.{steps_then, clean_before}
+use Rattle.sql_store.proofs.Answering.{answers_then}
 use Rattle.sql_store.proofs.Opens.{laid_more}
 use Rattle.sql_store.proofs.inside.move_rows.Goals as goal
 
@@ -20,7 +21,7 @@ loop-left-preserved g c =
     let i : ℕ = c.loop-left.left - 1 in
     let r : Row = c.index-rows-left.result in
     let next : i + 1 ≡ c.loop-left.left = omega (arith, c.loop-left-test.true) in
-    let was = λ (clean : HasCleanDisk z). clean_before y z c.put.ensures.survives clean in
+    let was = λ (clean : HasCleanDisk z). clean_before y z c.put.ensures.answers.steps.survives clean in
     let here = λ (clean : HasCleanDisk z) (inside : IsTrue x.in_transaction). c.loop-left.invariant.inside (was clean) inside in
     let made = λ (clean : HasCleanDisk z) (inside : IsTrue x.in_transaction). c.in_ok-put.ensures.made clean (here clean inside) in
     let within : i < length rows = omega (arith, c.loop-left-test.true, c.loop-left.invariant.within) in
@@ -29,11 +30,11 @@ loop-left-preserved g c =
     record {
       within = omega (arith, c.loop-left.invariant.within);
       same = c.put.ensures.same_reference ∙ c.loop-left.invariant.same;
-      steps = steps_then x y z c.loop-left.invariant.steps c.loop-left.invariant.inside (steps_from y z c.put.ensures.kept c.put.ensures.survives);
+      steps = steps_then x y z c.loop-left.invariant.steps c.loop-left.invariant.inside c.put.ensures.answers.steps;
       inside = λ clean inside. (made clean inside).inside;
       asked = λ clean inside.
           subst (λ rs. PutsEach g.S.Store rs c.args.tx.now.conn.now c.put.new.tx.conn.now) (sym here_is)
-          (c.loop-left.tx.conn.now, subst (λ n. PutsEach g.S.Store (drop n rows) c.args.tx.now.conn.now c.loop-left.tx.conn.now) (sym next) (c.loop-left.invariant.asked (was clean) inside), c.in_ok-put.ensures.asked clean (here clean inside));
+          (c.loop-left.tx.conn.now, subst (λ n. PutsEach g.S.Store (drop n rows) c.args.tx.now.conn.now c.loop-left.tx.conn.now) (sym next) (c.loop-left.invariant.asked (was clean) inside), c.in_ok-put.ensures.answers.asked clean (here clean inside));
       ready = λ clean inside ready. (made clean inside).ready (c.loop-left.invariant.ready (was clean) inside ready);
       table = λ clean inside ready.
           (made clean inside).table (c.loop-left.invariant.ready (was clean) inside ready)
@@ -42,25 +43,22 @@ loop-left-preserved g c =
       others = λ clean inside ready. (made clean inside).others (c.loop-left.invariant.ready (was clean) inside ready) ∙ c.loop-left.invariant.others (was clean) inside ready;
     }
 
-pub returns-in_err-put-clause-refused : goal.returns-in_err-put-clause-refused
-returns-in_err-put-clause-refused g c clean inside =
-    let y = state g.S.Store c.loop-left.tx.conn.now in
-    let z = state g.S.Store c.put.new.tx.conn.now in
+pub returns-in_err-put-clause-answers : goal.returns-in_err-put-clause-answers
+returns-in_err-put-clause-answers g c =
     let rows : List Row = c.args.rows.now in
     let i : ℕ = c.loop-left.left - 1 in
     let r : Row = c.index-rows-left.result in
     let next : i + 1 ≡ c.loop-left.left = omega (arith, c.loop-left-test.true) in
     let within : i < length rows = omega (arith, c.loop-left-test.true, c.loop-left.invariant.within) in
     let here_is : drop i rows ≡ r ∷ drop (i + 1) rows = drop_more rows i r within ∙ ap (λ q. q ∷ drop (i + 1) rows) (sym c.index-rows-left.is) in
-    let was : HasCleanDisk y = clean_before y z c.put.ensures.survives clean in
     let e = c.in_err-put.field-0.0 in
     let same : c.from_residual.result ≡ Err e = search rules in
-    rw same (λ refused. record {
+    rw same (answers_then g.S.Store c.loop-left.invariant.steps c.loop-left.invariant.inside (λ was inside h. h) (λ was inside x gave refused. record {
       before = take i rows;
       row = r;
       after = drop (i + 1) rows;
       are = sym (take-append-drop i rows) ∙ ap (λ rs. take i rows ++ rs) here_is;
       last = c.loop-left.tx.conn.now;
       put = subst (λ n. PutsEach g.S.Store (drop n rows) c.args.tx.now.conn.now c.loop-left.tx.conn.now) (sym next) (c.loop-left.invariant.asked was inside);
-      refused = (c.put.new.tx.conn.now, e, c.in_err-put.ensures.refused clean (c.loop-left.invariant.inside was inside), refused);
-    })
+      refused = (c.put.new.tx.conn.now, x, gave, refused);
+    }) c.in_err-put.ensures.answers)

@@ -30,10 +30,10 @@ returns-in-Ok-clause-found g c clean inside =
 pub returns-in-Ok-clause-refused : goal.returns-in-Ok-clause-refused
 returns-in-Ok-clause-refused g c clean inside is =
     let was : HasCleanDisk (state g.S.Store c.make_tables.new.tx.conn.now) = clean_before (state g.S.Store c.make_tables.new.tx.conn.now) (state g.S.Store c.find_and_settle.new.tx.conn.now) c.find_and_settle.ensures.steps.survives clean in
-    inr (c.make_tables.new.tx.conn.now, c.in-Ok.ensures.asked was inside, c.find_and_settle.ensures.refused clean (c.in-Ok.ensures.on was inside).0 is)
+    inr (c.make_tables.new.tx.conn.now, c.in-Ok.ensures.answers.asked was inside, c.find_and_settle.ensures.refused clean (c.in-Ok.ensures.on was inside).0 is)
 
 pub returns-in-Ok-clause-asked : goal.returns-in-Ok-clause-asked
 returns-in-Ok-clause-asked g c clean inside =
     let was : HasCleanDisk (state g.S.Store c.make_tables.new.tx.conn.now) = clean_before (state g.S.Store c.make_tables.new.tx.conn.now) (state g.S.Store c.find_and_settle.new.tx.conn.now) c.find_and_settle.ensures.steps.survives clean in
-    on_ok_then c.find_and_settle.result (λ settles. (c.make_tables.new.tx.conn.now, c.in-Ok.ensures.asked was inside, settles))
+    on_ok_then c.find_and_settle.result (λ settles. (c.make_tables.new.tx.conn.now, c.in-Ok.ensures.answers.asked was inside, settles))
     (c.find_and_settle.ensures.asked clean (c.in-Ok.ensures.on was inside).0)

@@ -1,41 +1,33 @@
-use Rattle.std.proofs.Common.{inr, sym, ◌∙◌, arith}
+use Rattle.std.proofs.Common.{Ok, Err, inl, inr, sym, ◌∙◌}
 use Rattle.sqlite.specs.Held.{state}
-use Rattle.sqlite.specs.State.{HasCleanDisk}
-use Rattle.sql_store.specs.Asked.{insert_text, params_of, IsLeft}
-use Rattle.sql_store.proofs.Causes.{inside_caused, caused_later}
-use Rattle.sql_store.proofs.Ways.{left_inside, puts_left, gives_left}
+use Rattle.sql_store.specs.Asked.{IfInside, insert_text, params_of, IsLeft}
+use Rattle.sql_store.proofs.Answering.{did_so, gave_so}
+use Rattle.sql_store.proofs.Causes.{inside_caused}
+use Rattle.sql_store.proofs.Steps.{steps_by}
+use Rattle.sql_store.proofs.Ways.{left_put}
 use Rattle.sql_store.proofs.puts.put_new.Goals as goal
 
-pub returns-then-breaks_rule-clause-asked : goal.returns-then-breaks_rule-clause-asked
-returns-then-breaks_rule-clause-asked g c clean inside =
+pub returns-in-Ok-clause-answers : goal.returns-in-Ok-clause-answers
+returns-in-Ok-clause-answers g c =
+    let count = c.in-Ok.field-0 in
+    let ran = c.in-Ok.ensures.runs in
+    did_so g.S.Store (steps_by insert_text (params_of c.args.row.now) (state g.S.Store c.args.tx.now.conn.now) (state g.S.Store c.insert.new.tx.conn.now) (Ok count) ran c.insert.ensures.survives)
+    (λ clean inside. inr (inl (count, ran clean inside)))
+
+pub returns-then-breaks_rule-clause-answers : goal.returns-then-breaks_rule-clause-answers
+returns-then-breaks_rule-clause-answers g c =
     let row = c.args.row.now in
     let old = c.args.tx.now.conn.now in
     let mid = c.insert.new.tx.conn.now in
-    let was : HasCleanDisk (state g.S.Store mid) = omega (arith, c.put.ensures.survives.clean, clean) in
-    let broke : IsLeft g.S.Store (params_of row) old mid = inr (c.in-Err.error, sym c.breaks_rule.ensures ∙ c.if-breaks_rule.true, c.in-Err.ensures.runs was inside) in
-    puts_left g.S.Store row.key row.value row.commit c.put.result old mid c.put.new.tx.conn.now broke
-    (c.put.ensures.asked clean (left_inside g.S.Store row.key row.value row.commit old mid inside broke))
+    let broke : IfInside g.S.Store old mid (IsLeft g.S.Store (params_of row) old mid) = λ clean inside.
+    inr (c.in-Err.error, sym c.breaks_rule.ensures ∙ c.if-breaks_rule.true, c.in-Err.ensures.runs clean inside) in
+    left_put g.S.Store row.key row.value row.commit broke c.insert.ensures.survives c.put.ensures.answers
 
-pub returns-then-breaks_rule-clause-refused : goal.returns-then-breaks_rule-clause-refused
-returns-then-breaks_rule-clause-refused g c clean inside =
-    let row = c.args.row.now in
-    let old = c.args.tx.now.conn.now in
-    let mid = c.insert.new.tx.conn.now in
-    let was : HasCleanDisk (state g.S.Store mid) = omega (arith, c.put.ensures.survives.clean, clean) in
-    let broke : IsLeft g.S.Store (params_of row) old mid = inr (c.in-Err.error, sym c.breaks_rule.ensures ∙ c.if-breaks_rule.true, c.in-Err.ensures.runs was inside) in
-    gives_left g.S.Store row.key row.value row.commit c.put.result old mid c.put.new.tx.conn.now broke
-    (c.put.ensures.refused clean (left_inside g.S.Store row.key row.value row.commit old mid inside broke))
-
-pub returns-then-breaks_rule-clause-cause : goal.returns-then-breaks_rule-clause-cause
-returns-then-breaks_rule-clause-cause g c clean inside =
-    let row = c.args.row.now in
-    let old = c.args.tx.now.conn.now in
-    let mid = c.insert.new.tx.conn.now in
-    let was : HasCleanDisk (state g.S.Store mid) = omega (arith, c.put.ensures.survives.clean, clean) in
-    let broke : IsLeft g.S.Store (params_of row) old mid = inr (c.in-Err.error, sym c.breaks_rule.ensures ∙ c.if-breaks_rule.true, c.in-Err.ensures.runs was inside) in
-    caused_later (state g.S.Store old) (state g.S.Store mid) (state g.S.Store c.put.new.tx.conn.now) c.put.result c.insert.ensures.survives was c.put.ensures.survives
-    (c.put.ensures.cause clean (left_inside g.S.Store row.key row.value row.commit old mid inside broke))
-
-pub returns-else-breaks_rule-clause-cause : goal.returns-else-breaks_rule-clause-cause
-returns-else-breaks_rule-clause-cause g c clean inside =
-    inside_caused insert_text (params_of c.args.row.now) (state g.S.Store c.args.tx.now.conn.now) (state g.S.Store c.insert.new.tx.conn.now) c.in-Err.error (c.in-Err.ensures.runs clean inside)
+pub returns-else-breaks_rule-clause-answers : goal.returns-else-breaks_rule-clause-answers
+returns-else-breaks_rule-clause-answers g c =
+    let e = c.in-Err.error in
+    let ran = c.in-Err.ensures.runs in
+    let old = state g.S.Store c.args.tx.now.conn.now in
+    let new = state g.S.Store c.insert.new.tx.conn.now in
+    gave_so g.S.Store (steps_by insert_text (params_of c.args.row.now) old new (Err e) ran c.insert.ensures.survives)
+    (λ clean inside. inside_caused insert_text (params_of c.args.row.now) old new e (ran clean inside)) (λ clean inside. inr (inl (sym c.breaks_rule.ensures ∙ c.if-breaks_rule.false, ran clean inside)))

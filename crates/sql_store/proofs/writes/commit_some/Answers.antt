@@ -1,5 +1,5 @@
 use Rattle.std.proofs.lemmas.Int.{to_z-of_z}
-use Rattle.std.proofs.Common.{SFits, w64, ◌≡◌, subst, arith, rules}
+use Rattle.std.proofs.Common.{SFits, w64, ◌≡◌, refl, subst, arith, rules}
 use Rattle.sqlite.specs.State.{HasCleanDisk, Survives}
 use Rattle.sqlite.specs.Held.{state}
 use Rattle.sqlite.proofs.StateLemmas.{survives_then}
@@ -21,7 +21,7 @@ returns-in_err-commit-clause-survives g c =
     let opened = λ (clean : HasCleanDisk (state g.S.Store last)). rw begun at (c.in_ok-make_all.ensures.opened clean) c.requires.some in
     let whole = survives_then (state g.S.Store old) (state g.S.Store last) (state g.S.Store c.commit.new.self.0) _ _ P (λ _ db none. absurd none)
     (λ clean db is. stored_by c.args.number c.args.changes.now g.S.Store old last db (opened (omega (arith, c.commit.ensures.survives.clean))) c.requires.settled (made (omega (arith, c.commit.ensures.survives.clean))) is)
-    (survives_begin g.S.Store old (state g.S.Store last) _ (rw begun at c.make_all.ensures.survives)) c.commit.ensures.survives in
+    (survives_begin g.S.Store old (state g.S.Store last) _ (rw begun at c.make_all.ensures.answers.steps.survives)) c.commit.ensures.survives in
     let same : c.commit.new.self.0 ≡ c.conn-2-1.given.0 = search rules in
     subst (λ h. Survives (state g.S.Store old) (state g.S.Store h) P) same whole
 
@@ -36,7 +36,7 @@ returns-clause-survives g c =
     let opened = λ (clean : HasCleanDisk (state g.S.Store last)). rw begun at (c.in_ok-make_all.ensures.opened clean) c.requires.some in
     let whole = survives_then (state g.S.Store old) (state g.S.Store last) (state g.S.Store c.commit.new.self.0) _ _ P (λ _ db none. absurd none)
     (λ clean db is. stored_by c.args.number c.args.changes.now g.S.Store old last db (opened (omega (arith, c.commit.ensures.survives.clean))) c.requires.settled (made (omega (arith, c.commit.ensures.survives.clean))) is)
-    (survives_begin g.S.Store old (state g.S.Store last) _ (rw begun at c.make_all.ensures.survives)) c.commit.ensures.survives in
+    (survives_begin g.S.Store old (state g.S.Store last) _ (rw begun at c.make_all.ensures.answers.steps.survives)) c.commit.ensures.survives in
     let same : c.commit.new.self.0 ≡ c.conn-2-1.given.0 = search rules in
     subst (λ h. Survives (state g.S.Store old) (state g.S.Store h) P) same whole
 
@@ -48,7 +48,7 @@ returns-clause-asked g c clean =
     let same : c.commit.new.self.0 ≡ c.conn-2-1.given.0 = search rules in
     let sound : HasCleanDisk (state g.S.Store c.commit.new.self.0) = rw same clean in
     let was : HasCleanDisk (state g.S.Store last) = omega (arith, c.commit.ensures.survives.clean, sound) in
-    let all = rw c.transaction-tx.ensures.begun at (c.in_ok-make_all.ensures.asked was) in
+    let all = rw c.transaction-tx.ensures.begun at (c.in_ok-make_all.ensures.answers.asked was) refl in
     let whole : Transacted g.S.Store c.args.number c.args.changes.now old c.commit.new.self.0 = record {
       outside = c.requires.outside;
       last = last;

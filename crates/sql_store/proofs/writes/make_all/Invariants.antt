@@ -1,16 +1,17 @@
-use Rattle.std.proofs.Common.{take, ◌≤◌, ◌-◌, length}
-use Rattle.std.specs.Prelude.{◌≡◌}
+use Rattle.std.proofs.Common.{drop, take, ◌+◌, ◌≤◌, ◌-◌, length}
+use Rattle.std.specs.Prelude.{◌≡◌, IsTrue}
 use Rattle.sqlite.specs.Held.{state}
-use Rattle.sqlite.specs.State.{HasCleanDisk, Survives}
-use Rattle.sql_store.specs.Asked.{ExecutedEach}
+use Rattle.sql_store.specs.Asked.{IfInside, have_values, ExecutedEach}
+use Rattle.sql_store.specs.Inside.{Steps}
 use Rattle.sql_store.proofs.writes.make_all.Given as goal
 
 abbrev pub invariant-loop-place : goal.invariant-loop-place
 invariant-loop-place g l = record {
-  within : l.place ≤ length l.changes;
+  within : l.place + l.fresh ≤ length l.changes;
+  values : IsTrue (have_values (take l.fresh (drop l.place l.changes)));
   same : l.tx.conn.ghost_name ≡ l.initial.tx.conn.ghost_name;
-  asked : HasCleanDisk (state g.S.Store l.tx.conn.now) → ExecutedEach g.S.Store l.number (take l.place l.changes) l.initial.tx.conn.now l.tx.conn.now;
-  survives : Survives (state g.S.Store l.initial.tx.conn.now) (state g.S.Store l.tx.conn.now) (λ _. ⊥);
+  steps : Steps (state g.S.Store l.initial.tx.conn.now) (state g.S.Store l.tx.conn.now);
+  asked : IfInside g.S.Store l.initial.tx.conn.now l.tx.conn.now (ExecutedEach g.S.Store l.number (take l.place l.changes) l.initial.tx.conn.now l.tx.conn.now);
 }
 
 abbrev pub decreases-loop-place : goal.decreases-loop-place
