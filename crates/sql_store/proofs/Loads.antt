@@ -1,19 +1,26 @@
 -- What the query answers, and what it leaves.
-use Rattle.std.proofs.Common.{◌⊎◌, cond, ◌≡◌, ℕ, List, [], ◌∷◌, codes, Option, Some, None, inl, inr, true≢false, sym, ap, subst, ◌∙◌}
+use Rattle.std.proofs.Common.{◌⊎◌, cond, ◌≡◌, ℕ, List, [], ◌∷◌, codes, Option, Some, None, Result, IfOk, IfErr, inl, inr, true≢false, sym, ap, subst, ◌∙◌}
 use Rattle.std.specs.Prelude.{IsTrue}
+use Rattle.std.specs.Global.{Vec}
+use Rattle.std.proofs.lemmas.Result.{IfOk-weaker, IfErr-weaker}
 use Rattle.sqlite.specs.Order.{Row}
 use Rattle.sqlite.specs.declared.types.Value.TheVariants.{Null}
 use Rattle.sqlite.specs.declared.error.Error.{Error}
 use Rattle.sqlite.specs.Command.TheVariants.{Select}
-use Rattle.sqlite.specs.Query.{IsAnswer}
+use Rattle.sqlite.specs.Query.{Query, IsAnswer}
 use Rattle.sqlite.specs.Program.{overlay}
-use Rattle.sqlite.specs.State.{State, Shown, ShowsRows, IsUnchanged, KeepsCommit, IsNotRun, FailsToQuery, FailsToShow, Fails, IsTooLate, Survives, CommitsShowing}
+use Rattle.sqlite.specs.State.{State, HasCleanDisk, Shown, ShowsRows, IsUnchanged, KeepsCommit, IsNotRun, FailsToQuery, FailsToShow, Fails, IsTooLate, Survives, CommitsShowing}
 use Rattle.sqlite.specs.Clock.{timed}
 use Rattle.sqlite.specs.Listing.{understood}
 use Rattle.sqlite.proofs.Callers.{IsPlain, reads_as, never_commits}
 use Rattle.sqlite.proofs.StateLemmas.{survives_weaker}
+use Rattle.sqlite_resolve.specs.Compile.{first}
+use Rattle.sql_store.specs.Inside.{Selects}
 use Rattle.sql_store.specs.Results.{both_schema}
 use Rattle.sql_store.specs.Load.{load_text, load_query, old_text, old_query, ids_text, ids_query, old_ids_text, old_ids_query}
+use Rattle.sql_store.proofs.Bare.{IsMute, shown_same}
+use Rattle.sql_store.proofs.Causes.{query_caused_inside}
+use Rattle.sql_store.proofs.Steps.{at_both, goes_on, ok_from}
 use Rattle.sql_store.proofs.Texts.{load_is, load_plain, old_is, old_plain, ids_is, ids_plain, old_ids_is, old_ids_plain}
 
 pub loads : (old new : State) (rows : List Row) → old.now.schema ≡ both_schema → Shown load_text [] old new rows → IsAnswer load_query (overlay old.now.trees []) [] rows
@@ -64,8 +71,6 @@ query_keeps old new sql params e (inr (c, it, h)) = go c.returning h
 pub reads_only : (old new : State) → old.now.schema ≡ both_schema → Survives old new (CommitsShowing load_text [] old) → Survives old new (λ _. ⊥)
 reads_only old new has h = survives_weaker old new (CommitsShowing load_text [] old) (λ _. ⊥) (λ _ db shows. never_commits load_text [] old db (subst (λ s. IsPlain (understood s load_text)) (sym has) load_plain.0) shows) h
 
--- ---- after a probe that went well
-
 -- ---- a query inside a transaction
 
 -- whatever a query's text is, it commits nothing there and the transaction goes on
@@ -89,3 +94,20 @@ query_keeps_inside old new sql params e (inr h) = same_commit old new h.5
 pub not_late : (old new : State) (sql : List ℕ) (params : Row) (e : Error) → IsTrue old.in_transaction → FailsToQuery sql params old new e ⊎ IsTooLate sql params old new e → FailsToQuery sql params old new e
 not_late old new sql params e inside (inl h) = h
 not_late old new sql params e inside (inr h) = absurd (true≢false (sym inside ∙ h.3))
+
+-- what such a query says
+pub selects : (text : List ℕ) (query : Query) → IsMute (first text) → ((old new : State) (rows : List Row) → old.now.schema ≡ both_schema → Shown text [] old new rows → IsAnswer query (overlay old.now.trees []) [] rows)
+    → (old new : State) (r : Result (Vec Row) Error) → Survives old new (λ _. ⊥) → (HasCleanDisk new → IfOk r (λ rows. Shown text [] old new rows.items))
+    → (HasCleanDisk new → IfErr r (λ e. FailsToQuery text [] old new e ⊎ IsTooLate text [] old new e)) → Selects text query old new r
+selects text query mute answers old new r survives ok err = record {
+  steps = record {
+    kept = λ clean inside. at_both r _ _ (KeepsCommit old new) (λ rows h. (shown_inside old new _ [] rows.items h inside).0) (λ e h. query_keeps_inside old new _ [] e h) (ok clean) (err clean);
+    survives = survives;
+  };
+  on = goes_on r old new (λ clean inside. IfOk-weaker r _ _ (λ rows h. let it = shown_inside old new _ [] rows.items h inside in (it.1, it.2)) (ok clean));
+  rows = λ clean has. IfOk-weaker r _ _ (λ rows h. answers old new rows.items has h) (ok clean);
+  same = λ clean. ok_from r _ (λ rows h. shown_same text mute old new rows.items h) (ok clean);
+  cause = λ clean. IfErr-weaker r _ _ (λ e h. query_caused_inside text [] old new e h) (err clean);
+  refused = λ clean inside. IfErr-weaker r _ _ (λ e h. not_late old new text [] e inside h) (err clean);
+  shown = ok;
+}

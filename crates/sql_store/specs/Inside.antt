@@ -1,12 +1,18 @@
 -- What the opening's statements make inside its transaction.
-use Rattle.std.specs.Prelude.{◌≡◌, ◌⊎◌, Bool, List, [], IsTrue}
+use Rattle.std.specs.Prelude.{◌≡◌, ◌⊎◌, ℕ, Bool, List, [], Result, IfOk, OnOk, IfErr, IsTrue}
+use Rattle.std.specs.Global.{Vec}
+use Rattle.sqlite.specs.declared.error.Error.{Error}
+use Rattle.sqlite.specs.Order.{Row as Values}
+use Rattle.sqlite.specs.Program.{overlay}
+use Rattle.sqlite.specs.Query.{Query, IsAnswer}
 use Rattle.sqlite.specs.Effect.{Database}
-use Rattle.sqlite.specs.State.{State, HasCleanDisk, Survives, KeepsCommit}
+use Rattle.sqlite.specs.State.{State, HasCleanDisk, Survives, KeepsCommit, IsUnchanged, Shown, FailsToQuery}
 use Rattle.durable_top.specs.declared.store.Row.{Row}
 use Rattle.serial_spec.specs.Rows.{IsRising}
 use Rattle.durable_top.specs.Store.{plain}
 use Rattle.durable_top.specs.Numbered.{numbers_of, entries_in, AreNumbered}
 use Rattle.serial_spec.specs.Serial.{Map}
+use Rattle.sql_store.specs.Faults.{IsCaused}
 use Rattle.sql_store.specs.Laid.{laid}
 use Rattle.sql_store.specs.Ids.{IsDecided}
 use Rattle.sql_store.specs.Results.{no_schema, old_schema, both_schema}
@@ -20,6 +26,16 @@ pub record Steps (old new : State) : Type 0 where
 -- the transaction goes on
 abbrev pub GoesOn : State → State → Type 0
 GoesOn old new = HasCleanDisk new → IsTrue old.in_transaction → IsTrue new.in_transaction × IsTrue old.is_open
+
+-- what a query in a transaction says that shows all rows of a table
+pub record Selects (text : List ℕ) (query : Query) (old new : State) (result : Result (Vec Values) Error) : Type 0 where
+  pub steps : Steps old new
+  pub on : OnOk result (GoesOn old new)
+  pub rows : HasCleanDisk new → old.now.schema ≡ both_schema → IfOk result (λ rows. IsAnswer query (overlay old.now.trees []) [] rows.items)
+  pub same : HasCleanDisk new → OnOk result (IsUnchanged old new)
+  pub cause : HasCleanDisk new → IfErr result (IsCaused old new)
+  pub refused : HasCleanDisk new → IsTrue old.in_transaction → IfErr result (FailsToQuery text [] old new)
+  pub shown : HasCleanDisk new → IfOk result (λ rows. Shown text [] old new rows.items)
 
 -- both tables are there, and what was there is as it was
 pub record AreMade (old new : Database) : Type 0 where

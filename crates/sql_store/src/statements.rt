@@ -10,7 +10,7 @@ ghost use Rattle.sqlite.specs.Program.{overlay};
 ghost use Rattle.sql_store.specs.Results.{both_schema, old_schema, no_schema};
 ghost use Rattle.sql_store.specs.Load.{load_text, load_query, old_text, old_query, ids_text, ids_query, old_ids_text, old_ids_query};
 ghost use Rattle.sql_store.specs.Table.{Makes, AreApart};
-ghost use Rattle.sql_store.specs.Inside.{Steps, GoesOn};
+ghost use Rattle.sql_store.specs.Inside.{GoesOn, Selects};
 ghost use Rattle.sql_store.specs.Faults.{fault_of, IsCaused, Lasts, HasFailed};
 ghost use Rattle.sql_store.specs.Kept.{IsSettled, Spares};
 ghost use Rattle.sql_store.specs.Asked.{IfInside, RunsStatement, create_old_text, create_text, upsert_text, delete_text, empty_text, params_of, Executed};
@@ -115,13 +115,8 @@ pub(crate) fn create<S: Alter>(tx: &mut Transaction<'_, S>) -> Result<(), Error>
 /// All rows of the old table, by their keys.
 pub(crate) fn select_old<S: Alter>(tx: &mut Transaction<'_, S>) -> Result<Vec<sqlite::Row>, Error>
     ensures same_reference { tx.new.conn.ghost_name ≡ tx.old.conn.ghost_name }
-    ensures steps { Steps (state S.Store tx.old.conn.now) (state S.Store tx.new.conn.now) }
-    ensures on { OnOk result (GoesOn (state S.Store tx.old.conn.now) (state S.Store tx.new.conn.now)) }
-    ensures rows { HasCleanDisk (state S.Store tx.new.conn.now) → (state S.Store tx.old.conn.now).now.schema ≡ both_schema → IfOk result (λ rows. IsAnswer old_query (overlay (state S.Store tx.old.conn.now).now.trees []) [] rows.items) }
-    ensures same { HasCleanDisk (state S.Store tx.new.conn.now) → OnOk result (IsUnchanged (state S.Store tx.old.conn.now) (state S.Store tx.new.conn.now)) }
-    ensures cause { HasCleanDisk (state S.Store tx.new.conn.now) → IfErr result (IsCaused (state S.Store tx.old.conn.now) (state S.Store tx.new.conn.now)) }
-    ensures refused { HasCleanDisk (state S.Store tx.new.conn.now) → IsTrue (state S.Store tx.old.conn.now).in_transaction → IfErr result (FailsToQuery old_text [] (state S.Store tx.old.conn.now) (state S.Store tx.new.conn.now)) }
-    ensures shown { HasCleanDisk (state S.Store tx.new.conn.now) → IfOk result (λ rows. Shown old_text [] (state S.Store tx.old.conn.now) (state S.Store tx.new.conn.now) rows.items) }
+    ensures selects { Selects old_text old_query (state S.Store tx.old.conn.now)
+        (state S.Store tx.new.conn.now) result }
 {
     tx.query_all("SELECT k, v FROM results ORDER BY k", &[])
 }
@@ -131,13 +126,8 @@ pub(crate) fn select_inside<S: Alter>(
     tx: &mut Transaction<'_, S>,
 ) -> Result<Vec<sqlite::Row>, Error>
     ensures same_reference { tx.new.conn.ghost_name ≡ tx.old.conn.ghost_name }
-    ensures steps { Steps (state S.Store tx.old.conn.now) (state S.Store tx.new.conn.now) }
-    ensures on { OnOk result (GoesOn (state S.Store tx.old.conn.now) (state S.Store tx.new.conn.now)) }
-    ensures rows { HasCleanDisk (state S.Store tx.new.conn.now) → (state S.Store tx.old.conn.now).now.schema ≡ both_schema → IfOk result (λ rows. IsAnswer load_query (overlay (state S.Store tx.old.conn.now).now.trees []) [] rows.items) }
-    ensures same { HasCleanDisk (state S.Store tx.new.conn.now) → OnOk result (IsUnchanged (state S.Store tx.old.conn.now) (state S.Store tx.new.conn.now)) }
-    ensures cause { HasCleanDisk (state S.Store tx.new.conn.now) → IfErr result (IsCaused (state S.Store tx.old.conn.now) (state S.Store tx.new.conn.now)) }
-    ensures refused { HasCleanDisk (state S.Store tx.new.conn.now) → IsTrue (state S.Store tx.old.conn.now).in_transaction → IfErr result (FailsToQuery load_text [] (state S.Store tx.old.conn.now) (state S.Store tx.new.conn.now)) }
-    ensures shown { HasCleanDisk (state S.Store tx.new.conn.now) → IfOk result (λ rows. Shown load_text [] (state S.Store tx.old.conn.now) (state S.Store tx.new.conn.now) rows.items) }
+    ensures selects { Selects load_text load_query (state S.Store tx.old.conn.now)
+        (state S.Store tx.new.conn.now) result }
 {
     tx.query_all("SELECT k, v, n FROM results2 ORDER BY k", &[])
 }
@@ -147,13 +137,8 @@ pub(crate) fn select_old_ids<S: Alter>(
     tx: &mut Transaction<'_, S>,
 ) -> Result<Vec<sqlite::Row>, Error>
     ensures same_reference { tx.new.conn.ghost_name ≡ tx.old.conn.ghost_name }
-    ensures steps { Steps (state S.Store tx.old.conn.now) (state S.Store tx.new.conn.now) }
-    ensures on { OnOk result (GoesOn (state S.Store tx.old.conn.now) (state S.Store tx.new.conn.now)) }
-    ensures rows { HasCleanDisk (state S.Store tx.new.conn.now) → (state S.Store tx.old.conn.now).now.schema ≡ both_schema → IfOk result (λ rows. IsAnswer old_ids_query (overlay (state S.Store tx.old.conn.now).now.trees []) [] rows.items) }
-    ensures same { HasCleanDisk (state S.Store tx.new.conn.now) → OnOk result (IsUnchanged (state S.Store tx.old.conn.now) (state S.Store tx.new.conn.now)) }
-    ensures cause { HasCleanDisk (state S.Store tx.new.conn.now) → IfErr result (IsCaused (state S.Store tx.old.conn.now) (state S.Store tx.new.conn.now)) }
-    ensures refused { HasCleanDisk (state S.Store tx.new.conn.now) → IsTrue (state S.Store tx.old.conn.now).in_transaction → IfErr result (FailsToQuery old_ids_text [] (state S.Store tx.old.conn.now) (state S.Store tx.new.conn.now)) }
-    ensures shown { HasCleanDisk (state S.Store tx.new.conn.now) → IfOk result (λ rows. Shown old_ids_text [] (state S.Store tx.old.conn.now) (state S.Store tx.new.conn.now) rows.items) }
+    ensures selects { Selects old_ids_text old_ids_query (state S.Store tx.old.conn.now)
+        (state S.Store tx.new.conn.now) result }
 {
     tx.query_all("SELECT rowid FROM results ORDER BY rowid", &[])
 }
@@ -161,13 +146,8 @@ pub(crate) fn select_old_ids<S: Alter>(
 /// All rowids of the new table, in their order.
 pub(crate) fn select_ids<S: Alter>(tx: &mut Transaction<'_, S>) -> Result<Vec<sqlite::Row>, Error>
     ensures same_reference { tx.new.conn.ghost_name ≡ tx.old.conn.ghost_name }
-    ensures steps { Steps (state S.Store tx.old.conn.now) (state S.Store tx.new.conn.now) }
-    ensures on { OnOk result (GoesOn (state S.Store tx.old.conn.now) (state S.Store tx.new.conn.now)) }
-    ensures rows { HasCleanDisk (state S.Store tx.new.conn.now) → (state S.Store tx.old.conn.now).now.schema ≡ both_schema → IfOk result (λ rows. IsAnswer ids_query (overlay (state S.Store tx.old.conn.now).now.trees []) [] rows.items) }
-    ensures same { HasCleanDisk (state S.Store tx.new.conn.now) → OnOk result (IsUnchanged (state S.Store tx.old.conn.now) (state S.Store tx.new.conn.now)) }
-    ensures cause { HasCleanDisk (state S.Store tx.new.conn.now) → IfErr result (IsCaused (state S.Store tx.old.conn.now) (state S.Store tx.new.conn.now)) }
-    ensures refused { HasCleanDisk (state S.Store tx.new.conn.now) → IsTrue (state S.Store tx.old.conn.now).in_transaction → IfErr result (FailsToQuery ids_text [] (state S.Store tx.old.conn.now) (state S.Store tx.new.conn.now)) }
-    ensures shown { HasCleanDisk (state S.Store tx.new.conn.now) → IfOk result (λ rows. Shown ids_text [] (state S.Store tx.old.conn.now) (state S.Store tx.new.conn.now) rows.items) }
+    ensures selects { Selects ids_text ids_query (state S.Store tx.old.conn.now)
+        (state S.Store tx.new.conn.now) result }
 {
     tx.query_all("SELECT rowid FROM results2 ORDER BY rowid", &[])
 }

@@ -6,7 +6,7 @@ ghost use Rattle.durable_top.specs.Numbered.{under};
 ghost use Rattle.sql_store.specs.Table.{Makes, IsReady};
 ghost use Rattle.sql_store.specs.Writes.{MakesAll, Stores, IsStored};
 ghost use Rattle.sql_store.specs.Faults.{fault_of, IsCaused, HasFailed};
-ghost use Rattle.sql_store.specs.Asked.{Answers, IsPieceLen, IfInside, have_values, AreRows, IsPiece, MakesChange, FailsToChange, MakesEach, EachGives, MakesRows, RowsGive, MakesPiece, PieceGives, ExecutedEach, ChangeGives, Transacted, Committed};
+ghost use Rattle.sql_store.specs.Asked.{IfInside, Answers, have_values, AreRows, IsPiece, IsPieceLen, MakesChange, FailsToChange, MakesEach, EachGives, MakesRows, RowsGive, MakesPiece, PieceGives, ExecutedEach, ChangeGives, Transacted, Committed};
 ghost use Rattle.sql_store.specs.Refusals.{CannotWrite};
 
 use crate::faults::{breaks_rule, fault_of, settle};

@@ -8,4 +8,4 @@ use Rattle.sql_store.proofs.inside.is_new_apart.Goals as goal
 pub returns-clause-apart : goal.returns-clause-apart
 returns-clause-apart g c clean has apart =
     let rows = c.in_ok-ids.ids.items in
-    apart_by _ rows (answered_ids (state g.S.Store c.args.tx.now.conn.now).now.trees rows (c.in_ok-ids.ensures.rows clean has)) (ap (rises None) (sym c.as_slice.ensures.value) ∙ sym c.are_apart.ensures ∙ apart)
+    apart_by _ rows (answered_ids (state g.S.Store c.args.tx.now.conn.now).now.trees rows (c.in_ok-ids.ensures.selects.rows clean has)) (ap (rises None) (sym c.as_slice.ensures.value) ∙ sym c.are_apart.ensures ∙ apart)

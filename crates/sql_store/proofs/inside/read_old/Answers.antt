@@ -11,22 +11,22 @@ pub returns-in-Ok-clause-rows : goal.returns-in-Ok-clause-rows
 returns-in-Ok-clause-rows g c clean has =
     let db = (state g.S.Store c.args.tx.now.conn.now).now.trees in
     if_ok_both c.sorted_old.result _ _ _ c.sorted_old.ensures.read c.sorted_old.ensures.rising
-    (λ read is rising. same_moved (db 0) c.in-Ok.rows.items read.items (answered_old db c.in-Ok.rows.items (c.in-Ok.ensures.rows clean has)) (rw c.as_slice.ensures.value at is) rising)
+    (λ read is rising. same_moved (db 0) c.in-Ok.rows.items read.items (answered_old db c.in-Ok.rows.items (c.in-Ok.ensures.selects.rows clean has)) (rw c.as_slice.ensures.value at is) rising)
 
 pub returns-in-Ok-clause-none : goal.returns-in-Ok-clause-none
 returns-in-Ok-clause-none g c clean has =
     let db = (state g.S.Store c.args.tx.now.conn.now).now.trees in
     IfOk-weaker c.sorted_old.result _ _
-    (λ read is. none_read shown_old seen_old (db 0) c.in-Ok.rows.items read.items (answered_old db c.in-Ok.rows.items (c.in-Ok.ensures.rows clean has)) (rw c.as_slice.ensures.value at is)) c.sorted_old.ensures.read
+    (λ read is. none_read shown_old seen_old (db 0) c.in-Ok.rows.items read.items (answered_old db c.in-Ok.rows.items (c.in-Ok.ensures.selects.rows clean has)) (rw c.as_slice.ensures.value at is)) c.sorted_old.ensures.read
 
 pub returns-in-Ok-clause-asked : goal.returns-in-Ok-clause-asked
 returns-in-Ok-clause-asked g c clean =
-    IfOk-weaker c.sorted_old.result _ _ (λ read is. (c.in-Ok.rows.items, c.in-Ok.ensures.shown clean, rw c.as_slice.ensures.value at is)) c.sorted_old.ensures.read
+    IfOk-weaker c.sorted_old.result _ _ (λ read is. (c.in-Ok.rows.items, c.in-Ok.ensures.selects.shown clean, rw c.as_slice.ensures.value at is)) c.sorted_old.ensures.read
 
 pub returns-in-Ok-clause-refused : goal.returns-in-Ok-clause-refused
 returns-in-Ok-clause-refused g c clean inside is =
-    inr (c.select_old.new.tx.conn.now, c.in-Ok.rows.items, c.in-Ok.ensures.shown clean, rw c.as_slice.ensures.value at (c.sorted_old.ensures.refused is))
+    inr (c.select_old.new.tx.conn.now, c.in-Ok.rows.items, c.in-Ok.ensures.selects.shown clean, rw c.as_slice.ensures.value at (c.sorted_old.ensures.refused is))
 
 pub returns-in-Err-clause-refused : goal.returns-in-Err-clause-refused
 returns-in-Err-clause-refused g c clean inside is =
-    inl (c.select_old.new.tx.conn.now, c.in-Err.error, c.in-Err.ensures.refused clean inside, search rules)
+    inl (c.select_old.new.tx.conn.now, c.in-Err.error, c.in-Err.ensures.selects.refused clean inside, search rules)
