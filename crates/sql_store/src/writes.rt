@@ -192,8 +192,7 @@ fn commit_some<S: Alter>(
 {
     let mut tx = conn.transaction();
     make_all(&mut tx, numbers, number, changes)?;
-    tx.commit()?;
-    Ok(())
+    tx.commit()
 }
 
 /// Commits the changes, of which there are some, in one transaction, where none is open.
