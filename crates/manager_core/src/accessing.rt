@@ -31,7 +31,9 @@ pub(crate) enum Attempt {
 }
 
 impl Tables {
-    /// An access by a line that is free: one that is kept out waits from now on.
+    /// An access by a line that is free: one that is kept out waits from now on. It is part of its caller, so that a wait's part is paid
+    /// for only where one begins.
+    #[inline(always)]
     pub(crate) fn ask(&mut self, log: &Log, request: &Request<'_>) -> Result<Attempt, NoMemory>
         requires allowed { AreAllowed log.now.rows log.now.entries }
         requires are { AreTablesOf log.now.rows log.now.entries self.old }

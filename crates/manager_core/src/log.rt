@@ -55,6 +55,7 @@ impl Log {
     }
 
     /// Makes room for more entries.
+    #[inline(always)]
     pub(crate) fn reserve(&mut self, additional: usize) -> Result<(), NoMemory>
         ensures rows { self.new.rows ≡ self.old.rows }
         ensures entries { self.new.entries ≡ self.old.entries }

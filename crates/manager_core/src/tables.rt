@@ -104,6 +104,7 @@ impl Tables {
     }
 
     /// Makes room for the marks of so many aborts.
+    #[inline(always)]
     pub(crate) fn reserve_aborts(&mut self, additional: usize) -> Result<(), NoMemory>
         ensures room { OnOk result (additional ≤ self.new.marks.room) }
         ensures same { HasOtherRoom self.old self.new }
