@@ -1,6 +1,8 @@
 -- The keys of each transaction at their places among all keys, as a key is listed, a list is taken, and the keys grow.
-use Rattle.std.proofs.Common.{◌≡◌, ℕ, zero, suc, Bool, true, false, cond, nat_eq, List, [], ◌∷◌, ◌++◌, get_or, length, Option, Some, None, unwrap_or, is_some, refl, sym, ap, subst, ◌∙◌}
+use Rattle.std.proofs.Common.{◌≡◌, ℕ, zero, suc, Bool, true, false, cond, nat_eq, ◌&&◌, List, [], ◌∷◌, ◌++◌, get_or, length, Option, Some, None, unwrap_or, is_some, refl, sym, ap, subst, ◌∙◌}
 use Rattle.std.specs.Prelude.{IfSome, option_map, slice_get}
+use Rattle.std.specs.Borrow.{MutBor}
+use Rattle.std.specs.Option.{option_copied_mut}
 use Rattle.std.specs.List.{position}
 use Rattle.std.specs.Map.{keys_of, values_of}
 use Rattle.std.proofs.lemmas.Bool.{false≢true}
@@ -12,8 +14,8 @@ use Rattle.indexmap.specs.IndexMap.{IndexMap, IsUnique, with_value_at}
 use Rattle.indexmap.proofs.CallerLemmas.{keys-with_value_at, updates-with_value_at}
 use Rattle.txn_names.specs.Path.{label_eq}
 use Rattle.txn_names.proofs.Names.{same_label}
-use Rattle.txn_cells.proofs.Puts.{cond_same, each-put}
-use Rattle.txn_cells.specs.Kept.{AreAt, ArePlaced, AtKeys, Held, Listed, Lists, StayAt, held_at, keys_at, listed_at}
+use Rattle.txn_cells.proofs.Puts.{cond-both, cond_same, each-put}
+use Rattle.txn_cells.specs.Kept.{AreAt, ArePlaced, AtKeys, Held, Listed, Lists, StayAt, content_of, held_at, keys_at, listed_at}
 
 keys-push : (es : Listed) (e : List ℕ × ℕ) → keys_of (es ++ e ∷ []) ≡ keys_of es ++ e.0 ∷ []
 keys-push [] e = refl
@@ -114,6 +116,12 @@ pub record IsHeldAt {V S : Type 0} (m : IndexMap (List ℕ) (Held V) S) (kept : 
   pub key : slice_get (keys_of kept) p ≡ Some k
   pub value : slice_get (values_of m.entries) p ≡ Some held
 
+-- where the place of the key lends what is held there
+pub lent_at : {V S : Type 0} (m : IndexMap (List ℕ) (Held V) S) (kept : AtKeys V) (p : ℕ) (k : List ℕ) (o : Option (MutBor (Held V))) (lent : MutBor (Held V))
+    → IsUnique label_eq m → m.entries ≡ kept → slice_get (keys_of kept) p ≡ Some k → option_copied_mut o ≡ slice_get (values_of m.entries) p → o ≡ Some lent
+    → IsHeldAt m kept p k lent.now
+lent_at m kept p k o lent unique seen key value is = record { unique = unique; seen = seen; key = key; value = sym value ∙ ap option_copied_mut is }
+
 module _ {V S : Type 0} {m : IndexMap (List ℕ) (Held V) S} {kept : AtKeys V} {p : ℕ}
     {k : List ℕ} {held : Held V} (at : IsHeldAt m kept p k held) where
   entry : slice_get m.entries p ≡ Some (k, held)
@@ -152,6 +160,16 @@ module _ {V S : Type 0} {m : IndexMap (List ℕ) (Held V) S} {kept : AtKeys V} {
       pub same_at : read now ≡ read held → (q : List ℕ)
           → read (held_at changed q) ≡ read (held_at kept q)
       same_at e q = each_at read e q ∙ cond_same (label_eq k q) (read (held_at kept q))
+
+    -- what one transaction has there is set by what it had
+    pub set_at : (t : ℕ) (put : Option V → V)
+        → ((u : ℕ) → content_of now u ≡ cond (nat_eq t u) (Some (put (content_of held u))) (content_of held u))
+        → (u : ℕ) (q : List ℕ) → content_of (held_at changed q) u
+        ≡ cond (nat_eq t u && label_eq k q) (Some (put (content_of (held_at kept q) u))) (content_of (held_at kept q) u)
+    set_at t put is u q =
+        let new : Held V → Option V = λ h. cond (nat_eq t u) (Some (put (content_of h u))) (content_of h u) in
+        each_at (λ h. content_of h u) new (is u) q
+        ∙ cond-both (label_eq k q) (nat_eq t u) (Some (put (content_of (held_at kept q) u))) (content_of (held_at kept q) u)
 
 -- the key of an entry
 pub key_listed : {X : Type 0} (es : List (List ℕ × X)) (i : ℕ) (e : List ℕ × X) → slice_get es i ≡ Some e → slice_get (keys_of es) i ≡ Some e.0

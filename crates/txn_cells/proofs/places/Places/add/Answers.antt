@@ -1,9 +1,9 @@
-use Rattle.std.proofs.Common.{nat_eq, ◌||◌, ap, sym, ◌∙◌}
+use Rattle.std.proofs.Common.{nat_eq, ◌||◌, ap, ◌∙◌}
 use Rattle.std.proofs.lemmas.Result.{on_ok_weaker, on_err_weaker}
 use Rattle.txn_names.specs.Path.{label_eq}
 use Rattle.txn_cells.specs.Kept.{Held, content_of, holds, place_kept}
 use Rattle.txn_cells.proofs.ByKey.{cond_with}
-use Rattle.txn_cells.proofs.Placing.{IsHeldAt, each_at, kept_at, keys_stay, same_at}
+use Rattle.txn_cells.proofs.Placing.{each_at, kept_at, keys_stay, lent_at, same_at}
 use Rattle.txn_cells.proofs.places.Places.add.Goals as goal
 
 pub returns : goal.returns
@@ -12,13 +12,9 @@ returns g c =
     let now = c.add.new.self in
     let old = c.args.self.now in
     let m = c.self.inside.holders in
-    let lent = c.unwrap.result.now in
-    let at : IsHeldAt m c.args.self.now c.args.place c.args.key.now lent = record {
-      unique = c.get_index_mut.ensures.unique;
-      seen = c.self.view_is;
-      key = c.requires.at;
-      value = sym (rw c.unwrap.ensures at c.get_index_mut.ensures.value);
-    } in
+    let at =
+    lent_at m c.args.self.now c.args.place c.args.key.now c.get_index_mut.result c.unwrap.result c.get_index_mut.ensures.unique c.self.view_is
+    c.requires.at c.get_index_mut.ensures.value c.unwrap.ensures in
     record {
       keys = keys_stay at now;
       made = rw (kept_at at) c.add.ensures.made;

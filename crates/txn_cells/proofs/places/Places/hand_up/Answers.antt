@@ -1,22 +1,18 @@
-use Rattle.std.proofs.Common.{nat_eq, not, ◌&&◌, [], subst, sym, ◌∙◌}
+use Rattle.std.proofs.Common.{nat_eq, not, ◌&&◌, [], subst, ◌∙◌}
 use Rattle.std.specs.Prelude.{IfSome, IsTrue}
 use Rattle.txn_names.specs.Path.{label_eq}
 use Rattle.txn_cells.specs.Cells.{handed_up}
 use Rattle.txn_cells.specs.Kept.{Held, content_of, holds, place_kept}
 use Rattle.txn_cells.proofs.ByKey.{cond_without}
-use Rattle.txn_cells.proofs.Placing.{IsHeldAt, each_at, kept_at, keys_stay}
+use Rattle.txn_cells.proofs.Placing.{each_at, kept_at, keys_stay, lent_at}
 use Rattle.txn_cells.proofs.places.Places.hand_up.Goals as goal
 
 pub hand_up-requires-clause-place : goal.hand_up-requires-clause-place
 hand_up-requires-clause-place g c =
     let m = c.self.inside.holders in
-    let lent = c.unwrap.result.now in
-    let at : IsHeldAt m c.args.self.now c.args.place c.args.key.now lent = record {
-      unique = c.get_index_mut.ensures.unique;
-      seen = c.self.view_is;
-      key = c.requires.at;
-      value = sym (rw c.unwrap.ensures at c.get_index_mut.ensures.value);
-    } in
+    let at =
+    lent_at m c.args.self.now c.args.place c.args.key.now c.get_index_mut.result c.unwrap.result c.get_index_mut.ensures.unique c.self.view_is
+    c.requires.at c.get_index_mut.ensures.value c.unwrap.ensures in
     subst (λ (h : Held _). IfSome c.args.parent (λ p. IsTrue (holds h p))) (kept_at at)
     c.requires.place
 
@@ -26,13 +22,9 @@ returns g c =
     let now = c.hand_up.new.self in
     let old = c.args.self.now in
     let m = c.self.inside.holders in
-    let lent = c.unwrap.result.now in
-    let at : IsHeldAt m c.args.self.now c.args.place c.args.key.now lent = record {
-      unique = c.get_index_mut.ensures.unique;
-      seen = c.self.view_is;
-      key = c.requires.at;
-      value = sym (rw c.unwrap.ensures at c.get_index_mut.ensures.value);
-    } in
+    let at =
+    lent_at m c.args.self.now c.args.place c.args.key.now c.get_index_mut.result c.unwrap.result c.get_index_mut.ensures.unique c.self.view_is
+    c.requires.at c.get_index_mut.ensures.value c.unwrap.ensures in
     record {
       keys = keys_stay at now;
       contents = λ u.
