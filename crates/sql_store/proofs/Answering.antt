@@ -14,6 +14,7 @@ use Rattle.sql_store.proofs.Causes.{inside_caused, caused_later}
 use Rattle.sql_store.proofs.Steps.{steps_by, steps_then, clean_before}
 
 module _ {S : Type 0} (g : Ghosts S) where
+  -- a call that succeeds, and one that fails
   pub did_so : {Did : Held S → Held S → Type 0} {Gave : Held S → Held S → Error → Type 0} {old new : Held S} → Steps (state g old) (state g new) → IfInside g old new (Did old new)
       → Answers g Did Gave old new (Ok tt)
   did_so steps did = record { steps = steps; cause = λ clean inside. tt; refused = λ clean inside. tt; asked = did }
@@ -22,7 +23,7 @@ module _ {S : Type 0} (g : Ghosts S) where
       → IfInside g old new (Gave old new e) → Answers g Did Gave old new (Err e)
   gave_so steps cause gave = record { steps = steps; cause = cause; refused = gave; asked = λ clean inside. tt }
 
-  -- one statement
+  -- a statement that was executed, and one that gave an error
   pub ran : (text : List ℕ) (params : Values) (old new : Held S) (count : ℕ) → IfInside g old new (Answered g text params old new (Ok count)) → Survives (state g old) (state g new) (λ _. ⊥)
       → RunsStatement g text params old new (Ok tt)
   ran text params old new count runs survives = did_so (steps_by text params (state g old) (state g new) (Ok count) runs survives) (λ clean inside. (count, runs clean inside))

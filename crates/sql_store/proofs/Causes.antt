@@ -102,9 +102,6 @@ pub caused_later : {T : Type 0} (a b c : State) (r : Result T Error) → Survive
 caused_later a b c (Ok x) first clean second h = tt
 caused_later a b c (Err e) first clean second h = λ failed. down_later a b c _ _ first clean second (h failed)
 
-pub caused_from : (a b c : State) (e : Error) → Survives a b (λ _. ⊥) → HasCleanDisk b → Survives b c (λ _. ⊥) → IsCaused b c e → IsCaused a c e
-caused_from a b c e first clean second h = λ failed. down_later a b c _ _ first clean second (h failed)
-
 -- and so is one before
 pub down_before : (a b c : State) (Q : Trees → Type 0) → Survives b c Q → IsDown a b → IsDown a c
 down_before a b c Q second (inl shut) = inl shut

@@ -63,12 +63,13 @@ later (suc m) (suc n) zero [] is h = refl
 later (suc m) (suc n) (suc k) [] is h = refl
 later (suc m) (suc n) k (c ∷ cs) is h = later m n k cs (omega arith) (and_parts (is_some c.value) (have_values (take n cs)) h).1
 
--- so many changes of which so many are likely new begin with a piece, and those are left that stand behind it
+-- the changes that go together are a piece
 pub piece_of : (fresh size : ℕ) (cs : List Change) → 0 < length cs → fresh ≤ length cs → have_values (take fresh cs) ≡ true → IsPieceLen fresh size → IsPiece (take size cs)
 piece_of fresh size cs some low values (inl (few, is)) = inl (omega (arith, length-take size cs))
 piece_of fresh size cs some low values (inr (inl (four, less, is))) = inr (record { values = fewer size fresh cs (omega arith) values; count = inl (omega (arith, length-take size cs)) })
 piece_of fresh size cs some low values (inr (inr (many, is))) = inr (record { values = fewer size fresh cs (omega arith) values; count = inr (omega (arith, length-take size cs)) })
 
+-- behind them stand those that are left of the counted ones
 pub piece_within : (fresh size most : ℕ) → 0 < most → fresh ≤ most → IsPieceLen fresh size → size + (fresh - size) ≤ most
 piece_within fresh size most some low (inl (few, is)) = omega arith
 piece_within fresh size most some low (inr (inl (four, less, is))) = omega arith

@@ -17,7 +17,6 @@ use Rattle.sql_store.specs.Inside.{Steps}
 use Rattle.sql_store.specs.Laid.{put}
 use Rattle.sql_store.specs.Results.{both_schema}
 use Rattle.sql_store.specs.Table.{table_of, IsReady, Makes}
-use Rattle.sql_store.specs.Writes.{MakesAll}
 use Rattle.sql_store.proofs.Texts.{insert_4_text, insert_16_text, rows_terms, insert_4_is, insert_16_is, insert_4_plain, insert_16_plain}
 use Rattle.sql_store.proofs.Steps.{kept_by, on_ok_then, steps_from}
 use Rattle.sql_store.proofs.Answering.{did_so, gave_so, answers_then}
@@ -136,9 +135,6 @@ module _ {S : Type 0} (g : Ghosts S) (number : ℤ) where
   -- what was executed makes the changes
   pub executed_goes : (cs : List Change) (old new : Held S) → IsTrue (state g old).in_transaction → ExecutedEach g number cs old new → Goes number cs (state g old) (state g new)
   executed_goes cs old new inside h = subst (λ l. Goes number l (state g old) (state g new)) (sym h.1) (pieces_go h.0 old new inside h.2)
-
-  pub executed_all : (cs : List Change) (old new : Held S) → IsTrue (state g old).in_transaction → ExecutedEach g number cs old new → IsReady (state g old).now → MakesAll number cs (state g old) (state g new)
-  executed_all cs old new inside h ready = let it = executed_goes cs old new inside h in record { ready = it.ready ready; table = it.table ready; others = it.others ready }
 
   -- ---- what the functions say that make them
 

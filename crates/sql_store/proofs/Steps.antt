@@ -1,5 +1,5 @@
 -- One statement in a transaction, and several.
-use Rattle.std.proofs.Common.{◌≡◌, ap, ℕ, ℤ, List, Option, Ok, Err, Result, OnOk, OnErr, IfOk, IfErr, IsErrOf, inl, inr, refl, ◌∙◌, arith}
+use Rattle.std.proofs.Common.{◌≡◌, ap, ℕ, ℤ, List, Option, Ok, Err, Result, OnOk, OnErr, IfOk, IfErr, IsErrOf, inl, inr, ◌∙◌, arith}
 use Rattle.sqlite.proofs.StateLemmas.{survives_then}
 use Rattle.std.specs.Global.{Vec}
 use Rattle.sqlite.specs.Order.{Row as Values}
@@ -60,12 +60,6 @@ steps_by sql params old new r ran survives = record { kept = λ clean inside. ke
 
 pub on_by : (sql : List ℕ) (params : Values) (old new : State) (count : ℕ) → (HasCleanDisk new → IsTrue old.in_transaction → ExecutesInside 0 sql params old new (Ok count)) → GoesOn old new
 on_by sql params old new count ran clean inside = ((ran clean inside).1.mode, (ran clean inside).1.was_open)
-
-survives_same : (a : State) → Survives a a (λ _. ⊥)
-survives_same a = record { clean = omega arith; shield = λ h. h; counts = omega arith; limit = refl; closes = λ clean was. inl was; crash = λ clean db may. inl may }
-
-pub steps_none : (a : State) → Steps a a
-steps_none a = record { kept = λ clean inside. record { was_open = λ h. h; committed = λ h. refl }; survives = survives_same a }
 
 pub steps_then : (a b c : State) → Steps a b → (HasCleanDisk b → IsTrue a.in_transaction → IsTrue b.in_transaction) → Steps b c → Steps a c
 steps_then a b c p on q = record {

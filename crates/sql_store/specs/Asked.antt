@@ -85,9 +85,9 @@ module _ {S : Type 0} (g : Ghosts S) where
   abbrev pub IfInside : Held S → Held S → Type 0 → Type 0
   IfInside old new P = HasCleanDisk (state g new) → IsTrue (state g old).in_transaction → P
 
-  -- What a call in a transaction says: nothing is committed, a crash leaves what it could leave before, and an error
-  -- that stands for a failure of the device has one as its cause. The call did the one, or gave an error as the other
-  -- says.
+  -- What a call in a transaction says. Nothing is committed, and a crash leaves what it could leave before. An error
+  -- that stands for a failure of the device has one as its cause. A call that succeeds did the one, and one that fails
+  -- gave its error as the other says.
   pub record Answers (Did : Held S → Held S → Type 0) (Gave : Held S → Held S → Error → Type 0) (old new : Held S) (result : Result (Unit {0}) Error) : Type 0 where
     pub steps : Steps (state g old) (state g new)
     pub cause : IfInside old new (IfErr result (IsCaused (state g old) (state g new)))

@@ -8,7 +8,7 @@ ghost use Rattle.sqlite.specs.Program.{overlay};
 ghost use Rattle.serial_spec.specs.Rows.{IsRising, value_in};
 ghost use Rattle.durable_top.specs.Numbered.{AreNumbered, entries_in};
 ghost use Rattle.durable_top.specs.Store.{plain};
-ghost use Rattle.sql_store.specs.Asked.{Answers, MovesOver, MakesTables, ReadsOld, ReadsNew, ReadsBoth, Finds, PutsEach, MovesRows, SettlesInside, OpensInside};
+ghost use Rattle.sql_store.specs.Asked.{IfInside, Answers, MakesTables, ReadsOld, ReadsNew, ReadsBoth, Finds, PutsEach, MovesOver, MovesRows, SettlesInside, OpensInside};
 ghost use Rattle.sql_store.specs.Faults.{fault_of, IsCaused, IsMeant};
 ghost use Rattle.sql_store.specs.Ids.{rises, IsDecided};
 ghost use Rattle.sql_store.specs.Inside.{Steps, GoesOn, AreMade, AreRead, IsOpened, Settles, AreSorted, AreNumbersOf, FoundOut, AreSettled};
@@ -31,8 +31,11 @@ use std::alloc::Global;
 /// Makes the tables where they are missing.
 pub(crate) fn make_tables<S: Alter>(tx: &mut Transaction<'_, S>) -> Result<(), Error>
     ensures same_reference { tx.new.conn.ghost_name ≡ tx.old.conn.ghost_name }
-    ensures on { OnOk result (GoesOn (state S.Store tx.old.conn.now) (state S.Store tx.new.conn.now)) }
-    ensures made { HasCleanDisk (state S.Store tx.new.conn.now) → IsTrue (state S.Store tx.old.conn.now).in_transaction → OnOk result (AreMade (state S.Store tx.old.conn.now).now (state S.Store tx.new.conn.now).now) }
+    ensures on { OnOk result
+        (GoesOn (state S.Store tx.old.conn.now) (state S.Store tx.new.conn.now)) }
+    ensures made { IfInside S.Store tx.old.conn.now tx.new.conn.now
+        (OnOk result (AreMade (state S.Store tx.old.conn.now).now
+        (state S.Store tx.new.conn.now).now)) }
     ensures answers { Answers S.Store (MakesTables S.Store)
         (λ old _ e. fault_of e ≡ StoreFault.Refused → CannotMake S.Store old)
         tx.old.conn.now tx.new.conn.now result }
@@ -114,10 +117,19 @@ fn is_new_apart<S: Alter>(tx: &mut Transaction<'_, S>) -> Result<bool, Error>
 // Puts the rows into the new table, the last of them first.
 fn move_rows<S: Alter>(tx: &mut Transaction<'_, S>, rows: &[Row]) -> Result<(), Error>
     ensures same_reference { tx.new.conn.ghost_name ≡ tx.old.conn.ghost_name }
-    ensures on { HasCleanDisk (state S.Store tx.new.conn.now) → IsTrue (state S.Store tx.old.conn.now).in_transaction → OnOk result (IsTrue (state S.Store tx.new.conn.now).in_transaction) }
-    ensures ready { HasCleanDisk (state S.Store tx.new.conn.now) → IsTrue (state S.Store tx.old.conn.now).in_transaction → IsReady (state S.Store tx.old.conn.now).now → OnOk result (IsReady (state S.Store tx.new.conn.now).now) }
-    ensures table { HasCleanDisk (state S.Store tx.new.conn.now) → IsTrue (state S.Store tx.old.conn.now).in_transaction → IsReady (state S.Store tx.old.conn.now).now → OnOk result (table_of (state S.Store tx.new.conn.now).now ≡ laid rows.now (table_of (state S.Store tx.old.conn.now).now)) }
-    ensures others { HasCleanDisk (state S.Store tx.new.conn.now) → IsTrue (state S.Store tx.old.conn.now).in_transaction → IsReady (state S.Store tx.old.conn.now).now → OnOk result ((state S.Store tx.new.conn.now).now.trees 0 ≡ (state S.Store tx.old.conn.now).now.trees 0) }
+    ensures on { IfInside S.Store tx.old.conn.now tx.new.conn.now
+        (OnOk result (IsTrue (state S.Store tx.new.conn.now).in_transaction)) }
+    ensures ready { IfInside S.Store tx.old.conn.now tx.new.conn.now
+        (IsReady (state S.Store tx.old.conn.now).now
+        → OnOk result (IsReady (state S.Store tx.new.conn.now).now)) }
+    ensures table { IfInside S.Store tx.old.conn.now tx.new.conn.now
+        (IsReady (state S.Store tx.old.conn.now).now
+        → OnOk result (table_of (state S.Store tx.new.conn.now).now ≡ laid rows.now (table_of
+        (state S.Store tx.old.conn.now).now))) }
+    ensures others { IfInside S.Store tx.old.conn.now tx.new.conn.now
+        (IsReady (state S.Store tx.old.conn.now).now
+        → OnOk result ((state S.Store tx.new.conn.now).now.trees 0 ≡
+        (state S.Store tx.old.conn.now).now.trees 0)) }
     ensures answers { Answers S.Store (PutsEach S.Store rows.now)
         (λ old _ e. fault_of e ≡ StoreFault.Refused → PutRefused S.Store rows.now old)
         tx.old.conn.now tx.new.conn.now result }
@@ -134,9 +146,16 @@ fn move_rows<S: Alter>(tx: &mut Transaction<'_, S>, rows: &[Row]) -> Result<(), 
 #[tactic(auto, using(crate::proofs::Steps::steps_then, crate::proofs::Steps::clean_before))]
 fn move_over<S: Alter>(tx: &mut Transaction<'_, S>, rows: &[Row]) -> Result<(), Error>
     ensures same_reference { tx.new.conn.ghost_name ≡ tx.old.conn.ghost_name }
-    ensures on { HasCleanDisk (state S.Store tx.new.conn.now) → IsTrue (state S.Store tx.old.conn.now).in_transaction → OnOk result (IsTrue (state S.Store tx.new.conn.now).in_transaction) }
-    ensures moved { HasCleanDisk (state S.Store tx.new.conn.now) → IsTrue (state S.Store tx.old.conn.now).in_transaction → IsReady (state S.Store tx.old.conn.now).now → AreApart ((state S.Store tx.old.conn.now).now.trees 0) → OnOk result (IsMoved (state S.Store tx.new.conn.now).now) }
-    ensures table { HasCleanDisk (state S.Store tx.new.conn.now) → IsTrue (state S.Store tx.old.conn.now).in_transaction → IsReady (state S.Store tx.old.conn.now).now → OnOk result (table_of (state S.Store tx.new.conn.now).now ≡ laid rows.now (table_of (state S.Store tx.old.conn.now).now)) }
+    ensures on { IfInside S.Store tx.old.conn.now tx.new.conn.now
+        (OnOk result (IsTrue (state S.Store tx.new.conn.now).in_transaction)) }
+    ensures moved { IfInside S.Store tx.old.conn.now tx.new.conn.now
+        (IsReady (state S.Store tx.old.conn.now).now
+        → AreApart ((state S.Store tx.old.conn.now).now.trees 0)
+        → OnOk result (IsMoved (state S.Store tx.new.conn.now).now)) }
+    ensures table { IfInside S.Store tx.old.conn.now tx.new.conn.now
+        (IsReady (state S.Store tx.old.conn.now).now
+        → OnOk result (table_of (state S.Store tx.new.conn.now).now ≡ laid rows.now (table_of
+        (state S.Store tx.old.conn.now).now))) }
     ensures answers { Answers S.Store (MovesOver S.Store rows.now)
         (λ old _ e. fault_of e ≡ StoreFault.Refused → CannotMoveOver S.Store rows.now old)
         tx.old.conn.now tx.new.conn.now result }

@@ -69,10 +69,19 @@ pub(crate) fn put<S: Alter>(tx: &mut Transaction<'_, S>, row: &Row) -> Result<()
 /// Takes all rows of the old table away.
 pub(crate) fn empty<S: Alter>(tx: &mut Transaction<'_, S>) -> Result<(), Error>
     ensures same_reference { tx.new.conn.ghost_name ≡ tx.old.conn.ghost_name }
-    ensures on { OnOk result (GoesOn (state S.Store tx.old.conn.now) (state S.Store tx.new.conn.now)) }
-    ensures schema { HasCleanDisk (state S.Store tx.new.conn.now) → IsTrue (state S.Store tx.old.conn.now).in_transaction → OnOk result ((state S.Store tx.old.conn.now).now.schema ≡ both_schema → (state S.Store tx.new.conn.now).now.schema ≡ both_schema) }
-    ensures others { HasCleanDisk (state S.Store tx.new.conn.now) → IsTrue (state S.Store tx.old.conn.now).in_transaction → OnOk result ((state S.Store tx.old.conn.now).now.schema ≡ both_schema → (state S.Store tx.new.conn.now).now.trees 2 ≡ (state S.Store tx.old.conn.now).now.trees 2) }
-    ensures gone { HasCleanDisk (state S.Store tx.new.conn.now) → IsTrue (state S.Store tx.old.conn.now).in_transaction → OnOk result ((state S.Store tx.old.conn.now).now.schema ≡ both_schema → AreApart ((state S.Store tx.old.conn.now).now.trees 0) → (state S.Store tx.new.conn.now).now.trees 0 ≡ []) }
+    ensures on { OnOk result
+        (GoesOn (state S.Store tx.old.conn.now) (state S.Store tx.new.conn.now)) }
+    ensures schema { IfInside S.Store tx.old.conn.now tx.new.conn.now
+        (OnOk result ((state S.Store tx.old.conn.now).now.schema ≡ both_schema
+        → (state S.Store tx.new.conn.now).now.schema ≡ both_schema)) }
+    ensures others { IfInside S.Store tx.old.conn.now tx.new.conn.now
+        (OnOk result ((state S.Store tx.old.conn.now).now.schema ≡ both_schema
+        → (state S.Store tx.new.conn.now).now.trees 2 ≡
+        (state S.Store tx.old.conn.now).now.trees 2)) }
+    ensures gone { IfInside S.Store tx.old.conn.now tx.new.conn.now
+        (OnOk result ((state S.Store tx.old.conn.now).now.schema ≡ both_schema
+        → AreApart ((state S.Store tx.old.conn.now).now.trees 0)
+        → (state S.Store tx.new.conn.now).now.trees 0 ≡ [])) }
     ensures answers { RunsStatement S.Store empty_text ([]) tx.old.conn.now tx.new.conn.now result }
 {
     tx.execute("DELETE FROM results", &[])?;
@@ -82,10 +91,18 @@ pub(crate) fn empty<S: Alter>(tx: &mut Transaction<'_, S>) -> Result<(), Error>
 /// Makes the old table where there is none.
 pub(crate) fn create_old<S: Alter>(tx: &mut Transaction<'_, S>) -> Result<(), Error>
     ensures same_reference { tx.new.conn.ghost_name ≡ tx.old.conn.ghost_name }
-    ensures on { OnOk result (GoesOn (state S.Store tx.old.conn.now) (state S.Store tx.new.conn.now)) }
-    ensures made { HasCleanDisk (state S.Store tx.new.conn.now) → IsTrue (state S.Store tx.old.conn.now).in_transaction → OnOk result ((state S.Store tx.old.conn.now).now.schema ≡ no_schema → ((state S.Store tx.new.conn.now).now.schema ≡ old_schema) × ((state S.Store tx.new.conn.now).now.trees 0 ≡ [])) }
-    ensures first { HasCleanDisk (state S.Store tx.new.conn.now) → IsTrue (state S.Store tx.old.conn.now).in_transaction → OnOk result ((state S.Store tx.old.conn.now).now.schema ≡ old_schema → (state S.Store tx.new.conn.now).now ≡ (state S.Store tx.old.conn.now).now) }
-    ensures both { HasCleanDisk (state S.Store tx.new.conn.now) → IsTrue (state S.Store tx.old.conn.now).in_transaction → OnOk result ((state S.Store tx.old.conn.now).now.schema ≡ both_schema → (state S.Store tx.new.conn.now).now ≡ (state S.Store tx.old.conn.now).now) }
+    ensures on { OnOk result
+        (GoesOn (state S.Store tx.old.conn.now) (state S.Store tx.new.conn.now)) }
+    ensures made { IfInside S.Store tx.old.conn.now tx.new.conn.now
+        (OnOk result ((state S.Store tx.old.conn.now).now.schema ≡ no_schema
+        → ((state S.Store tx.new.conn.now).now.schema ≡ old_schema)
+        × ((state S.Store tx.new.conn.now).now.trees 0 ≡ []))) }
+    ensures first { IfInside S.Store tx.old.conn.now tx.new.conn.now
+        (OnOk result ((state S.Store tx.old.conn.now).now.schema ≡ old_schema
+        → (state S.Store tx.new.conn.now).now ≡ (state S.Store tx.old.conn.now).now)) }
+    ensures both { IfInside S.Store tx.old.conn.now tx.new.conn.now
+        (OnOk result ((state S.Store tx.old.conn.now).now.schema ≡ both_schema
+        → (state S.Store tx.new.conn.now).now ≡ (state S.Store tx.old.conn.now).now)) }
     ensures answers { RunsStatement S.Store create_old_text ([])
         tx.old.conn.now tx.new.conn.now result }
 {
@@ -99,9 +116,17 @@ pub(crate) fn create_old<S: Alter>(tx: &mut Transaction<'_, S>) -> Result<(), Er
 /// Makes the new table where there is none.
 pub(crate) fn create<S: Alter>(tx: &mut Transaction<'_, S>) -> Result<(), Error>
     ensures same_reference { tx.new.conn.ghost_name ≡ tx.old.conn.ghost_name }
-    ensures on { OnOk result (GoesOn (state S.Store tx.old.conn.now) (state S.Store tx.new.conn.now)) }
-    ensures made { HasCleanDisk (state S.Store tx.new.conn.now) → IsTrue (state S.Store tx.old.conn.now).in_transaction → OnOk result ((state S.Store tx.old.conn.now).now.schema ≡ old_schema → ((state S.Store tx.new.conn.now).now.schema ≡ both_schema) × ((state S.Store tx.new.conn.now).now.trees 2 ≡ []) × ((state S.Store tx.new.conn.now).now.trees 0 ≡ (state S.Store tx.old.conn.now).now.trees 0)) }
-    ensures both { HasCleanDisk (state S.Store tx.new.conn.now) → IsTrue (state S.Store tx.old.conn.now).in_transaction → OnOk result ((state S.Store tx.old.conn.now).now.schema ≡ both_schema → (state S.Store tx.new.conn.now).now ≡ (state S.Store tx.old.conn.now).now) }
+    ensures on { OnOk result
+        (GoesOn (state S.Store tx.old.conn.now) (state S.Store tx.new.conn.now)) }
+    ensures made { IfInside S.Store tx.old.conn.now tx.new.conn.now
+        (OnOk result ((state S.Store tx.old.conn.now).now.schema ≡ old_schema
+        → ((state S.Store tx.new.conn.now).now.schema ≡ both_schema)
+        × ((state S.Store tx.new.conn.now).now.trees 2 ≡ [])
+        × ((state S.Store tx.new.conn.now).now.trees 0 ≡
+        (state S.Store tx.old.conn.now).now.trees 0))) }
+    ensures both { IfInside S.Store tx.old.conn.now tx.new.conn.now
+        (OnOk result ((state S.Store tx.old.conn.now).now.schema ≡ both_schema
+        → (state S.Store tx.new.conn.now).now ≡ (state S.Store tx.old.conn.now).now)) }
     ensures answers { RunsStatement S.Store create_text ([])
         tx.old.conn.now tx.new.conn.now result }
 {

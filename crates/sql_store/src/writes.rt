@@ -24,8 +24,8 @@ fn is_new(numbers: &NumberTable, change: &Change) -> bool
     change.value.is_some() && numbers.number(&change.key).is_none()
 }
 
-/// How many changes from the first on are such, up to 16, or 0 where there are not 4 changes. What is left of those
-/// that were counted before is not counted again.
+/// How many changes from the first on are such, up to 16, or 0 where there are not 4 changes. Those that are left of
+/// the ones counted before are not counted again.
 fn new_len(numbers: &NumberTable, changes: &[Change], counted: usize) -> usize
     requires within { counted ≤ length changes.now }
     requires values { IsTrue (have_values (take counted changes.now)) }
@@ -68,7 +68,8 @@ fn make<S: Alter>(
         (OnOk result (Makes change.now.key (under number change.now.value)
         (state S.Store tx.old.conn.now) (state S.Store tx.new.conn.now))) }
     ensures answers { Answers S.Store (MakesChange S.Store number change.now.key change.now.value)
-        (FailsToChange S.Store number change.now.key change.now.value) tx.old.conn.now tx.new.conn.now result }
+        (FailsToChange S.Store number change.now.key change.now.value)
+        tx.old.conn.now tx.new.conn.now result }
 {
     match change.value {
         Some(value) => put_either(
@@ -154,9 +155,14 @@ fn make_all<S: Alter>(
 ) -> Result<(), Error>
     requires inside { IsTrue (state S.Store tx.old.conn.now).in_transaction }
     ensures same_reference { tx.new.conn.ghost_name ≡ tx.old.conn.ghost_name }
-    ensures made { HasCleanDisk (state S.Store tx.new.conn.now) → IsReady (state S.Store tx.old.conn.now).now → OnOk result (MakesAll number changes.now (state S.Store tx.old.conn.now) (state S.Store tx.new.conn.now)) }
-    ensures opened { HasCleanDisk (state S.Store tx.new.conn.now) → OnOk result (0 < length changes.now → IsTrue (state S.Store tx.old.conn.now).is_open) }
-    ensures inside { HasCleanDisk (state S.Store tx.new.conn.now) → OnOk result (IsTrue (state S.Store tx.new.conn.now).in_transaction) }
+    ensures made { HasCleanDisk (state S.Store tx.new.conn.now)
+        → IsReady (state S.Store tx.old.conn.now).now
+        → OnOk result (MakesAll number changes.now (state S.Store tx.old.conn.now)
+        (state S.Store tx.new.conn.now)) }
+    ensures opened { HasCleanDisk (state S.Store tx.new.conn.now)
+        → OnOk result (0 < length changes.now → IsTrue (state S.Store tx.old.conn.now).is_open) }
+    ensures inside { HasCleanDisk (state S.Store tx.new.conn.now)
+        → OnOk result (IsTrue (state S.Store tx.new.conn.now).in_transaction) }
     ensures answers { Answers S.Store (ExecutedEach S.Store number changes.now)
         (λ old _ e. ChangeGives S.Store number changes.now old e)
         tx.old.conn.now tx.new.conn.now result }
