@@ -1,5 +1,5 @@
 -- What a store asked of its connection, and what it was answered, whatever the database has.
-use Rattle.std.specs.Prelude.{◌≡◌, ◌⊎◌, ◌<◌, ◌≤◌, ℕ, ℤ, pos, Bool, false, true, List, [], ◌∷◌, ◌++◌, length, map, codes, Option, Some, None, is_some, unwrap_or, Result, Ok, Err, OnOk, IfErr, IsTrue}
+use Rattle.std.specs.Prelude.{◌≡◌, ◌⊎◌, ◌<◌, ◌≤◌, ℕ, ℤ, pos, Bool, false, true, List, [], ◌∷◌, ◌++◌, length, map, codes, Option, Some, None, is_some, is_none, ◌&&◌, unwrap_or, Result, Ok, Err, OnOk, IfErr, IsTrue}
 use Rattle.std.specs.List.{list_all}
 use Rattle.sqlite.specs.declared.types.Value.TheVariants.{Text, Int}
 use Rattle.sqlite.specs.declared.error.Error.{Error}
@@ -8,6 +8,7 @@ use Rattle.sqlite.specs.Store.{Ghosts}
 use Rattle.sqlite.specs.Held.{Held, state}
 use Rattle.sqlite.specs.State.{HasCleanDisk, Shown, Shows, IsUnchanged, ExecutesInside}
 use Rattle.txn_names.specs.declared.change.Change.{Change}
+use Rattle.serial_spec.specs.Serial.{Map}
 use Rattle.durable_top.specs.declared.store.Row.{Row}
 use Rattle.sql_store.specs.Faults.{breaks_rule, IsCaused}
 use Rattle.sql_store.specs.Inside.{Steps}
@@ -70,6 +71,10 @@ pub record AreRows (changes : List Change) : Type 0 where
 -- what is made by itself or by one statement
 abbrev pub IsPiece : List Change → Type 0
 IsPiece changes = (length changes ≡ 1) ⊎ AreRows changes
+
+-- the change gives a value to a key that has no number, and so is likely to have no row
+abbrev pub is_new : Map → Change → Bool
+is_new numbers c = is_some c.value && is_none (numbers c.key)
 
 -- where so many changes are likely new, 16 or 4 of them go together, or else one change by itself
 abbrev pub IsPieceLen : ℕ → ℕ → Type 0

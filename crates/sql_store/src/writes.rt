@@ -1,12 +1,14 @@
 //! Changes of the table in one transaction.
-ghost use Rattle.std.specs.Prelude.{◌≡◌, ◌<◌, ◌≤◌, ◌⊎◌, length, take, false, true, Some, None, is_some, OnOk, OnErr, IfErr, IsTrue, IsErrOf};
+ghost use Rattle.std.specs.Prelude.{◌≡◌, ◌<◌, ◌≤◌, ◌⊎◌, length, min, take, false, true, Some, None, is_some, OnOk, OnErr, IfErr, IsTrue, IsErrOf};
+ghost use Rattle.std.specs.List.{prefix_len};
+ghost use Rattle.serial_spec.specs.Rows.{value_in};
 ghost use Rattle.sqlite.specs.Held.{state};
 ghost use Rattle.sqlite.specs.State.{HasCleanDisk, Survives, KeepsCommit};
 ghost use Rattle.durable_top.specs.Numbered.{under};
 ghost use Rattle.sql_store.specs.Table.{Makes, IsReady};
 ghost use Rattle.sql_store.specs.Writes.{MakesAll, Stores, IsStored};
 ghost use Rattle.sql_store.specs.Faults.{fault_of, IsCaused, HasFailed};
-ghost use Rattle.sql_store.specs.Asked.{IfInside, Answers, have_values, AreRows, IsPiece, IsPieceLen, MakesChange, FailsToChange, MakesEach, EachGives, MakesRows, RowsGive, MakesPiece, PieceGives, ExecutedEach, ChangeGives, Transacted, Committed};
+ghost use Rattle.sql_store.specs.Asked.{IfInside, Answers, is_new, have_values, AreRows, IsPiece, IsPieceLen, MakesChange, FailsToChange, MakesEach, EachGives, MakesRows, RowsGive, MakesPiece, PieceGives, ExecutedEach, ChangeGives, Transacted, Committed};
 ghost use Rattle.sql_store.specs.Refusals.{CannotWrite};
 
 use crate::faults::{breaks_rule, fault_of, settle};
@@ -19,7 +21,7 @@ use txn_names::Change;
 
 /// Whether the change gives a value to a key that is likely to have no row.
 fn is_new(numbers: &NumberTable, change: &Change) -> bool
-    ensures { IsTrue result → IsTrue (is_some change.now.value) }
+    ensures { result ≡ is_new (value_in numbers.now.rows) change.now }
 {
     change.value.is_some() && numbers.number(&change.key).is_none()
 }
@@ -29,6 +31,10 @@ fn is_new(numbers: &NumberTable, change: &Change) -> bool
 fn new_len(numbers: &NumberTable, changes: &[Change], counted: usize) -> usize
     requires within { counted ≤ length changes.now }
     requires values { IsTrue (have_values (take counted changes.now)) }
+    ensures counted { 0 < counted → result ≡ counted }
+    ensures few { length changes.now < 4 → result ≡ counted }
+    ensures fresh { counted ≡ 0 → 4 ≤ length changes.now
+        → result ≡ min 16 (prefix_len (is_new (value_in numbers.now.rows)) changes.now) }
     ensures within { result ≤ length changes.now }
     ensures values { IsTrue (have_values (take result changes.now)) }
 {
@@ -36,7 +42,10 @@ fn new_len(numbers: &NumberTable, changes: &[Change], counted: usize) -> usize
         return counted;
     }
     let mut count = 0;
-    while count < 16 && count < changes.len() && is_new(numbers, &changes[count]) {
+    while count < 16 && count < changes.len() {
+        if !is_new(numbers, &changes[count]) {
+            return count;
+        }
         count += 1;
     }
     count
