@@ -10,7 +10,8 @@ number_else_0 (Some n) = n
 
 -- the rows of these values, each with the number that its key has
 abbrev pub joined : Rows → Map → List Row
-joined values numbers = map (λ r. record { key = r.0; value = r.1; commit = number_else_0 (numbers r.0) }) values
+joined values numbers =
+    map (λ r. record { key = r.0; value = r.1; commit = number_else_0 (numbers r.0) }) values
 
 -- a key has a number where it has a value
 abbrev pub HaveSameKeys : Map → Map → Type 0

@@ -20,7 +20,8 @@ pub record Memory : Type 0 where
 
 -- a store of rows of which nothing was asked yet
 abbrev pub fresh : List Row → ℕ → ℕ → Memory
-fresh rows refused failed = record { rows = rows; faults = 0; refuses_in = refused; fails_in = failed; has_failed = false }
+fresh rows refused failed =
+    record { rows = rows; faults = 0; refuses_in = refused; fails_in = failed; has_failed = false }
 
 -- whether the device has failed once the next commit is answered
 abbrev pub fails_now : Memory → Bool
@@ -28,7 +29,8 @@ fails_now m = m.has_failed || nat_eq m.fails_in 1
 
 -- the fault that is planned for the next commit
 abbrev pub planned : Memory → Option StoreFault
-planned m = if fails_now m then Some fault.Failed else if nat_eq m.refuses_in 1 then Some fault.Refused else None
+planned m = if fails_now m then Some fault.Failed else if nat_eq m.refuses_in 1
+    then Some fault.Refused else None
 
 -- a failed device gives no rows; else they are the rows that it has, unless memory runs out
 pub record MemoryLoads (old new : Memory) (result : Result (List Row) StoreFault) : Type 0 where
@@ -37,12 +39,14 @@ pub record MemoryLoads (old new : Memory) (result : Result (List Row) StoreFault
   pub rows : IfOk result (λ rows. rows ≡ old.rows)
   pub kept : new ≡ old
 
--- A planned fault comes first, then Refused where no number is left, and no other but for memory. The changes are made, or
--- the rows are as before.
-pub record MemoryCommits (old new : Memory) (changes : List Change) (result : Result (Unit {0}) StoreFault) : Type 0 where
+-- A planned fault comes first, then Refused where no number is left, and no other but for memory.
+-- The changes are made, or the rows are as before.
+pub record MemoryCommits (old new : Memory) (changes : List Change)
+    (result : Result (Unit {0}) StoreFault) : Type 0 where
   pub due : IfSome (planned old) (λ f. result ≡ Err f)
   pub full : planned old ≡ None → IsFull changes (entries_in old.rows) → result ≡ Err fault.Refused
-  pub memory : planned old ≡ None → (IsFull changes (entries_in old.rows) → ⊥) → IfErr result (λ f. f ≡ fault.Memory)
+  pub memory : planned old ≡ None → (IsFull changes (entries_in old.rows) → ⊥)
+      → IfErr result (λ f. f ≡ fault.Memory)
   pub ok : OnOk result (value_in (plain new.rows) ≡ overlay changes (value_in (plain old.rows)))
   pub numbers : OnOk result (Commits changes (entries_in old.rows) (entries_in new.rows))
   pub err : OnErr result (new.rows ≡ old.rows)

@@ -28,7 +28,8 @@ abbrev pub entry_or : ℤ → Option (Option ℤ) → Option (ℤ × ℤ) → Op
 entry_or n None e = e
 entry_or n (Some v) e = under n v
 
--- the table with the changes made under a number: each key that is given a value has this number, also where it had the value
+-- the table with the changes made under a number: each key that is given a value has this number,
+-- also where it had the value
 abbrev pub overlay_numbered : ℤ → List Change → Numbered → Numbered
 overlay_numbered n cs m k = entry_or n (change_at cs k) (m k)
 

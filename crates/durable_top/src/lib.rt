@@ -1,5 +1,5 @@
-//! Where the results of top-level transactions are kept: one table, in which each row has the number of the commit that set it,
-//! and what a store of it promises.
+//! Where the results of top-level transactions are kept: one table, in which each row has the
+//! number of the commit that set it, and what a store of it promises.
 #![tactic(auto)]
 
 mod memory;

@@ -38,8 +38,8 @@ impl Model for MemStore {
 }
 
 impl MemStore {
-    /// A store of these rows, which stand in byte order of their keys, one for each, with numbers of at least 0.
-    /// The only error is that memory runs out.
+    /// A store of these rows, which stand in byte order of their keys, one for each, with numbers
+    /// of at least 0. The only error is that memory runs out.
     pub fn new(alloc: Global, rows: &[Row]) -> Result<MemStore, NoMemory>
         requires rising { IsRising (plain rows.now) }
         requires least { AreNumbered rows.now }
@@ -55,7 +55,8 @@ impl MemStore {
         })
     }
 
-    /// A store as by `new` that answers Refused at one commit, the first being number 1, and changes nothing then.
+    /// A store as by `new` that answers Refused at one commit, the first being number 1, and
+    /// changes nothing then.
     pub fn refusing(alloc: Global, rows: &[Row], commit: u64) -> Result<MemStore, NoMemory>
         requires rising { IsRising (plain rows.now) }
         requires least { AreNumbered rows.now }
@@ -66,8 +67,8 @@ impl MemStore {
         Ok(store)
     }
 
-    /// A store as by `new` whose device fails at one commit, the first being number 1. That commit changes
-    /// nothing, and each call from then on answers Failed.
+    /// A store as by `new` whose device fails at one commit, the first being number 1. That commit
+    /// changes nothing, and each call from then on answers Failed.
     pub fn failing(alloc: Global, rows: &[Row], commit: u64) -> Result<MemStore, NoMemory>
         requires rising { IsRising (plain rows.now) }
         requires least { AreNumbered rows.now }

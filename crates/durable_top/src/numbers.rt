@@ -101,7 +101,8 @@ fn numbers_from(alloc: Global, rows: &[Row]) -> Result<IndexMap<Key, i64>, NoMem
 fn put_reserved(numbers: &mut IndexMap<Key, i64>, number: i64, change: &Change)
     requires { 0 < spare numbers.old }
     ensures put { value_in numbers.new.entries
-        ≡ put (value_in numbers.old.entries) change.now.key (option_map (λ _. number) change.now.value) }
+        ≡ put (value_in numbers.old.entries) change.now.key
+        (option_map (λ _. number) change.now.value) }
     ensures room { spare numbers.old ≤ spare numbers.new + 1 }
 {
     if change.value.is_some() {
@@ -191,8 +192,8 @@ impl NumberTable {
         self.top
     }
 
-    /// Makes room for more rows, and changes none. The only error is that memory runs out. Where there is room for
-    /// so many already, it succeeds.
+    /// Makes room for more rows, and changes none. The only error is that memory runs out. Where
+    /// there is room for so many already, it succeeds.
     pub fn reserve(&mut self, additional: usize) -> Result<(), NoMemory>
         ensures rows { self.new.rows ≡ self.old.rows }
         ensures top { self.new.top ≡ self.old.top }
@@ -202,9 +203,10 @@ impl NumberTable {
         self.numbers.reserve(additional)
     }
 
-    /// Makes the changes under a number above the greatest, for which there is room: a key that is given a value has
-    /// this number, and one that is given none has no number. Where none of them gives a value and one of them takes
-    /// the greatest number away, it looks once through all numbers for the greatest.
+    /// Makes the changes under a number above the greatest, for which there is room: a key that is
+    /// given a value has this number, and one that is given none has no number. Where none of them
+    /// gives a value and one of them takes the greatest number away, it looks once through all
+    /// numbers for the greatest.
     pub fn change(&mut self, number: i64, changes: &[Change])
         requires room { length changes.now ≤ self.old.room }
         requires above { self.old.top <ℤ number }

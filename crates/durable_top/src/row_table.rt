@@ -47,7 +47,8 @@ fn number_of(numbers: &NumberTable, key: &Key) -> i64
 
 #[tactic(auto, using(crate::proofs::Numbering::joined_rising))]
 fn rows_of(alloc: Global, values: &PlainTable, numbers: &NumberTable) -> Result<Vec<Row>, NoMemory>
-    ensures rows { IfOk result (λ rows. rows.items ≡ joined values.now.rows (value_in numbers.now.rows)) }
+    ensures rows { IfOk result (λ rows.
+        rows.items ≡ joined values.now.rows (value_in numbers.now.rows)) }
     ensures rising { IsRising (plain (joined values.now.rows (value_in numbers.now.rows))) }
     ensures least { AreNumbered (joined values.now.rows (value_in numbers.now.rows)) }
 {
@@ -75,7 +76,8 @@ fn change_both(
 ) -> Result<(), NoMemory>
     requires above { numbers.old.top <ℤ number }
     requires rising { AreRising changes.now }
-    ensures values { OnOk result (value_in values.new.rows ≡ overlay changes.now (value_in values.old.rows)) }
+    ensures values { OnOk result (value_in values.new.rows ≡
+        overlay changes.now (value_in values.old.rows)) }
     ensures numbers { OnOk result
         (value_in numbers.new.rows ≡ renumbered number changes.now (value_in numbers.old.rows)) }
     ensures same_values { OnErr result (values.new.rows ≡ values.old.rows) }
@@ -100,7 +102,8 @@ fn make(
     requires rising { AreRising changes.now }
     requires same { HaveSameKeys (value_in values.old.rows) (value_in numbers.old.rows) }
     ensures same { HaveSameKeys (value_in values.new.rows) (value_in numbers.new.rows) }
-    ensures ok { OnOk result (Commits changes.now (entries_in (joined values.old.rows (value_in numbers.old.rows)))
+    ensures ok { OnOk result
+        (Commits changes.now (entries_in (joined values.old.rows (value_in numbers.old.rows)))
         (entries_in (joined values.new.rows (value_in numbers.new.rows)))) }
     ensures same_values { OnErr result (values.new.rows ≡ values.old.rows) }
     ensures same_numbers { OnErr result (numbers.new.rows ≡ numbers.old.rows) }
@@ -136,8 +139,8 @@ impl RowTable {
     }
 
     #[tactic(auto, using(crate::proofs::Numbering::full_joined, crate::proofs::Numbering::not_full, crate::proofs::Numbering::values_rows_committed))]
-    /// Makes the changes under the number above the greatest. It answers Refused where there is none, and else faults
-    /// only where memory runs out; the rows are as before then.
+    /// Makes the changes under the number above the greatest. It answers Refused where there is
+    /// none, and else faults only where memory runs out; the rows are as before then.
     pub(crate) fn commit(&mut self, changes: &[Change]) -> Result<(), StoreFault>
         requires { AreRising changes.now }
         ensures ok { OnOk result (Commits changes.now (entries_in self.old) (entries_in self.new)) }

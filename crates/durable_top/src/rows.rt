@@ -51,7 +51,8 @@ fn put_first(table: &mut PlainTable, key: &Key, value: i64) -> Result<(), NoMemo
     Ok(())
 }
 
-/// The table of these rows. Of several rows with one key the first counts. The only error is that memory runs out.
+/// The table of these rows. Of several rows with one key the first counts. The only error is that
+/// memory runs out.
 pub fn table_of(alloc: Global, rows: &[Row]) -> Result<PlainTable, NoMemory>
     ensures { IfOk result (λ table. value_in table.rows ≡ value_in (plain rows.now)) }
 {
@@ -62,11 +63,12 @@ pub fn table_of(alloc: Global, rows: &[Row]) -> Result<PlainTable, NoMemory>
     Ok(table)
 }
 
-/// Makes rising changes in the table. It takes memory only where they may outgrow the table's room; if memory runs out, the only
-/// error, the rows are as before.
+/// Makes rising changes in the table. It takes memory only where they may outgrow the table's room;
+/// if memory runs out, the only error, the rows are as before.
 pub(crate) fn change(table: &mut PlainTable, changes: &[Change]) -> Result<(), NoMemory>
     requires { AreRising changes.now }
-    ensures ok { OnOk result (value_in table.new.rows ≡ overlay changes.now (value_in table.old.rows)) }
+    ensures ok { OnOk result (value_in table.new.rows ≡
+        overlay changes.now (value_in table.old.rows)) }
     ensures err { OnErr result (table.new.rows ≡ table.old.rows) }
     ensures succeeds { length changes.now ≤ table.old.room → IsOk result }
 {

@@ -32,11 +32,11 @@ pub enum StoreFault {
 
 /// A store of one table.
 ///
-/// `loads` and `commits` say which call was made: in which state of the store, with which changes, what it
-/// answered and in which state it was left. Each store defines them for itself. A caller that is generic over
-/// the store knows nothing of them, and so it can only have them from one call of the method. By them it can
-/// promise that it asked once, in the state that it names, and that the fault which it tells is the one that
-/// it was answered.
+/// `loads` and `commits` say which call was made: in which state of the store, with which changes,
+/// what it answered and in which state it was left. Each store defines them for itself. A caller
+/// that is generic over the store knows nothing of them, and so it can only have them from one call
+/// of the method. By them it can promise that it asked once, in the state that it names, and that
+/// the fault which it tells is the one that it was answered.
 pub trait TopStore: Drop {
     ghost use Rattle.std.specs.Prelude.{ℕ, List, Result};
     ghost use Rattle.serial_spec.specs.Serial.{Map};
@@ -69,40 +69,48 @@ pub trait TopStore: Drop {
     /// Asked in the first state to load, it gave this answer and was left in the second state.
     ghost loads: { Self → Self → Result (List Row) StoreFault → Type 0 };
 
-    /// Asked in the first state to make these changes, it gave this answer and was left in the second state.
+    /// Asked in the first state to make these changes, it gave this answer and was left in the
+    /// second state.
     ghost commits: { Self → Self → List Change → Result (Unit {0}) StoreFault → Type 0 };
 
-    /// The rows with their numbers, in byte order of their keys. After a fault other than Failed the table is as before. A crash
-    /// leaves nothing that it could not leave before.
+    /// The rows with their numbers, in byte order of their keys. After a fault other than Failed
+    /// the table is as before. A crash leaves nothing that it could not leave before.
     fn load(&mut self, alloc: Global) -> Result<Vec<Row>, StoreFault>
-        ensures rows { doubt self.new ≡ 0 → IfOk result (λ rows. value_in (plain rows.items) ≡ table self.old) }
+        ensures rows { doubt self.new ≡ 0 →
+            IfOk result (λ rows. value_in (plain rows.items) ≡ table self.old) }
         ensures numbers { doubt self.new ≡ 0
             → IfOk result (λ rows. entries_in rows.items ≡ numbered self.old) }
         ensures least { IfOk result (λ rows. AreNumbered rows.items) }
         ensures rising { IfOk result (λ rows. IsRising (plain rows.items)) }
-        ensures kept { doubt self.new ≡ 0 → (IsErrOf result StoreFault.Failed → ⊥) → table self.new ≡ table self.old }
+        ensures kept { doubt self.new ≡ 0 → (IsErrOf result StoreFault.Failed → ⊥) →
+            table self.new ≡ table self.old }
         ensures kept_numbers { doubt self.new ≡ 0 → (IsErrOf result StoreFault.Failed → ⊥)
             → numbered self.new ≡ numbered self.old }
         ensures values { values_of (numbered self.new) ≡ table self.new }
         ensures leaves_values { (left : Numbered) → may_leave_numbered self.new left
             → may_leave self.new (values_of left) }
-        ensures failures { TellsFailure (failures self.old) (failures self.new) (IsErrOf result StoreFault.Failed) }
+        ensures failures { TellsFailure (failures self.old) (failures self.new)
+            (IsErrOf result StoreFault.Failed) }
         ensures faults { faults self.new ≡ faults self.old }
         ensures doubt { doubt self.old ≤ doubt self.new }
-        ensures crash { doubt self.new ≡ 0 → (left : Map) → may_leave self.new left → may_leave self.old left }
-        ensures crash_numbers { doubt self.new ≡ 0 → (left : Numbered) → may_leave_numbered self.new left
+        ensures crash { doubt self.new ≡ 0 → (left : Map) → may_leave self.new left →
+            may_leave self.old left }
+        ensures crash_numbers { doubt self.new ≡ 0 → (left : Numbered) →
+            may_leave_numbered self.new left
             → may_leave_numbered self.old left }
         ensures asked { loads self.old self.new (told result) };
 
-    /// Makes the changes in the table, which stand in byte order of their keys, one for each. The number of the
-    /// commit is 1 more than the greatest in the table before it, which is 0 where there are no rows. Each change
-    /// with a value sets its row under that number, also where the value is the old one. Where that number is
-    /// more than an i64 holds the answer is a fault, which is Refused unless another came first. No changes
-    /// change nothing. After a fault other than Failed the table is as before. A crash leaves all of the changes
-    /// or none: once the answer is `Ok` all of them, and none where the device had failed before.
+    /// Makes the changes in the table, which stand in byte order of their keys, one for each. The
+    /// number of the commit is 1 more than the greatest in the table before it, which is 0 where
+    /// there are no rows. Each change with a value sets its row under that number, also where the
+    /// value is the old one. Where that number is more than an i64 holds the answer is a fault,
+    /// which is Refused unless another came first. No changes change nothing. After a fault other
+    /// than Failed the table is as before. A crash leaves all of the changes or none: once the
+    /// answer is `Ok` all of them, and none where the device had failed before.
     fn commit(&mut self, changes: &[Change]) -> Result<(), StoreFault>
         requires rising { AreRising changes.now }
-        ensures ok { doubt self.new ≡ 0 → OnOk result (table self.new ≡ overlay changes.now (table self.old)) }
+        ensures ok { doubt self.new ≡ 0 →
+            OnOk result (table self.new ≡ overlay changes.now (table self.old)) }
         ensures numbers { doubt self.new ≡ 0
             → OnOk result (Commits changes.now (numbered self.old) (numbered self.new)) }
         ensures refused { doubt self.new ≡ 0 → IfErr result (λ fault.
@@ -112,18 +120,22 @@ pub trait TopStore: Drop {
         ensures values { values_of (numbered self.new) ≡ table self.new }
         ensures leaves_values { (left : Numbered) → may_leave_numbered self.new left
             → may_leave self.new (values_of left) }
-        ensures failures { TellsFailure (failures self.old) (failures self.new) (IsErrOf result StoreFault.Failed) }
+        ensures failures { TellsFailure (failures self.old) (failures self.new)
+            (IsErrOf result StoreFault.Failed) }
         ensures faults { faults self.new ≡ faults_after (is_err result) (faults self.old) }
         ensures doubt { doubt self.old ≤ doubt self.new }
         ensures crash { doubt self.new ≡ 0 → (left : Map) → may_leave self.new left
             → may_leave self.old left ⊎ (left ≡ overlay changes.now (table self.old)) }
-        ensures crash_numbers { doubt self.new ≡ 0 → (left : Numbered) → may_leave_numbered self.new left
+        ensures crash_numbers { doubt self.new ≡ 0 → (left : Numbered) →
+            may_leave_numbered self.new left
             → may_leave_numbered self.old left ⊎ Commits changes.now (numbered self.old) left }
         ensures settled { doubt self.new ≡ 0 → OnOk result ((left : Map) → may_leave self.new left
             → left ≡ overlay changes.now (table self.old)) }
-        ensures settled_numbers { doubt self.new ≡ 0 → OnOk result ((left : Numbered) → may_leave_numbered self.new left
+        ensures settled_numbers { doubt self.new ≡ 0 →
+            OnOk result ((left : Numbered) → may_leave_numbered self.new left
             → left ≡ numbered self.new) }
-        ensures shut { doubt self.new ≡ 0 → failures self.old ≡ 1 → (left : Map) → may_leave self.new left → may_leave self.old left }
+        ensures shut { doubt self.new ≡ 0 → failures self.old ≡ 1 → (left : Map) →
+            may_leave self.new left → may_leave self.old left }
         ensures shut_numbers { doubt self.new ≡ 0 → failures self.old ≡ 1 → (left : Numbered)
             → may_leave_numbered self.new left → may_leave_numbered self.old left }
         ensures asked { commits self.old self.new changes.now result };

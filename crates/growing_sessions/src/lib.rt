@@ -3,7 +3,8 @@
 
 ghost use Rattle.growing_sessions.specs.Growing.{GrowthKeeps, GrowthsJoin, HistoryReadsSame, LineExtends, LineKeepsText, NewSessionUnanswered, ReportBegins, RoundStaysOpen, SessionExtends, SessionKeepsText, StepStaysOpen};
 
-/// A history in which no line was given up, and which is not closed, is under way for all sessions that its own may grow to.
+/// A history in which no line was given up, and which is not closed, is under way for all sessions
+/// that its own may grow to.
 pub fn growth_keeps()
     ensures { GrowthKeeps }
 {}

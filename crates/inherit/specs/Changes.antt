@@ -14,6 +14,8 @@ abbrev pub writes : LocksAndVersions → ℕ → List ℕ → Bool
 writes a t k = is_exclusive (whole (modes_of a t (Key k)))
 
 -- in byte order, each key that t locks to write and no other, with the value that t sees
-pub record AreChangesOf (tree : States) (a : LocksAndVersions) (t : ℕ) (cs : List Change) : Type 0 where
+pub record AreChangesOf (tree : States) (a : LocksAndVersions) (t : ℕ)
+    (cs : List Change) : Type 0 where
   pub rising : AreRising cs
-  pub each : (k : List ℕ) → change_at cs k ≡ (if writes a t k then Some (seen_in tree a.versions t k) else None)
+  pub each : (k : List ℕ)
+      → change_at cs k ≡ (if writes a t k then Some (seen_in tree a.versions t k) else None)

@@ -37,7 +37,8 @@ base_of a = versions.base_in a.versions
 abbrev pub rows_of : LocksAndVersions → Rows
 rows_of a = a.versions.base.rows
 
--- what is left by what t asks has a place: a write leaves a value, and neither a read nor a sum does
+-- what is left by what t asks has a place: a write leaves a value, and neither a read nor a sum
+-- does
 abbrev pub MayLeave : versions.Versioned → ℕ → Asked → Type 0
 MayLeave v t (At k o) = kind o ≡ Write → IsTrue (versions.has_place v t k)
 MayLeave v t (Over g) = Unit {0}
@@ -46,11 +47,13 @@ MayLeave v t (Over g) = Unit {0}
 abbrev pub HasPlace : LocksAndVersions → ℕ → Asked → Type 0
 HasPlace a t asked = MayHoldAsked a.locks t asked × MayLeave a.versions t asked
 
--- whatever the child has goes up without memory: to its parent, or into the base where that is the root
+-- whatever the child has goes up without memory: to its parent, or into the base where that is the
+-- root
 abbrev pub MayGoUp : LocksAndVersions → ℕ → Option ℕ → Type 0
 MayGoUp a child (Some p) =
     locks.MayGoUpTo a.locks child p
-    × ((q : List ℕ) → IsTrue (versions.has_place a.versions child q) → IsTrue (versions.has_place a.versions p q))
+    × ((q : List ℕ) → IsTrue (versions.has_place a.versions child q)
+    → IsTrue (versions.has_place a.versions p q))
 MayGoUp a child None = versions.FitsBase a.versions child
 
 -- p is the number of t's parent, and there is none where that is the root
@@ -67,7 +70,8 @@ abbrev pub IsReady : States → LocksAndVersions → Event → Type 0
 IsReady tree a (Begin t) = Unit {0}
 IsReady tree a (Access t k o) = IsReadyToAsk tree a t (At k o)
 IsReady tree a (Sum t g) = IsReadyToAsk tree a t (Over g)
-IsReady tree a (Commit t) = (n : ℕ) → IsNumberOf tree t n → (p : Option ℕ) → IsParent tree t p → MayGoUp a n p
+IsReady tree a (Commit t) = (n : ℕ) → IsNumberOf tree t n → (p : Option ℕ) → IsParent tree t p
+    → MayGoUp a n p
 IsReady tree a (Abort t) = Unit {0}
 IsReady tree a (After t x) = Unit {0}
 

@@ -56,8 +56,8 @@ fn leave(versions: &mut Versions, txn: TxnNo, asked: &Asked, reply: Reply)
 }
 
 impl Estate {
-    /// Makes all growths of an access or a sum beforehand, as `reserve_for` of its event does. The only error is that memory
-    /// runs out.
+    /// Makes all growths of an access or a sum beforehand, as `reserve_for` of its event does. The
+    /// only error is that memory runs out.
     pub fn reserve_asked(&mut self, txn: TxnNo, asked: &Asked) -> Result<(), NoMemory>
         ensures succeeds { HasPlace self.old txn asked.now → IsOk result }
         ensures ok { OnOk result (HasPlace self.new txn asked.now) }
@@ -74,8 +74,9 @@ impl Estate {
         }
     }
 
-    /// Whether no lock keeps the transaction from what it asks, as `may_ask` of the locks tells it. A key is looked up once and
-    /// remembered, so that `reserve_asked` and `grant` find its lock without another look-up. Nothing changes, and it takes no memory.
+    /// Whether no lock keeps the transaction from what it asks, as `may_ask` of the locks tells it.
+    /// A key is looked up once and remembered, so that `reserve_asked` and `grant` find its lock
+    /// without another look-up. Nothing changes, and it takes no memory.
     #[inline(always)]
     pub fn may_ask_remembering(&mut self, tree: &Tree, txn: TxnNo, asked: &Asked) -> bool
         ensures may { IsTrue result ↔ MayAsk tree.now self.old.locks txn asked.now }
@@ -84,8 +85,9 @@ impl Estate {
         self.locks.may_ask_remembering(tree, txn, asked)
     }
 
-    /// Does what is asked of a transaction that no lock keeps out, as `may_ask` of the locks told: the reply at what it sees, and the
-    /// transaction has locked the key or the group and left what the access leaves. It takes no memory.
+    /// Does what is asked of a transaction that no lock keeps out, as `may_ask` of the locks told:
+    /// the reply at what it sees, and the transaction has locked the key or the group and left what
+    /// the access leaves. It takes no memory.
     pub fn grant(&mut self, tree: &Tree, txn: TxnNo, asked: &Asked) -> Reply
         requires place { HasPlace self.old txn asked.now }
         requires may { MayAsk tree.now self.old.locks txn asked.now }
@@ -99,8 +101,9 @@ impl Estate {
         reply
     }
 
-    /// Does what is asked: nothing where a lock keeps the transaction out, and then nothing has changed; else the reply at what it
-    /// sees, and the transaction has locked the key or the group and left what the access leaves. It takes no memory.
+    /// Does what is asked: nothing where a lock keeps the transaction out, and then nothing has
+    /// changed; else the reply at what it sees, and the transaction has locked the key or the group
+    /// and left what the access leaves. It takes no memory.
     pub fn ask(&mut self, tree: &Tree, txn: TxnNo, asked: &Asked) -> Option<Reply>
         requires place { HasPlace self.old txn asked.now }
         ensures may { IsSome result ↔ MayAsk tree.now self.old.locks txn asked.now }
@@ -117,9 +120,9 @@ impl Estate {
         Some(self.grant(tree, txn, asked))
     }
 
-    /// Accesses the key: nothing where a lock keeps the transaction out, and then nothing has changed; else the reply at
-    /// the value that it sees, and the transaction has locked the key and left there what the access leaves. It takes no
-    /// memory.
+    /// Accesses the key: nothing where a lock keeps the transaction out, and then nothing has
+    /// changed; else the reply at the value that it sees, and the transaction has locked the key
+    /// and left there what the access leaves. It takes no memory.
     pub fn access(&mut self, tree: &Tree, txn: TxnNo, key: &Key, op: Op) -> Option<Reply>
         requires place { HasPlace self.old txn (At key.now op) }
         ensures may { IsSome result
@@ -133,8 +136,9 @@ impl Estate {
         self.ask(tree, txn, &Asked::At(*key, op))
     }
 
-    /// Sums over the group: nothing where a lock keeps the transaction out, and then nothing has changed; else the sum of what it
-    /// sees, or overflow where that is not an i64, and the transaction has locked the group to read. It takes no memory.
+    /// Sums over the group: nothing where a lock keeps the transaction out, and then nothing has
+    /// changed; else the sum of what it sees, or overflow where that is not an i64, and the
+    /// transaction has locked the group to read. It takes no memory.
     pub fn sum(&mut self, tree: &Tree, txn: TxnNo, group: &Group) -> Option<Reply>
         requires place { IsTrue (has_place self.old.locks txn (target.Group group.now)) }
         ensures may { IsSome result

@@ -12,7 +12,8 @@ use txn_names::{Change, Key};
 use txn_tree::{Tree, TxnNo};
 
 impl Estate {
-    // Whether the transaction locks the key to write. The key mostly is the one at this index among those where it has a place.
+    // Whether the transaction locks the key to write. The key mostly is the one at this index among
+    // those where it has a place.
     fn writes(&self, txn: TxnNo, index: usize, key: &Key) -> bool
         ensures { result ≡ writes self.now txn key.now }
     {
@@ -23,7 +24,8 @@ impl Estate {
     // The keys that the transaction locks to write, in byte order.
     fn written_keys(&self, txn: TxnNo) -> Result<BTreeSet<Key>, NoMemory>
         ensures rising { IfOk result (λ keys. AreRisingKeys keys.keys) }
-        ensures each { IfOk result (λ keys. (k : List ℕ) → list_any (label_eq k) keys.keys ≡ writes self.now txn k) }
+        ensures each { IfOk result (λ keys. (k : List ℕ) →
+            list_any (label_eq k) keys.keys ≡ writes self.now txn k) }
     {
         let mut written = BTreeSet::new(self.alloc);
         let reserved = self.locks.keys(txn);
@@ -36,8 +38,8 @@ impl Estate {
         Ok(written)
     }
 
-    /// The keys that the transaction locks to write, in byte order, each with the value that it sees there. The only error
-    /// is that memory runs out.
+    /// The keys that the transaction locks to write, in byte order, each with the value that it
+    /// sees there. The only error is that memory runs out.
     pub fn changes(&self, tree: &Tree, txn: TxnNo) -> Result<Vec<Change>, NoMemory>
         ensures { IfOk result (λ changes. AreChangesOf tree.now self.now txn changes.items) }
     {

@@ -17,8 +17,8 @@ use txn_names::{Change, Name};
 use txn_tree::{Tree, TxnNo};
 use version_stack::Versions;
 
-/// What live transactions lock and what they left, over one table. Each step changes both atomically, and
-/// takes no memory after `reserve_for` of its event.
+/// What live transactions lock and what they left, over one table. Each step changes both
+/// atomically, and takes no memory after `reserve_for` of its event.
 #[derive(Drop)]
 pub struct Estate {
     pub(crate) alloc: Global,
@@ -83,8 +83,9 @@ impl Estate {
         self.versions.reserve_for_parent(child, parent)
     }
 
-    /// Makes all growths of a commit beforehand, as `reserve_for` of its event does: from the transaction's number to its
-    /// parent's, or into the table where it has none. The only error is that memory runs out.
+    /// Makes all growths of a commit beforehand, as `reserve_for` of its event does: from the
+    /// transaction's number to its parent's, or into the table where it has none. The only error is
+    /// that memory runs out.
     pub fn reserve_hand_up(&mut self, child: TxnNo, parent: Option<TxnNo>) -> Result<(), NoMemory>
         ensures succeeds { IfSome parent (λ p. MayGoUp self.old child (Some p) → IsOk result) }
         ensures ok { OnOk result (MayGoUp self.new child parent) }
@@ -96,8 +97,8 @@ impl Estate {
         }
     }
 
-    /// Makes room for so many changes of the table, which `commit_changes` then makes without memory. What is locked, left and seen
-    /// stays. The only error is that memory runs out.
+    /// Makes room for so many changes of the table, which `commit_changes` then makes without
+    /// memory. What is locked, left and seen stays. The only error is that memory runs out.
     pub fn reserve_changes(&mut self, changes: usize) -> Result<(), NoMemory>
         ensures ok { OnOk result (changes ≤ self.new.versions.base.room) }
         ensures same { IsSame self.old self.new }
@@ -134,9 +135,10 @@ impl Estate {
         }
     }
 
-    /// Makes all growths of the event's step beforehand: an access's, a sum's or a commit's. What is locked, left and seen stays.
-    /// For a read or a sum no room is made among the versions. Where the step has its room already, other than in the table, it
-    /// takes no memory. The only error is that memory runs out.
+    /// Makes all growths of the event's step beforehand: an access's, a sum's or a commit's. What
+    /// is locked, left and seen stays. For a read or a sum no room is made among the versions.
+    /// Where the step has its room already, other than in the table, it takes no memory. The only
+    /// error is that memory runs out.
     pub fn reserve_for(&mut self, tree: &Tree, event: &Event) -> Result<(), NoMemory>
         ensures ok { OnOk result (IsReady tree.now self.new event.now) }
         ensures same { IsSame self.old self.new }
@@ -154,7 +156,8 @@ impl Estate {
         }
     }
 
-    /// Hands up what a committed child has: its parent retains its locks, and has what it left. It takes no memory.
+    /// Hands up what a committed child has: its parent retains its locks, and has what it left. It
+    /// takes no memory.
     pub fn commit_child(&mut self, child: TxnNo, parent: TxnNo)
         requires room { MayGoUp self.old child (Some parent) }
         ensures { HasGoneUp self.old self.new child (Some parent) }
@@ -163,7 +166,8 @@ impl Estate {
         self.versions.hand_up(child, Some(parent));
     }
 
-    /// Lets the locks of a committed top-level transaction go, and puts what it left into the table. It takes no memory.
+    /// Lets the locks of a committed top-level transaction go, and puts what it left into the
+    /// table. It takes no memory.
     pub fn commit_top(&mut self, txn: TxnNo)
         requires room { MayGoUp self.old txn None }
         ensures { HasGoneUp self.old self.new txn None }
@@ -172,8 +176,9 @@ impl Estate {
         self.versions.hand_up(txn, None);
     }
 
-    /// Does what `commit_top` does, by the changes that come to what the transaction left, as `changes` tells them: they are made
-    /// in the table in one pass, and not key by key. It takes no memory.
+    /// Does what `commit_top` does, by the changes that come to what the transaction left, as
+    /// `changes` tells them: they are made in the table in one pass, and not key by key. It takes
+    /// no memory.
     pub fn commit_changes(&mut self, txn: TxnNo, changes: &[Change])
         requires rising { AreRising changes.now }
         requires room { length changes.now ≤ self.old.versions.base.room }

@@ -1,4 +1,5 @@
-//! Locks and versions together: what a transaction has, what its parent inherits, and what is undone (Moss 1981).
+//! Locks and versions together: what a transaction has, what its parent inherits, and what is
+//! undone (Moss 1981).
 #![tactic(auto)]
 
 mod asking;

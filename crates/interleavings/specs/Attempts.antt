@@ -20,18 +20,22 @@ pub record GoesOn {S : Type 0} (g : Ghosts S) (old new : State S) : Type 0 where
   pub trail : Trail g old.rows old.history old.store new.history new.store
   pub later : IsLater g old.store new.store
 
--- the history has the line's entry, which was allowed, and behind it the victims that break the cycles of waits
-pub record Enters {S : Type 0} (old new : State S) (by : By) (event : Event) (outcome : Outcome) : Type 0 where
+-- the history has the line's entry, which was allowed, and behind it the victims that break the
+-- cycles of waits
+pub record Enters {S : Type 0} (old new : State S) (by : By) (event : Event)
+    (outcome : Outcome) : Type 0 where
   pub allowed : Allowed old.rows old.history by event (answer_of outcome)
   pub victims : List Name
   pub broken : AfterVictims (entry by event (answer_of outcome) ∷ old.history) victims new.history
 
 -- the definition has no answer for the line yet
-pub record StaysOut {S : Type 0} (old new : State S) (by : By) (event : Event) (outcome : Outcome) : Type 0 where
+pub record StaysOut {S : Type 0} (old new : State S) (by : By) (event : Event)
+    (outcome : Outcome) : Type 0 where
   pub none : answer old.rows old.history by event ≡ None
   pub outcome_is : outcome ≡ Waits
   pub same : new.history ≡ old.history
 
-pub record Attempts {S : Type 0} (g : Ghosts S) (old new : State S) (by : By) (event : Event) (outcome : Outcome) : Type 0 where
+pub record Attempts {S : Type 0} (g : Ghosts S) (old new : State S) (by : By) (event : Event)
+    (outcome : Outcome) : Type 0 where
   pub told : Enters old new by event outcome ⊎ StaysOut old new by event outcome
   pub on : GoesOn g old new

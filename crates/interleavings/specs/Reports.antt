@@ -43,8 +43,10 @@ pub record IsReport (r : Told) : Type 0 where
   pub legal : Legal r.opening r.history
   pub quiet : Quiet r.history
   -- each transaction without an aborted ancestor was replied what a serial run replies
-  pub right : (t : Name) → IsTrue (has_begun r.history t) → IsFalse (is_orphan r.history t) → Right (value_in r.opening) r.history t
+  pub right : (t : Name) → IsTrue (has_begun r.history t) → IsFalse (is_orphan r.history t)
+      → Right (value_in r.opening) r.history t
   -- and one run serves them all: each has committed, and stands in it as a block
-  pub served : (t : Name) → IsTrue (has_begun r.history t) → IsFalse (is_orphan r.history t) → IsTrue (is_committed (status r.history t)) × Stands (items r.history t) (items r.history [])
+  pub served : (t : Name) → IsTrue (has_begun r.history t) → IsFalse (is_orphan r.history t)
+      → IsTrue (is_committed (status r.history t)) × Stands (items r.history t) (items r.history [])
   -- that run leads from the opening rows to the final table
   pub runs : Runs (value_in r.opening) (items r.history []) (value_in r.table)

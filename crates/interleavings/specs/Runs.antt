@@ -38,20 +38,23 @@ abbrev pub TellsStray : ℕ → List ℕ → Option ℕ → Type 0
 TellsStray count schedule None = AllThere count schedule
 TellsStray count schedule (Some n) = IsStray count schedule n
 
--- The store was asked for its rows as it was given, and answered these; then it was asked what the entries of the history ask, in
--- their order, and nothing else; so it was left
-pub record WasAsked {S : Type 0} (g : Ghosts S) (store : S) (rows : Rows) (h : History) (left : S) : Type 0 where
+-- The store was asked for its rows as it was given, and answered these; then it was asked what the
+-- entries of the history ask, in their order, and nothing else; so it was left
+pub record WasAsked {S : Type 0} (g : Ghosts S) (store : S) (rows : Rows) (h : History)
+    (left : S) : Type 0 where
   pub first : S
   pub given : List Row
   pub loaded : g.loads store first (Ok given)
   pub are : rows ≡ plain given
   pub trail : Trail g rows [] first h left
 
--- The report of these sessions, run by this schedule over the store as it was given, and the store that comes back with
--- it. What every report says is in `IsReport`
-pub record IsRun {S : Type 0} (g : Ghosts S) (ss : List Session) (schedule : List ℕ) (store : S) (r : Told) (left : S) : Type 0 where
+-- The report of these sessions, run by this schedule over the store as it was given, and the store
+-- that comes back with it. What every report says is in `IsReport`
+pub record IsRun {S : Type 0} (g : Ghosts S) (ss : List Session) (schedule : List ℕ) (store : S)
+    (r : Told) (left : S) : Type 0 where
   pub there : AllThere (length ss) schedule
-  -- the opening rows are what the store answered, and so its table; it was asked for each commit before that was replied
+  -- the opening rows are what the store answered, and so its table; it was asked for each commit
+  -- before that was replied
   pub asked : WasAsked g store r.opening r.history left
   pub opening : g.doubt left ≡ 0 → value_in r.opening ≡ g.table store
   pub labels : r.labels ≡ map (λ s. s.label) ss
@@ -65,8 +68,9 @@ pub record IsRun {S : Type 0} (g : Ghosts S) (ss : List Session) (schedule : Lis
   pub numbered : IsTrusted g left → IsNumberedAfter (g.numbered store) r.history (g.numbered left)
   pub refusals : g.faults left ≡ counted (g.faults store + store_refusals r.history)
 
--- The run was broken off behind a legal history of these sessions, as far as their lines were attempted, over rows that the store
--- gave; and until its device fails the store had the table that this history leaves
+-- The run was broken off behind a legal history of these sessions, as far as their lines were
+-- attempted, over rows that the store gave; and until its device fails the store had the table that
+-- this history leaves
 pub record IsBrokenOff {S : Type 0} (g : Ghosts S) (ss : List Session) (store : S) : Type 0 where
   pub opening : Rows
   pub history : History
@@ -80,9 +84,10 @@ pub record IsBrokenOff {S : Type 0} (g : Ghosts S) (ss : List Session) (store : 
   pub numbered : IsTrusted g left → IsNumberedAfter (g.numbered store) history (g.numbered left)
   pub refusals : g.faults left ≡ counted (g.faults store + store_refusals history)
 
--- Why a run gave no report. A schedule that names no session is told before anything else can fail, and memory runs out only
--- behind the opening
+-- Why a run gave no report. A schedule that names no session is told before anything else can fail,
+-- and memory runs out only behind the opening
 abbrev pub HasRunCause : {S : Type 0} → Ghosts S → List Session → List ℕ → S → RunFault → Type 0
 HasRunCause g ss schedule store NoMemory = AllThere (length ss) schedule × IsBrokenOff g ss store
-HasRunCause g ss schedule store (Open fault) = AllThere (length ss) schedule × HasCause g store fault
+HasRunCause g ss schedule store (Open fault) = AllThere (length ss) schedule
+    × HasCause g store fault
 HasRunCause g ss schedule store (Schedule n) = IsStray (length ss) schedule n

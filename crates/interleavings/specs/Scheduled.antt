@@ -59,7 +59,8 @@ pub record RunsAll {S : Type 0} (g : Ghosts S) (old new : Turning S) : Type 0 wh
 -- each session is attempted, so many times
 abbrev pub StepsOfAll : Rows → List Session → ℕ → History → History → Type 0
 StepsOfAll rows ss zero h h2 = h2 ≡ h
-StepsOfAll rows ss (suc n) h h2 = (mid : History) × StepsOfAll rows ss n h mid × StepOfEach rows ss (length ss) mid h2
+StepsOfAll rows ss (suc n) h h2 = (mid : History) × StepsOfAll rows ss n h mid
+    × StepOfEach rows ss (length ss) mid h2
 
 -- so far
 pub record SettlesSoFar {S : Type 0} (g : Ghosts S) (old new : Turning S) : Type 0 where
@@ -75,13 +76,15 @@ pub record Settles {S : Type 0} (g : Ghosts S) (old new : Turning S) : Type 0 wh
   pub settled : NoneGoesOn old.core.rows old.sessions new.core.history
 
 -- the schedule's attempts, and then the rounds
-pub record RunsWhole {S : Type 0} (g : Ghosts S) (schedule : List ℕ) (old new : Turning S) : Type 0 where
+pub record RunsWhole {S : Type 0} (g : Ghosts S) (schedule : List ℕ)
+    (old new : Turning S) : Type 0 where
   pub between : Turning S
   pub list : RunsList g schedule old between
   pub all : RunsAll g between new
 
 -- those, and then the close
-pub record RunsOut {S : Type 0} (g : Ghosts S) (schedule : List ℕ) (old : Turning S) (r : Told) (left : S) : Type 0 where
+pub record RunsOut {S : Type 0} (g : Ghosts S) (schedule : List ℕ) (old : Turning S) (r : Told)
+    (left : S) : Type 0 where
   pub last : Turning S
   pub whole : RunsWhole g schedule old last
   pub closed : IsClosed g last r left

@@ -36,7 +36,8 @@ pub record IsDue (ss : List Session) (h : History) (s l : ℕ) (e : Event) : Typ
 -- the first session that has a line left, if one has
 abbrev pub IsFirstOpen : List Session → History → Option ℕ → Type 0
 IsFirstOpen ss h None = AllAnswered ss h
-IsFirstOpen ss h (Some s) = IsTrue (is_some (next_event ss h s)) × ((u : ℕ) → u < s → next_event ss h u ≡ None)
+IsFirstOpen ss h (Some s) = IsTrue (is_some (next_event ss h s))
+    × ((u : ℕ) → u < s → next_event ss h u ≡ None)
 
 -- whether a line may be answered, or begin to wait
 abbrev pub has_answer : Rows → History → ℕ → Option Event → Bool
@@ -64,44 +65,53 @@ pub record AreNext (ss : List Session) (h : History) (numbers : List ℕ) : Type
   pub count : length numbers ≡ length ss
   pub each : (s : ℕ) → s < length ss → slice_get numbers s ≡ Some (suc (answered h s))
 
--- what the type keeps: the history is legal and quiet, and takes the sessions' lines in turn; the opening rows are few
+-- what the type keeps: the history is legal and quiet, and takes the sessions' lines in turn; the
+-- opening rows are few
 pub record AreTurns {S : Type 0} (t : Turning S) (numbers : List ℕ) : Type 0 where
   pub way : IsUnderWay t.core.rows t.sessions t.core.history
   pub few : length t.core.rows ≤ most_rows
   pub next : AreNext t.sessions t.core.history numbers
 
-pub record IsStart {S : Type 0} (g : Ghosts S) (ss : List Session) (store : S) (t : Turning S) : Type 0 where
+pub record IsStart {S : Type 0} (g : Ghosts S) (ss : List Session) (store : S)
+    (t : Turning S) : Type 0 where
   pub sessions : t.sessions ≡ ss
   pub opened : IsOpened g store t.core
 
 -- what an attempt of session s tells
 abbrev pub Tells : {S : Type 0} → Turning S → Turning S → ℕ → Turn → Type 0
-Tells old new s Answered = IsTrue (is_some (next_event old.sessions old.core.history s)) × (answered new.core.history s ≡ suc (answered old.core.history s))
-Tells old new s Parked = IsTrue (is_some (next_event old.sessions old.core.history s)) × (answered new.core.history s ≡ answered old.core.history s)
+Tells old new s Answered = IsTrue (is_some (next_event old.sessions old.core.history s))
+    × (answered new.core.history s ≡ suc (answered old.core.history s))
+Tells old new s Parked = IsTrue (is_some (next_event old.sessions old.core.history s))
+    × (answered new.core.history s ≡ answered old.core.history s)
 Tells old new s OutOfTurn = (next_event old.sessions old.core.history s ≡ None) × (new ≡ old)
 
 -- one attempt of session s
-pub record Stepped {S : Type 0} (g : Ghosts S) (old new : Turning S) (s : ℕ) (turn : Turn) : Type 0 where
+pub record Stepped {S : Type 0} (g : Ghosts S) (old new : Turning S) (s : ℕ)
+    (turn : Turn) : Type 0 where
   pub sessions : new.sessions ≡ old.sessions
   pub step : Step old.core.rows old.sessions old.core.history s new.core.history
   pub told : Tells old new s turn
   pub on : GoesOn g old.core new.core
 
--- the line that was given up, by its session and number, is the one that had to be; nothing changed where none had to be
+-- the line that was given up, by its session and number, is the one that had to be; nothing changed
+-- where none had to be
 abbrev pub GivesUpLine : {S : Type 0} → Turning S → Turning S → Option (ℕ × ℕ) → Type 0
 GivesUpLine old new None = NoneGivesUp old.core.rows old.sessions old.core.history × (new ≡ old)
 GivesUpLine old new (Some line) =
     (line.1 ≡ suc (answered old.core.history line.0))
-    × ((e : Event) × MustGiveUp old.core.rows old.sessions old.core.history line.0 e × (new.core.history ≡ stuck old.core.history line.0 e ∷ old.core.history))
+    × ((e : Event) × MustGiveUp old.core.rows old.sessions old.core.history line.0 e
+    × (new.core.history ≡ stuck old.core.history line.0 e ∷ old.core.history))
 
 -- the stuck rule was applied once
-pub record Unstuck {S : Type 0} (g : Ghosts S) (old new : Turning S) (line : Option (ℕ × ℕ)) : Type 0 where
+pub record Unstuck {S : Type 0} (g : Ghosts S) (old new : Turning S)
+    (line : Option (ℕ × ℕ)) : Type 0 where
   pub sessions : new.sessions ≡ old.sessions
   pub told : GivesUpLine old new line
   pub on : GoesOn g old.core new.core
 
 -- the report after the close, and the store that comes back with it
-pub record IsClosed {S : Type 0} (g : Ghosts S) (old : Turning S) (r : Told) (left : S) : Type 0 where
+pub record IsClosed {S : Type 0} (g : Ghosts S) (old : Turning S) (r : Told)
+    (left : S) : Type 0 where
   pub answered : AllAnswered old.sessions old.core.history
   pub opening : r.opening ≡ old.core.rows
   pub labels : r.labels ≡ map (λ s. s.label) old.sessions
@@ -115,5 +125,6 @@ pub record IsClosed {S : Type 0} (g : Ghosts S) (old : Turning S) (r : Told) (le
   -- the store has the final table until its device fails, and counted the commits that it refused
   pub stored : IsTrusted g left → g.table left ≡ value_in r.table
   -- with the numbers that the history gives
-  pub numbered : IsTrusted g left → IsNumberedAfter (entries_in old.core.opened.given.items) r.history (g.numbered left)
+  pub numbered : IsTrusted g left
+      → IsNumberedAfter (entries_in old.core.opened.given.items) r.history (g.numbered left)
   pub refusals : g.faults left ≡ counted (old.core.opened.faults + store_refusals r.history)

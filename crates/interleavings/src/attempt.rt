@@ -18,8 +18,8 @@ fn accessor(event: &Event) -> Option<&Name>
     }
 }
 
-// Attempts a line that is free for its event. It is part of its caller, which reads of an outcome only whether it waits: so no
-// outcome is moved.
+// Attempts a line that is free for its event. It is part of its caller, which reads of an outcome
+// only whether it waits: so no outcome is moved.
 #[inline(always)]
 fn attempt_free<S: TopStore>(
     manager: &mut Manager<S>,
@@ -27,7 +27,8 @@ fn attempt_free<S: TopStore>(
     event: &Event,
 ) -> Result<Outcome, NoMemory>
     requires free { IsFree manager.old.history by event.now }
-    ensures ok { IfOk result (λ outcome. Attempts S.TopStore manager.old manager.new by event.now outcome) }
+    ensures ok { IfOk result (λ outcome.
+        Attempts S.TopStore manager.old manager.new by event.now outcome) }
     ensures err { OnErr result (manager.new ≡ manager.old) }
 {
     match event {
@@ -40,7 +41,8 @@ fn attempt_free<S: TopStore>(
     }
 }
 
-/// Attempts a line that is free for its event, or by which an access waits: the access is asked for again.
+/// Attempts a line that is free for its event, or by which an access waits: the access is asked for
+/// again.
 #[inline(always)]
 pub(crate) fn attempt<S: TopStore>(
     manager: &mut Manager<S>,
@@ -48,8 +50,10 @@ pub(crate) fn attempt<S: TopStore>(
     event: &Event,
 ) -> Result<Outcome, NoMemory>
     requires line { IsLine by }
-    requires next { IsFree manager.old.history by event.now ⊎ IsWaitOf manager.old.history by event.now }
-    ensures ok { IfOk result (λ outcome. Attempts S.TopStore manager.old manager.new by event.now outcome) }
+    requires next { IsFree manager.old.history by event.now
+        ⊎ IsWaitOf manager.old.history by event.now }
+    ensures ok { IfOk result (λ outcome.
+        Attempts S.TopStore manager.old manager.new by event.now outcome) }
     ensures err { OnErr result (manager.new ≡ manager.old) }
 {
     if manager.nobody_waits() {

@@ -9,7 +9,8 @@ use serial_spec::{Entry, NoMemory};
 use std::alloc::Global;
 use std::marker::Model;
 
-/// The manager, and the number of each session's next line. `Turns` are made of it and of the sessions, and give it back.
+/// The manager, and the number of each session's next line. `Turns` are made of it and of the
+/// sessions, and give it back.
 #[derive(Drop)]
 pub struct Progress<S: TopStore> {
     pub(crate) alloc: Global,
@@ -61,7 +62,8 @@ impl<S: TopStore> Progress<S> {
     /// Lets it go, with the manager and its store, as a run does that ends without a report.
     pub fn give_up(self) {}
 
-    /// One session more, none of whose lines is answered. If memory runs out, the only error, nothing has changed.
+    /// One session more, none of whose lines is answered. If memory runs out, the only error,
+    /// nothing has changed.
     pub fn add_session(&mut self) -> Result<(), NoMemory>
         ensures core { self.new.core ≡ self.old.core }
         ensures ok { OnOk result (self.new.next ≡ self.old.next ++ 1 ∷ []) }

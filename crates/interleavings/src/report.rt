@@ -16,8 +16,8 @@ use std::alloc::Global;
 use std::marker::Model;
 use txn_names::Label;
 
-/// What a finished run has to tell: the opening rows, the sessions' labels, each entry of the history, and the
-/// final table.
+/// What a finished run has to tell: the opening rows, the sessions' labels, each entry of the
+/// history, and the final table.
 #[derive(Drop)]
 pub struct Report {
     pub(crate) opening: Vec<Row>,
@@ -108,7 +108,8 @@ fn know_rows(rows: &[Row])
     }
 }
 
-/// The report of a manager that answered all lines of these sessions and whose top-level transactions have ended, and its store.
+/// The report of a manager that answered all lines of these sessions and whose top-level
+/// transactions have ended, and its store.
 pub(crate) fn report_of<S: TopStore>(
     manager: Manager<S>,
     sessions: &Sessions,
@@ -120,7 +121,13 @@ pub(crate) fn report_of<S: TopStore>(
     requires in_turn { IsInterleaving manager.rows sessions.now manager.history }
     requires finished { IsFinished sessions.now manager.history }
     requires ended { (l : List ℕ) → IsFalse (is_live manager.history (l ∷ [])) }
-    ensures report { result.0 ≡ record { opening = manager.rows; labels = labels.items; history = manager.history; table = manager.table } }
+    ensures report { result.0 ≡
+        record {
+          opening = manager.rows;
+          labels = labels.items;
+          history = manager.history;
+          table = manager.table;
+        } }
     ensures store { result.1 ≡ manager.store }
 {
     // As in `labels_of`: what is known of the sessions.

@@ -16,12 +16,13 @@ use std::alloc::Global;
 /// Why a run gave no report. Its store is dropped.
 #[derive(Clone, Copy, Debug, PartialEq, Eq)]
 pub enum RunFault {
-    /// Memory ran out behind the opening. The store was asked what a legal history of these sessions asks, and has the table
-    /// that this history leaves.
+    /// Memory ran out behind the opening. The store was asked what a legal history of these
+    /// sessions asks, and has the table that this history leaves.
     NoMemory,
     /// The store was not opened.
     Open(OpenFault),
-    /// This item of the schedule, counted from 1, is the first that is no session's number. Nothing was run.
+    /// This item of the schedule, counted from 1, is the first that is no session's number. Nothing
+    /// was run.
     Schedule(usize),
 }
 
@@ -65,8 +66,8 @@ fn close<S: TopStore>(turns: Turns<'_, S>) -> Result<(Report, S), RunFault>
     }
 }
 
-/// Runs sessions under way to their end: the schedule's attempts, the rounds and the close, as in `run_schedule`. The only error is
-/// that memory runs out; the store is dropped then.
+/// Runs sessions under way to their end: the schedule's attempts, the rounds and the close, as in
+/// `run_schedule`. The only error is that memory runs out; the store is dropped then.
 pub fn run_opened<S: TopStore>(
     turns: Turns<'_, S>,
     schedule: &[u32],
@@ -82,11 +83,13 @@ pub fn run_opened<S: TopStore>(
     }
 }
 
-/// Runs the sessions over the store by the schedule, and gives the store back with the report. A session's number counts
-/// from 0 in order of the headers. Each item of the schedule is one attempt of that session's next line, and none where
-/// its lines are all answered. Then come rounds until no line is left: each attempts every session with lines left once, in
-/// order, and applies the stuck rule once. Then the live top-level transactions are aborted in the order in which they
-/// began. A schedule that names no session is told before the store is opened; the store is dropped on every fault.
+/// Runs the sessions over the store by the schedule, and gives the store back with the report. A
+/// session's number counts from 0 in order of the headers. Each item of the schedule is one attempt
+/// of that session's next line, and none where its lines are all answered. Then come rounds until
+/// no line is left: each attempts every session with lines left once, in order, and applies the
+/// stuck rule once. Then the live top-level transactions are aborted in the order in which they
+/// began. A schedule that names no session is told before the store is opened; the store is dropped
+/// on every fault.
 pub fn run_schedule<S: TopStore>(
     alloc: Global,
     sessions: &Sessions,
@@ -94,7 +97,8 @@ pub fn run_schedule<S: TopStore>(
     store: S,
 ) -> Result<(Report, S), RunFault>
     ensures ok { IfOk result (λ run. IsRun S.TopStore sessions.now schedule.now store run.0 run.1) }
-    ensures err { IfErr result (λ fault. HasRunCause S.TopStore sessions.now schedule.now store fault) }
+    ensures err { IfErr result (λ fault.
+        HasRunCause S.TopStore sessions.now schedule.now store fault) }
 {
     if let Some(place) = stray(count_of(sessions), schedule) {
         return Err(RunFault::Schedule(place));

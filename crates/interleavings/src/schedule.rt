@@ -28,8 +28,8 @@ fn run_each<S: TopStore>(turns: &mut Turns<S>) -> Result<(), NoMemory>
     Ok(())
 }
 
-/// Attempts each session, in order, again and again, until no line may be answered or begin to wait. The only error is that
-/// memory runs out; what was done until then stands.
+/// Attempts each session, in order, again and again, until no line may be answered or begin to
+/// wait. The only error is that memory runs out; what was done until then stands.
 pub fn settle<S: TopStore>(turns: &mut Turns<S>) -> Result<(), NoMemory>
     ensures ok { OnOk result (Settles S.TopStore turns.old turns.new) }
     ensures err { OnErr result (Goes S.TopStore turns.old turns.new) }
@@ -60,9 +60,10 @@ fn run_rounds<S: TopStore>(turns: &mut Turns<S>) -> Result<(), NoMemory>
     Ok(())
 }
 
-/// Runs sessions under way until no line is left: first an attempt for each item of the schedule, where one of a finished
-/// session, or of none, changes nothing; then rounds, in each of which every session with lines left is attempted once
-/// and after which the stuck rule is applied once. The only error is that memory runs out; what was done until then stands.
+/// Runs sessions under way until no line is left: first an attempt for each item of the schedule,
+/// where one of a finished session, or of none, changes nothing; then rounds, in each of which
+/// every session with lines left is attempted once and after which the stuck rule is applied once.
+/// The only error is that memory runs out; what was done until then stands.
 #[tactic(auto, using(crate::proofs::Closed::runs_whole))]
 pub(crate) fn run_all<S: TopStore>(turns: &mut Turns<S>, schedule: &[u32]) -> Result<(), NoMemory>
     ensures ok { OnOk result (RunsWhole S.TopStore schedule.now turns.old turns.new) }

@@ -57,8 +57,9 @@ pub enum Turn {
     OutOfTurn,
 }
 
-/// Sessions over a manager. Any session's next line may be attempted at any time. The history is empty at first, and
-/// always legal, without a cycle of waits, and an interleaving of the sessions' lines as far as they are answered.
+/// Sessions over a manager. Any session's next line may be attempted at any time. The history is
+/// empty at first, and always legal, without a cycle of waits, and an interleaving of the sessions'
+/// lines as far as they are answered.
 #[derive(Drop)]
 pub struct Turns<'a, S: TopStore> {
     alloc: Global,
@@ -78,14 +79,16 @@ impl<'a, S: TopStore> Model for Turns<'a, S> {
 
     ghost view = { λ t. record { sessions = t.sessions.now; core = t.manager.value } };
 
-    ghost invariant = { λ t. AreTurns (record { sessions = t.sessions.now; core = t.manager.value }) t.next.items };
+    ghost invariant = { λ t. AreTurns
+        (record { sessions = t.sessions.now; core = t.manager.value }) t.next.items };
 }
 
 impl<'a, S: TopStore> Turns<'a, S> {
     /// No line is attempted yet. On an error the store is dropped.
     pub fn open(alloc: Global, sessions: &'a Sessions, store: S) -> Result<Turns<'a, S>, OpenFault>
         ensures ok { IfOk result (λ turns. IsStart S.TopStore sessions.now store turns) }
-        ensures way { IfOk result (λ turns. IsUnderWay turns.core.rows turns.sessions turns.core.history) }
+        ensures way { IfOk result (λ turns.
+            IsUnderWay turns.core.rows turns.sessions turns.core.history) }
         ensures err { IfErr result (λ fault. HasCause S.TopStore store fault) }
     {
         let manager = Manager::open(alloc, store)?;
@@ -104,7 +107,8 @@ impl<'a, S: TopStore> Turns<'a, S> {
         }
     }
 
-    /// The sessions are under way, and the manager is sound. The call does nothing: it tells the prover so.
+    /// The sessions are under way, and the manager is sound. The call does nothing: it tells the
+    /// prover so.
     pub fn has_legal_history(&self)
         ensures { Stands S.TopStore self.now }
     {
@@ -118,7 +122,8 @@ impl<'a, S: TopStore> Turns<'a, S> {
         self.sessions.len() as u32
     }
 
-    // The session's next line, where there is such a session and it has a line left: its number, and what it asks.
+    // The session's next line, where there is such a session and it has a line left: its number,
+    // and what it asks.
     fn due(&self, session: u32) -> Option<(u32, &'a Event)>
         ensures some { IfSome result (λ due.
             IsDue self.now.sessions self.now.core.history session due.0 due.1.now) }
@@ -165,12 +170,13 @@ impl<'a, S: TopStore> Turns<'a, S> {
         self.first_open().is_none()
     }
 
-    /// Attempts the session's next line: it is answered as the definitions say, or it begins to wait, or nothing happens;
-    /// then those are aborted that break the cycles of waits. The only error is that memory runs out, and nothing has
-    /// changed then.
+    /// Attempts the session's next line: it is answered as the definitions say, or it begins to
+    /// wait, or nothing happens; then those are aborted that break the cycles of waits. The only
+    /// error is that memory runs out, and nothing has changed then.
     pub fn step(&mut self, session: u32) -> Result<Turn, NoMemory>
         ensures ok { IfOk result (λ turn. Stepped S.TopStore self.old self.new session turn) }
-        ensures way { OnOk result (IsUnderWay self.new.core.rows self.new.sessions self.new.core.history) }
+        ensures way { OnOk result
+            (IsUnderWay self.new.core.rows self.new.sessions self.new.core.history) }
         ensures err { OnErr result (self.new ≡ self.old) }
     {
         let Some((line, due)) = self.due(session) else {
@@ -183,13 +189,14 @@ impl<'a, S: TopStore> Turns<'a, S> {
         self.attempt_line(session, line, due)
     }
 
-    // Attempts the session's next line, which has this number and asks this. It is no part of `step`, which pays for no room of it
-    // then.
+    // Attempts the session's next line, which has this number and asks this. It is no part of
+    // `step`, which pays for no room of it then.
     #[inline(never)]
     fn attempt_line(&mut self, session: u32, line: u32, due: &Event) -> Result<Turn, NoMemory>
         requires { IsDue self.old.sessions self.old.core.history session line due.now }
         ensures ok { IfOk result (λ turn. Stepped S.TopStore self.old self.new session turn) }
-        ensures way { OnOk result (IsUnderWay self.new.core.rows self.new.sessions self.new.core.history) }
+        ensures way { OnOk result
+            (IsUnderWay self.new.core.rows self.new.sessions self.new.core.history) }
         ensures err { OnErr result (self.new ≡ self.old) }
     {
         // What is known of a text comes with its length: here that a session has few lines.
@@ -207,7 +214,8 @@ impl<'a, S: TopStore> Turns<'a, S> {
 
     // Whether the session's next line may be answered, or begin to wait.
     fn can_go_on(&self, session: u32) -> bool
-        ensures { result ≡ can_go_on self.now.core.rows self.now.sessions self.now.core.history session }
+        ensures { result ≡
+            can_go_on self.now.core.rows self.now.sessions self.now.core.history session }
     {
         let Some((line, due)) = self.due(session) else {
             return false;
@@ -219,8 +227,9 @@ impl<'a, S: TopStore> Turns<'a, S> {
         !self.manager.held_up(by, due)
     }
 
-    /// Whether the next line of some session may be answered, or begin to wait. It looks first at the session that was answered
-    /// last, which mostly goes on, and takes one look at each session where none does.
+    /// Whether the next line of some session may be answered, or begin to wait. It looks first at
+    /// the session that was answered last, which mostly goes on, and takes one look at each session
+    /// where none does.
     pub fn goes_on(&self) -> bool
         ensures { MatchBool result
             (SomeGoesOn self.now.core.rows self.now.sessions self.now.core.history)
@@ -248,12 +257,13 @@ impl<'a, S: TopStore> Turns<'a, S> {
         Some(first)
     }
 
-    /// Applies the stuck rule once: where lines are left and none of the sessions can go on, the next line of the first
-    /// session that has one is given up. Answers its session and number. The only error is that memory runs out, and
-    /// nothing has changed then.
+    /// Applies the stuck rule once: where lines are left and none of the sessions can go on, the
+    /// next line of the first session that has one is given up. Answers its session and number. The
+    /// only error is that memory runs out, and nothing has changed then.
     pub fn stuck(&mut self) -> Result<Option<(u32, u32)>, NoMemory>
         ensures ok { IfOk result (λ line. Unstuck S.TopStore self.old self.new line) }
-        ensures way { OnOk result (IsUnderWay self.new.core.rows self.new.sessions self.new.core.history) }
+        ensures way { OnOk result
+            (IsUnderWay self.new.core.rows self.new.sessions self.new.core.history) }
         ensures err { OnErr result (self.new ≡ self.old) }
     {
         // As in `step`.
@@ -307,8 +317,9 @@ impl<'a, S: TopStore> Turns<'a, S> {
         }
     }
 
-    /// Aborts the live top-level transactions in the order in which they began, and gives the report of the run, and the
-    /// store. It gives the value back unchanged where lines are left, or memory runs out.
+    /// Aborts the live top-level transactions in the order in which they began, and gives the
+    /// report of the run, and the store. It gives the value back unchanged where lines are left, or
+    /// memory runs out.
     pub fn into_report(self) -> Result<(Report, S), Turns<'a, S>>
         ensures ok { IfOk result (λ run. IsClosed S.TopStore self.entry run.0 run.1) }
         ensures err { IfErr result (λ turns. turns ≡ self.entry) }

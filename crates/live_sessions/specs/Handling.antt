@@ -13,13 +13,15 @@ use Rattle.interleavings.specs.Scheduled.{Goes, Stands, StepsOfAll}
 use Rattle.interleavings.specs.Turning.{Turning, NoneGoesOn}
 use Rattle.live_sessions.specs.Requested.{number_of, request_fault, with_request}
 
--- what the type keeps: the sessions are under way, none of their lines was given up, and the labels are theirs
+-- what the type keeps: the sessions are under way, none of their lines was given up, and the labels
+-- are theirs
 pub record IsLive {S : Type 0} (ss : List Session) (ls : List (List ℕ)) (p : Going S) : Type 0 where
   pub way : AreUnderWay ss p
   pub open_ended : IsOpenEnded p.core.history
   pub labels : ls ≡ labels_in ss
 
--- The next line of session s was attempted, and then all sessions in order, so many times, until none of them can go on
+-- The next line of session s was attempted, and then all sessions in order, so many times, until
+-- none of them can go on
 pub record Attempted {S : Type 0} (g : Ghosts S) (s : ℕ) (old new : Turning S) : Type 0 where
   pub goes : Goes g old new
   pub mid : History
@@ -29,13 +31,16 @@ pub record Attempted {S : Type 0} (g : Ghosts S) (s : ℕ) (old new : Turning S)
   pub settled : NoneGoesOn old.core.rows old.sessions new.core.history
 
 -- the session with this label got the line, which was attempted so
-pub record Grows {S : Type 0} (g : Ghosts S) (old : Turning S) (l : List ℕ) (e : Event) (new : Turning S) : Type 0 where
+pub record Grows {S : Type 0} (g : Ghosts S) (old : Turning S) (l : List ℕ) (e : Event)
+    (new : Turning S) : Type 0 where
   pub sessions : new.sessions ≡ with_request old.sessions l e
   pub on : GoesOn g old.core new.core
-  pub attempted : Attempted g (number_of l old.sessions) (record { sessions = new.sessions; core = old.core }) new
+  pub attempted : Attempted g (number_of l old.sessions)
+      (record { sessions = new.sessions; core = old.core }) new
 
 -- The request was taken, since nothing was wrong with it
-pub record IsTaken {S : Type 0} (g : Ghosts S) (old : Turning S) (bs : List ℕ) (new : Turning S) : Type 0 where
+pub record IsTaken {S : Type 0} (g : Ghosts S) (old : Turning S) (bs : List ℕ)
+    (new : Turning S) : Type 0 where
   pub label : List ℕ
   pub event : Event
   pub read : request_of bs ≡ Ok (label, event)
@@ -43,12 +48,16 @@ pub record IsTaken {S : Type 0} (g : Ghosts S) (old : Turning S) (bs : List ℕ)
   pub grows : Grows g old label event new
 
 -- what came of a request: nothing, and why
-abbrev pub Handled : {S : Type 0} → Ghosts S → Turning S → List ℕ → Turning S → Option LineKind → Type 0
+abbrev pub Handled : {S : Type 0} → Ghosts S → Turning S → List ℕ → Turning S → Option LineKind
+    → Type 0
 Handled g old bs new None = IsTaken g old bs new
-Handled g old bs new (Some kind) = (request_fault old.sessions old.core.history bs ≡ Some kind) × (new ≡ old)
+Handled g old bs new (Some kind) = (request_fault old.sessions old.core.history bs ≡ Some kind)
+    × (new ≡ old)
 
--- Memory ran out where the session with this label had got the line, or not yet; what was attempted until then stands
-pub record BreaksAt {S : Type 0} (g : Ghosts S) (old : Turning S) (l : List ℕ) (e : Event) : Type 0 where
+-- Memory ran out where the session with this label had got the line, or not yet; what was attempted
+-- until then stands
+pub record BreaksAt {S : Type 0} (g : Ghosts S) (old : Turning S) (l : List ℕ)
+    (e : Event) : Type 0 where
   pub last : Turning S
   pub sessions : (last.sessions ≡ old.sessions) ⊎ (last.sessions ≡ with_request old.sessions l e)
   pub on : GoesOn g old.core last.core

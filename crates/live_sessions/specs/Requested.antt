@@ -27,7 +27,8 @@ with_request ss l e = with_line_of (with_session (place_of l ss) ss l) (number_o
 
 -- ---- why it is not taken
 
--- of a session with so many lines so many are answered: it has one line at a time, and no more than there may be
+-- of a session with so many lines so many are answered: it has one line at a time, and no more than
+-- there may be
 abbrev pub fault_behind : ℕ → ℕ → Option LineKind
 fault_behind done lines =
     if nat_lt done lines then Some kind.Turn

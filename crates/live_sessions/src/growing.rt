@@ -21,7 +21,8 @@ pub(crate) fn refusal<S: TopStore>(
     label: &Label,
 ) -> Option<LineKind>
     requires { AreUnderWay sessions.now progress.now }
-    ensures { result ≡ fault_at sessions.now progress.now.core.history (place_of label.now sessions.now) }
+    ensures { result ≡ fault_at sessions.now progress.now.core.history
+        (place_of label.now sessions.now) }
 {
     let Some(session) = sessions.place(label) else {
         return if sessions.len() < MOST_SESSIONS {
@@ -78,11 +79,13 @@ fn place_for<S: TopStore>(
     requires way { AreUnderWay sessions.old progress.old }
     requires open_ended { IsOpenEnded progress.old.core.history }
     requires labels { labels.old.items ≡ labels_in sessions.old }
-    requires welcome { fault_at sessions.old progress.old.core.history (place_of label sessions.old) ≡ None }
+    requires welcome { fault_at sessions.old progress.old.core.history
+        (place_of label sessions.old) ≡ None }
     ensures place { IfOk result (λ s. s ≡ number_of label sessions.old) }
     ensures there { IfOk result (λ s. s < length sessions.new) }
     ensures room { IfOk result (λ s. length (lines_of (slice_get sessions.new s)) < MOST_LINES) }
-    ensures sessions { OnOk result (sessions.new ≡ with_session (place_of label sessions.old) sessions.old label) }
+    ensures sessions { OnOk result
+        (sessions.new ≡ with_session (place_of label sessions.old) sessions.old label) }
     ensures core { progress.new.core ≡ progress.old.core }
     ensures way { OnOk result (AreUnderWay sessions.new progress.new) }
     ensures labels { OnOk result (labels.new.items ≡ labels_in sessions.new) }
@@ -93,8 +96,9 @@ fn place_for<S: TopStore>(
     }
 }
 
-/// Adds the line to the session with this label, which is made where there is none, and answers its place. Where memory runs out the
-/// sessions may have grown, and what is kept beside them may have not.
+/// Adds the line to the session with this label, which is made where there is none, and answers its
+/// place. Where memory runs out the sessions may have grown, and what is kept beside them may have
+/// not.
 pub(crate) fn grow<S: TopStore>(
     alloc: Global,
     sessions: &mut Sessions,
@@ -106,7 +110,8 @@ pub(crate) fn grow<S: TopStore>(
     requires way { AreUnderWay sessions.old progress.old }
     requires open_ended { IsOpenEnded progress.old.core.history }
     requires labels { labels.old.items ≡ labels_in sessions.old }
-    requires welcome { fault_at sessions.old progress.old.core.history (place_of label sessions.old) ≡ None }
+    requires welcome { fault_at sessions.old progress.old.core.history
+        (place_of label sessions.old) ≡ None }
     ensures place { IfOk result (λ s. s ≡ number_of label sessions.old) }
     ensures sessions { OnOk result (sessions.new ≡ with_request sessions.old label line) }
     ensures core { progress.new.core ≡ progress.old.core }

@@ -1,4 +1,5 @@
-//! Sessions that grow while they run: each request is a line of a session, and is attempted before the next one is taken.
+//! Sessions that grow while they run: each request is a line of a session, and is attempted before
+//! the next one is taken.
 #![tactic(auto)]
 
 mod growing;

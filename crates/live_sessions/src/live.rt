@@ -19,9 +19,9 @@ use std::alloc::{AllocError, Global};
 use std::marker::Model;
 use txn_names::Label;
 
-/// Sessions over a manager, to which requests add lines. The history is always legal, without a cycle of waits, and an
-/// interleaving of the sessions' lines as far as they are answered; no line is given up before `finish`. A value is let go by
-/// `finish` or by `give_up`.
+/// Sessions over a manager, to which requests add lines. The history is always legal, without a
+/// cycle of waits, and an interleaving of the sessions' lines as far as they are answered; no line
+/// is given up before `finish`. A value is let go by `finish` or by `give_up`.
 pub struct Live<S: TopStore> {
     alloc: Global,
     sessions: Sessions,
@@ -88,7 +88,8 @@ impl<S: TopStore> Live<S> {
         self.progress.history()
     }
 
-    /// The sessions are under way, and the manager is sound. The call does nothing: it tells the prover so.
+    /// The sessions are under way, and the manager is sound. The call does nothing: it tells the
+    /// prover so.
     pub fn has_legal_history(&self)
         ensures { Stands S.TopStore self.now }
     {
@@ -97,7 +98,8 @@ impl<S: TopStore> Live<S> {
 
     // Adds the line to its session and attempts it.
     fn take(self, label: Label, line: Line) -> Result<Live<S>, NoMemory>
-        requires welcome { fault_at self.sessions self.core.history (place_of label self.sessions) ≡ None }
+        requires welcome { fault_at self.sessions self.core.history (place_of label self.sessions) ≡
+            None }
         ensures ok { IfOk result (λ live. Grows S.TopStore self label line live) }
         ensures err { OnErr result (BreaksAt S.TopStore self label line) }
     {
@@ -140,11 +142,13 @@ impl<S: TopStore> Live<S> {
         }
     }
 
-    /// Takes a request, which is a line `LABEL LINE` without its line feed: the line is put behind the others of the session
-    /// with that label, which is a new one where none has it, and is attempted. Then the sessions whose line waits are
-    /// attempted, in order, again and again until none of them goes on. What was not taken changes nothing, and is told by a
-    /// kind: what `parse_request` tells; `Turn`, where the session has a line that is not answered; `Limit`, where it has 1,024 lines
-    /// or there are 64 sessions and a new one is named. The only error is that memory runs out, and the store is dropped then.
+    /// Takes a request, which is a line `LABEL LINE` without its line feed: the line is put behind
+    /// the others of the session with that label, which is a new one where none has it, and is
+    /// attempted. Then the sessions whose line waits are attempted, in order, again and again until
+    /// none of them goes on. What was not taken changes nothing, and is told by a kind: what
+    /// `parse_request` tells; `Turn`, where the session has a line that is not answered; `Limit`,
+    /// where it has 1,024 lines or there are 64 sessions and a new one is named. The only error is
+    /// that memory runs out, and the store is dropped then.
     pub fn request(self, bytes: &[u8]) -> Result<(Live<S>, Option<LineKind>), NoMemory>
         ensures ok { IfOk result (λ r. Handled S.TopStore self bytes.now r.0 r.1) }
         ensures err { OnErr result (Breaks S.TopStore self bytes.now) }
@@ -162,8 +166,9 @@ impl<S: TopStore> Live<S> {
         }
     }
 
-    /// Runs the sessions to their end, which take no line any more: rounds with the stuck rule until no line is left, and the
-    /// close. It gives the report and the store. The only error is that memory runs out, and the store is dropped then.
+    /// Runs the sessions to their end, which take no line any more: rounds with the stuck rule
+    /// until no line is left, and the close. It gives the report and the store. The only error is
+    /// that memory runs out, and the store is dropped then.
     pub fn finish(self) -> Result<(Report, S), NoMemory>
         ensures ok { IfOk result (λ run. RunsOut S.TopStore [] self run.0 run.1) }
         ensures err { OnErr result (BreaksOff S.TopStore self) }
@@ -181,7 +186,8 @@ impl<S: TopStore> Live<S> {
         }
     }
 
-    /// Lets the sessions go, and the store, without a report. What was committed stands in the store.
+    /// Lets the sessions go, and the store, without a report. What was committed stands in the
+    /// store.
     pub fn give_up(self)
         ensures { Stands S.TopStore self }
     {

@@ -51,7 +51,8 @@ fn reader(text: &[u8], piece: usize, fails_at: usize) -> Requests<'_> {
     }
 }
 
-// Takes so many bytes, and then no more. It passes on what it took so many times, and then fails to.
+// Takes so many bytes, and then no more. It passes on what it took so many times, and then fails
+// to.
 #[derive(Drop)]
 struct Narrow {
     taken: Vec<u8>,
@@ -98,7 +99,8 @@ impl Told {
         self.status == status && self.out.as_slice() == out && self.err.as_slice() == err
     }
 
-    // Whether the run, or its store, found no memory. What was written is a beginning of a report even so.
+    // Whether the run, or its store, found no memory. What was written is a beginning of a report
+    // even so.
     fn wanted_memory(&self) -> bool {
         let out = self.out.as_slice();
         if REPORT.starts_with(out) {

@@ -2,7 +2,8 @@
 use request_lines::{MOST_BYTES, ReadFault, RequestLines, Taken};
 use std::io::{self, ErrorKind, Read};
 
-// Bytes that are given at most so many at a time. The call with this number, from 0, answers this error.
+// Bytes that are given at most so many at a time. The call with this number, from 0, answers this
+// error.
 #[derive(Drop)]
 struct Piecemeal<'a> {
     rest: &'a [u8],

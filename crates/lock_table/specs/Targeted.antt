@@ -1,5 +1,5 @@
--- Locks by target: one table of locks by key, one by group, and one that tells by group who has written a key of it. The bytes of
--- a group are those of a key, so that each is a table by key.
+-- Locks by target: one table of locks by key, one by group, and one that tells by group who has
+-- written a key of it. The bytes of a group are those of a key, so that each is a table by key.
 use Rattle.std.specs.Prelude.{◌≡◌, ◌<◌, ℕ, Bool, true, false, nat_eq, nat_lt, not, ◌&&◌, ◌||◌, ◌↔◌, ◌⊎◌, if◌then◌else◌, List, [], length, take, Option}
 use Rattle.std.specs.List.{list_any}
 use Rattle.std.specs.List.Sorted.{IsStrictlyIncreasing}
@@ -42,7 +42,8 @@ has_place l u (Group g) = one.has_place l.sums u g
 abbrev pub has_mark_place : Targeted → ℕ → List ℕ → Bool
 has_mark_place l u g = one.has_place l.writers u g
 
--- at each group of the key; some bytes are one where the key begins with them and a dot stands behind
+-- at each group of the key; some bytes are one where the key begins with them and a dot stands
+-- behind
 abbrev pub AtGroups : List ℕ → (List ℕ → Type 0) → Type 0
 AtGroups k P = (g : List ℕ) → has g k ≡ true → 0 < length g → P g
 
@@ -74,7 +75,8 @@ pub record AreSums (sums : one.Table) : Type 0 where
   pub none : (u : ℕ) → one.modes_in sums u [] ≡ free
   pub read : (u : ℕ) (g : List ℕ) → writes (one.modes_in sums u g) ≡ false
 
--- u locks something that has a key in common with the target, in a mode that keeps an access of this kind out
+-- u locks something that has a key in common with the target, in a mode that keeps an access of
+-- this kind out
 abbrev pub Reaches : Targeted → ℕ → Target → Kind → Type 0
 Reaches l u s x = (v : Target) × (meets v s ≡ true) × (conflicts (whole (modes_at l u v)) x ≡ true)
 
@@ -106,8 +108,9 @@ pub record AreBlockers (tree : States) (l : Targeted) (t : ℕ) (s : Target) (x 
   pub rising : IsStrictlyIncreasing found
   pub each : (u : ℕ) → IsAmong found u ↔ IsBlockerAt tree l t s x u
 
--- How many lists there are of those whose locks meet the target. The first of a key has those that lock it, and each other those
--- that lock the group of so many bytes of the key, if there is one. The one list of a group has those that write a key of it
+-- How many lists there are of those whose locks meet the target. The first of a key has those that
+-- lock it, and each other those that lock the group of so many bytes of the key, if there is one.
+-- The one list of a group has those that write a key of it
 abbrev pub lists_of : Target → ℕ
 lists_of (Key k) = length k
 lists_of (Group g) = 1
@@ -135,7 +138,8 @@ abbrev pub held_at : Targeted → ℕ → Target → Mode → ℕ → Target →
 held_at l t s more u v =
     if nat_eq t u && target_eq s v then with_held (modes_at l u v) more else modes_at l u v
 
--- where the child has handed its locks up: it has none, and the parent retains each in its whole mode
+-- where the child has handed its locks up: it has none, and the parent retains each in its whole
+-- mode
 abbrev pub handed_up_at : Targeted → ℕ → Option ℕ → ℕ → Target → Modes
 handed_up_at l child parent u v =
     if nat_eq child u then free

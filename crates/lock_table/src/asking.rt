@@ -10,7 +10,8 @@ use serial_spec::{Asked, NoMemory};
 use txn_tree::{Tree, TxnNo};
 
 impl TargetLocks {
-    /// Whether nobody keeps the transaction from what it asks, as `may` and `may_group` tell it. It takes no memory.
+    /// Whether nobody keeps the transaction from what it asks, as `may` and `may_group` tell it. It
+    /// takes no memory.
     pub fn may_ask(&self, tree: &Tree, txn: TxnNo, asked: &Asked) -> bool
         ensures { IsTrue result ↔ MayAsk tree.now self.now txn asked.now }
     {
@@ -20,8 +21,9 @@ impl TargetLocks {
         }
     }
 
-    /// As `may_ask`. A key is looked up once and remembered, so that `reserve_asked` and `hold_asked` find its lock without another
-    /// look-up. No lock and no place changes, and it takes no memory.
+    /// As `may_ask`. A key is looked up once and remembered, so that `reserve_asked` and
+    /// `hold_asked` find its lock without another look-up. No lock and no place changes, and it
+    /// takes no memory.
     #[inline(always)]
     pub fn may_ask_remembering(&mut self, tree: &Tree, txn: TxnNo, asked: &Asked) -> bool
         ensures may { IsTrue result ↔ MayAsk tree.now self.old txn asked.now }
@@ -33,7 +35,8 @@ impl TargetLocks {
         }
     }
 
-    /// Whether the holder keeps the transaction from what it asks, as `blocks` and `blocks_group` tell it. It takes no memory.
+    /// Whether the holder keeps the transaction from what it asks, as `blocks` and `blocks_group`
+    /// tell it. It takes no memory.
     pub fn blocks_asked(&self, tree: &Tree, holder: TxnNo, txn: TxnNo, asked: &Asked) -> bool
         ensures { IsTrue result ↔ BlocksAsked tree.now self.now txn asked.now holder }
     {
@@ -43,8 +46,9 @@ impl TargetLocks {
         }
     }
 
-    /// Those that keep the transaction from what it asks, the first begun first, as `blockers` and `group_blockers` tell them. Where
-    /// there is nobody it takes no memory. The only error is that memory runs out.
+    /// Those that keep the transaction from what it asks, the first begun first, as `blockers` and
+    /// `group_blockers` tell them. Where there is nobody it takes no memory. The only error is that
+    /// memory runs out.
     pub fn asked_blockers(
         &self,
         tree: &Tree,
@@ -61,8 +65,9 @@ impl TargetLocks {
         }
     }
 
-    /// Makes the places that the lock of what is asked needs, as `reserve` and `reserve_group` do. No lock changes, and each other
-    /// place stays. If memory runs out, the only error, the target has no new place.
+    /// Makes the places that the lock of what is asked needs, as `reserve` and `reserve_group` do.
+    /// No lock changes, and each other place stays. If memory runs out, the only error, the target
+    /// has no new place.
     pub fn reserve_asked(&mut self, txn: TxnNo, asked: &Asked) -> Result<(), NoMemory>
         ensures modes { HasModes self.new (modes_at self.old) }
         ensures ok { OnOk result (MayHoldAsked self.new txn asked.now) }

@@ -46,8 +46,8 @@ pub(crate) fn sum_blocks(sums: &Locks, tree: &Tree, holder: TxnNo, txn: TxnNo, k
     false
 }
 
-/// Adds those whose sum over a group of the key keeps the transaction from writing it, if they are not there. If memory runs out,
-/// the only error, some of them are.
+/// Adds those whose sum over a group of the key keeps the transaction from writing it, if they are
+/// not there. If memory runs out, the only error, some of them are.
 pub(crate) fn add_summers(
     sums: &Locks,
     tree: &Tree,
@@ -74,15 +74,16 @@ pub(crate) fn add_summers(
     Ok(())
 }
 
-/// Makes a place for the transaction at each group of the key. No lock changes. If memory runs out, the only error, there are
-/// places at some of them.
+/// Makes a place for the transaction at each group of the key. No lock changes. If memory runs out,
+/// the only error, there are places at some of them.
 pub(crate) fn make_marks(writers: &mut Locks, txn: TxnNo, key: &Key) -> Result<(), NoMemory>
     ensures modes { (u : ℕ) → (g : List ℕ) →
         one.modes_in writers.new u g ≡ one.modes_in writers.old u g }
     ensures ok { OnOk result (AtGroups key.now (λ g. IsTrue (one.has_place writers.new txn g))) }
     ensures added { IsUpTo (one.has_place writers.old) (one.has_place writers.new)
         (with_groups (one.has_place writers.old) txn key.now) }
-    ensures succeeds { AtGroups key.now (λ g. IsTrue (one.has_place writers.old txn g)) → IsOk result }
+    ensures succeeds { AtGroups key.now (λ g. IsTrue (one.has_place writers.old txn g)) →
+        IsOk result }
 {
     let len = key.as_bytes().len();
     for place in 1..len {

@@ -12,8 +12,8 @@ use std::alloc::Global;
 use txn_cells::KeyCells;
 use txn_tree::{Tree, TxnNo};
 
-/// Whether the holder keeps the transaction from an access of this kind: it has begun, is neither the transaction nor an
-/// ancestor of it, and its lock conflicts. It takes no memory.
+/// Whether the holder keeps the transaction from an access of this kind: it has begun, is neither
+/// the transaction nor an ancestor of it, and its lock conflicts. It takes no memory.
 pub(crate) fn keeps_out(
     locks: &KeyCells<Modes>,
     tree: &Tree,
@@ -45,8 +45,8 @@ fn any_keeps_out(
         .any(|holder| keeps_out(locks, tree, txn, kind, *holder))
 }
 
-// Transactions, the first begun first, among whom are all whose locks conflict with an access of this kind. A reader keeps no
-// reader out.
+// Transactions, the first begun first, among whom are all whose locks conflict with an access of
+// this kind. A reader keeps no reader out.
 fn rivals(locks: &KeyCells<Modes>, kind: Kind) -> &[TxnNo]
     ensures all { (u : ℕ) → IsTrue (conflicts (whole (modes_of locks.now u)) kind) →
         IsTrue (list_any (nat_eq u) result.now) }
@@ -70,8 +70,8 @@ pub(crate) fn lets_in(locks: &KeyCells<Modes>, tree: &Tree, txn: TxnNo, kind: Ki
     ensures { result ≡ not (is_kept_out tree.now (modes_of locks.now) txn kind) }
 {
     // Most accesses that are kept out are so by a writer, so those that stand out are asked first
-    // where they are fewer than all that have a place at the key. Where they are not, both lists are
-    // the same, and it would be gone through twice.
+    // where they are fewer than all that have a place at the key. Where they are not, both lists
+    // are the same, and it would be gone through twice.
     let writers = locks.standing_out();
     if kind == Kind::Write && writers.len() < locks.holders().len() {
         if any_keeps_out(locks, tree, txn, kind, writers) {
@@ -81,8 +81,8 @@ pub(crate) fn lets_in(locks: &KeyCells<Modes>, tree: &Tree, txn: TxnNo, kind: Ki
     !is_kept_out(locks, tree, txn, kind)
 }
 
-/// Those that keep the transaction from an access of this kind, the first begun first. Where there is nobody it takes no
-/// memory. The only error is that memory runs out.
+/// Those that keep the transaction from an access of this kind, the first begun first. Where there
+/// is nobody it takes no memory. The only error is that memory runs out.
 pub(crate) fn keepers(
     alloc: Global,
     locks: &KeyCells<Modes>,

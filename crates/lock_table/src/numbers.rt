@@ -24,7 +24,8 @@ fn add(numbers: &mut Vec<TxnNo>, txn: TxnNo) -> Result<(), NoMemory>
     }
 }
 
-/// Puts each of these where it belongs, if it is not there. If memory runs out, the only error, some of them are there.
+/// Puts each of these where it belongs, if it is not there. If memory runs out, the only error,
+/// some of them are there.
 pub(crate) fn add_all(numbers: &mut Vec<TxnNo>, more: &[TxnNo]) -> Result<(), NoMemory>
     requires { IsStrictlyIncreasing numbers.old.items }
     ensures rising { IsStrictlyIncreasing numbers.new.items }

@@ -61,14 +61,16 @@ impl TargetLocks {
         self.keys.modes_of(txn, key)
     }
 
-    /// As `modes_of`, of a key that mostly is the transaction's key at this index in `keys`: that is found without a look-up.
+    /// As `modes_of`, of a key that mostly is the transaction's key at this index in `keys`: that
+    /// is found without a look-up.
     pub fn modes_listed(&self, txn: TxnNo, index: usize, key: &Key) -> (Mode, Mode)
         ensures { result ≡ both_of (modes_at self.now txn (target.Key key.now)) }
     {
         self.keys.modes_listed(txn, index, key)
     }
 
-    /// The keys at which the transaction has a place, each once. It locks no other key; groups are not among them.
+    /// The keys at which the transaction has a place, each once. It locks no other key; groups are
+    /// not among them.
     pub fn keys(&self, txn: TxnNo) -> &[Key]
         ensures each { (q : List ℕ) →
             has_place self.now txn (target.Key q) ≡ list_any (label_eq q) result.now }
@@ -87,8 +89,8 @@ impl TargetLocks {
         self.sums.modes_of(txn, &group.as_key())
     }
 
-    /// Whether nobody keeps the transaction from an access of this kind to the key: by a lock on the key, or, from a write, by one
-    /// on a group of the key. It takes no memory.
+    /// Whether nobody keeps the transaction from an access of this kind to the key: by a lock on
+    /// the key, or, from a write, by one on a group of the key. It takes no memory.
     pub fn may(&self, tree: &Tree, txn: TxnNo, key: &Key, kind: Kind) -> bool
         ensures { IsTrue result ↔ MayAt tree.now self.now txn (target.Key key.now) kind }
     {
@@ -108,8 +110,8 @@ impl TargetLocks {
         }
     }
 
-    /// As `may`. The key is looked up once and remembered, so that `reserve` and `hold` find its lock without another look-up. No lock
-    /// and no place changes, and it takes no memory.
+    /// As `may`. The key is looked up once and remembered, so that `reserve` and `hold` find its
+    /// lock without another look-up. No lock and no place changes, and it takes no memory.
     #[inline(always)]
     pub fn may_remembering(&mut self, tree: &Tree, txn: TxnNo, key: &Key, kind: Kind) -> bool
         ensures may { IsTrue result ↔ MayAt tree.now self.old txn (target.Key key.now) kind }
@@ -120,15 +122,17 @@ impl TargetLocks {
         self.may_by(is_let, tree, txn, key, kind)
     }
 
-    /// Whether nobody keeps the transaction from a sum over the group: by a lock to write on a key of it. It takes no memory.
+    /// Whether nobody keeps the transaction from a sum over the group: by a lock to write on a key
+    /// of it. It takes no memory.
     pub fn may_group(&self, tree: &Tree, txn: TxnNo, group: &Group) -> bool
         ensures { IsTrue result ↔ MayAt tree.now self.now txn (target.Group group.now) Read }
     {
         self.writers.may(tree, txn, &group.as_key(), Kind::Read)
     }
 
-    /// Whether the holder keeps the transaction from an access of this kind: it has begun, is neither the transaction nor an
-    /// ancestor of it, and its lock on the key conflicts, or, with a write, its lock on a group of the key. It takes no memory.
+    /// Whether the holder keeps the transaction from an access of this kind: it has begun, is
+    /// neither the transaction nor an ancestor of it, and its lock on the key conflicts, or, with a
+    /// write, its lock on a group of the key. It takes no memory.
     pub fn blocks(&self, tree: &Tree, holder: TxnNo, txn: TxnNo, key: &Key, kind: Kind) -> bool
         ensures { IsTrue result
             ↔ IsBlockerAt tree.now self.now txn (target.Key key.now) kind holder }
@@ -142,8 +146,9 @@ impl TargetLocks {
         }
     }
 
-    /// Whether the holder keeps the transaction from a sum over the group: it has begun, is neither the transaction nor an
-    /// ancestor of it, and it locks a key of the group to write. It takes no memory.
+    /// Whether the holder keeps the transaction from a sum over the group: it has begun, is neither
+    /// the transaction nor an ancestor of it, and it locks a key of the group to write. It takes no
+    /// memory.
     pub fn blocks_group(&self, tree: &Tree, holder: TxnNo, txn: TxnNo, group: &Group) -> bool
         ensures { IsTrue result
             ↔ IsBlockerAt tree.now self.now txn (target.Group group.now) Read holder }
@@ -152,8 +157,8 @@ impl TargetLocks {
             .blocks(tree, holder, txn, &group.as_key(), Kind::Read)
     }
 
-    /// Those that keep the transaction from an access of this kind to the key, the first begun first. Where there is nobody it
-    /// takes no memory. The only error is that memory runs out.
+    /// Those that keep the transaction from an access of this kind to the key, the first begun
+    /// first. Where there is nobody it takes no memory. The only error is that memory runs out.
     pub fn blockers(
         &self,
         tree: &Tree,
@@ -175,8 +180,8 @@ impl TargetLocks {
         }
     }
 
-    /// Those that keep the transaction from a sum over the group, the first begun first. Where there is nobody it takes no memory.
-    /// The only error is that memory runs out.
+    /// Those that keep the transaction from a sum over the group, the first begun first. Where
+    /// there is nobody it takes no memory. The only error is that memory runs out.
     pub fn group_blockers(
         &self,
         tree: &Tree,
@@ -191,8 +196,8 @@ impl TargetLocks {
             .blockers(tree, txn, &group.as_key(), Kind::Read)
     }
 
-    /// How many lists there are of transactions whose locks meet the target: `list_at` has them. Whoever keeps another from what is
-    /// asked of the target is in one of them.
+    /// How many lists there are of transactions whose locks meet the target: `list_at` has them.
+    /// Whoever keeps another from what is asked of the target is in one of them.
     #[inline]
     pub fn lists(&self, target: &Target) -> usize
         ensures count { result ≡ lists_of target.now }
@@ -229,9 +234,10 @@ impl TargetLocks {
         }
     }
 
-    /// The transactions in the list of the target at this place, counted from 0, the first begun first. Of a key the list at 0 has
-    /// those with a place at it, and the list at another place those with a place at the group of so many bytes, if it is one of
-    /// the key's. Of a group the list at 0 has those with a place for a mark at it. The others have nobody.
+    /// The transactions in the list of the target at this place, counted from 0, the first begun
+    /// first. Of a key the list at 0 has those with a place at it, and the list at another place
+    /// those with a place at the group of so many bytes, if it is one of the key's. Of a group the
+    /// list at 0 has those with a place for a mark at it. The others have nobody.
     #[inline(always)]
     pub fn list_at(&self, target: &Target, place: usize) -> &[TxnNo]
         ensures each { (u : ℕ) →
@@ -250,9 +256,10 @@ impl TargetLocks {
         }
     }
 
-    /// Makes a place for the transaction and the key, and for a write one at each group of the key for the mark, so that the key
-    /// can be locked without memory. No lock changes, and each other place stays. If memory runs out, the only error, the key has
-    /// no new place, and some of its groups may have one.
+    /// Makes a place for the transaction and the key, and for a write one at each group of the key
+    /// for the mark, so that the key can be locked without memory. No lock changes, and each other
+    /// place stays. If memory runs out, the only error, the key has no new place, and some of its
+    /// groups may have one.
     pub fn reserve(&mut self, txn: TxnNo, key: &Key, kind: Kind) -> Result<(), NoMemory>
         ensures modes { HasModes self.new (modes_at self.old) }
         ensures ok { OnOk result (MayHold self.new txn key.now kind) }
@@ -271,8 +278,9 @@ impl TargetLocks {
         }
     }
 
-    /// Makes a place for the transaction and the group, if there is none, so that the group can be locked without memory. No lock
-    /// changes, and each other place stays. If memory runs out, the only error, no place is made.
+    /// Makes a place for the transaction and the group, if there is none, so that the group can be
+    /// locked without memory. No lock changes, and each other place stays. If memory runs out, the
+    /// only error, no place is made.
     pub fn reserve_group(&mut self, txn: TxnNo, group: &Group) -> Result<(), NoMemory>
         ensures modes { HasModes self.new (modes_at self.old) }
         ensures ok { OnOk result (IsTrue (has_place self.new txn (target.Group group.now))) }
@@ -285,8 +293,9 @@ impl TargetLocks {
         self.sums.reserve(txn, &group.as_key())
     }
 
-    /// Makes a place for the parent wherever the child has one, so that the child's locks can be handed up without memory. No lock
-    /// changes, and each other place stays. If memory runs out, the only error, the parent has some of these places.
+    /// Makes a place for the parent wherever the child has one, so that the child's locks can be
+    /// handed up without memory. No lock changes, and each other place stays. If memory runs out,
+    /// the only error, the parent has some of these places.
     pub fn reserve_for_parent(&mut self, child: TxnNo, parent: TxnNo) -> Result<(), NoMemory>
         ensures modes { HasModes self.new (modes_at self.old) }
         ensures ok { OnOk result (MayGoUpTo self.new child parent) }
@@ -327,8 +336,8 @@ impl TargetLocks {
         self.sums.hold(txn, &group.as_key(), Kind::Read);
     }
 
-    /// Hands a committed child's locks up: it has none any more, and its parent retains each in the child's whole mode. Where
-    /// the parent is the root they are gone. It takes no memory.
+    /// Hands a committed child's locks up: it has none any more, and its parent retains each in the
+    /// child's whole mode. Where the parent is the root they are gone. It takes no memory.
     pub fn hand_up(&mut self, child: TxnNo, parent: Option<TxnNo>)
         requires places { IfSome parent (λ p. MayGoUpTo self.old child p) }
         ensures modes { HasModes self.new (handed_up_at self.old child parent) }

@@ -14,7 +14,8 @@ pub record IsLater {S : Type 0} (g : Ghosts S) (old new : S) : Type 0 where
   pub failures : g.failures old ≤ g.failures new
 
 -- it was asked once to make these changes, and this is whether it took them
-pub record IsAsked {S : Type 0} (g : Ghosts S) (old new : S) (changes : List Change) (taken : Bool) : Type 0 where
+pub record IsAsked {S : Type 0} (g : Ghosts S) (old new : S) (changes : List Change)
+    (taken : Bool) : Type 0 where
   pub answer : Result (Unit {0}) StoreFault
   pub asked : g.commits old new changes answer
   pub told : is_ok answer ≡ taken

@@ -23,13 +23,16 @@ use Rattle.manager_core.specs.Closing.{closings}
 use Rattle.manager_core.specs.Asked.{IsLater, IsAsked}
 
 -- the call's entry was allowed, and nothing changed but that the history has it
-pub record Added {S : Type 0} (old new : State S) (by : By) (event : Event) (outcome : Outcome) : Type 0 where
+pub record Added {S : Type 0} (old new : State S) (by : By) (event : Event)
+    (outcome : Outcome) : Type 0 where
   pub allowed : Allowed old.rows old.history by event (answer_of outcome)
   pub added : new ≡ record old { history = entry by event (answer_of outcome) ∷ old.history }
 
--- The call's entry was allowed, and after it those were aborted that break the cycles of waits, each the last begun on any
--- where it stands, until no cycle was left. Nothing changed but the history
-pub record Answered {S : Type 0} (old new : State S) (by : By) (event : Event) (outcome : Outcome) : Type 0 where
+-- The call's entry was allowed, and after it those were aborted that break the cycles of waits,
+-- each the last begun on any where it stands, until no cycle was left. Nothing changed but the
+-- history
+pub record Answered {S : Type 0} (old new : State S) (by : By) (event : Event)
+    (outcome : Outcome) : Type 0 where
   pub allowed : Allowed old.rows old.history by event (answer_of outcome)
   pub victims : List Name
   pub broken : AfterVictims (entry by event (answer_of outcome) ∷ old.history) victims new.history
@@ -41,7 +44,8 @@ pub record WaitsOrIsUndone (h : History) (by : By) (t : Name) (a : Asked) : Type
   pub undone : IsFalse (is_some (wait_of h t)) → IsTrue (is_orphan h t)
 
 -- the definition has no answer for the line yet
-pub record WaitsOn {S : Type 0} (old new : State S) (wait : Entry) (outcome : Outcome) : Type 0 where
+pub record WaitsOn {S : Type 0} (old new : State S) (wait : Entry)
+    (outcome : Outcome) : Type 0 where
   pub none : answer old.rows old.history wait.by wait.event ≡ None
   pub outcome_is : outcome ≡ Waits
   pub same : new ≡ old
@@ -52,22 +56,33 @@ pub record Retried {S : Type 0} (old new : State S) (t : Name) (outcome : Outcom
   pub waits : wait_of old.history t ≡ Some wait
   pub told : Answered old new wait.by wait.event outcome ⊎ WaitsOn old new wait outcome
 
--- the store was asked once, to make the changes that are due, and what it answered decided the commit
-pub record IsDecided {S : Type 0} (g : Ghosts S) (old new : State S) (t : Name) (outcome : Outcome) : Type 0 where
+-- the store was asked once, to make the changes that are due, and what it answered decided the
+-- commit
+pub record IsDecided {S : Type 0} (g : Ghosts S) (old new : State S) (t : Name)
+    (outcome : Outcome) : Type 0 where
   pub changes : List Change
   pub due : IsChanges (value_in old.rows) old.history t changes
   pub asked : IsAsked g old.store new.store changes (is_done outcome)
 
 -- the commit's entry was allowed
-pub record Committed {S : Type 0} (g : Ghosts S) (old new : State S) (by : By) (t : Name) (outcome : Outcome) : Type 0 where
+pub record Committed {S : Type 0} (g : Ghosts S) (old new : State S) (by : By) (t : Name)
+    (outcome : Outcome) : Type 0 where
   pub allowed : Allowed old.rows old.history by (Commit t) (answer_of outcome)
   -- beside the history only the table and the store may have changed
-  pub added : new ≡ record old { history = entry by (Commit t) (answer_of outcome) ∷ old.history; table = new.table; store = new.store }
+  pub added : new ≡
+      record old {
+        history = entry by (Commit t)
+            (answer_of outcome) ∷ old.history;
+        table = new.table;
+        store = new.store;
+      }
   -- the table only where the commit was done
   pub undone : IsFalse (is_done outcome) → new.table ≡ old.table
   -- both only where the store was asked: where there are changes, and no cause refuses the commit
-  pub unasked : IsFalse (asks_store old.history (Commit t) && is_of_store outcome) → (new.table ≡ old.table) × (new.store ≡ old.store)
-  pub asked : IsTrue (asks_store old.history (Commit t) && is_of_store outcome) → IsDecided g old new t outcome
+  pub unasked : IsFalse (asks_store old.history (Commit t) && is_of_store outcome)
+      → (new.table ≡ old.table) × (new.store ≡ old.store)
+  pub asked : IsTrue (asks_store old.history (Commit t) && is_of_store outcome)
+      → IsDecided g old new t outcome
   pub later : IsLater g old.store new.store
 
 -- only closing entries were added, and no top-level transaction is live any more

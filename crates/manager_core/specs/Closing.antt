@@ -12,7 +12,8 @@ use Rattle.manager_core.specs.Kept.{AreTablesOf}
 abbrev pub closings : List Name → History
 closings names = map closing names
 
--- only closing entries were added, the tables are what the history says, and no top-level transaction is live any more
+-- only closing entries were added, the tables are what the history says, and no top-level
+-- transaction is live any more
 pub record Closes (rows : Rows) (old new : History) (tables : Tabled) : Type 0 where
   pub names : List Name
   pub added : new ≡ closings names ++ old

@@ -1,4 +1,5 @@
--- What the manager's type keeps: the tables are what the history says, the store has the table, and no cycle of waits stands.
+-- What the manager's type keeps: the tables are what the history says, the store has the table, and
+-- no cycle of waits stands.
 use Rattle.std.specs.Prelude.{◌≡◌, ℕ, ℤ, if◌then◌else◌, List, reverse, slice_get, Option, Some, None}
 use Rattle.txn_tree.specs.States.{States, names, status_in}
 use Rattle.txn_tree.specs.declared.status.Status.{Status as State}
@@ -40,7 +41,8 @@ pub record IsTreeOf (h : History) (tree : States) : Type 0 where
 abbrev pub AreMarksOf : History → Marked → Type 0
 AreMarksOf h marks = (t : Name) → is_marked marks t ≡ has_aborted h t
 
--- what a transaction has at a target or a key, read off the history: one that does not act has nothing, nor has a number that is nobody's
+-- what a transaction has at a target or a key, read off the history: one that does not act has
+-- nothing, nor has a number that is nobody's
 abbrev pub content_of : {X : Type 0} → X → (History → Name → X) → History → Option Name → X
 content_of nothing value h None = nothing
 content_of nothing value h (Some t) = if is_active h t then value h t else nothing
@@ -53,8 +55,10 @@ left_at k h t = last_left (items h t) k
 
 -- so is what live transactions lock, and what they left
 pub record IsEstateOf (h : History) (tree : States) (estate : LocksAndVersions) : Type 0 where
-  pub modes : (n : ℕ) (s : Target) → modes_of estate n s ≡ content_of free (lock_at s) h (slice_get (names tree) n)
-  pub left : (n : ℕ) (k : List ℕ) → left_of estate n k ≡ content_of None (left_at k) h (slice_get (names tree) n)
+  pub modes : (n : ℕ) (s : Target)
+      → modes_of estate n s ≡ content_of free (lock_at s) h (slice_get (names tree) n)
+  pub left : (n : ℕ) (k : List ℕ)
+      → left_of estate n k ≡ content_of None (left_at k) h (slice_get (names tree) n)
 
 -- the entry by which it waits, where there is a name
 abbrev pub wait_of_any : History → Option Name → Option Entry
@@ -63,7 +67,8 @@ wait_of_any h (Some t) = wait_of h t
 
 -- so is who waits: for each number stands the wait of whoever has it
 abbrev pub AreWaitsOf : History → States → Waiting → Type 0
-AreWaitsOf h tree waits = (n : ℕ) → kept_wait waits n ≡ wait_for n (wait_of_any h (slice_get (names tree) n))
+AreWaitsOf h tree waits = (n : ℕ)
+    → kept_wait waits n ≡ wait_for n (wait_of_any h (slice_get (names tree) n))
 
 -- all tables are what the history over these rows says
 pub record AreTablesOf (rows : Rows) (h : History) (tables : Tabled) : Type 0 where
@@ -75,7 +80,8 @@ pub record AreTablesOf (rows : Rows) (h : History) (tables : Tabled) : Type 0 wh
   pub current : (k : List ℕ) → value_in (rows_in tables) k ≡ stored (value_in rows) h k
 
 -- after each entry, whether or not it made a cycle of waits
-pub record IsKept {S : Type 0} (g : Ghosts S) (rows : Rows) (h : History) (tables : Tabled) (opened : AtOpening) (store : S) : Type 0 where
+pub record IsKept {S : Type 0} (g : Ghosts S) (rows : Rows) (h : History) (tables : Tabled)
+    (opened : AtOpening) (store : S) : Type 0 where
   -- the opening rows are those that the store gave
   pub given : rows ≡ plain opened.given.items
   pub rising : IsRising rows
@@ -84,7 +90,8 @@ pub record IsKept {S : Type 0} (g : Ghosts S) (rows : Rows) (h : History) (table
   pub backed : IsBacked g h (rows_in tables) opened store
 
 -- and after each call
-pub record IsSettled {S : Type 0} (g : Ghosts S) (rows : Rows) (h : History) (tables : Tabled) (opened : AtOpening) (store : S) : Type 0 where
+pub record IsSettled {S : Type 0} (g : Ghosts S) (rows : Rows) (h : History) (tables : Tabled)
+    (opened : AtOpening) (store : S) : Type 0 where
   pub kept : IsKept g rows h tables opened store
   pub legal : Legal rows h
   pub quiet : Quiet h

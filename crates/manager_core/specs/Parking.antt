@@ -1,4 +1,5 @@
--- Lines that are parked: what comes of an `after` line, and what its condition is by the cause that refuses other lines.
+-- Lines that are parked: what comes of an `after` line, and what its condition is by the cause that
+-- refuses other lines.
 use Rattle.std.specs.Prelude.{◌≡◌, ◌⊎◌, ℕ, Bool, true, false, Option, Some, None}
 use Rattle.txn_tree.specs.Asked.{IsNumberOf}
 use Rattle.txn_tree.specs.States.{States}
@@ -19,7 +20,8 @@ use Rattle.manager_core.specs.State.{State}
 use Rattle.manager_core.specs.Calls.{Added}
 
 -- the condition does not hold yet: the line waits, without an entry, and nothing has changed
-pub record Awaits {S : Type 0} (old new : State S) (by : By) (event : Event) (outcome : Outcome) : Type 0 where
+pub record Awaits {S : Type 0} (old new : State S) (by : By) (event : Event)
+    (outcome : Outcome) : Type 0 where
   pub none : answer old.rows old.history by event ≡ None
   pub outcome_is : outcome ≡ Waits
   pub same : new ≡ old
@@ -28,8 +30,10 @@ pub record Awaits {S : Type 0} (old new : State S) (by : By) (event : Event) (ou
 abbrev pub Awaited : {S : Type 0} → State S → State S → By → Event → Outcome → Type 0
 Awaited old new by event outcome = Added old new by event outcome ⊎ Awaits old new by event outcome
 
--- the transaction with this number waits for the access by this line, and the access makes no key one too many
-pub record WaitsOn (rows : Rows) (h : History) (tree : States) (by : By) (t : Name) (asked : Asked) (n : ℕ) : Type 0 where
+-- the transaction with this number waits for the access by this line, and the access makes no key
+-- one too many
+pub record WaitsOn (rows : Rows) (h : History) (tree : States) (by : By) (t : Name) (asked : Asked)
+    (n : ℕ) : Type 0 where
   pub number : IsNumberOf tree t n
   pub waits : IsWaitOf h by (event_of t asked)
   pub room : is_full_for rows h asked ≡ false
@@ -45,9 +49,11 @@ NobodyWaits h = (by : By) (event : Event) → IsWaitOf h by event → ⊥
 
 -- whatever the line may be attempted with, it is kept out
 abbrev pub IsParked : Rows → History → By → Type 0
-IsParked rows h by = (event : Event) → IsFree h by event ⊎ IsWaitOf h by event → IsKeptOut rows h by event
+IsParked rows h by = (event : Event) → IsFree h by event ⊎ IsWaitOf h by event
+    → IsKeptOut rows h by event
 
--- Whether a condition holds, by the cause that refuses an abort: whoever has begun is live, or has come to its end
+-- Whether a condition holds, by the cause that refuses an abort: whoever has begun is live, or has
+-- come to its end
 abbrev pub come_by : Option Refusal → When → Bool
 come_by (Some Unknown) when = false
 come_by (Some cause) when = true

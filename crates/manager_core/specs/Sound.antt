@@ -28,23 +28,27 @@ is_store_refusal a = false
 abbrev pub store_refusals : History → ℕ
 store_refusals h = count_by (λ e. is_store_refusal e.answer) h
 
-pub record IsBacked {S : Type 0} (g : Ghosts S) (h : History) (table : Rows) (opened : AtOpening) (store : S) : Type 0 where
+pub record IsBacked {S : Type 0} (g : Ghosts S) (h : History) (table : Rows) (opened : AtOpening)
+    (store : S) : Type 0 where
   -- the store has the table until its device fails
   pub same : IsTrusted g store → g.table store ≡ value_in table
   -- and it has the numbers that the history gives from the opening rows on
-  pub numbered : IsTrusted g store → IsNumberedAfter (entries_in opened.given.items) h (g.numbered store)
+  pub numbered : IsTrusted g store
+      → IsNumberedAfter (entries_in opened.given.items) h (g.numbered store)
   -- its faults since the opening are the entries that say that it refused
   pub refusals : g.faults store ≡ counted (opened.faults + store_refusals h)
 
 pub record IsSound {S : Type 0} (g : Ghosts S) (m : State S) : Type 0 where
   -- the opening rows stand in byte order
   pub rising : IsRising m.rows
-  -- each entry is one that is allowed where it stands, and no line of a session was attempted while a cycle of waits stood
+  -- each entry is one that is allowed where it stands, and no line of a session was attempted while
+  -- a cycle of waits stood
   pub legal : Legal m.rows m.history
   -- no cycle of waits stands
   pub quiet : Quiet m.history
   -- each transaction without an aborted ancestor was replied what a serial run replies
-  pub right : (t : Name) → IsTrue (has_begun m.history t) → IsFalse (is_orphan m.history t) → Right (value_in m.rows) m.history t
+  pub right : (t : Name) → IsTrue (has_begun m.history t) → IsFalse (is_orphan m.history t)
+      → Right (value_in m.rows) m.history t
   -- and so was the root: the committed top-level transactions, one after another
   pub root : Right (value_in m.rows) m.history []
   -- the table is what they leave

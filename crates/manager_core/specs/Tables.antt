@@ -36,7 +36,8 @@ use Rattle.manager_core.specs.State.{entry}
 use Rattle.serial_spec.specs.declared.entry.Refusal.{Refusal}
 use Rattle.serial_spec.specs.declared.entry.Refusal.TheVariants.{Unknown, Done as HasCommitted, Orphan}
 
--- who has begun with the state of each, who has aborted, what live transactions lock and have left, over the table, and who waits
+-- who has begun with the state of each, who has aborted, what live transactions lock and have left,
+-- over the table, and who waits
 pub record Tabled : Type 0 where
   pub tree : States
   pub marks : Marked
@@ -74,7 +75,8 @@ wait_at tables n = kept_wait tables.waits n
 
 -- somebody keeps t from what it asks
 abbrev pub IsKeptOutOf : Tabled → Name → Asked → Type 0
-IsKeptOutOf tables t a = (n : ℕ) → IsNumberOf tables.tree t n → MayAsk tables.tree tables.estate.locks n a → ⊥
+IsKeptOutOf tables t a = (n : ℕ) → IsNumberOf tables.tree t n
+    → MayAsk tables.tree tables.estate.locks n a → ⊥
 
 -- the wait that an entry begins, as it is kept for the number n
 abbrev pub wait_by : ℕ → By → Event → Option Wait
@@ -109,7 +111,8 @@ MadeUnless (Some refusal) old new Step = new ≡ old
 -- t has begun
 pub record BeginsIn (old new : Tabled) (t : Name) : Type 0 where
   pub begun : names new.tree ≡ names old.tree ++ t ∷ []
-  pub status : (u : Name) → status_in new.tree u ≡ (if path_eq t u then Live else status_in old.tree u)
+  pub status : (u : Name)
+      → status_in new.tree u ≡ (if path_eq t u then Live else status_in old.tree u)
   pub marks : new.marks ≡ old.marks
   pub estate : new.estate ≡ old.estate
   pub waits : new.waits ≡ old.waits
@@ -117,17 +120,25 @@ pub record BeginsIn (old new : Tabled) (t : Name) : Type 0 where
 -- t has aborted and is marked, what it and all below it had is gone, and they wait no more
 pub record AbortsIn (old new : Tabled) (t : Name) : Type 0 where
   pub same_names : names new.tree ≡ names old.tree
-  pub status : (u : Name) → status_in new.tree u ≡ (if path_eq t u then Aborted else status_in old.tree u)
+  pub status : (u : Name)
+      → status_in new.tree u ≡ (if path_eq t u then Aborted else status_in old.tree u)
   pub marks : (u : Name) → is_marked new.marks u ≡ (path_eq t u || is_marked old.marks u)
-  pub modes : (n : ℕ) (s : Target) → modes_of new.estate n s ≡ (if is_below (slice_get (names old.tree) n) t then free else modes_of old.estate n s)
-  pub left : (n : ℕ) (k : List ℕ) → left_of new.estate n k ≡ (if is_below (slice_get (names old.tree) n) t then None else left_of old.estate n k)
+  pub modes : (n : ℕ) (s : Target)
+      → modes_of new.estate n s ≡ (if is_below (slice_get (names old.tree) n) t then free
+      else modes_of old.estate n s)
+  pub left : (n : ℕ) (k : List ℕ)
+      → left_of new.estate n k ≡ (if is_below (slice_get (names old.tree) n) t then None
+      else left_of old.estate n k)
   pub rows : rows_in new ≡ rows_in old
-  pub waits : (n : ℕ) → wait_at new n ≡ (if is_below (slice_get (names old.tree) n) t then None else wait_at old n)
+  pub waits : (n : ℕ)
+      → wait_at new n ≡ (if is_below (slice_get (names old.tree) n) t then None else wait_at old n)
 
--- t has committed, and what it had has gone up from its number to its parent's, or into the table where there is none
+-- t has committed, and what it had has gone up from its number to its parent's, or into the table
+-- where there is none
 pub record CommitsIn (old new : Tabled) (t : Name) (child : ℕ) (above : Option ℕ) : Type 0 where
   pub same_names : names new.tree ≡ names old.tree
-  pub status : (u : Name) → status_in new.tree u ≡ (if path_eq t u then Committed else status_in old.tree u)
+  pub status : (u : Name)
+      → status_in new.tree u ≡ (if path_eq t u then Committed else status_in old.tree u)
   pub marks : new.marks ≡ old.marks
   pub up : HasGoneUp old.estate new.estate child above
   pub waits : new.waits ≡ old.waits
@@ -137,9 +148,12 @@ pub record AccessesIn (old new : Tabled) (t : Name) (a : Asked) (reply : Reply) 
   pub tree : new.tree ≡ old.tree
   pub marks : new.marks ≡ old.marks
   pub modes : (n : ℕ) (s : Target) → modes_of new.estate n s
-      ≡ (if is_name (slice_get (names old.tree) n) t && target_eq (target a) s then with_held (modes_of old.estate n s) (mode_of (kind_of a)) else modes_of old.estate n s)
+      ≡ (if is_name (slice_get (names old.tree) n) t && target_eq (target a) s
+      then with_held (modes_of old.estate n s) (mode_of (kind_of a))
+      else modes_of old.estate n s)
   pub left : (n : ℕ) (q : List ℕ) → left_of new.estate n q
-      ≡ (if is_name (slice_get (names old.tree) n) t then or_else (leaves_at a reply q) (left_of old.estate n q) else left_of old.estate n q)
+      ≡ (if is_name (slice_get (names old.tree) n) t
+      then or_else (leaves_at a reply q) (left_of old.estate n q) else left_of old.estate n q)
   pub rows : rows_in new ≡ rows_in old
 
 -- the access was made, if it was answered
@@ -153,7 +167,9 @@ KeepsWaits old new = (n : ℕ) → wait_at new n ≡ wait_at old n
 
 -- t waits as this entry says, or not at all, and all others wait as before
 abbrev pub SetsWait : Tabled → Tabled → Name → Option Entry → Type 0
-SetsWait old new t w = (n : ℕ) → wait_at new n ≡ (if is_name (slice_get (names old.tree) n) t then wait_for n w else wait_at old n)
+SetsWait old new t w = (n : ℕ)
+    → wait_at new n ≡ (if is_name (slice_get (names old.tree) n) t then wait_for n w
+    else wait_at old n)
 
 -- an access that has to wait does so from then on
 abbrev pub WaitsFrom : Tabled → Tabled → By → Name → Asked → Attempt → Type 0
@@ -168,6 +184,7 @@ WaitsUntil old new t attempt = KeepsWaits old new
 -- what an access comes to: that some cause refuses it, a wait, or its reply
 abbrev pub ComesTo : Rows → History → By → Name → Asked → Attempt → Type 0
 ComesTo rows h by t a (Answered reply) =
-    (None ≡ cause_at_access rows h by t a) × (is_blocked h t a ≡ false) × (reply ≡ reply_at (seen (value_in rows) h t) a)
+    (None ≡ cause_at_access rows h by t a) × (is_blocked h t a ≡ false)
+    × (reply ≡ reply_at (seen (value_in rows) h t) a)
 ComesTo rows h by t a Waits = (None ≡ cause_at_access rows h by t a) × (is_blocked h t a ≡ true)
 ComesTo rows h by t a Refused = IsTrue (is_some (cause_at_access rows h by t a))

@@ -26,7 +26,8 @@ pub record Settles (opening : Rows) (h : History) (log : Recorded) (old tables :
 
 -- an entry that was allowed, and after which the tables are these, closes no cycle
 abbrev pub StaysQuiet : Rows → Entry → History → Tabled → Type 0
-StaysQuiet rows e h tables = AreAllowed rows (e ∷ h) → AreTablesOf rows (e ∷ h) tables → Quiet h → Quiet (e ∷ h)
+StaysQuiet rows e h tables = AreAllowed rows (e ∷ h) → AreTablesOf rows (e ∷ h) tables → Quiet h
+    → Quiet (e ∷ h)
 
 -- The entry may be added to the log, the tables have it, and no cycle of waits stood before it.
 -- There is room for it, to abort all that wait, and for so many pairs as are looked at.

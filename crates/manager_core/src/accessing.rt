@@ -31,8 +31,8 @@ pub(crate) enum Attempt {
 }
 
 impl Tables {
-    /// An access by a line that is free: one that is kept out waits from now on. It is part of its caller, so that a wait's part is paid
-    /// for only where one begins.
+    /// An access by a line that is free: one that is kept out waits from now on. It is part of its
+    /// caller, so that a wait's part is paid for only where one begins.
     #[inline(always)]
     pub(crate) fn ask(&mut self, log: &Log, request: &Request<'_>) -> Result<Attempt, NoMemory>
         requires allowed { AreAllowed log.now.rows log.now.entries }
@@ -45,7 +45,8 @@ impl Tables {
             (ReachesIn self.old self.new request.now.name.now request.now.asked.now) }
         ensures waits { IfOk result (WaitsFrom self.old self.new
             request.now.by request.now.name.now request.now.asked.now) }
-        ensures grown { OnOk result (length self.new.waits.waits ≤ length self.old.waits.waits + 1) }
+        ensures grown { OnOk result
+            (length self.new.waits.waits ≤ length self.old.waits.waits + 1) }
         ensures marks { self.new.marks ≡ self.old.marks }
         ensures err { OnErr result (HasOtherRoom self.old self.new) }
     {

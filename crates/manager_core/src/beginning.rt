@@ -13,7 +13,8 @@ impl Tables {
     /// Begins the transaction, or tells why that is refused.
     pub(crate) fn begin(&mut self, name: &Name) -> Result<Option<Refusal>, NoMemory>
         ensures cause { IfOk result (λ refusal. refusal ≡ cause_at_begin self.old.tree name.now) }
-        ensures begins { IfOk result (λ refusal. MadeUnless refusal self.old self.new (BeginsIn self.old self.new name.now)) }
+        ensures begins { IfOk result (λ refusal.
+            MadeUnless refusal self.old self.new (BeginsIn self.old self.new name.now)) }
         ensures err { OnErr result (self.new ≡ self.old) }
     {
         match self.tree.begin(name) {

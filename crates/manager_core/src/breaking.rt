@@ -51,8 +51,8 @@ fn abort_victim(log: &mut Log, tables: &mut Tables, name: &Name)
     log.add(By::Victim, Event::Abort(*name), &outcome);
 }
 
-/// Aborts the last begun of those that lie on a cycle of waits, until no cycle is left. It takes no memory: there is room to
-/// abort all that wait, and to look for them.
+/// Aborts the last begun of those that lie on a cycle of waits, until no cycle is left. It takes no
+/// memory: there is room to abort all that wait, and to look for them.
 pub(crate) fn break_cycles(log: &mut Log, tables: &mut Tables, breaker: &mut CycleSearch)
     requires allowed { AreAllowed log.old.rows log.old.entries }
     requires are { AreTablesOf log.old.rows log.old.entries tables.old }
@@ -66,8 +66,8 @@ pub(crate) fn break_cycles(log: &mut Log, tables: &mut Tables, breaker: &mut Cyc
     }
 }
 
-// The transaction that is aborted next, if a cycle of waits stands, where each goes through this transaction. There is room to look
-// for it.
+// The transaction that is aborted next, if a cycle of waits stands, where each goes through this
+// transaction. There is room to look for it.
 fn next_own_victim(
     _log: &Log,
     tables: &Tables,
@@ -89,8 +89,9 @@ fn next_own_victim(
     tables.tree.name_of(last).copied()
 }
 
-/// As `break_cycles`, where each cycle goes through this transaction. So it is after each abort too, which only takes pairs away, so
-/// that those alone are looked at that the transaction waits for, or that one of these waits for in turn.
+/// As `break_cycles`, where each cycle goes through this transaction. So it is after each abort
+/// too, which only takes pairs away, so that those alone are looked at that the transaction waits
+/// for, or that one of these waits for in turn.
 pub(crate) fn break_own_cycles(
     log: &mut Log,
     tables: &mut Tables,
@@ -110,7 +111,8 @@ pub(crate) fn break_own_cycles(
     }
 }
 
-/// Makes room for an entry after which one more may wait, and for breaking the cycles that come of it.
+/// Makes room for an entry after which one more may wait, and for breaking the cycles that come of
+/// it.
 #[inline(always)]
 pub(crate) fn reserve_step(
     log: &mut Log,

@@ -19,8 +19,10 @@ use txn_tree::{Status, TxnNo};
 impl Tables {
     // The transaction's name, if it is top-level and live.
     fn live_top_at(&self, txn: TxnNo) -> Option<Name>
-        ensures some { IfSome result (λ t. (slice_get (names self.now.tree) txn ≡ Some t) × IsTrue (is_live_top_in self.now.tree t)) }
-        ensures none { IfNone result ((t : Name) → slice_get (names self.now.tree) txn ≡ Some t → IsFalse (is_live_top_in self.now.tree t)) }
+        ensures some { IfSome result (λ t. (slice_get (names self.now.tree) txn ≡ Some t)
+            × IsTrue (is_live_top_in self.now.tree t)) }
+        ensures none { IfNone result ((t : Name) → slice_get (names self.now.tree) txn ≡ Some t →
+            IsFalse (is_live_top_in self.now.tree t)) }
     {
         let name = self.tree.name_of(txn)?;
         if name.depth() == 1 && self.tree.status(name) == Status::Live {
@@ -54,13 +56,16 @@ impl Tables {
         log.add(By::Close, Event::Abort(*name), &outcome);
     }
 
-    /// Aborts the live top-level transactions, in the order in which they began. There is room for all of them.
+    /// Aborts the live top-level transactions, in the order in which they began. There is room for
+    /// all of them.
     pub(crate) fn close_tops(&mut self, log: &mut Log)
         requires legal { Legal log.old.rows log.old.entries }
         requires quiet { Quiet log.old.entries }
         requires are { AreTablesOf log.old.rows log.old.entries self.old }
-        requires room { count_by (is_live_top_in self.old.tree) (names self.old.tree) ≤ log.old.room }
-        requires marks_room { count_by (is_live_top_in self.old.tree) (names self.old.tree) ≤ self.old.marks.room }
+        requires room { count_by (is_live_top_in self.old.tree)
+            (names self.old.tree) ≤ log.old.room }
+        requires marks_room { count_by (is_live_top_in self.old.tree)
+            (names self.old.tree) ≤ self.old.marks.room }
         ensures rows { log.new.rows ≡ log.old.rows }
         ensures closes { Closes log.old.rows log.old.entries log.new.entries self.new }
         ensures table { rows_in self.new ≡ rows_in self.old }

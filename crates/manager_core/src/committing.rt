@@ -17,12 +17,14 @@ use txn_tree::TxnNo;
 impl Tables {
     /// What the transaction would put into the table.
     pub(crate) fn changes(&self, txn: TxnNo) -> Result<Vec<Change>, NoMemory>
-        ensures { IfOk result (λ changes. AreChangesOf self.now.tree self.now.estate txn changes.items) }
+        ensures { IfOk result (λ changes.
+            AreChangesOf self.now.tree self.now.estate txn changes.items) }
     {
         self.estate.changes(&self.tree, txn)
     }
 
-    /// Makes room for what goes up at the commit of a subtransaction, from its number to its parent's.
+    /// Makes room for what goes up at the commit of a subtransaction, from its number to its
+    /// parent's.
     pub(crate) fn reserve_commit(&mut self, child: TxnNo, parent: TxnNo) -> Result<(), NoMemory>
         ensures room { OnOk result (MayGoUp self.new.estate child (Some parent)) }
         ensures same { HasOtherRoom self.old self.new }
@@ -38,7 +40,8 @@ impl Tables {
         self.estate.reserve_changes(changes)
     }
 
-    /// Commits a subtransaction that nothing refuses, and hands up what it has, for which there is room. It takes no memory.
+    /// Commits a subtransaction that nothing refuses, and hands up what it has, for which there is
+    /// room. It takes no memory.
     pub(crate) fn commit_child(&mut self, child: TxnNo, parent: TxnNo)
         requires active { is_active_at self.old.tree child ≡ true }
         requires children { live_children_at self.old.tree child ≡ 0 }
@@ -51,8 +54,8 @@ impl Tables {
         self.estate.commit_child(child, parent);
     }
 
-    /// Commits a top-level transaction that nothing refuses, and makes these changes in the table, for which there is room. They
-    /// come to what it left, put into the table. It takes no memory.
+    /// Commits a top-level transaction that nothing refuses, and makes these changes in the table,
+    /// for which there is room. They come to what it left, put into the table. It takes no memory.
     pub(crate) fn commit_top(&mut self, txn: TxnNo, changes: &[Change])
         requires active { is_active_at self.old.tree txn ≡ true }
         requires children { live_children_at self.old.tree txn ≡ 0 }

@@ -1,4 +1,5 @@
-//! Why a line is refused, read off the tables. What is not refused goes on by the transaction's number.
+//! Why a line is refused, read off the tables. What is not refused goes on by the transaction's
+//! number.
 ghost use Rattle.std.specs.Prelude.{◌≡◌, ◌<◌, length, IfNone, IfOk, IfSome, IsTrue};
 ghost use Rattle.std.specs.Prelude.{None, Some, is_some};
 ghost use Rattle.std.specs.Result.{result_err};
@@ -26,8 +27,8 @@ pub(crate) fn is_full_for(log: &Log, asked: &Asked) -> bool
 }
 
 impl Tables {
-    /// The number of a transaction that is live and has no aborted ancestor, or the cause that access, commit and abort
-    /// share. An aborted ancestor is looked for by name.
+    /// The number of a transaction that is live and has no aborted ancestor, or the cause that
+    /// access, commit and abort share. An aborted ancestor is looked for by name.
     pub(crate) fn number_by_marks(&self, name: &Name) -> Result<TxnNo, Refusal>
         ensures cause { result_err result ≡ cause_in self.now name.now }
         ensures number { IfOk result (IsNumberOf self.now.tree name.now) }
@@ -47,8 +48,8 @@ impl Tables {
         }
     }
 
-    /// As `number_by_marks`. Whether all of the transaction's ancestors are live is found by their numbers, so that none of their names
-    /// is hashed unless one is not.
+    /// As `number_by_marks`. Whether all of the transaction's ancestors are live is found by their
+    /// numbers, so that none of their names is hashed unless one is not.
     pub(crate) fn active_number(&self, _log: &Log, name: &Name) -> Result<TxnNo, Refusal>
         requires allowed { AreAllowed _log.now.rows _log.now.entries }
         requires are { AreTablesOf _log.now.rows _log.now.entries self.now }
@@ -126,7 +127,8 @@ impl Tables {
         }
     }
 
-    /// The number of a transaction that may commit, or why the commit is refused; the store is left aside.
+    /// The number of a transaction that may commit, or why the commit is refused; the store is left
+    /// aside.
     pub(crate) fn number_at_commit(&self, log: &Log, by: By, name: &Name) -> Result<TxnNo, Refusal>
         requires allowed { AreAllowed log.now.rows log.now.entries }
         requires are { AreTablesOf log.now.rows log.now.entries self.now }

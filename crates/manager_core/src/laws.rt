@@ -1,4 +1,5 @@
-//! The laws of the numbered table that a history leaves, each as the contract of a function that does nothing.
+//! The laws of the numbered table that a history leaves, each as the contract of a function that
+//! does nothing.
 ghost use Rattle.manager_core.specs.StoredNumbers.{NumberedOnce, NumberedValues};
 
 /// Without its numbers it is the stored table.

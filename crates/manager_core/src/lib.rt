@@ -1,5 +1,6 @@
-//! The manager of nested transactions (Moss 1981; Lynch, Merritt, Weihl, Fekete 1994). Which names have begun and what
-//! became of them, who locks what, what each left, and who waits, stand in tables.
+//! The manager of nested transactions (Moss 1981; Lynch, Merritt, Weihl, Fekete 1994). Which names
+//! have begun and what became of them, who locks what, what each left, and who waits, stand in
+//! tables.
 #![tactic(auto)]
 
 mod aborting;

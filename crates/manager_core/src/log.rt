@@ -69,14 +69,16 @@ impl Log {
     pub(crate) fn add(&mut self, by: By, event: Event, outcome: &Outcome)
         requires { 0 < self.old.room }
         ensures rows { self.new.rows ≡ self.old.rows }
-        ensures entries { self.new.entries ≡ entry by event (answer_of outcome.now) ∷ self.old.entries }
+        ensures entries { self.new.entries ≡
+            entry by event (answer_of outcome.now) ∷ self.old.entries }
         ensures room { self.old.room ≤ self.new.room + 1 }
     {
         let answer = outcome.answer();
         self.history.push(&Entry { by, event, answer });
     }
 
-    /// Adds the entry of what is asked of a transaction. Each arm makes its event where it is to stand, so that it is copied once.
+    /// Adds the entry of what is asked of a transaction. Each arm makes its event where it is to
+    /// stand, so that it is copied once.
     #[inline(always)]
     pub(crate) fn add_asked(&mut self, by: By, name: &Name, asked: &Asked, outcome: &Outcome)
         requires { 0 < self.old.room }

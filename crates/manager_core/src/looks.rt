@@ -6,15 +6,17 @@ ghost use Rattle.manager_core.specs.Looked.{HasSeen, IsLast};
 use serial_spec::{By, MOST_SESSIONS};
 use txn_tree::TxnNo;
 
-/// An access that was seen kept out: by the number of its transaction, and that of its line in the session.
+/// An access that was seen kept out: by the number of its transaction, and that of its line in the
+/// session.
 #[derive(Clone, Copy)]
 pub(crate) struct Look {
     pub(crate) txn: TxnNo,
     pub(crate) line: u32,
 }
 
-/// For each session, of `MOST_SESSIONS` at most, the access of it that was last seen kept out. Locks only rise until a transaction
-/// ends (Moss 1981), so that it is kept out still, and stands, as long as it waits and none has ended since.
+/// For each session, of `MOST_SESSIONS` at most, the access of it that was last seen kept out.
+/// Locks only rise until a transaction ends (Moss 1981), so that it is kept out still, and stands,
+/// as long as it waits and none has ended since.
 #[derive(Drop)]
 pub(crate) struct Looks {
     pub(crate) last: [Option<Look>; MOST_SESSIONS],
@@ -32,7 +34,8 @@ impl Looks {
         }
     }
 
-    /// The transaction of the access that was last seen kept out by this line, whether or not it stands.
+    /// The transaction of the access that was last seen kept out by this line, whether or not it
+    /// stands.
     pub(crate) fn last_at(&self, by: By) -> Option<TxnNo>
         ensures { IfSome result (IsLast self.now by) }
     {

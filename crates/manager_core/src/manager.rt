@@ -34,9 +34,9 @@ pub(crate) struct AtOpening {
     pub faults: u64,
 }
 
-/// Runs nested transactions over a store, by locks that are inherited (Moss 1981). Each call that takes a line
-/// asks that the line is free for its event (`free` tells), and adds one entry to the history. After want of
-/// memory the manager and its store are as before.
+/// Runs nested transactions over a store, by locks that are inherited (Moss 1981). Each call that
+/// takes a line asks that the line is free for its event (`free` tells), and adds one entry to the
+/// history. After want of memory the manager and its store are as before.
 #[derive(Drop)]
 pub struct Manager<S: TopStore> {
     log: Log,
@@ -132,9 +132,10 @@ impl<S: TopStore> Manager<S> {
         })
     }
 
-    /// Begins a transaction in its parent, which is the root where the name has one label. It is refused by the
-    /// first of these that holds: the name began before (Used); the parent never began (NoParent), has an aborted
-    /// ancestor, itself included (Orphan), or has committed (NoParent); 16,384 have begun (Full).
+    /// Begins a transaction in its parent, which is the root where the name has one label. It is
+    /// refused by the first of these that holds: the name began before (Used); the parent never
+    /// began (NoParent), has an aborted ancestor, itself included (Orphan), or has committed
+    /// (NoParent); 16,384 have begun (Full).
     pub fn begin(&mut self, by: By, name: &Name) -> Result<Outcome, NoMemory>
         requires free { IsFree self.old.history by (Begin name.now) }
         ensures ok { IfOk result (λ outcome. Added self.old self.new by (Begin name.now) outcome) }
@@ -148,13 +149,14 @@ impl<S: TopStore> Manager<S> {
         Ok(outcome)
     }
 
-    /// Commits a transaction into its parent. It is refused by the first of these that holds: it never began
-    /// (Unknown), has an aborted ancestor, itself included (Orphan), or has committed (Done); a child is live
-    /// (Children); an access of it waits (Waiting). A top-level one that wrote is done only where the store took
-    /// its changes (else Store).
+    /// Commits a transaction into its parent. It is refused by the first of these that holds: it
+    /// never began (Unknown), has an aborted ancestor, itself included (Orphan), or has committed
+    /// (Done); a child is live (Children); an access of it waits (Waiting). A top-level one that
+    /// wrote is done only where the store took its changes (else Store).
     pub fn commit(&mut self, by: By, name: &Name) -> Result<Outcome, NoMemory>
         requires free { IsFree self.old.history by (Commit name.now) }
-        ensures ok { IfOk result (λ outcome. Committed S.TopStore self.old self.new by name.now outcome) }
+        ensures ok { IfOk result (λ outcome.
+            Committed S.TopStore self.old self.new by name.now outcome) }
         ensures at_once { IfOk result (λ outcome. IsFalse (is_waits (answer_of outcome))) }
         ensures err { OnErr result (self.new ≡ self.old) }
         ensures sound { OnOk result (IsSound S.TopStore self.new) }
@@ -169,7 +171,8 @@ impl<S: TopStore> Manager<S> {
     fn refuse_commit(&mut self, by: By, name: &Name, refusal: Refusal) -> Result<Outcome, NoMemory>
         requires free { IsFree self.old.history by (Commit name.now) }
         requires cause { Some refusal ≡ cause_at_commit self.old.history by name.now }
-        ensures ok { IfOk result (λ outcome. Committed S.TopStore self.old self.new by name.now outcome) }
+        ensures ok { IfOk result (λ outcome.
+            Committed S.TopStore self.old self.new by name.now outcome) }
         ensures at_once { IfOk result (λ outcome. IsFalse (is_waits (answer_of outcome))) }
         ensures err { OnErr result (self.new ≡ self.old) }
         ensures sound { OnOk result (IsSound S.TopStore self.new) }
@@ -183,7 +186,8 @@ impl<S: TopStore> Manager<S> {
     fn commit_child(&mut self, by: By, name: &Name) -> Result<Outcome, NoMemory>
         requires free { IsFree self.old.history by (Commit name.now) }
         requires below { 1 < length name.now }
-        ensures ok { IfOk result (λ outcome. Committed S.TopStore self.old self.new by name.now outcome) }
+        ensures ok { IfOk result (λ outcome.
+            Committed S.TopStore self.old self.new by name.now outcome) }
         ensures at_once { IfOk result (λ outcome. IsFalse (is_waits (answer_of outcome))) }
         ensures err { OnErr result (self.new ≡ self.old) }
         ensures sound { OnOk result (IsSound S.TopStore self.new) }
@@ -205,7 +209,8 @@ impl<S: TopStore> Manager<S> {
     fn commit_top(&mut self, by: By, name: &Name) -> Result<Outcome, NoMemory>
         requires free { IsFree self.old.history by (Commit name.now) }
         requires top { length name.now ≡ 1 }
-        ensures ok { IfOk result (λ outcome. Committed S.TopStore self.old self.new by name.now outcome) }
+        ensures ok { IfOk result (λ outcome.
+            Committed S.TopStore self.old self.new by name.now outcome) }
         ensures at_once { IfOk result (λ outcome. IsFalse (is_waits (answer_of outcome))) }
         ensures err { OnErr result (self.new ≡ self.old) }
         ensures sound { OnOk result (IsSound S.TopStore self.new) }
@@ -229,9 +234,9 @@ impl<S: TopStore> Manager<S> {
         }
     }
 
-    /// Aborts a transaction with all below it, those that have committed into it too. It is refused by the first of
-    /// these that holds: it never began (Unknown), has an aborted ancestor, itself included (Orphan), or has
-    /// committed (Done).
+    /// Aborts a transaction with all below it, those that have committed into it too. It is refused
+    /// by the first of these that holds: it never began (Unknown), has an aborted ancestor, itself
+    /// included (Orphan), or has committed (Done).
     pub fn abort(&mut self, by: By, name: &Name) -> Result<Outcome, NoMemory>
         requires free { IsFree self.old.history by (Abort name.now) }
         ensures ok { IfOk result (λ outcome. Added self.old self.new by (Abort name.now) outcome) }
@@ -277,8 +282,8 @@ impl<S: TopStore> Manager<S> {
         }
     }
 
-    /// Whether a call may add an entry of this line for this event: it is a line without entries, or one whose
-    /// only entry is a wait with this event, and the transaction waits no more.
+    /// Whether a call may add an entry of this line for this event: it is a line without entries,
+    /// or one whose only entry is a wait with this event, and the transaction waits no more.
     pub fn free(&self, by: By, event: &Event) -> bool
         ensures { IsTrue result ↔ IsFree self.now.history by event.now }
     {

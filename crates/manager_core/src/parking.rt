@@ -49,14 +49,17 @@ fn is_of(wait: &Wait, by: By, asked: &Asked) -> bool
 impl Tables {
     /// Whether the condition of an `after` line holds.
     pub(crate) fn has_come(&self, name: &Name, when: When) -> bool
-        ensures { (rows : Rows) (h : History) → AreAllowed rows h → AreTablesOf rows h self.now → result ≡ has_come h name.now when }
+        ensures { (rows : Rows) (h : History) → AreAllowed rows h → AreTablesOf rows h self.now →
+            result ≡ has_come h name.now when }
     {
         come_by(self.number_by_marks(name).err(), when)
     }
 
     // Whether the transaction with this number waits for this access, and by this line.
     fn waits_by(&self, txn: TxnNo, by: By, asked: &Asked) -> bool
-        ensures { (t : Path) → IsNumberOf self.now.tree t txn → (rows : Rows) (h : History) → AreAllowed rows h → AreTablesOf rows h self.now → IsTrue result ↔ IsWaitOf h by (event_of t asked.now) }
+        ensures { (t : Path) → IsNumberOf self.now.tree t txn → (rows : Rows) (h : History) →
+            AreAllowed rows h → AreTablesOf rows h self.now →
+            IsTrue result ↔ IsWaitOf h by (event_of t asked.now) }
     {
         match self.waits.of(txn) {
             Some(wait) => is_of(wait, by, asked),
@@ -66,14 +69,16 @@ impl Tables {
 
     /// Whether no lock keeps the access out.
     pub(crate) fn may(&self, txn: TxnNo, asked: &Asked) -> bool
-        ensures blocked { (t : Path) → IsNumberOf self.now.tree t txn → (rows : Rows) (h : History) → AreTablesOf rows h self.now → result ≡ not (is_blocked h t asked.now) }
+        ensures blocked { (t : Path) → IsNumberOf self.now.tree t txn →
+            (rows : Rows) (h : History) → AreTablesOf rows h self.now →
+            result ≡ not (is_blocked h t asked.now) }
         ensures locks { IsTrue result ↔ MayAsk self.now.tree self.now.estate.locks txn asked.now }
     {
         self.estate.locks().may_ask(&self.tree, txn, asked)
     }
 
-    /// As `may`. A key is looked up once and remembered, so that the place and the lock of the access find it without another
-    /// look-up. It takes no memory.
+    /// As `may`. A key is looked up once and remembered, so that the place and the lock of the
+    /// access find it without another look-up. It takes no memory.
     #[inline(always)]
     pub(crate) fn may_remembering(&mut self, txn: TxnNo, asked: &Asked) -> bool
         ensures blocked { (t : Path) → IsNumberOf self.old.tree t txn → (rows : Rows) (h : History)
@@ -94,12 +99,15 @@ impl Tables {
         self.waits.is_empty()
     }
 
-    // The number of the transaction, if it waits for this access by this line and no cause refuses the access.
+    // The number of the transaction, if it waits for this access by this line and no cause refuses
+    // the access.
     fn number_of_wait(&self, log: &Log, by: By, name: &Name, asked: &Asked) -> Option<TxnNo>
         requires allowed { AreAllowed log.now.rows log.now.entries }
         requires are { AreTablesOf log.now.rows log.now.entries self.now }
-        ensures some { IfSome result (WaitsOn log.now.rows log.now.entries self.now.tree by name.now asked.now) }
-        ensures none { IfNone result (IsKeptOut log.now.rows log.now.entries by (event_of name.now asked.now) → ⊥) }
+        ensures some { IfSome result
+            (WaitsOn log.now.rows log.now.entries self.now.tree by name.now asked.now) }
+        ensures none { IfNone result
+            (IsKeptOut log.now.rows log.now.entries by (event_of name.now asked.now) → ⊥) }
     {
         // Where nobody waits no name need be looked up.
         if self.waits.is_empty() {
@@ -120,7 +128,8 @@ impl Tables {
     pub(crate) fn is_kept_out(&self, log: &Log, by: By, name: &Name, asked: &Asked) -> bool
         requires allowed { AreAllowed log.now.rows log.now.entries }
         requires are { AreTablesOf log.now.rows log.now.entries self.now }
-        ensures { IsTrue result ↔ IsKeptOut log.now.rows log.now.entries by (event_of name.now asked.now) }
+        ensures { IsTrue result ↔ IsKeptOut log.now.rows log.now.entries by
+            (event_of name.now asked.now) }
     {
         let Some(txn) = self.number_of_wait(log, by, name, asked) else {
             return false;
@@ -143,7 +152,8 @@ impl Tables {
         }
     }
 
-    /// Whether an access that waits by this line is seen at once to be kept out still: it was seen so, and nothing has ended since.
+    /// Whether an access that waits by this line is seen at once to be kept out still: it was seen
+    /// so, and nothing has ended since.
     #[inline(always)]
     pub(crate) fn is_parked(&self, log: &Log, by: By) -> bool
         requires allowed { AreAllowed log.now.rows log.now.entries }
@@ -196,8 +206,8 @@ impl Tables {
         true
     }
 
-    /// As `is_parked`, and where a transaction has ended since, the locks are asked once more. Where the access is kept out, that is
-    /// remembered until the next one ends.
+    /// As `is_parked`, and where a transaction has ended since, the locks are asked once more.
+    /// Where the access is kept out, that is remembered until the next one ends.
     #[inline(always)]
     pub(crate) fn stays_parked(&mut self, log: &Log, by: By) -> bool
         requires allowed { AreAllowed log.now.rows log.now.entries }

@@ -1,7 +1,9 @@
-//! Whether an access may have closed a cycle of waits, and the breaking of those that it has closed.
+//! Whether an access may have closed a cycle of waits, and the breaking of those that it has
+//! closed.
 //!
-//! Each step looks for pairs of which the first waits for the second only where the step itself can have added one. All pairs
-//! together are as many as those that wait, squared, and most steps add none.
+//! Each step looks for pairs of which the first waits for the second only where the step itself can
+//! have added one. All pairs together are as many as those that wait, squared, and most steps add
+//! none.
 ghost use Rattle.std.specs.Prelude.{◌≡◌, ◌∷◌, IsFalse};
 ghost use Rattle.serial_spec.specs.declared.entry.Answer.TheVariants.{Done};
 ghost use Rattle.serial_spec.specs.declared.entry.By.{By};
@@ -22,9 +24,10 @@ use serial_spec::Asked;
 use txn_names::Name;
 use wait_graph::{CycleSearch, any_edge_by_way_of};
 
-// Whether the access that was answered last may have closed a cycle of waits. No cycle stood before, and it adds pairs of those
-// alone whom its lock keeps out of what has a key in common with it, and those that wait in its branch: so it closes none unless
-// there are both. Where nobody waits no cycle stands. It takes no memory.
+// Whether the access that was answered last may have closed a cycle of waits. No cycle stood
+// before, and it adds pairs of those alone whom its lock keeps out of what has a key in common with
+// it, and those that wait in its branch: so it closes none unless there are both. Where nobody
+// waits no cycle stands. It takes no memory.
 #[inline(always)]
 fn may_close_cycle(tables: &Tables, name: &Name, asked: &Asked) -> bool
     ensures { IsFalse result → (rows : Rows) (h : History) (by : By) (reply : Reply) →
@@ -40,8 +43,9 @@ fn may_close_cycle(tables: &Tables, name: &Name, asked: &Asked) -> bool
     any_edge_by_way_of(tree, locks, waits, txn, &asked.target())
 }
 
-/// Enters an access, which the tables have, and aborts the last begun of those that lie on a cycle of waits, until no cycle is
-/// left. It takes no memory: there is room for the entry, to abort all that wait, and to look for them.
+/// Enters an access, which the tables have, and aborts the last begun of those that lie on a cycle
+/// of waits, until no cycle is left. It takes no memory: there is room for the entry, to abort all
+/// that wait, and to look for them.
 #[inline(always)]
 pub(crate) fn settle(
     log: &mut Log,
@@ -60,7 +64,8 @@ pub(crate) fn settle(
     let Request { by, name, asked } = *request;
     log.add_asked(by, name, asked, outcome);
     match outcome {
-        // One that began to wait adds pairs of its own transaction alone, so that each cycle goes through it.
+        // One that began to wait adds pairs of its own transaction alone, so that each cycle goes
+        // through it.
         Outcome::Waits => break_own_cycles(log, tables, breaker, name),
         Outcome::Done(_) => {
             if may_close_cycle(tables, name, asked) {

@@ -16,8 +16,9 @@ use txn_names::Name;
 use txn_tree::{Tree, TxnNo};
 use wait_cycles::Waits;
 
-/// What the history says of transactions, kept so that it need not be gone through: who has begun and what became of each,
-/// who has aborted, what live transactions lock and have left, over the table of what is committed, and who waits.
+/// What the history says of transactions, kept so that it need not be gone through: who has begun
+/// and what became of each, who has aborted, what live transactions lock and have left, over the
+/// table of what is committed, and who waits.
 #[derive(Drop)]
 pub(crate) struct Tables {
     pub(crate) tree: Tree,

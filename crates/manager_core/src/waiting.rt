@@ -37,7 +37,8 @@ pub(crate) fn same_line(a: By, b: By) -> bool
 impl Tables {
     /// The access by which the transaction with this number waits, with its line.
     pub(crate) fn waiting_access_at(&self, txn: TxnNo) -> Option<(By, Asked)>
-        ensures { (t : Path) → IsNumberOf self.now.tree t txn → (rows : Rows) (h : History) → AreTablesOf rows h self.now → result ≡ waiting_access (wait_of h t) }
+        ensures { (t : Path) → IsNumberOf self.now.tree t txn → (rows : Rows) (h : History) →
+            AreTablesOf rows h self.now → result ≡ waiting_access (wait_of h t) }
     {
         let wait = self.waits.of(txn)?;
         Some((wait.by, wait.asked))
@@ -45,14 +46,16 @@ impl Tables {
 
     /// The access by which the transaction waits, with its line.
     pub(crate) fn waiting_access(&self, name: &Name) -> Option<(By, Asked)>
-        ensures { (rows : Rows) (h : History) → AreTablesOf rows h self.now → result ≡ waiting_access (wait_of h name.now) }
+        ensures { (rows : Rows) (h : History) → AreTablesOf rows h self.now →
+            result ≡ waiting_access (wait_of h name.now) }
     {
         self.waiting_access_at(self.tree.no_of(name)?)
     }
 
     /// Whether the transaction with this number waits by another line than this.
     pub(crate) fn waits_elsewhere(&self, txn: TxnNo, by: By) -> bool
-        ensures { (t : Path) → IsNumberOf self.now.tree t txn → (rows : Rows) (h : History) → AreTablesOf rows h self.now → result ≡ waits_elsewhere h by t }
+        ensures { (t : Path) → IsNumberOf self.now.tree t txn → (rows : Rows) (h : History) →
+            AreTablesOf rows h self.now → result ≡ waits_elsewhere h by t }
     {
         match self.waiting_access_at(txn) {
             Some((line, _)) => !same_line(line, by),
@@ -60,7 +63,8 @@ impl Tables {
         }
     }
 
-    /// The transaction, which does not wait and is kept out of what it asks, waits from now on. There is room for it.
+    /// The transaction, which does not wait and is kept out of what it asks, waits from now on.
+    /// There is room for it.
     pub(crate) fn start_wait(&mut self, request: &Request<'_>)
         requires begun { IsFalse (is_absent_in self.old.tree request.now.name.now) }
         requires none { (n : ℕ) → IsNumberOf self.old.tree request.now.name.now n

@@ -9,8 +9,8 @@ use std::alloc::{AllocError, Global};
 use std::marker::Model;
 use txn_names::Name;
 
-/// The names of aborted transactions. A transaction is an orphan where a front of its name is marked: its own or an
-/// ancestor's.
+/// The names of aborted transactions. A transaction is an orphan where a front of its name is
+/// marked: its own or an ancestor's.
 #[derive(Drop)]
 pub struct Marks {
     names: IndexSet<Name>,
@@ -37,7 +37,8 @@ impl Marks {
         }
     }
 
-    /// Makes room for so many more marks. Its one error is `NoMemory`, which is `AllocError`: no mark changes then either.
+    /// Makes room for so many more marks. Its one error is `NoMemory`, which is `AllocError`: no
+    /// mark changes then either.
     pub fn reserve(&mut self, additional: usize) -> Result<(), AllocError>
         ensures names { self.new.names ≡ self.old.names }
         ensures ok { OnOk result (additional ≤ self.new.room) }
@@ -50,7 +51,8 @@ impl Marks {
     /// Marks a name, which may be marked already, and takes no memory.
     pub fn mark(&mut self, name: &Name)
         requires { 0 < self.old.room }
-        ensures marked { (t : Path) → is_marked self.new t ≡ (path_eq name.now t || is_marked self.old t) }
+        ensures marked { (t : Path) →
+            is_marked self.new t ≡ (path_eq name.now t || is_marked self.old t) }
         ensures room { self.old.room ≤ self.new.room + 1 }
     {
         self.names.insert(*name).unwrap();
@@ -63,8 +65,8 @@ impl Marks {
         self.names.contains(name)
     }
 
-    /// The topmost aborted one among a transaction and its ancestors: the shortest marked front of its name. It takes no
-    /// memory.
+    /// The topmost aborted one among a transaction and its ancestors: the shortest marked front of
+    /// its name. It takes no memory.
     pub fn top_aborted(&self, name: &Name) -> Option<Name>
         ensures { result ≡ top_of (is_marked self.now) name.now }
     {

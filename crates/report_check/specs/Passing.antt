@@ -70,7 +70,8 @@ labels_after labels (told.Line l n e a) = with_label labels l
 labels_after labels x = labels
 
 abbrev pub entry_in : List (List ℕ) → ReportEntry → Entry
-entry_in labels (told.Line l n e a) = record { by = by.Line (session_of labels l) n; event = e; answer = a }
+entry_in labels (told.Line l n e a) =
+    record { by = by.Line (session_of labels l) n; event = e; answer = a }
 entry_in labels (told.Victim t) = victim t
 entry_in labels (told.Close t) = closing t
 
@@ -84,7 +85,8 @@ is_in_time h b = is_close b || not (list_any (λ e. is_close e.by) h)
 
 -- the event with which the session's next line waits, if it does
 abbrev pub waiting_by : By → Event → Answer → ℕ → Option Event → Option Event
-waiting_by (by.Line u n) e a s before = if s == u then (if is_waits a then Some e else None) else before
+waiting_by (by.Line u n) e a s before = if s == u then (if is_waits a then Some e else None)
+    else before
 waiting_by b e a s before = before
 
 abbrev pub waiting : History → ℕ → Option Event
@@ -98,12 +100,14 @@ goes_on (Some w) e a = bytes_eq (spelled_event w) (spelled_event e) && not (is_w
 
 -- of one of the sessions, and of its next line
 abbrev pub is_next : History → By → Event → Answer → Bool
-is_next h (by.Line s n) e a = nat_lt s MOST_SESSIONS && n == suc (answered h s) && goes_on (waiting h s) e a
+is_next h (by.Line s n) e a = nat_lt s MOST_SESSIONS && n == suc (answered h s)
+    && goes_on (waiting h s) e a
 is_next h b e a = true
 
 -- what was done could be done: by one that is live and no orphan, or below such a one
 abbrev pub may_do : History → Effect → Bool
-may_do h (Begins t) = is_absent (status h t) && is_active h (parent t) && nat_lt (length (begun h)) MOST_TRANSACTIONS
+may_do h (Begins t) = is_absent (status h t) && is_active h (parent t)
+    && nat_lt (length (begun h)) MOST_TRANSACTIONS
 may_do h (Accesses t a r) = is_active h t
 may_do h (Commits t) = is_active h t && not (has_live_child h t)
 may_do h (Aborts t) = is_active h t
@@ -115,7 +119,8 @@ may_close by.Close (Abort t) = is_top_level t
 may_close b e = true
 
 abbrev pub may_follow : History → Entry → Bool
-may_follow h e = is_in_time h e.by && is_next h e.by e.event e.answer && may_do h (effect e) && may_close e.by e.event
+may_follow h e = is_in_time h e.by && is_next h e.by e.event e.answer && may_do h (effect e)
+    && may_close e.by e.event
 
 -- ---- the end of the entries
 
@@ -124,25 +129,56 @@ none_waits h zero = true
 none_waits h (suc n) = is_none (waiting h n) && none_waits h n
 
 abbrev pub may_end : Read → Bool
-may_end r = is_none (first_live r.history (begun r.history)) && none_waits r.history (length r.labels)
+may_end r = is_none (first_live r.history (begun r.history))
+    && none_waits r.history (length r.labels)
 
 -- ---- lines
 
 abbrev pub at_part : Part → Read → Read
-at_part p r = record { part = p; opening = r.opening; labels = r.labels; history = r.history; table = r.table }
+at_part p r =
+    record {
+      part = p;
+      opening = r.opening;
+      labels = r.labels;
+      history = r.history;
+      table = r.table;
+    }
 
 abbrev pub with_opening : Read → List ℕ × ℤ → Read
-with_opening r row = record { part = Opening; opening = r.opening ++ row ∷ []; labels = r.labels; history = r.history; table = r.table }
+with_opening r row =
+    record {
+      part = Opening;
+      opening = r.opening
+          ++ row ∷ [];
+      labels = r.labels;
+      history = r.history;
+      table = r.table;
+    }
 
 abbrev pub with_entry : Read → ReportEntry → Read
-with_entry r x = record { part = Entries; opening = r.opening; labels = labels_after r.labels x; history = entry_in r.labels x ∷ r.history; table = r.table }
+with_entry r x =
+    record {
+      part = Entries;
+      opening = r.opening;
+      labels = labels_after r.labels x;
+      history = entry_in r.labels x ∷ r.history;
+      table = r.table;
+    }
 
 abbrev pub with_row : Read → List ℕ × ℤ → Read
-with_row r row = record { part = Final; opening = r.opening; labels = r.labels; history = r.history; table = r.table ++ row ∷ [] }
+with_row r row =
+    record {
+      part = Final;
+      opening = r.opening;
+      labels = r.labels;
+      history = r.history;
+      table = r.table ++ row ∷ [];
+    }
 
 abbrev pub entry_next : Read → Option ReportEntry → Option Read
 entry_next r None = None
-entry_next r (Some x) = if may_follow r.history (entry_in r.labels x) then Some (with_entry r x) else None
+entry_next r (Some x) = if may_follow r.history (entry_in r.labels x) then Some (with_entry r x)
+    else None
 
 -- an entry, or the line `table`
 abbrev pub middle_next : Read → List ℕ → Option Read
@@ -152,7 +188,8 @@ middle_next r bs =
 
 abbrev pub opening_next : Read → List ℕ → Option (List ℕ × ℤ) → Option Read
 opening_next r bs None = middle_next r bs
-opening_next r bs (Some row) = if may_add_row r.opening row.0 then Some (with_opening r row) else None
+opening_next r bs (Some row) = if may_add_row r.opening row.0 then Some (with_opening r row)
+    else None
 
 abbrev pub final_next : Read → Option (List ℕ × ℤ) → Option Read
 final_next r None = None
@@ -162,7 +199,8 @@ abbrev pub next_at : Part → Read → List ℕ → Option Read
 next_at Start r bs = if bytes_eq bs (codes "open") then Some (at_part Opening r) else None
 next_at Opening r bs = opening_next r bs (row_of bs)
 next_at Entries r bs = middle_next r bs
-next_at Final r bs = if bytes_eq bs (codes "end") then Some (at_part Ended r) else final_next r (row_of bs)
+next_at Final r bs = if bytes_eq bs (codes "end") then Some (at_part Ended r)
+    else final_next r (row_of bs)
 next_at Ended r bs = None
 
 -- what is read with one line more, unless that line may not stand there
@@ -173,7 +211,8 @@ abbrev pub has_ended : Part → Bool
 has_ended Ended = true
 has_ended p = false
 
--- the parts between line feeds, from line n on: the report ends with the line feed of its line `end`
+-- the parts between line feeds, from line n on: the report ends with the line feed of its line
+-- `end`
 abbrev pub read_from : ℕ → Read → List (List ℕ) → Result Read ℕ
 read_from n r [] = Err n
 read_from n r (p ∷ []) = if length p == 0 && has_ended r.part then Ok r else Err n

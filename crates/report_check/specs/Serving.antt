@@ -13,9 +13,11 @@ pub record PlacedAccess : Type 0 where
   pub asked : Asked
   pub reply : Reply
 
--- The accesses of t and of the children that have committed into it, the newest first. A child's stand where it committed
+-- The accesses of t and of the children that have committed into it, the newest first. A child's
+-- stand where it committed
 abbrev pub with_access : Name → Effect → ℕ → (Name → List PlacedAccess) → List PlacedAccess
-with_access t (Accesses u a r) n before = if path_eq u t then record { line = n; asked = a; reply = r } ∷ before t else before t
+with_access t (Accesses u a r) n before = if path_eq u t
+    then record { line = n; asked = a; reply = r } ∷ before t else before t
 with_access t (Commits u) n before = if path_eq (parent u) t then before u ++ before t else before t
 with_access t x n before = before t
 
@@ -33,7 +35,8 @@ map_behind m (a ∷ rest) = after_asked (map_behind m rest) a.asked
 abbrev pub wrong_lines : Map → List PlacedAccess → List ℕ
 wrong_lines m [] = []
 wrong_lines m (a ∷ rest) =
-    if same_reply a.reply (reply_at (map_behind m rest) a.asked) then wrong_lines m rest else a.line ∷ wrong_lines m rest
+    if same_reply a.reply (reply_at (map_behind m rest) a.asked) then wrong_lines m rest
+    else a.line ∷ wrong_lines m rest
 
 abbrev pub or_least : ℕ → Option ℕ → ℕ
 or_least n None = n

@@ -1,4 +1,5 @@
-//! What is said of the bytes of a report by reading them alone: the definition of a verdict, and its laws.
+//! What is said of the bytes of a report by reading them alone: the definition of a verdict, and
+//! its laws.
 #![tactic(auto)]
 
 pub mod laws;

@@ -21,14 +21,17 @@ use Rattle.report_laws.specs.Whole.{IsRow, IsWhole}
 
 abbrev pub EveryReportIsAccepted : Type 0
 EveryReportIsAccepted =
-    (opening : Rows) (labels : List (List ℕ)) (h : History) (table : Rows) → IsWhole opening labels h table
+    (opening : Rows) (labels : List (List ℕ)) (h : History) (table : Rows)
+    → IsWhole opening labels h table
     → HasVerdict (report opening labels h table) Yes
 
--- A line of a session that is allowed an answer has one that its event may have in a report, with names and numbers of the
--- grammar, where the opening rows and the events are of the grammar: so no reply of a manager is read as none
+-- A line of a session that is allowed an answer has one that its event may have in a report, with
+-- names and numbers of the grammar, where the opening rows and the events are of the grammar: so no
+-- reply of a manager is read as none
 abbrev pub AnswersMayStand : Type 0
 AnswersMayStand =
-    (rows : Rows) (h : History) (s n : ℕ) (e : Event) (a : Answer) → AllByRecursion IsRow rows → AllByRecursion (λ x. IsEvent x.event) h → AreAllowed rows h
+    (rows : Rows) (h : History) (s n : ℕ) (e : Event) (a : Answer) → AllByRecursion IsRow rows
+    → AllByRecursion (λ x. IsEvent x.event) h → AreAllowed rows h
     → Allowed rows h (by.Line s n) e a → IsTrue (may_answer e a) × IsAnswer a
 
 -- the entry with its session's label
@@ -43,6 +46,8 @@ entries_told labels h = map (λ x. told_by labels x.by x.event x.answer) h
 -- bytes are those of one report, the numbers of its sessions left aside
 abbrev pub ReportsTellTheSame : Type 0
 ReportsTellTheSame =
-    (opening opening2 : Rows) (labels labels2 : List (List ℕ)) (h h2 : History) (table table2 : Rows)
-    → IsWhole opening labels h table → IsWhole opening2 labels2 h2 table2 → report opening labels h table ≡ report opening2 labels2 h2 table2
+    (opening opening2 : Rows) (labels labels2 : List (List ℕ)) (h h2 : History)
+    (table table2 : Rows)
+    → IsWhole opening labels h table → IsWhole opening2 labels2 h2 table2
+    → report opening labels h table ≡ report opening2 labels2 h2 table2
     → (opening ≡ opening2) × (entries_told labels h ≡ entries_told labels2 h2) × (table ≡ table2)

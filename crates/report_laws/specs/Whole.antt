@@ -1,4 +1,5 @@
--- What a report has to tell: a legal history that takes the lines of a text's sessions in turn, all of them, between two tables.
+-- What a report has to tell: a legal history that takes the lines of a text's sessions in turn, all
+-- of them, between two tables.
 use Rattle.std.specs.Prelude.{◌≡◌, ◌≤◌, ℕ, ℤ, IsTrue, List, [], length, map}
 use Rattle.std.specs.List.{AllByRecursion}
 use Rattle.txn_names.specs.Text.{IsKey}
@@ -22,7 +23,8 @@ pub record IsTable (rows : Rows) : Type 0 where
   pub few : length rows ≤ MOST_ROWS
   pub rising : IsRising rows
 
-pub record IsWhole (opening : Rows) (labels : List (List ℕ)) (h : History) (table : Rows) : Type 0 where
+pub record IsWhole (opening : Rows) (labels : List (List ℕ)) (h : History)
+    (table : Rows) : Type 0 where
   pub sessions : List Session
   pub text : IsText sessions
   pub labelled : labels ≡ map (λ s. s.label) sessions

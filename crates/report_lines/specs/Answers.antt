@@ -1,4 +1,5 @@
--- Which answers the line of a report may tell of an event. Whether the answer has its cause is another matter.
+-- Which answers the line of a report may tell of an event. Whether the answer has its cause is
+-- another matter.
 use Rattle.std.specs.Prelude.{Bool, true, false}
 use Rattle.serial_spec.specs.declared.operation.Op.{Op}
 use Rattle.serial_spec.specs.declared.operation.Op.TheVariants.{Get, Set, Add, Del}

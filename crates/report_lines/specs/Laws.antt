@@ -1,4 +1,5 @@
--- Reading and spelling fit: bytes are read as an entry or a row exactly where they spell it, as statements.
+-- Reading and spelling fit: bytes are read as an entry or a row exactly where they spell it, as
+-- statements.
 use Rattle.std.specs.Prelude.{◌≡◌, ◌↔◌, ℕ, ℤ, ◌≤◌, IsTrue, List, ◌++◌, codes, decimal, Some}
 use Rattle.txn_names.specs.Text.{IsKey, IsLabel, IsName, spelled_name}
 use Rattle.serial_spec.specs.declared.limits.TheConstants.{MOST_LINES}
@@ -36,12 +37,16 @@ IsReportEntry (Victim t) = IsName t
 IsReportEntry (Close t) = IsName t
 
 abbrev pub spelled_report_entry : ReportEntry → List ℕ
-spelled_report_entry (Line l n e a) = l ++ codes " " ++ decimal n ++ codes " " ++ spelled_event e ++ codes " -> " ++ spelled_answer a
+spelled_report_entry (Line l n e a) = l ++ codes " " ++ decimal n ++ codes " " ++ spelled_event e
+    ++ codes " -> " ++ spelled_answer a
 spelled_report_entry (Victim t) = codes "* victim " ++ spelled_name t
 spelled_report_entry (Close t) = codes "* close " ++ spelled_name t
 
 abbrev pub EntriesReadBack : Type 0
-EntriesReadBack = (bs : List ℕ) (x : ReportEntry) → (entry_of bs ≡ Some x) ↔ (IsReportEntry x × (bs ≡ spelled_report_entry x))
+EntriesReadBack = (bs : List ℕ) (x : ReportEntry)
+    → (entry_of bs ≡ Some x) ↔ (IsReportEntry x × (bs ≡ spelled_report_entry x))
 
 abbrev pub RowsReadBack : Type 0
-RowsReadBack = (bs : List ℕ) (k : List ℕ) (v : ℤ) → (row_of bs ≡ Some (k, v)) ↔ (IsKey k × IsTrue (is_i64 v) × (bs ≡ k ++ codes "=" ++ spelled_number v))
+RowsReadBack = (bs : List ℕ) (k : List ℕ) (v : ℤ)
+    → (row_of bs ≡ Some (k, v)) ↔ (IsKey k × IsTrue (is_i64 v)
+    × (bs ≡ k ++ codes "=" ++ spelled_number v))

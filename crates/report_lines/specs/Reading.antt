@@ -1,4 +1,5 @@
--- What the bytes of a line are read as: its entry, or its row. Bytes that are read as nothing spell none.
+-- What the bytes of a line are read as: its entry, or its row. Bytes that are read as nothing spell
+-- none.
 use Rattle.std.specs.Prelude.{ℕ, ℤ, pos, negsuc, ◌-◌, ◌==◌, ◌&&◌, if◌then◌else◌, nat_le, List, [], ◌∷◌, length, take, drop, codes, Option, Some, None}
 use Rattle.std.specs.Option.{option_map}
 use Rattle.std.specs.Result.{result_ok}
@@ -74,7 +75,8 @@ behind_space (b ∷ bs) = if b == 32 then Some bs else None
 
 -- what stands before the two bytes at the end, if these are a space and a `-`
 abbrev pub before_dash : List ℕ → Option (List ℕ)
-before_dash bs = if bytes_eq (drop (length bs - 2) bs) (codes " -") then Some (take (length bs - 2) bs) else None
+before_dash bs = if bytes_eq (drop (length bs - 2) bs) (codes " -")
+    then Some (take (length bs - 2) bs) else None
 
 -- both sides of the first arrow, which has a space on each side
 abbrev pub sides_of : List ℕ → Option (List ℕ × List ℕ)

@@ -80,7 +80,8 @@ fn refusal_of(word: &[u8]) -> Option<Refusal>
     None
 }
 
-// Why an orphan was refused. It is rare, and read apart: a call makes room for all that is read in it.
+// Why an orphan was refused. It is rare, and read apart: a call makes room for all that is read in
+// it.
 #[inline(never)]
 fn orphan_of(word: &[u8]) -> Option<Answer>
     ensures { result ≡ orphan_of word.now }

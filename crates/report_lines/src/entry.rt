@@ -12,7 +12,8 @@ use txn_names::{Label, Name};
 /// What an entry of a report says.
 #[derive(Clone, Copy, Debug, PartialEq, Eq)]
 pub enum ReportEntry {
-    /// The answer of a line, or that it waits: the session's label, the number of the line from 1, what the line asks.
+    /// The answer of a line, or that it waits: the session's label, the number of the line from 1,
+    /// what the line asks.
     Line {
         label: Label,
         line: u32,
@@ -131,7 +132,8 @@ fn abort_of(bytes: &[u8]) -> Option<ReportEntry>
     None
 }
 
-// The same, put where the caller keeps it. It is rare, and read apart: a call makes room for all that is read in it.
+// The same, put where the caller keeps it. It is rare, and read apart: a call makes room for all
+// that is read in it.
 #[inline(never)]
 fn tell_abort(bytes: &[u8], entry: &mut Option<ReportEntry>)
     ensures { entry.new ≡ abort_of bytes.now }
@@ -139,8 +141,9 @@ fn tell_abort(bytes: &[u8], entry: &mut Option<ReportEntry>)
     *entry = abort_of(bytes);
 }
 
-/// The entry that the bytes spell, a line of a report without its line feed: `LABEL LINE TEXT -> REPLY`, `* victim N` or
-/// `* close N`. The reply is one that a line of such a text may have; whether it has its cause is not asked.
+/// The entry that the bytes spell, a line of a report without its line feed: `LABEL LINE TEXT ->
+/// REPLY`, `* victim N` or `* close N`. The reply is one that a line of such a text may have;
+/// whether it has its cause is not asked.
 pub fn parse_entry(bytes: &[u8]) -> Option<ReportEntry>
     ensures { result ≡ entry_of bytes.now }
 {
@@ -149,7 +152,8 @@ pub fn parse_entry(bytes: &[u8]) -> Option<ReportEntry>
     entry
 }
 
-/// The same, put where the caller keeps it, in place of what was there: an entry is large, and is moved when it is returned.
+/// The same, put where the caller keeps it, in place of what was there: an entry is large, and is
+/// moved when it is returned.
 pub fn read_entry(bytes: &[u8], entry: &mut Option<ReportEntry>)
     ensures { entry.new ≡ entry_of bytes.now }
 {

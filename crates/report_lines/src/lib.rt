@@ -1,4 +1,5 @@
-//! The lines of a report, read: rows, and entries of lines, of victims and of the close. Each has one spelling.
+//! The lines of a report, read: rows, and entries of lines, of victims and of the close. Each has
+//! one spelling.
 #![tactic(auto)]
 
 mod answer;

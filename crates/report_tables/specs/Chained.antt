@@ -54,11 +54,13 @@ pub record IsPlaced (known : Known) (a : Access) (p : PlacedAccess) : Type 0 whe
   pub asked : Asks known a.asked p.asked
   pub reply : a.reply ≡ p.reply
 
--- From the place `at` on, behind the place `before`, the accesses are these, and the last of them stands at `last`
+-- From the place `at` on, behind the place `before`, the accesses are these, and the last of them
+-- stands at `last`
 abbrev pub Leads : List Access → Known → Option ℕ → Option ℕ → Option ℕ → List PlacedAccess → Type 0
 Leads acs known at before last [] = (at ≡ None) × (last ≡ before)
 Leads acs known at before last (p ∷ ps) =
-    (i : ℕ) × (a : Access) × (at ≡ Some i) × (slice_get acs i ≡ Some a) × IsPlaced known a p × Leads acs known a.next (Some i) last ps
+    (i : ℕ) × (a : Access) × (at ≡ Some i) × (slice_get acs i ≡ Some a) × IsPlaced known a p
+    × Leads acs known a.next (Some i) last ps
 
 -- the accesses of the chain are these, the oldest first
 abbrev pub Holds : List Access → Known → Chain → List PlacedAccess → Type 0

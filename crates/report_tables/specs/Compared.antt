@@ -15,11 +15,14 @@ abbrev pub next_of : Option (List ℕ × ℤ) → ℕ → List ℕ → Option �
 next_of o p k None = Some p
 next_of o p k (Some v) = if is_row o k v then Some (p + 1) else None
 
--- the rows from the place p on, of which the first stands at the line n, beside the keys from the number i on
+-- the rows from the place p on, of which the first stands at the line n, beside the keys from the
+-- number i on
 abbrev pub compared_from : ℕ → Rows → Values → ℕ → ℕ → Verdict
 compared_from n table es p i = compared (n + p) (drop p table) (present (drop i es))
 
--- the row at the place p is the one due, if one is due at the number i, and the comparison goes on; or it is not, and that is the verdict
+-- the row at the place p is the one due, if one is due at the number i, and the comparison goes on;
+-- or it is not, and that is the verdict
 abbrev pub Advances : ℕ → Rows → Values → ℕ → ℕ → Option ℕ → Type 0
 Advances n table es p i None = compared_from n table es p i ≡ No (n + p)
-Advances n table es p i (Some q) = (q ≤ length table) × (compared_from n table es p i ≡ compared_from n table es q (i + 1))
+Advances n table es p i (Some q) = (q ≤ length table)
+    × (compared_from n table es p i ≡ compared_from n table es q (i + 1))

@@ -10,25 +10,32 @@ use Rattle.report_tables.specs.Chained.{IsPlaced, Known, Leads}
 use Rattle.report_tables.specs.Valued.{Values, value_at}
 use Rattle.report_tables.specs.declared.chains.Access.{Access}
 
--- an access that asks this was done, whatever its reply, and it is told whether that was the one due
+-- an access that asks this was done, whatever its reply, and it is told whether that was the one
+-- due
 pub record IsServed (a : Asked) (r : Reply) (old new : Values) (fits : Bool) : Type 0 where
   pub keys : keys_of new ≡ keys_of old
   pub values : value_at new ≡ after_asked (value_at old) a
   pub reply : fits ≡ same_reply r (reply_at (value_at old) a)
 
--- the accesses, the oldest first, were done, and the least line of one whose reply was not the one due is told
+-- the accesses, the oldest first, were done, and the least line of one whose reply was not the one
+-- due is told
 pub record AreServed (ps : List PlacedAccess) (old new : Values) (wrong : Option ℕ) : Type 0 where
   pub keys : keys_of new ≡ keys_of old
   pub values : value_at new ≡ map_behind (value_at old) (reverse ps)
   pub wrong_line : wrong ≡ least (wrong_lines (value_at old) (reverse ps))
 
--- the access was done, and told are the lines that were wrong: those before, and this one's if it is
+-- the access was done, and told are the lines that were wrong: those before, and this one's if it
+-- is
 abbrev pub IsToldBy : Access → Asked → Values → Values → Option ℕ → Option ℕ → Type 0
 IsToldBy a q old new before told =
-    (fits : Bool) × IsServed q a.reply old new fits × (told ≡ (if fits then before else Some (or_least a.line before)))
+    (fits : Bool) × IsServed q a.reply old new fits
+    × (told ≡ (if fits then before else Some (or_least a.line before)))
 
--- none is left, and nothing changes; or the first of those that are left is done, and the next stands where it leads
-abbrev pub GoesOn : List Access → Known → Option ℕ → List PlacedAccess → Values → Values → Option ℕ → Option ℕ × Option ℕ → Type 0
+-- none is left, and nothing changes; or the first of those that are left is done, and the next
+-- stands where it leads
+abbrev pub GoesOn : List Access → Known → Option ℕ → List PlacedAccess → Values → Values → Option ℕ
+    → Option ℕ × Option ℕ → Type 0
 GoesOn acs known last [] old new wrong r = (r ≡ (None, wrong)) × (new ≡ old)
 GoesOn acs known last (p ∷ rest) old new wrong r =
-    (i : ℕ) × (a : Access) × IsPlaced known a p × Leads acs known r.0 (Some i) last rest × IsToldBy a p.asked old new wrong r.1
+    (i : ℕ) × (a : Access) × IsPlaced known a p × Leads acs known r.0 (Some i) last rest
+    × IsToldBy a p.asked old new wrong r.1

@@ -40,19 +40,25 @@ places tree = [] ∷ names tree
 
 -- the parent of the transaction with this number stands at the place k
 abbrev pub AboveAt : States → ℕ → ℕ → Type 0
-AboveAt tree n k = (t : Name) → slice_get (names tree) n ≡ Some t → slice_get (places tree) k ≡ Some (parent t)
+AboveAt tree n k = (t : Name) → slice_get (names tree) n ≡ Some t
+    → slice_get (places tree) k ≡ Some (parent t)
 
--- Of the root and of each transaction that is live the chain has its accesses, and no two of them end at one place. So many lines stand
--- before the entries
-pub record AreChainsOf (base : ℕ) (known : Known) (h : History) (tree : States) (acs : List Access) (chains : List Chain) : Type 0 where
+-- Of the root and of each transaction that is live the chain has its accesses, and no two of them
+-- end at one place. So many lines stand before the entries
+pub record AreChainsOf (base : ℕ) (known : Known) (h : History) (tree : States) (acs : List Access)
+    (chains : List Chain) : Type 0 where
   pub level : length chains ≡ length (places tree)
-  pub each : (k : ℕ) (t : Name) (c : Chain) → slice_get (places tree) k ≡ Some t → slice_get chains k ≡ Some c → is_live_in tree t ≡ true
+  pub each : (k : ℕ) (t : Name) (c : Chain) → slice_get (places tree) k ≡ Some t
+      → slice_get chains k ≡ Some c → is_live_in tree t ≡ true
       → Holds acs known c (reverse (accesses_of base h t))
-  pub apart : (k l : ℕ) (t u : Name) (c d : Chain) (i : ℕ) → slice_get (places tree) k ≡ Some t → slice_get (places tree) l ≡ Some u
-      → slice_get chains k ≡ Some c → slice_get chains l ≡ Some d → is_live_in tree t ≡ true → is_live_in tree u ≡ true → c.last ≡ Some i → d.last ≡ Some i → k ≡ l
+  pub apart : (k l : ℕ) (t u : Name) (c d : Chain) (i : ℕ) → slice_get (places tree) k ≡ Some t
+      → slice_get (places tree) l ≡ Some u
+      → slice_get chains k ≡ Some c → slice_get chains l ≡ Some d → is_live_in tree t ≡ true
+      → is_live_in tree u ≡ true → c.last ≡ Some i → d.last ≡ Some i → k ≡ l
   pub fresh : (t : Name) → is_absent_in tree t ≡ true → accesses_of base h t ≡ []
 
-pub record AreTransactionsOf (base : ℕ) (known : Known) (h : History) (x : Transactions) : Type 0 where
+pub record AreTransactionsOf (base : ℕ) (known : Known) (h : History)
+    (x : Transactions) : Type 0 where
   pub in_tree : IsTreeOf h x.tree
   pub grown : IsGrown h
   pub in_chains : AreChainsOf base known h x.tree x.accesses.items x.chains.items

@@ -1,4 +1,5 @@
-//! The accesses of transactions, one behind the other. A commit puts those of the child behind those of its parent.
+//! The accesses of transactions, one behind the other. A commit puts those of the child behind
+//! those of its parent.
 ghost use Rattle.std.specs.Prelude.{◌≡◌, ◌++◌, ◌∷◌, [], slice_get, OnErr, OnOk};
 ghost use Rattle.txn_tree.specs.Linked.{update_at};
 ghost use Rattle.report_tables.specs.Chained.{chain_in, joined, leading_to, led, no_chain, one_access};
@@ -23,7 +24,8 @@ pub struct Access {
     pub next: Option<usize>,
 }
 
-/// Where the first and the last access of a transaction stand, if it has made any, or a part of it that has committed.
+/// Where the first and the last access of a transaction stand, if it has made any, or a part of it
+/// that has committed.
 #[derive(Clone, Copy)]
 pub struct Chain {
     pub first: Option<usize>,
@@ -94,7 +96,8 @@ pub fn chain_at(chains: &[Chain], place: usize) -> Chain
 
 /// Puts a chain behind the one at this place.
 pub fn append_at(accesses: &mut [Access], chains: &mut [Chain], place: usize, more: Chain)
-    ensures accesses { accesses.new ≡ led accesses.old (chain_in (slice_get chains.old place)).last more.first }
+    ensures accesses { accesses.new ≡
+        led accesses.old (chain_in (slice_get chains.old place)).last more.first }
     ensures chains { chains.new ≡ update_at chains.old place (λ c. joined c more) }
 {
     let own = chain_at(chains, place);

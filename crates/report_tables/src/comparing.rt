@@ -19,7 +19,8 @@ fn is_row(table: &[(Key, i64)], place: usize, key: &Key, value: i64) -> bool
     }
 }
 
-// The place of the next row, if the one at this place is the key's, or the key has no value and so no row.
+// The place of the next row, if the one at this place is the key's, or the key has no value and so
+// no row.
 fn next_at(table: &[(Key, i64)], place: usize, key: &Key, value: Option<i64>) -> Option<usize>
     requires { place ≤ length table.now }
     ensures { result ≡ next_of (slice_get table.now place) place key.now value }
@@ -48,7 +49,8 @@ fn next_place(values: &Values, table: &[(Key, i64)], number: usize, place: usize
     }
 }
 
-/// The verdict on the final rows, of which the first stands at the line `first`, beside the keys that have values, in their order.
+/// The verdict on the final rows, of which the first stands at the line `first`, beside the keys
+/// that have values, in their order.
 pub fn compare(values: &Values, table: &[(Key, i64)], first: usize) -> Verdict
     requires { first + length table.now < 2 ^ 64 }
     ensures { result ≡ compared first table.now (present values.now.entries) }

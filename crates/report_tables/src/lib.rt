@@ -1,4 +1,5 @@
-//! What is kept of a report while it is read: its sessions, its transactions with their accesses, and the keys and groups that it names.
+//! What is kept of a report while it is read: its sessions, its transactions with their accesses,
+//! and the keys and groups that it names.
 #![tactic(auto)]
 
 mod chains;

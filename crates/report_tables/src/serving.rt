@@ -50,7 +50,8 @@ fn reply_over(sum: i128) -> Reply
     }
 }
 
-// Does the access to the key with this number, whatever its reply, and tells whether that was the one due.
+// Does the access to the key with this number, whatever its reply, and tells whether that was the
+// one due.
 fn serve_at_key(
     values: &mut Values,
     groups: &mut Groups,
@@ -74,7 +75,8 @@ fn serve_at_key(
 
 // Whether the reply is that of a sum over the group with this number.
 fn is_due_over(groups: &Groups, number: usize, reply: &Reply) -> bool
-    ensures { (g : List ℕ) (es : Valued) → AreTallied es groups.now.entries → slice_get (keys groups.now) number ≡ Some g
+    ensures { (g : List ℕ) (es : Valued) → AreTallied es groups.now.entries →
+        slice_get (keys groups.now) number ≡ Some g
         → result ≡ same_reply reply.now (reply_at (value_at es) (Over g)) }
 {
     match groups.get_index(number) {
@@ -88,7 +90,8 @@ fn serve(values: &mut Values, groups: &mut Groups, access: &Access) -> bool
     requires { AreTallied values.old.entries groups.old.entries }
     ensures keys { keys groups.new ≡ keys groups.old }
     ensures tallied { AreTallied values.new.entries groups.new.entries }
-    ensures served { (a : Asked) → Asks (known_by (keys values.old) (keys groups.old)) access.now.asked a
+    ensures served { (a : Asked) →
+        Asks (known_by (keys values.old) (keys groups.old)) access.now.asked a
         → IsServed a access.now.reply values.old.entries values.new.entries result }
 {
     match &access.asked {
@@ -107,7 +110,8 @@ fn serve_one(
     requires { AreTallied values.old.entries groups.old.entries }
     ensures keys { keys groups.new ≡ keys groups.old }
     ensures tallied { AreTallied values.new.entries groups.new.entries }
-    ensures told { (a : Asked) → Asks (known_by (keys values.old) (keys groups.old)) access.now.asked a
+    ensures told { (a : Asked) →
+        Asks (known_by (keys values.old) (keys groups.old)) access.now.asked a
         → IsToldBy access.now a values.old.entries values.new.entries wrong result }
 {
     if serve(values, groups, access) {
@@ -117,7 +121,8 @@ fn serve_one(
     }
 }
 
-// Does the access at this place, if there is one, and tells where the next one stands and the least of the lines that were wrong.
+// Does the access at this place, if there is one, and tells where the next one stands and the least
+// of the lines that were wrong.
 fn serve_at(
     values: &mut Values,
     groups: &mut Groups,
@@ -167,8 +172,9 @@ fn run(
     wrong
 }
 
-/// Does the accesses from this one on, one after the other, whatever their replies. It gives the least line of one whose reply
-/// was not the one due, if there is one. A sum costs a look at it, and each change of a value a look for each dot of its key.
+/// Does the accesses from this one on, one after the other, whatever their replies. It gives the
+/// least line of one whose reply was not the one due, if there is one. A sum costs a look at it,
+/// and each change of a value a look for each dot of its key.
 pub fn serve_all(
     values: &mut Values,
     groups: &mut Groups,

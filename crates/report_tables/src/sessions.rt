@@ -1,4 +1,5 @@
-//! The sessions that a report names: which line of each comes next, and whether it has begun to wait.
+//! The sessions that a report names: which line of each comes next, and whether it has begun to
+//! wait.
 ghost use Rattle.std.specs.Prelude.{◌≡◌, ◌↔◌, ◌∷◌, ◌++◌, [], ◌<◌, ◌&&◌, ◌==◌, ℕ, List, IsTrue, IfOk, IfSome, OnOk, length, suc, is_none, None};
 ghost use Rattle.indexmap.specs.IndexMap.{get};
 ghost use Rattle.txn_names.specs.Path.{label_eq};
@@ -36,7 +37,8 @@ fn is_wait(answer: &Answer) -> bool
 
 // Whether a line that waits with the first event, if it does, may go on so.
 fn may_go_on(waits: &Option<Event>, event: &Event, answer: &Answer) -> bool
-    ensures { IfSome waits.now IsEvent → IsEvent event.now → result ≡ goes_on waits.now event.now answer.now }
+    ensures { IfSome waits.now IsEvent → IsEvent event.now →
+        result ≡ goes_on waits.now event.now answer.now }
 {
     match waits {
         Some(waiting) => is_same(waiting, event) && !is_wait(answer),
@@ -51,7 +53,8 @@ impl Session {
         self.waits.is_none()
     }
 
-    // Whether this may be told of the session's line: it is the next one, and has the text with which it waits, if it does.
+    // Whether this may be told of the session's line: it is the next one, and has the text with
+    // which it waits, if it does.
     fn may_tell(&self, line: u32, event: &Event, answer: &Answer) -> bool
         ensures { (h : History) (s : ℕ) → IsSessionOf h s self.now → IsEvent event.now
             → result ≡ (line == suc (answered h s) && goes_on (waiting h s) event.now answer.now) }
@@ -78,7 +81,8 @@ impl Session {
 // A session of which nothing is told yet but perhaps what its first line asks.
 fn add_session(sessions: &mut Sessions, label: &Label, waits: Option<Event>) -> Result<(), NoMemory>
     requires new { get label_eq sessions.old label.now ≡ None }
-    ensures { OnOk result (sessions.new.entries ≡ sessions.old.entries ++ (label.now, record { answered = 0; waits = waits }) ∷ []) }
+    ensures { OnOk result (sessions.new.entries ≡ sessions.old.entries
+        ++ (label.now, record { answered = 0; waits = waits }) ∷ []) }
 {
     let session = Session { answered: 0, waits };
     match sessions.insert(*label, session) {
@@ -87,10 +91,11 @@ fn add_session(sessions: &mut Sessions, label: &Label, waits: Option<Event>) -> 
     }
 }
 
-/// The number of the session with this label, which a new label is given. There is none where it would be one too many. The
-/// only error is that memory runs out.
+/// The number of the session with this label, which a new label is given. There is none where it
+/// would be one too many. The only error is that memory runs out.
 pub fn session_number(sessions: &mut Sessions, label: &Label) -> Result<Option<usize>, NoMemory>
-    ensures { IfOk result (λ number. (labels : List (List ℕ)) (h : History) → AreSessionsOf labels h sessions.old.entries
+    ensures { IfOk result (λ number. (labels : List (List ℕ)) (h : History) →
+        AreSessionsOf labels h sessions.old.entries
         → IsNumbered labels label.now h number sessions.new.entries) }
 {
     if let Some(number) = sessions.get_index_of(label) {
@@ -112,8 +117,10 @@ pub fn take_line(
     event: &Event,
     answer: &Answer,
 ) -> bool
-    ensures { (labels : List (List ℕ)) (h : History) → AreSessionsOf labels h sessions.old.entries → IsEvent event.now
-        → number < length labels → Tells result labels h number line event.now answer.now sessions.new.entries }
+    ensures { (labels : List (List ℕ)) (h : History) → AreSessionsOf labels h sessions.old.entries →
+        IsEvent event.now
+        → number < length labels →
+        Tells result labels h number line event.now answer.now sessions.new.entries }
 {
     let Some(session) = sessions.get_index_mut(number) else {
         return false;

@@ -106,7 +106,8 @@ fn count_at(groups: &mut Groups, values: &Values, number: usize)
     requires named { AreNamed groups.old.entries }
     requires room { (k : List ℕ) (v : Option ℤ) → slice_get values.now.entries number ≡ Some (k, v)
         → IsValue v → HaveRoom (λ g. IsTrue (has g k)) (amount v) groups.old.entries }
-    ensures fine { (k : List ℕ) (v : Option ℤ) → slice_get values.now.entries number ≡ Some (k, v) → IsFine (k, v) }
+    ensures fine { (k : List ℕ) (v : Option ℤ) → slice_get values.now.entries number ≡ Some (k, v) →
+        IsFine (k, v) }
     ensures sums { (k : List ℕ) (v : Option ℤ) → slice_get values.now.entries number ≡ Some (k, v)
         → groups.new.entries ≡ raised (by_key k (amount v)) groups.old.entries }
 {

@@ -87,7 +87,8 @@ fn place_above(tree: &Tree, txn: TxnNo) -> usize
 impl Transactions {
     /// None. The only error is that memory runs out.
     pub fn new(alloc: Global) -> Result<Transactions, NoMemory>
-        ensures { IfOk result (λ x. (base : ℕ) (known : Known) → AreTransactionsOf base known [] x) }
+        ensures { IfOk result (λ x. (base : ℕ) (known : Known) →
+            AreTransactionsOf base known [] x) }
     {
         let mut chains = Vec::new(alloc);
         chains.push(Chain::none())?;
@@ -103,7 +104,8 @@ impl Transactions {
 pub fn begin(transactions: &mut Transactions, name: &Name) -> Result<bool, NoMemory>
     ensures { IfOk result (λ ok. (base : ℕ) (known : Known) (h : History)
         → AreTransactionsOf base known h transactions.old
-        → Comes ok h (Begins name.now) (λ e. AreTransactionsOf base known (e ∷ h) transactions.new)) }
+        → Comes ok h (Begins name.now)
+        (λ e. AreTransactionsOf base known (e ∷ h) transactions.new)) }
 {
     name.has_labels();
     transactions.tree.has_distinct_names();
@@ -146,8 +148,10 @@ pub fn access(
 
 /// A transaction commits, if it may. It takes no memory.
 pub fn commit(transactions: &mut Transactions, name: &Name) -> bool
-    ensures { (base : ℕ) (known : Known) (h : History) → AreTransactionsOf base known h transactions.old
-        → Comes result h (Commits name.now) (λ e. AreTransactionsOf base known (e ∷ h) transactions.new) }
+    ensures { (base : ℕ) (known : Known) (h : History) →
+        AreTransactionsOf base known h transactions.old
+        → Comes result h (Commits name.now)
+        (λ e. AreTransactionsOf base known (e ∷ h) transactions.new) }
 {
     let Some(txn) = active_number(&transactions.tree, name) else {
         return false;
@@ -169,8 +173,10 @@ pub fn commit(transactions: &mut Transactions, name: &Name) -> bool
 
 /// A transaction aborts, if it may. It takes no memory.
 pub fn abort(transactions: &mut Transactions, name: &Name) -> bool
-    ensures { (base : ℕ) (known : Known) (h : History) → AreTransactionsOf base known h transactions.old
-        → Comes result h (Aborts name.now) (λ e. AreTransactionsOf base known (e ∷ h) transactions.new) }
+    ensures { (base : ℕ) (known : Known) (h : History) →
+        AreTransactionsOf base known h transactions.old
+        → Comes result h (Aborts name.now)
+        (λ e. AreTransactionsOf base known (e ∷ h) transactions.new) }
 {
     let Some(txn) = active_number(&transactions.tree, name) else {
         return false;

@@ -1,4 +1,5 @@
-//! The keys that a report names, each with its number and its value, and the groups with their numbers.
+//! The keys that a report names, each with its number and its value, and the groups with their
+//! numbers.
 ghost use Rattle.std.specs.Prelude.{◌≡◌, ℕ, List, slice_get, Some, IfOk, OnOk};
 ghost use Rattle.indexmap.specs.IndexMap.{keys};
 ghost use Rattle.report_tables.specs.Valued.{Extends, value_at};
@@ -15,7 +16,8 @@ pub type Values = IndexMap<Key, Option<i64>>;
 pub fn number_of(values: &mut Values, key: &Key) -> Result<usize, NoMemory>
     ensures key { IfOk result (λ i. slice_get (keys values.new) i ≡ Some key.now) }
     ensures grown { OnOk result (Extends (keys values.old) (keys values.new)) }
-    ensures same { OnOk result ((k : List ℕ) → value_at values.new.entries k ≡ value_at values.old.entries k) }
+    ensures same { OnOk result ((k : List ℕ) →
+        value_at values.new.entries k ≡ value_at values.old.entries k) }
 {
     if let Some(number) = values.get_index_of(key) {
         return Ok(number);
@@ -27,7 +29,8 @@ pub fn number_of(values: &mut Values, key: &Key) -> Result<usize, NoMemory>
     }
 }
 
-/// The groups in the order in which they are first named, each with its sum once keys have their values.
+/// The groups in the order in which they are first named, each with its sum once keys have their
+/// values.
 pub type Groups = IndexMap<Group, i128>;
 
 /// The number of the group. The only error is that memory runs out.

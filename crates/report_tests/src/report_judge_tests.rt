@@ -1,5 +1,5 @@
-//! Verdicts on reports that were changed, and on readers that give one byte at a time, fail or do not end. Under a trial run that
-//! refuses a growth the call is made again.
+//! Verdicts on reports that were changed, and on readers that give one byte at a time, fail or do
+//! not end. Under a trial run that refuses a growth the call is made again.
 use report_check::Verdict;
 use report_judge::{CheckFault, check};
 use std::alloc::Global;
@@ -70,8 +70,8 @@ fn judged_once(
     check(alloc, &mut reader)
 }
 
-// What comes of a reader that gives so many bytes at a time, and whose call with this number, from 0, fails. Where a growth is
-// refused, another such reader is judged.
+// What comes of a reader that gives so many bytes at a time, and whose call with this number, from
+// 0, fails. Where a growth is refused, another such reader is judged.
 fn judged(
     alloc: Global,
     text: &str,
@@ -84,7 +84,8 @@ fn judged(
     }
 }
 
-// The text of these lines, with this in the place of the line with this number, counted from 1; or, with none, without it.
+// The text of these lines, with this in the place of the line with this number, counted from 1; or,
+// with none, without it.
 fn changed(alloc: Global, at: usize, with: Option<&str>) -> Option<String> {
     match changed_once(alloc, at, with) {
         Some(text) => Some(text),

@@ -6,7 +6,8 @@ use Rattle.durable_top.specs.declared.store.Row.{Row}
 
 -- a row as in a report, a space and the number of the commit
 abbrev pub numbered_row : Row → List ℕ
-numbered_row r = r.key ++ codes "=" ++ spelled_number r.value ++ codes " " ++ spelled_number r.commit
+numbered_row r = r.key ++ codes "=" ++ spelled_number r.value ++ codes " "
+    ++ spelled_number r.commit
 
 -- one row a line
 abbrev pub numbered_rows : List Row → List ℕ

@@ -16,8 +16,11 @@ use txn_names::{Key, Label};
 
 // The key, an equals sign and the value.
 pub(crate) fn put_row<W: Sink>(out: &mut W, key: &Key, value: i64) -> Result<(), WriteFault>
-    ensures ok { OnOk result (Appends (W.contents out.old) (W.contents out.new) (key.now ++ codes "=" ++ spelled_number value)) }
-    ensures err { OnErr result (AppendsFront (W.contents out.old) (W.contents out.new) (key.now ++ codes "=" ++ spelled_number value)) }
+    ensures ok { OnOk result
+        (Appends (W.contents out.old) (W.contents out.new) (key.now ++ codes "="
+        ++ spelled_number value)) }
+    ensures err { OnErr result (AppendsFront (W.contents out.old) (W.contents out.new) (key.now
+        ++ codes "=" ++ spelled_number value)) }
     ensures asked { OnErr result (IsStopped W.takes out.new) }
 {
     put(out, key.as_bytes())?;
@@ -68,8 +71,12 @@ fn put_row_at<W: Sink>(
     table: &PlainTable,
     place: usize,
 ) -> Result<(), WriteFault>
-    ensures ok { OnOk result (Appends (W.contents out.old) (W.contents out.new) (row_lines (slice_get table.now.rows place))) }
-    ensures err { OnErr result (AppendsFront (W.contents out.old) (W.contents out.new) (row_lines (slice_get table.now.rows place))) }
+    ensures ok { OnOk result
+        (Appends (W.contents out.old) (W.contents out.new)
+        (row_lines (slice_get table.now.rows place))) }
+    ensures err { OnErr result
+        (AppendsFront (W.contents out.old) (W.contents out.new)
+        (row_lines (slice_get table.now.rows place))) }
     ensures asked { OnErr result (IsStopped W.takes out.new) }
 {
     match table.at(place) {
@@ -79,8 +86,10 @@ fn put_row_at<W: Sink>(
 }
 
 pub(crate) fn put_table<W: Sink>(out: &mut W, table: &PlainTable) -> Result<(), WriteFault>
-    ensures ok { OnOk result (Appends (W.contents out.old) (W.contents out.new) (spelled_rows table.now.rows)) }
-    ensures err { OnErr result (AppendsFront (W.contents out.old) (W.contents out.new) (spelled_rows table.now.rows)) }
+    ensures ok { OnOk result
+        (Appends (W.contents out.old) (W.contents out.new) (spelled_rows table.now.rows)) }
+    ensures err { OnErr result
+        (AppendsFront (W.contents out.old) (W.contents out.new) (spelled_rows table.now.rows)) }
     ensures asked { OnErr result (IsStopped W.takes out.new) }
 {
     let mut buffer = LineBuffer::new();
@@ -91,8 +100,12 @@ pub(crate) fn put_table<W: Sink>(out: &mut W, table: &PlainTable) -> Result<(), 
 }
 
 fn put_label<W: Sink>(out: &mut W, labels: &[Label], session: u32) -> Result<(), WriteFault>
-    ensures ok { OnOk result (Appends (W.contents out.old) (W.contents out.new) (unwrap_or (slice_get labels.now session) [])) }
-    ensures err { OnErr result (AppendsFront (W.contents out.old) (W.contents out.new) (unwrap_or (slice_get labels.now session) [])) }
+    ensures ok { OnOk result
+        (Appends (W.contents out.old) (W.contents out.new)
+        (unwrap_or (slice_get labels.now session) [])) }
+    ensures err { OnErr result
+        (AppendsFront (W.contents out.old) (W.contents out.new)
+        (unwrap_or (slice_get labels.now session) [])) }
     ensures asked { OnErr result (IsStopped W.takes out.new) }
 {
     match labels.get(session as usize) {
@@ -108,8 +121,12 @@ fn put_place<W: Sink>(
     session: u32,
     number: u32,
 ) -> Result<(), WriteFault>
-    ensures ok { OnOk result (Appends (W.contents out.old) (W.contents out.new) (unwrap_or (slice_get labels.now session) [] ++ codes " " ++ decimal number)) }
-    ensures err { OnErr result (AppendsFront (W.contents out.old) (W.contents out.new) (unwrap_or (slice_get labels.now session) [] ++ codes " " ++ decimal number)) }
+    ensures ok { OnOk result
+        (Appends (W.contents out.old) (W.contents out.new)
+        (unwrap_or (slice_get labels.now session) [] ++ codes " " ++ decimal number)) }
+    ensures err { OnErr result
+        (AppendsFront (W.contents out.old) (W.contents out.new)
+        (unwrap_or (slice_get labels.now session) [] ++ codes " " ++ decimal number)) }
     ensures asked { OnErr result (IsStopped W.takes out.new) }
 {
     put_label(out, labels, session)?;
@@ -126,8 +143,12 @@ fn put_answered<W: Sink>(
     event: &Event,
     answer: &Answer,
 ) -> Result<(), WriteFault>
-    ensures ok { OnOk result (Appends (W.contents out.old) (W.contents out.new) (spelled_entry labels.now (Line session number) event.now answer.now)) }
-    ensures err { OnErr result (AppendsFront (W.contents out.old) (W.contents out.new) (spelled_entry labels.now (Line session number) event.now answer.now)) }
+    ensures ok { OnOk result
+        (Appends (W.contents out.old) (W.contents out.new)
+        (spelled_entry labels.now (Line session number) event.now answer.now)) }
+    ensures err { OnErr result
+        (AppendsFront (W.contents out.old) (W.contents out.new)
+        (spelled_entry labels.now (Line session number) event.now answer.now)) }
     ensures asked { OnErr result (IsStopped W.takes out.new) }
 {
     put_place(out, labels, session, number)?;
@@ -139,8 +160,10 @@ fn put_answered<W: Sink>(
 
 // A word with its space, and the name of an abort.
 fn put_aborted<W: Sink>(out: &mut W, word: &[u8], event: &Event) -> Result<(), WriteFault>
-    ensures ok { OnOk result (Appends (W.contents out.old) (W.contents out.new) (word.now ++ spelled_name (name_in event.now))) }
-    ensures err { OnErr result (AppendsFront (W.contents out.old) (W.contents out.new) (word.now ++ spelled_name (name_in event.now))) }
+    ensures ok { OnOk result (Appends (W.contents out.old) (W.contents out.new) (word.now
+        ++ spelled_name (name_in event.now))) }
+    ensures err { OnErr result (AppendsFront (W.contents out.old) (W.contents out.new) (word.now
+        ++ spelled_name (name_in event.now))) }
     ensures asked { OnErr result (IsStopped W.takes out.new) }
 {
     match event {
@@ -150,8 +173,12 @@ fn put_aborted<W: Sink>(out: &mut W, word: &[u8], event: &Event) -> Result<(), W
 }
 
 fn put_entry<W: Sink>(out: &mut W, labels: &[Label], entry: &Entry) -> Result<(), WriteFault>
-    ensures ok { OnOk result (Appends (W.contents out.old) (W.contents out.new) (spelled_entry labels.now entry.now.by entry.now.event entry.now.answer)) }
-    ensures err { OnErr result (AppendsFront (W.contents out.old) (W.contents out.new) (spelled_entry labels.now entry.now.by entry.now.event entry.now.answer)) }
+    ensures ok { OnOk result
+        (Appends (W.contents out.old) (W.contents out.new)
+        (spelled_entry labels.now entry.now.by entry.now.event entry.now.answer)) }
+    ensures err { OnErr result
+        (AppendsFront (W.contents out.old) (W.contents out.new)
+        (spelled_entry labels.now entry.now.by entry.now.event entry.now.answer)) }
     ensures asked { OnErr result (IsStopped W.takes out.new) }
 {
     match entry.by {
@@ -202,8 +229,12 @@ pub(crate) fn put_history<W: Sink>(
     labels: &[Label],
     entries: &[Entry],
 ) -> Result<(), WriteFault>
-    ensures ok { OnOk result (Appends (W.contents out.old) (W.contents out.new) (spelled_history labels.now (reverse entries.now))) }
-    ensures err { OnErr result (AppendsFront (W.contents out.old) (W.contents out.new) (spelled_history labels.now (reverse entries.now))) }
+    ensures ok { OnOk result
+        (Appends (W.contents out.old) (W.contents out.new)
+        (spelled_history labels.now (reverse entries.now))) }
+    ensures err { OnErr result
+        (AppendsFront (W.contents out.old) (W.contents out.new)
+        (spelled_history labels.now (reverse entries.now))) }
     ensures asked { OnErr result (IsStopped W.takes out.new) }
 {
     let mut buffer = LineBuffer::new();

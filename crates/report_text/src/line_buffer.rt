@@ -1,12 +1,13 @@
-//! A line, spelled before the writer is asked to take it: its parts cost less here than at a writer.
+//! A line, spelled before the writer is asked to take it: its parts cost less here than at a
+//! writer.
 ghost use Rattle.std.specs.Prelude.{◌≡◌, ℕ, ◌≤◌, List, [], ◌++◌, length, take, Some};
 
 use std::io;
 use std::io::Write;
 use std::marker::Model;
 
-/// The bytes of the longest line of an entry: a session's label, the number of a line, `set` with a name, a key and a value, and an
-/// answer that names another transaction.
+/// The bytes of the longest line of an entry: a session's label, the number of a line, `set` with a
+/// name, a key and a value, and an answer that names another transaction.
 const MOST_BYTES: usize = 640;
 
 /// The bytes of a line, as far as they are spelled. It takes no memory.

@@ -21,16 +21,22 @@ fn put_opening_row<W: Sink>(
     buffer: &mut LineBuffer,
     row: &Row,
 ) -> Result<(), WriteFault>
-    ensures ok { OnOk result (Appends (W.contents out.old) (W.contents out.new) (row_line (row.now.key, row.now.value))) }
-    ensures err { OnErr result (AppendsFront (W.contents out.old) (W.contents out.new) (row_line (row.now.key, row.now.value))) }
+    ensures ok { OnOk result
+        (Appends (W.contents out.old) (W.contents out.new)
+        (row_line (row.now.key, row.now.value))) }
+    ensures err { OnErr result
+        (AppendsFront (W.contents out.old) (W.contents out.new)
+        (row_line (row.now.key, row.now.value))) }
     ensures asked { OnErr result (IsStopped W.takes out.new) }
 {
     put_row_line(out, buffer, &row.key, row.value)
 }
 
 fn put_opening<W: Sink>(out: &mut W, rows: &[Row]) -> Result<(), WriteFault>
-    ensures ok { OnOk result (Appends (W.contents out.old) (W.contents out.new) (spelled_rows (plain rows.now))) }
-    ensures err { OnErr result (AppendsFront (W.contents out.old) (W.contents out.new) (spelled_rows (plain rows.now))) }
+    ensures ok { OnOk result
+        (Appends (W.contents out.old) (W.contents out.new) (spelled_rows (plain rows.now))) }
+    ensures err { OnErr result
+        (AppendsFront (W.contents out.old) (W.contents out.new) (spelled_rows (plain rows.now))) }
     ensures asked { OnErr result (IsStopped W.takes out.new) }
 {
     let mut buffer = LineBuffer::new();
@@ -40,8 +46,8 @@ fn put_opening<W: Sink>(out: &mut W, rows: &[Row]) -> Result<(), WriteFault>
     Ok(())
 }
 
-/// Writes how a report begins: its first line and the opening rows. It takes no memory. After a fault, the only one, which the
-/// writer answered, it has taken a beginning of that.
+/// Writes how a report begins: its first line and the opening rows. It takes no memory. After a
+/// fault, the only one, which the writer answered, it has taken a beginning of that.
 pub fn write_opening<W: Sink>(rows: &[Row], out: &mut W) -> Result<(), WriteFault>
     ensures ok { OnOk result
         (Appends (W.contents out.old) (W.contents out.new) (opening_text (plain rows.now))) }
@@ -53,24 +59,26 @@ pub fn write_opening<W: Sink>(rows: &[Row], out: &mut W) -> Result<(), WriteFaul
     put_opening(out, rows)
 }
 
-/// Writes entries of a history, the oldest first, each as a line. It takes no memory. After a fault, the only one, which the writer
-/// answered, it has taken a beginning of these lines.
+/// Writes entries of a history, the oldest first, each as a line. It takes no memory. After a
+/// fault, the only one, which the writer answered, it has taken a beginning of these lines.
 pub fn write_entries<W: Sink>(
     labels: &[Label],
     entries: &[Entry],
     out: &mut W,
 ) -> Result<(), WriteFault>
     ensures ok { OnOk result
-        (Appends (W.contents out.old) (W.contents out.new) (spelled_history labels.now (reverse entries.now))) }
+        (Appends (W.contents out.old) (W.contents out.new)
+        (spelled_history labels.now (reverse entries.now))) }
     ensures err { OnErr result
-        (AppendsFront (W.contents out.old) (W.contents out.new) (spelled_history labels.now (reverse entries.now))) }
+        (AppendsFront (W.contents out.old) (W.contents out.new)
+        (spelled_history labels.now (reverse entries.now))) }
     ensures asked { OnErr result (IsStopped W.takes out.new) }
 {
     put_history(out, labels, entries)
 }
 
-/// Writes how a report ends: the final table and its last line. It takes no memory. After a fault, the only one, which the writer
-/// answered, it has taken a beginning of that.
+/// Writes how a report ends: the final table and its last line. It takes no memory. After a fault,
+/// the only one, which the writer answered, it has taken a beginning of that.
 pub fn write_ending<W: Sink>(table: &PlainTable, out: &mut W) -> Result<(), WriteFault>
     ensures ok { OnOk result
         (Appends (W.contents out.old) (W.contents out.new) (ending_text table.now.rows)) }
@@ -83,12 +91,18 @@ pub fn write_ending<W: Sink>(table: &PlainTable, out: &mut W) -> Result<(), Writ
     put(out, b"end\n")
 }
 
-/// Writes the report: the opening rows, each entry of the history, and the final table. It takes no memory. What was
-/// written is accepted by whoever checks reports. After a fault, the only one, the writer has taken a beginning of it.
+/// Writes the report: the opening rows, each entry of the history, and the final table. It takes no
+/// memory. What was written is accepted by whoever checks reports. After a fault, the only one, the
+/// writer has taken a beginning of it.
 pub fn write_report<W: Sink>(told: &Report, out: &mut W) -> Result<(), WriteFault>
-    ensures ok { OnOk result (Appends (W.contents out.old) (W.contents out.new) (report told.now.opening told.now.labels told.now.history told.now.table)) }
-    ensures accepted { OnOk result (HasVerdict (report told.now.opening told.now.labels told.now.history told.now.table) Yes) }
-    ensures err { OnErr result (AppendsFront (W.contents out.old) (W.contents out.new) (report told.now.opening told.now.labels told.now.history told.now.table)) }
+    ensures ok { OnOk result
+        (Appends (W.contents out.old) (W.contents out.new)
+        (report told.now.opening told.now.labels told.now.history told.now.table)) }
+    ensures accepted { OnOk result
+        (HasVerdict (report told.now.opening told.now.labels told.now.history told.now.table) Yes) }
+    ensures err { OnErr result
+        (AppendsFront (W.contents out.old) (W.contents out.new)
+        (report told.now.opening told.now.labels told.now.history told.now.table)) }
     ensures asked { OnErr result (IsStopped W.takes out.new) }
 {
     write_opening(told.opening(), out)?;

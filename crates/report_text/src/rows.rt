@@ -13,8 +13,10 @@ use txn_bytes::{Sink, WriteFault, put};
 
 // The row as in a report, a space and the number.
 fn put_numbered<W: Sink>(out: &mut W, row: &Row) -> Result<(), WriteFault>
-    ensures ok { OnOk result (Appends (W.contents out.old) (W.contents out.new) (numbered_row row.now)) }
-    ensures err { OnErr result (AppendsFront (W.contents out.old) (W.contents out.new) (numbered_row row.now)) }
+    ensures ok { OnOk result
+        (Appends (W.contents out.old) (W.contents out.new) (numbered_row row.now)) }
+    ensures err { OnErr result
+        (AppendsFront (W.contents out.old) (W.contents out.new) (numbered_row row.now)) }
     ensures asked { OnErr result (IsStopped W.takes out.new) }
 {
     put_row(out, &row.key, row.value)?;
@@ -53,11 +55,14 @@ fn put_numbered_line<W: Sink>(
     }
 }
 
-/// Writes each row as a line: the key, an equals sign, the value, a space and the number of the commit that set it. It takes no
-/// memory. After a fault, the only one, which the writer answered, it has taken a beginning of these lines.
+/// Writes each row as a line: the key, an equals sign, the value, a space and the number of the
+/// commit that set it. It takes no memory. After a fault, the only one, which the writer answered,
+/// it has taken a beginning of these lines.
 pub fn write_rows<W: Sink>(rows: &[Row], out: &mut W) -> Result<(), WriteFault>
-    ensures ok { OnOk result (Appends (W.contents out.old) (W.contents out.new) (numbered_rows rows.now)) }
-    ensures err { OnErr result (AppendsFront (W.contents out.old) (W.contents out.new) (numbered_rows rows.now)) }
+    ensures ok { OnOk result
+        (Appends (W.contents out.old) (W.contents out.new) (numbered_rows rows.now)) }
+    ensures err { OnErr result
+        (AppendsFront (W.contents out.old) (W.contents out.new) (numbered_rows rows.now)) }
     ensures asked { OnErr result (IsStopped W.takes out.new) }
 {
     let mut buffer = LineBuffer::new();

@@ -1,5 +1,5 @@
-//! How numbers, events and answers are spelled, one spelling each. After a fault the writer has taken a
-//! beginning of the spelling.
+//! How numbers, events and answers are spelled, one spelling each. After a fault the writer has
+//! taken a beginning of the spelling.
 ghost use Rattle.std.specs.Prelude.{ℕ, [], ◌∷◌, ◌++◌, codes, decimal, OnErr, OnOk};
 ghost use Rattle.std.specs.Io.KnownBytes.{Appends};
 ghost use Rattle.txn_bytes.specs.Written.{AppendsFront, IsStopped};
@@ -12,8 +12,10 @@ use txn_bytes::{Sink, WriteFault, put};
 use txn_names::{Group, Key, Name};
 
 pub(crate) fn put_number<W: Sink>(out: &mut W, number: i64) -> Result<(), WriteFault>
-    ensures ok { OnOk result (Appends (W.contents out.old) (W.contents out.new) (spelled_number number)) }
-    ensures err { OnErr result (AppendsFront (W.contents out.old) (W.contents out.new) (spelled_number number)) }
+    ensures ok { OnOk result
+        (Appends (W.contents out.old) (W.contents out.new) (spelled_number number)) }
+    ensures err { OnErr result
+        (AppendsFront (W.contents out.old) (W.contents out.new) (spelled_number number)) }
     ensures asked { OnErr result (IsStopped W.takes out.new) }
 {
     let mut buffer = Buffer::new();
@@ -22,7 +24,8 @@ pub(crate) fn put_number<W: Sink>(out: &mut W, number: i64) -> Result<(), WriteF
 
 pub(crate) fn put_count<W: Sink>(out: &mut W, count: u32) -> Result<(), WriteFault>
     ensures ok { OnOk result (Appends (W.contents out.old) (W.contents out.new) (decimal count)) }
-    ensures err { OnErr result (AppendsFront (W.contents out.old) (W.contents out.new) (decimal count)) }
+    ensures err { OnErr result
+        (AppendsFront (W.contents out.old) (W.contents out.new) (decimal count)) }
     ensures asked { OnErr result (IsStopped W.takes out.new) }
 {
     let mut buffer = Buffer::new();
@@ -31,7 +34,8 @@ pub(crate) fn put_count<W: Sink>(out: &mut W, count: u32) -> Result<(), WriteFau
 
 pub(crate) fn put_size<W: Sink>(out: &mut W, size: usize) -> Result<(), WriteFault>
     ensures ok { OnOk result (Appends (W.contents out.old) (W.contents out.new) (decimal size)) }
-    ensures err { OnErr result (AppendsFront (W.contents out.old) (W.contents out.new) (decimal size)) }
+    ensures err { OnErr result
+        (AppendsFront (W.contents out.old) (W.contents out.new) (decimal size)) }
     ensures asked { OnErr result (IsStopped W.takes out.new) }
 {
     let mut buffer = Buffer::new();
@@ -40,8 +44,10 @@ pub(crate) fn put_size<W: Sink>(out: &mut W, size: usize) -> Result<(), WriteFau
 
 // A word with its space, and a name.
 pub(crate) fn put_named<W: Sink>(out: &mut W, word: &[u8], name: &Name) -> Result<(), WriteFault>
-    ensures ok { OnOk result (Appends (W.contents out.old) (W.contents out.new) (word.now ++ spelled_name name.now)) }
-    ensures err { OnErr result (AppendsFront (W.contents out.old) (W.contents out.new) (word.now ++ spelled_name name.now)) }
+    ensures ok { OnOk result (Appends (W.contents out.old) (W.contents out.new) (word.now
+        ++ spelled_name name.now)) }
+    ensures err { OnErr result (AppendsFront (W.contents out.old) (W.contents out.new) (word.now
+        ++ spelled_name name.now)) }
     ensures asked { OnErr result (IsStopped W.takes out.new) }
 {
     put(out, word)?;
@@ -55,8 +61,10 @@ fn put_spaced<W: Sink>(
     name: &Name,
     bytes: &[u8],
 ) -> Result<(), WriteFault>
-    ensures ok { OnOk result (Appends (W.contents out.old) (W.contents out.new) (word.now ++ spelled_name name.now ++ codes " " ++ bytes.now)) }
-    ensures err { OnErr result (AppendsFront (W.contents out.old) (W.contents out.new) (word.now ++ spelled_name name.now ++ codes " " ++ bytes.now)) }
+    ensures ok { OnOk result (Appends (W.contents out.old) (W.contents out.new) (word.now
+        ++ spelled_name name.now ++ codes " " ++ bytes.now)) }
+    ensures err { OnErr result (AppendsFront (W.contents out.old) (W.contents out.new) (word.now
+        ++ spelled_name name.now ++ codes " " ++ bytes.now)) }
     ensures asked { OnErr result (IsStopped W.takes out.new) }
 {
     put_named(out, word, name)?;
@@ -66,8 +74,10 @@ fn put_spaced<W: Sink>(
 
 // A word with its space, a name and a key.
 fn put_keyed<W: Sink>(out: &mut W, word: &[u8], name: &Name, key: &Key) -> Result<(), WriteFault>
-    ensures ok { OnOk result (Appends (W.contents out.old) (W.contents out.new) (word.now ++ spelled_name name.now ++ codes " " ++ key.now)) }
-    ensures err { OnErr result (AppendsFront (W.contents out.old) (W.contents out.new) (word.now ++ spelled_name name.now ++ codes " " ++ key.now)) }
+    ensures ok { OnOk result (Appends (W.contents out.old) (W.contents out.new) (word.now
+        ++ spelled_name name.now ++ codes " " ++ key.now)) }
+    ensures err { OnErr result (AppendsFront (W.contents out.old) (W.contents out.new) (word.now
+        ++ spelled_name name.now ++ codes " " ++ key.now)) }
     ensures asked { OnErr result (IsStopped W.takes out.new) }
 {
     put_spaced(out, word, name, key.as_bytes())
@@ -81,8 +91,10 @@ fn put_valued<W: Sink>(
     key: &Key,
     number: i64,
 ) -> Result<(), WriteFault>
-    ensures ok { OnOk result (Appends (W.contents out.old) (W.contents out.new) (word.now ++ spelled_name name.now ++ codes " " ++ key.now ++ codes " " ++ spelled_number number)) }
-    ensures err { OnErr result (AppendsFront (W.contents out.old) (W.contents out.new) (word.now ++ spelled_name name.now ++ codes " " ++ key.now ++ codes " " ++ spelled_number number)) }
+    ensures ok { OnOk result (Appends (W.contents out.old) (W.contents out.new) (word.now
+        ++ spelled_name name.now ++ codes " " ++ key.now ++ codes " " ++ spelled_number number)) }
+    ensures err { OnErr result (AppendsFront (W.contents out.old) (W.contents out.new) (word.now
+        ++ spelled_name name.now ++ codes " " ++ key.now ++ codes " " ++ spelled_number number)) }
     ensures asked { OnErr result (IsStopped W.takes out.new) }
 {
     put_keyed(out, word, name, key)?;
@@ -91,8 +103,11 @@ fn put_valued<W: Sink>(
 }
 
 fn put_access<W: Sink>(out: &mut W, name: &Name, key: &Key, op: Op) -> Result<(), WriteFault>
-    ensures ok { OnOk result (Appends (W.contents out.old) (W.contents out.new) (spelled_access name.now key.now op)) }
-    ensures err { OnErr result (AppendsFront (W.contents out.old) (W.contents out.new) (spelled_access name.now key.now op)) }
+    ensures ok { OnOk result
+        (Appends (W.contents out.old) (W.contents out.new) (spelled_access name.now key.now op)) }
+    ensures err { OnErr result
+        (AppendsFront (W.contents out.old) (W.contents out.new)
+        (spelled_access name.now key.now op)) }
     ensures asked { OnErr result (IsStopped W.takes out.new) }
 {
     match op {
@@ -104,16 +119,20 @@ fn put_access<W: Sink>(out: &mut W, name: &Name, key: &Key, op: Op) -> Result<()
 }
 
 fn put_sum<W: Sink>(out: &mut W, name: &Name, group: &Group) -> Result<(), WriteFault>
-    ensures ok { OnOk result (Appends (W.contents out.old) (W.contents out.new) (codes "sum " ++ spelled_name name.now ++ codes " " ++ group.now)) }
-    ensures err { OnErr result (AppendsFront (W.contents out.old) (W.contents out.new) (codes "sum " ++ spelled_name name.now ++ codes " " ++ group.now)) }
+    ensures ok { OnOk result (Appends (W.contents out.old) (W.contents out.new) (codes "sum "
+        ++ spelled_name name.now ++ codes " " ++ group.now)) }
+    ensures err { OnErr result (AppendsFront (W.contents out.old) (W.contents out.new) (codes "sum "
+        ++ spelled_name name.now ++ codes " " ++ group.now)) }
     ensures asked { OnErr result (IsStopped W.takes out.new) }
 {
     put_spaced(out, b"sum ", name, group.as_bytes())
 }
 
 fn put_when<W: Sink>(out: &mut W, when: When) -> Result<(), WriteFault>
-    ensures ok { OnOk result (Appends (W.contents out.old) (W.contents out.new) (spelled_when when)) }
-    ensures err { OnErr result (AppendsFront (W.contents out.old) (W.contents out.new) (spelled_when when)) }
+    ensures ok { OnOk result
+        (Appends (W.contents out.old) (W.contents out.new) (spelled_when when)) }
+    ensures err { OnErr result
+        (AppendsFront (W.contents out.old) (W.contents out.new) (spelled_when when)) }
     ensures asked { OnErr result (IsStopped W.takes out.new) }
 {
     match when {
@@ -123,8 +142,11 @@ fn put_when<W: Sink>(out: &mut W, when: When) -> Result<(), WriteFault>
 }
 
 fn put_after<W: Sink>(out: &mut W, name: &Name, when: When) -> Result<(), WriteFault>
-    ensures ok { OnOk result (Appends (W.contents out.old) (W.contents out.new) (codes "after " ++ spelled_name name.now ++ codes " " ++ spelled_when when)) }
-    ensures err { OnErr result (AppendsFront (W.contents out.old) (W.contents out.new) (codes "after " ++ spelled_name name.now ++ codes " " ++ spelled_when when)) }
+    ensures ok { OnOk result (Appends (W.contents out.old) (W.contents out.new) (codes "after "
+        ++ spelled_name name.now ++ codes " " ++ spelled_when when)) }
+    ensures err { OnErr result
+        (AppendsFront (W.contents out.old) (W.contents out.new) (codes "after "
+        ++ spelled_name name.now ++ codes " " ++ spelled_when when)) }
     ensures asked { OnErr result (IsStopped W.takes out.new) }
 {
     put_named(out, b"after ", name)?;
@@ -133,8 +155,10 @@ fn put_after<W: Sink>(out: &mut W, name: &Name, when: When) -> Result<(), WriteF
 }
 
 pub(crate) fn put_event<W: Sink>(out: &mut W, event: &Event) -> Result<(), WriteFault>
-    ensures ok { OnOk result (Appends (W.contents out.old) (W.contents out.new) (spelled_event event.now)) }
-    ensures err { OnErr result (AppendsFront (W.contents out.old) (W.contents out.new) (spelled_event event.now)) }
+    ensures ok { OnOk result
+        (Appends (W.contents out.old) (W.contents out.new) (spelled_event event.now)) }
+    ensures err { OnErr result
+        (AppendsFront (W.contents out.old) (W.contents out.new) (spelled_event event.now)) }
     ensures asked { OnErr result (IsStopped W.takes out.new) }
 {
     match event {
@@ -148,8 +172,10 @@ pub(crate) fn put_event<W: Sink>(out: &mut W, event: &Event) -> Result<(), Write
 }
 
 fn put_reply<W: Sink>(out: &mut W, reply: Reply) -> Result<(), WriteFault>
-    ensures ok { OnOk result (Appends (W.contents out.old) (W.contents out.new) (spelled_reply reply)) }
-    ensures err { OnErr result (AppendsFront (W.contents out.old) (W.contents out.new) (spelled_reply reply)) }
+    ensures ok { OnOk result
+        (Appends (W.contents out.old) (W.contents out.new) (spelled_reply reply)) }
+    ensures err { OnErr result
+        (AppendsFront (W.contents out.old) (W.contents out.new) (spelled_reply reply)) }
     ensures asked { OnErr result (IsStopped W.takes out.new) }
 {
     match reply {
@@ -163,8 +189,10 @@ fn put_reply<W: Sink>(out: &mut W, reply: Reply) -> Result<(), WriteFault>
 
 // A word with its space, and a number.
 fn put_told<W: Sink>(out: &mut W, word: &[u8], number: i64) -> Result<(), WriteFault>
-    ensures ok { OnOk result (Appends (W.contents out.old) (W.contents out.new) (word.now ++ spelled_number number)) }
-    ensures err { OnErr result (AppendsFront (W.contents out.old) (W.contents out.new) (word.now ++ spelled_number number)) }
+    ensures ok { OnOk result (Appends (W.contents out.old) (W.contents out.new) (word.now
+        ++ spelled_number number)) }
+    ensures err { OnErr result (AppendsFront (W.contents out.old) (W.contents out.new) (word.now
+        ++ spelled_number number)) }
     ensures asked { OnErr result (IsStopped W.takes out.new) }
 {
     put(out, word)?;
@@ -172,8 +200,10 @@ fn put_told<W: Sink>(out: &mut W, word: &[u8], number: i64) -> Result<(), WriteF
 }
 
 fn put_refusal<W: Sink>(out: &mut W, refusal: &Refusal) -> Result<(), WriteFault>
-    ensures ok { OnOk result (Appends (W.contents out.old) (W.contents out.new) (spelled_refusal refusal.now)) }
-    ensures err { OnErr result (AppendsFront (W.contents out.old) (W.contents out.new) (spelled_refusal refusal.now)) }
+    ensures ok { OnOk result
+        (Appends (W.contents out.old) (W.contents out.new) (spelled_refusal refusal.now)) }
+    ensures err { OnErr result
+        (AppendsFront (W.contents out.old) (W.contents out.new) (spelled_refusal refusal.now)) }
     ensures asked { OnErr result (IsStopped W.takes out.new) }
 {
     match refusal {
@@ -190,8 +220,10 @@ fn put_refusal<W: Sink>(out: &mut W, refusal: &Refusal) -> Result<(), WriteFault
 }
 
 pub(crate) fn put_answer<W: Sink>(out: &mut W, answer: &Answer) -> Result<(), WriteFault>
-    ensures ok { OnOk result (Appends (W.contents out.old) (W.contents out.new) (spelled_answer answer.now)) }
-    ensures err { OnErr result (AppendsFront (W.contents out.old) (W.contents out.new) (spelled_answer answer.now)) }
+    ensures ok { OnOk result
+        (Appends (W.contents out.old) (W.contents out.new) (spelled_answer answer.now)) }
+    ensures err { OnErr result
+        (AppendsFront (W.contents out.old) (W.contents out.new) (spelled_answer answer.now)) }
     ensures asked { OnErr result (IsStopped W.takes out.new) }
 {
     match answer {

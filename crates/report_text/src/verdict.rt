@@ -10,8 +10,11 @@ use report_check::Verdict;
 use txn_bytes::{Sink, WriteFault, put};
 
 fn put_no<W: Sink>(out: &mut W, number: usize) -> Result<(), WriteFault>
-    ensures ok { OnOk result (Appends (W.contents out.old) (W.contents out.new) (line (codes "no " ++ decimal number))) }
-    ensures err { OnErr result (AppendsFront (W.contents out.old) (W.contents out.new) (line (codes "no " ++ decimal number))) }
+    ensures ok { OnOk result
+        (Appends (W.contents out.old) (W.contents out.new) (line (codes "no " ++ decimal number))) }
+    ensures err { OnErr result
+        (AppendsFront (W.contents out.old) (W.contents out.new)
+        (line (codes "no " ++ decimal number))) }
     ensures asked { OnErr result (IsStopped W.takes out.new) }
 {
     put(out, b"no ")?;
@@ -19,11 +22,14 @@ fn put_no<W: Sink>(out: &mut W, number: usize) -> Result<(), WriteFault>
     put(out, b"\n")
 }
 
-/// Writes the verdict as a line: `yes`, or `no` and the number of the line that has the first fault. It takes no memory. After
-/// a fault, the only one, which the writer answered, it has taken a beginning of that line.
+/// Writes the verdict as a line: `yes`, or `no` and the number of the line that has the first
+/// fault. It takes no memory. After a fault, the only one, which the writer answered, it has taken
+/// a beginning of that line.
 pub fn write_verdict<W: Sink>(verdict: Verdict, out: &mut W) -> Result<(), WriteFault>
-    ensures ok { OnOk result (Appends (W.contents out.old) (W.contents out.new) (spelled_verdict verdict)) }
-    ensures err { OnErr result (AppendsFront (W.contents out.old) (W.contents out.new) (spelled_verdict verdict)) }
+    ensures ok { OnOk result
+        (Appends (W.contents out.old) (W.contents out.new) (spelled_verdict verdict)) }
+    ensures err { OnErr result
+        (AppendsFront (W.contents out.old) (W.contents out.new) (spelled_verdict verdict)) }
     ensures asked { OnErr result (IsStopped W.takes out.new) }
 {
     match verdict {

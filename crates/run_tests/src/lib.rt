@@ -1,4 +1,5 @@
-//! The tests of manager_core, of interleavings with shared_book, and of worker_pool, each in a module of its own.
+//! The tests of manager_core, of interleavings with shared_book, and of worker_pool, each in a
+//! module of its own.
 #![tactic(auto)]
 
 #[cfg(test)]

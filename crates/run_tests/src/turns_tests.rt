@@ -63,7 +63,8 @@ fn sessions_in_turn(rt: HostRuntime) {
     drop(sessions);
 }
 
-// The lines go on until none can, and what is kept beside the sessions is taken apart from them in between.
+// The lines go on until none can, and what is kept beside the sessions is taken apart from them in
+// between.
 #[test]
 fn turns_taken_apart(rt: HostRuntime) {
     let sessions = Sessions::parse(rt.alloc(), TEXT).expect(&rt, "a text");

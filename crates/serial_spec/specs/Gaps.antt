@@ -17,8 +17,10 @@ pub record IsGapped (rows : Rows) (gap : Gap) : Type 0 where
 
 -- the first row behind the gap, if there is one, is of a key above this one
 abbrev pub IsBehind : Rows → Gap → List ℕ → Type 0
-IsBehind rows gap k = IfSome (slice_get (around rows gap) gap.front) (λ r. slice_cmp nat_cmp k r.0 ≡ Less)
+IsBehind rows gap k =
+    IfSome (slice_get (around rows gap) gap.front) (λ r. slice_cmp nat_cmp k r.0 ≡ Less)
 
 -- so many rows fit into the gap, or there is none yet and they fit behind the others without memory
 abbrev pub HasRoom : Rows → ℕ → Gap → ℕ → Type 0
-HasRoom rows capacity gap left = gap.len < left → (gap.len ≡ 0) × (gap.front ≡ length rows) × (length rows + left ≤ capacity)
+HasRoom rows capacity gap left = gap.len < left → (gap.len ≡ 0) × (gap.front ≡ length rows)
+    × (length rows + left ≤ capacity)

@@ -13,17 +13,20 @@ ghost use Rattle.serial_spec.specs.Serial.{put};
 use crate::table::{place_of, value_at};
 use txn_names::{Change, Key};
 
-/// So many rows are put one by one, since an insertion moves the rows behind it at a fraction of the cost.
+/// So many rows are put one by one, since an insertion moves the rows behind it at a fraction of
+/// the cost.
 const FEW: usize = 8;
 
-/// A gap among rows: how many rows stand in front of it, and how many places it has. What stands in these counts for nothing.
+/// A gap among rows: how many rows stand in front of it, and how many places it has. What stands in
+/// these counts for nothing.
 #[derive(Clone, Copy)]
 struct Gap {
     front: usize,
     len: usize,
 }
 
-// A gap that takes as many rows as there are changes left. Where there is none yet, it is made behind all rows.
+// A gap that takes as many rows as there are changes left. Where there is none yet, it is made
+// behind all rows.
 fn widened(rows: &mut Vec<(Key, i64)>, gap: Gap, left: usize, row: &(Key, i64)) -> Gap
     requires within { gap.front + gap.len ≤ length rows.old.items }
     requires room { HasRoom rows.old.items (vec_capacity rows.old) gap left }
@@ -121,7 +124,8 @@ fn take_at(rows: &mut Vec<(Key, i64)>, gap: Gap, place: usize) -> Gap
     }
 }
 
-// Puts the row at this place, where there is none of its key. For the last few changes no gap is made.
+// Puts the row at this place, where there is none of its key. For the last few changes no gap is
+// made.
 fn insert_at(
     rows: &mut Vec<(Key, i64)>,
     gap: Gap,
@@ -152,8 +156,8 @@ fn insert_at(
     put_in_gap(rows, gap, place, row)
 }
 
-// Makes the change in the rows around the gap. Those behind it are of keys above this one, and are so for each lower key
-// afterwards.
+// Makes the change in the rows around the gap. Those behind it are of keys above this one, and are
+// so for each lower key afterwards.
 fn change_one(rows: &mut Vec<(Key, i64)>, gap: Gap, left: usize, change: &Change) -> Gap
     requires gapped { IsGapped rows.old.items gap }
     requires behind { IsBehind rows.old.items gap change.now.key }
@@ -184,8 +188,8 @@ fn change_one(rows: &mut Vec<(Key, i64)>, gap: Gap, left: usize, change: &Change
     insert_at(rows, gap, left, place, &row)
 }
 
-/// Makes the changes, for which there is room. The gap, which is made at the last key that has no row, moves down from key to
-/// key, and what is left of it is closed at the end.
+/// Makes the changes, for which there is room. The gap, which is made at the last key that has no
+/// row, moves down from key to key, and what is left of it is closed at the end.
 pub(crate) fn change_rows(rows: &mut Vec<(Key, i64)>, changes: &[Change])
     requires rising { IsRising rows.old.items }
     requires changes { AreRising changes.now }

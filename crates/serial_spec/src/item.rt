@@ -12,7 +12,8 @@ use crate::table::{PlainTable, act_sum};
 use std::alloc::AllocError;
 use txn_names::{Group, Key};
 
-/// What stands in a transaction: an access or a sum with its reply, or all of a committed child as one block.
+/// What stands in a transaction: an access or a sum with its reply, or all of a committed child as
+/// one block.
 #[derive(Drop)]
 pub enum Item {
     Access { key: Key, op: Op, reply: Reply },
@@ -35,7 +36,9 @@ impl Run {
     fn note(&mut self, due: &Reply, reply: &Reply) -> Result<(), NoMemory>
         ensures table { OnOk result (self.new.table ≡ self.old.table) }
         ensures count { OnOk result (self.new.count ≡ self.old.count + 1) }
-        ensures wrong { OnOk result (self.new.wrong ≡ or_else self.old.wrong (if same_reply reply.now due.now then None else Some self.old.count)) }
+        ensures wrong { OnOk result
+            (self.new.wrong ≡ or_else self.old.wrong (if same_reply reply.now due.now then None
+            else Some self.old.count)) }
     {
         if due != reply && self.wrong.is_none() {
             self.wrong = Some(self.count);
@@ -45,7 +48,9 @@ impl Run {
     }
 
     fn run_access(&mut self, key: &Key, op: &Op, reply: &Reply) -> Result<(), NoMemory>
-        ensures { OnOk result (HasRun self.old self.new (record { asked = At key.now op.now; reply = reply.now } ∷ [])) }
+        ensures { OnOk result
+            (HasRun self.old self.new
+            (record { asked = At key.now op.now; reply = reply.now } ∷ [])) }
     {
         let (value, due) = act(self.table.get(key), op);
         self.table.put(key, value)?;
@@ -53,7 +58,8 @@ impl Run {
     }
 
     fn run_sum(&mut self, group: &Group, reply: &Reply) -> Result<(), NoMemory>
-        ensures { OnOk result (HasRun self.old self.new (record { asked = Over group.now; reply = reply.now } ∷ [])) }
+        ensures { OnOk result
+            (HasRun self.old self.new (record { asked = Over group.now; reply = reply.now } ∷ [])) }
     {
         let due = act_sum(&self.table, group);
         self.note(&due, reply)?;
@@ -82,14 +88,18 @@ impl Run {
     }
 }
 
-/// Runs nested items in their order over one table, blocks whole in their place. Each operation is applied,
-/// whatever its reply. The answer is the first place, counted over the accesses from 0, with another reply
-/// than `act` gives there, or None where there is none. The only error is that memory runs out; it leaves the
-/// table as before; more accesses than a usize counts are taken for it.
+/// Runs nested items in their order over one table, blocks whole in their place. Each operation is
+/// applied, whatever its reply. The answer is the first place, counted over the accesses from 0,
+/// with another reply than `act` gives there, or None where there is none. The only error is that
+/// memory runs out; it leaves the table as before; more accesses than a usize counts are taken for
+/// it.
 pub fn run_items(table: &mut PlainTable, items: &[Item]) -> Result<Option<usize>, NoMemory>
-    ensures table { OnOk result (value_in table.new.rows ≡ map_after (value_in table.old.rows) (nested items.now)) }
-    ensures none { IfOk result (λ wrong. IsNone wrong ↔ Replies (value_in table.old.rows) (nested items.now)) }
-    ensures first { IfOk result (λ wrong. IfSome wrong (λ i. IsFirstWrong (value_in table.old.rows) (flat items.now) i)) }
+    ensures table { OnOk result (value_in table.new.rows ≡
+        map_after (value_in table.old.rows) (nested items.now)) }
+    ensures none { IfOk result (λ wrong.
+        IsNone wrong ↔ Replies (value_in table.old.rows) (nested items.now)) }
+    ensures first { IfOk result (λ wrong.
+        IfSome wrong (λ i. IsFirstWrong (value_in table.old.rows) (flat items.now) i)) }
     ensures err { OnErr result (table.new ≡ table.old) }
 {
     let mut run = Run {

@@ -74,7 +74,8 @@ impl PlainTable {
         Ok(PlainTable { rows })
     }
 
-    /// The rows stand in byte order of their keys, one for each. The call does nothing: it tells the prover so.
+    /// The rows stand in byte order of their keys, one for each. The call does nothing: it tells
+    /// the prover so.
     pub fn has_rising_rows(&self)
         ensures { IsRising self.now.rows }
     {
@@ -89,8 +90,8 @@ impl PlainTable {
         value_at(&self.rows, place, key)
     }
 
-    /// Makes room for more rows, and changes none. The only error is that memory runs out. Where there is room for so many
-    /// already, it succeeds.
+    /// Makes room for more rows, and changes none. The only error is that memory runs out. Where
+    /// there is room for so many already, it succeeds.
     pub fn reserve(&mut self, additional: usize) -> Result<(), NoMemory>
         ensures rows { self.new.rows ≡ self.old.rows }
         ensures room { OnOk result (additional ≤ self.new.room) }
@@ -100,10 +101,12 @@ impl PlainTable {
         self.rows.reserve(additional)
     }
 
-    /// Gives the key a value, or takes its row out. It takes no memory where there is room, where the key has a row,
-    /// or where the row goes. If memory runs out, which is the only error, the table is as before.
+    /// Gives the key a value, or takes its row out. It takes no memory where there is room, where
+    /// the key has a row, or where the row goes. If memory runs out, which is the only error, the
+    /// table is as before.
     pub fn put(&mut self, key: &Key, value: Option<i64>) -> Result<(), NoMemory>
-        ensures ok { OnOk result (value_in self.new.rows ≡ put (value_in self.old.rows) key.now value) }
+        ensures ok { OnOk result (value_in self.new.rows ≡
+            put (value_in self.old.rows) key.now value) }
         ensures err { OnErr result (self.new ≡ self.old) }
         ensures succeeds { 0 < self.old.room → IsOk result }
         ensures replaced { IsSome (value_in self.old.rows key.now) → IsOk result }
@@ -119,9 +122,10 @@ impl PlainTable {
         }
     }
 
-    /// Makes rising changes, for which there is room, in one pass. It takes no memory. A row moves eight times at most, however
-    /// many rows are put before it, and once more for each row before it that is taken out. No row moves where each change is at
-    /// a key that has a row and keeps one.
+    /// Makes rising changes, for which there is room, in one pass. It takes no memory. A row moves
+    /// eight times at most, however many rows are put before it, and once more for each row before
+    /// it that is taken out. No row moves where each change is at a key that has a row and keeps
+    /// one.
     pub fn change(&mut self, changes: &[Change])
         requires rising { AreRising changes.now }
         requires room { length changes.now ≤ self.old.room }
@@ -133,7 +137,8 @@ impl PlainTable {
 
     // Gives the key a value.
     fn set(&mut self, key: &Key, value: i64) -> Result<(), NoMemory>
-        ensures ok { OnOk result (value_in self.new.rows ≡ put (value_in self.old.rows) key.now (Some value)) }
+        ensures ok { OnOk result (value_in self.new.rows ≡
+            put (value_in self.old.rows) key.now (Some value)) }
         ensures err { OnErr result (self.new ≡ self.old) }
         ensures succeeds { 0 < self.old.room → IsOk result }
         ensures replaced { IsSome (value_in self.old.rows key.now) → IsOk result }
@@ -204,8 +209,8 @@ fn part_of(row: &(Key, i64), group: &Group) -> i64
     if group.has(&row.0) { row.1 } else { 0 }
 }
 
-// The sum of the values of the group's rows, which stand together. Each is 2 ^ 63 at most by its amount, and rows are fewer
-// than 2 ^ 59.
+// The sum of the values of the group's rows, which stand together. Each is 2 ^ 63 at most by its
+// amount, and rows are fewer than 2 ^ 59.
 fn sum_rows(rows: &[(Key, i64)], group: &Group) -> i128
     requires { IsRising rows.now }
     ensures sum { result ≡ sum_rows rows.now group.now }
@@ -222,8 +227,8 @@ fn sum_rows(rows: &[(Key, i64)], group: &Group) -> i128
     sum
 }
 
-/// The sum of the values of the group's rows, 0 where there are none. No partial sum is lost, since an i128 holds each. It goes
-/// through the group's rows alone, and takes no memory.
+/// The sum of the values of the group's rows, 0 where there are none. No partial sum is lost, since
+/// an i128 holds each. It goes through the group's rows alone, and takes no memory.
 pub fn sum_of(table: &PlainTable, group: &Group) -> i128
     ensures sum { result ≡ sum_in (value_in table.now.rows) group.now }
     ensures least { neg_ℤ (pos (2 ^ 122)) ≤ℤ result }
@@ -232,7 +237,8 @@ pub fn sum_of(table: &PlainTable, group: &Group) -> i128
     sum_rows(table.rows.as_slice(), group)
 }
 
-/// What a sum over the group replies: its value, or overflow where that is not an i64. It takes no memory.
+/// What a sum over the group replies: its value, or overflow where that is not an i64. It takes no
+/// memory.
 pub fn act_sum(table: &PlainTable, group: &Group) -> Reply
     ensures { result ≡ reply_at (value_in table.now.rows) (Over group.now) }
 {

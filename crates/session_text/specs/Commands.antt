@@ -156,6 +156,7 @@ command_of (w ∷ ws) =
     else if bytes_eq w (codes "after") then after_of ws
     else Err kind.Word
 
--- the line is cut at each space: a space before, behind or next to another leaves a word without bytes, which counts
+-- the line is cut at each space: a space before, behind or next to another leaves a word without
+-- bytes, which counts
 abbrev pub event_of : List ℕ → Result Event LineKind
 event_of bs = if length bs == 0 then Err kind.Empty else command_of (cut_at 32 bs)

@@ -1,4 +1,5 @@
--- Sessions that grow while they run: by a line behind the others of its session, or by a session behind the others.
+-- Sessions that grow while they run: by a line behind the others of its session, or by a session
+-- behind the others.
 use Rattle.std.specs.Prelude.{◌≡◌, ◌<◌, ◌++◌, ℕ, zero, suc, if◌then◌else◌, List, [], ◌∷◌, length, IsFalse, Option, Some, None, option_map}
 use Rattle.txn_names.specs.Path.{label_eq}
 use Rattle.serial_spec.specs.declared.event.Event.{Event}

@@ -1,5 +1,6 @@
--- Reading and spelling fit: bytes are read as a number, a command or a text exactly where they spell it, as statements.
--- So each has one spelling, and all that is spelled otherwise is refused: at its first faulty line.
+-- Reading and spelling fit: bytes are read as a number, a command or a text exactly where they
+-- spell it, as statements. So each has one spelling, and all that is spelled otherwise is refused:
+-- at its first faulty line.
 use Rattle.std.specs.Prelude.{◌≡◌, ◌↔◌, ◌⊎◌, ℕ, ℤ, ◌+◌, ◌<◌, ◌==◌, IsTrue, IsFalse, List, [], ◌∷◌, ◌++◌, length, Some, Ok, Err}
 use Rattle.std.specs.List.{list_any}
 use Rattle.serial_spec.specs.Operations.{is_i64}
@@ -14,13 +15,16 @@ use Rattle.session_text.specs.Grammar.{IsEvent, IsText, spelled_text}
 use Rattle.session_text.specs.Texts.{sessions_of, with_bytes}
 
 abbrev pub NumbersReadBack : Type 0
-NumbersReadBack = (bs : List ℕ) (z : ℤ) → (number_of bs ≡ Some z) ↔ (IsTrue (is_i64 z) × (bs ≡ spelled_number z))
+NumbersReadBack = (bs : List ℕ) (z : ℤ)
+    → (number_of bs ≡ Some z) ↔ (IsTrue (is_i64 z) × (bs ≡ spelled_number z))
 
 abbrev pub LinesReadBack : Type 0
-LinesReadBack = (bs : List ℕ) (e : Event) → (event_of bs ≡ Ok e) ↔ (IsEvent e × (bs ≡ spelled_event e))
+LinesReadBack = (bs : List ℕ) (e : Event)
+    → (event_of bs ≡ Ok e) ↔ (IsEvent e × (bs ≡ spelled_event e))
 
 abbrev pub TextsReadBack : Type 0
-TextsReadBack = (bs : List ℕ) (ss : List Session) → (sessions_of bs ≡ Ok ss) ↔ (IsText ss × (bs ≡ spelled_text ss))
+TextsReadBack = (bs : List ℕ) (ss : List Session)
+    → (sessions_of bs ≡ Ok ss) ↔ (IsText ss × (bs ≡ spelled_text ss))
 
 -- how many lines spell these sessions, headers counted
 abbrev pub line_count : List Session → ℕ
@@ -39,7 +43,9 @@ pub record IsFirstFault (bs : List ℕ) (n : ℕ) (k : LineKind) : Type 0 where
   pub line : List ℕ
   pub one_line : IsFalse (list_any (λ b. b == 10) line)
   pub faulty : EndsEarly bs (spelled_text before) line k
-      ⊎ ((rest : List ℕ) × (bs ≡ spelled_text before ++ line ++ 10 ∷ rest) × (with_bytes before line ≡ Err k))
+      ⊎ ((rest : List ℕ) × (bs ≡ spelled_text before ++ line ++ 10 ∷ rest)
+      × (with_bytes before line ≡ Err k))
 
 abbrev pub FirstFaultsTold : Type 0
-FirstFaultsTold = (bs : List ℕ) (n : ℕ) (k : LineKind) → sessions_of bs ≡ Err (n, k) → IsFirstFault bs n k
+FirstFaultsTold = (bs : List ℕ) (n : ℕ) (k : LineKind) → sessions_of bs ≡ Err (n, k)
+    → IsFirstFault bs n k

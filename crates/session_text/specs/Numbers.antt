@@ -1,4 +1,5 @@
--- Numbers as they are spelled: `0`, or digits of which the first is not `0`, with a `-` before them or not.
+-- Numbers as they are spelled: `0`, or digits of which the first is not `0`, with a `-` before them
+-- or not.
 use Rattle.std.specs.Prelude.{ℕ, ℤ, Bool, false, not, ◌&&◌, ◌||◌, ◌==◌, if◌then◌else◌, List, [], ◌∷◌, drop, codes, Option, Some, None}
 use Rattle.std.specs.Char.{is_ascii_digit}
 use Rattle.std.specs.List.{list_all}
@@ -20,4 +21,5 @@ is_numeral bs = bytes_eq bs (codes "0") || is_count (without_minus bs)
 -- the number that the bytes spell, where it is an i64
 abbrev pub number_of : List ℕ → Option ℤ
 number_of bs =
-    if is_numeral bs && is_i64 (signed_digits_value 10 bs) then Some (signed_digits_value 10 bs) else None
+    if is_numeral bs && is_i64 (signed_digits_value 10 bs) then Some (signed_digits_value 10 bs)
+    else None

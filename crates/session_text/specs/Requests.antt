@@ -1,5 +1,5 @@
--- What a request line is read as, without its line feed: the label of a session and the event of a line of it, or the kind
--- of its first fault.
+-- What a request line is read as, without its line feed: the label of a session and the event of a
+-- line of it, or the kind of its first fault.
 use Rattle.std.specs.Prelude.{◌≡◌, ◌↔◌, ℕ, ◌==◌, if◌then◌else◌, List, ◌∷◌, ◌++◌, length, Option, Result, Ok, Err}
 use Rattle.std.specs.Option.{ok_or}
 use Rattle.txn_names.specs.Text.{IsLabel}

@@ -76,8 +76,8 @@ abbrev pub grown : List Session → TextLine → List Session
 grown ss (Header l) = with_header ss l
 grown ss (Command e) = with_line ss e
 
--- whether a line may stand here: a header's label is a new one and there is room for a session more,
--- a command has a session before it that has room for a line more
+-- whether a line may stand here: a header's label is a new one and there is room for a session
+-- more, a command has a session before it that has room for a line more
 abbrev pub misplaced : List Session → TextLine → Option LineKind
 misplaced ss (Header l) =
     if is_taken l ss then Some kind.Header
@@ -124,8 +124,10 @@ abbrev pub Tells : TextFault → Read → Type 0
 Tells (fault.Bad n k) read = read ≡ Err (n, k)
 Tells fault.NoMemory read = Unit {0}
 
--- what came of a line that was read as this, the line of this number: the sessions with it, or its fault
-abbrev pub IsPlaced : List Session → ℕ → Result TextLine LineKind → List Session → Result (Unit {0}) TextFault → Type 0
+-- what came of a line that was read as this, the line of this number: the sessions with it, or its
+-- fault
+abbrev pub IsPlaced : List Session → ℕ → Result TextLine LineKind → List Session
+    → Result (Unit {0}) TextFault → Type 0
 IsPlaced old number line new result =
     let read = at_line number (placed old line) in
     MatchResult result (λ _. read ≡ Ok new) (λ fault. Tells fault read)

@@ -2,7 +2,8 @@
 use Rattle.std.specs.Prelude.{ℕ, ◌==◌, if◌then◌else◌, List, [], ◌∷◌, Option, Some, None}
 use Rattle.std.specs.List.{slice_split}
 
--- the parts around the bytes c: one more than there are such bytes, so two of them in a row have an empty part between them
+-- the parts around the bytes c: one more than there are such bytes, so two of them in a row have an
+-- empty part between them
 abbrev pub cut_at : ℕ → List ℕ → List (List ℕ)
 cut_at c bs = slice_split (λ b. b == c) bs
 

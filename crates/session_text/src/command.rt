@@ -27,7 +27,8 @@ pub(crate) fn one(words: Option<&[u8]>) -> Result<&[u8], LineKind>
 }
 
 fn two(words: Option<&[u8]>) -> Result<(&[u8], &[u8]), LineKind>
-    ensures { Gives (λ w. (w.0.now, w.1.now)) result (two (parts_left 32 (option_copied words.entry))) }
+    ensures { Gives (λ w. (w.0.now, w.1.now)) result
+        (two (parts_left 32 (option_copied words.entry))) }
 {
     let Some(bytes) = words else {
         return Err(LineKind::Shape);
@@ -47,7 +48,8 @@ fn when_in(word: &[u8]) -> Result<When, LineKind>
     }
 }
 
-/// The words of a line that asks for an access of a key, which have no fault: what is large is made of them where it is to stand.
+/// The words of a line that asks for an access of a key, which have no fault: what is large is made
+/// of them where it is to stand.
 #[derive(Clone, Copy)]
 pub(crate) struct AccessWords<'a> {
     name: &'a [u8],
@@ -68,7 +70,8 @@ impl AccessWords<'_> {
     }
 }
 
-// The fault of a line where an operand has this one, and one word is to stand at its end: words too many are told first.
+// The fault of a line where an operand has this one, and one word is to stand at its end: words too
+// many are told first.
 #[inline(never)]
 fn fault_before(last: Option<&[u8]>, kind: LineKind) -> LineKind
     ensures { MatchResult (one (parts_left 32 (option_copied last.entry)))
@@ -80,7 +83,8 @@ fn fault_before(last: Option<&[u8]>, kind: LineKind) -> LineKind
     }
 }
 
-// The words of a line that reads or deletes a key. No key has a space, so the last word is not searched for one.
+// The words of a line that reads or deletes a key. No key has a space, so the last word is not
+// searched for one.
 #[tactic(auto, using(crate::proofs::Accesses::key_alone))]
 fn keyed_words(words: &[u8], deletes: bool) -> Result<AccessWords<'_>, LineKind>
     ensures read { let left = cut_at 32 words.now in
@@ -106,7 +110,8 @@ fn keyed_words(words: &[u8], deletes: bool) -> Result<AccessWords<'_>, LineKind>
     })
 }
 
-// The words of a line that adds a number to the value of a key, or makes it the value. No number has a space.
+// The words of a line that adds a number to the value of a key, or makes it the value. No number
+// has a space.
 fn valued_words(words: &[u8], adds: bool) -> Result<AccessWords<'_>, LineKind>
     ensures read { let left = cut_at 32 words.now in
         Gives asked_in result (if adds then add_of left else set_of left) }
@@ -138,7 +143,8 @@ fn valued_words(words: &[u8], adds: bool) -> Result<AccessWords<'_>, LineKind>
     })
 }
 
-/// The words of a line that asks for an access of a key, or the kind of its first fault. Of other lines nothing is told.
+/// The words of a line that asks for an access of a key, or the kind of its first fault. Of other
+/// lines nothing is told.
 pub(crate) fn access_in(bytes: &[u8]) -> Option<Result<AccessWords<'_>, LineKind>>
     ensures read { IfSome result (λ read. Gives asked_in read (event_of bytes.now)) }
     ensures words { IfSome result (λ read. IfOk read AreRead) }
@@ -180,7 +186,8 @@ fn valued(words: Option<&[u8]>, adds: bool) -> Result<Event, LineKind>
     }
 }
 
-// Most lines ask for an access of a key. The others are read apart, since a call makes room for all that is read in it.
+// Most lines ask for an access of a key. The others are read apart, since a call makes room for all
+// that is read in it.
 #[inline(never)]
 fn begin_of(words: Option<&[u8]>) -> Result<Event, LineKind>
     ensures { result ≡ begin_of (parts_left 32 (option_copied words.entry)) }
@@ -241,8 +248,8 @@ fn after_of(words: Option<&[u8]>) -> Result<Event, LineKind>
     Ok(Event::After(*name, when))
 }
 
-/// What a command line asks, or the kind of its first fault. Each event is given where it is made: as the value of an `if` it would
-/// be moved once for each `else` around it.
+/// What a command line asks, or the kind of its first fault. Each event is given where it is made:
+/// as the value of an `if` it would be moved once for each `else` around it.
 pub(crate) fn event_of(bytes: &[u8]) -> Result<Event, LineKind>
     ensures { result ≡ event_of bytes.now }
 {

@@ -1,17 +1,18 @@
 //! Why a text is refused.
 
-/// What is wrong with a line. Of several faults the first in this order is told; those of operands, from `Label`
-/// to `Number` and a bad last word, count from left to right.
+/// What is wrong with a line. Of several faults the first in this order is told; those of operands,
+/// from `Label` to `Number` and a bad last word, count from left to right.
 #[derive(Clone, Copy, Debug, PartialEq, Eq)]
 pub enum LineKind {
     /// The last line of the text has bytes and no line feed, whatever it holds.
     End,
     /// The line has no bytes.
     Empty,
-    /// The first word is not one that starts a line, or the last word of `after` is neither `begun` nor `done`. Or a request has an
-    /// `after` line.
+    /// The first word is not one that starts a line, or the last word of `after` is neither `begun`
+    /// nor `done`. Or a request has an `after` line.
     Word,
-    /// There are more or fewer words than the first one asks, or no line stands behind the label of a request.
+    /// There are more or fewer words than the first one asks, or no line stands behind the label of
+    /// a request.
     Shape,
     Label,
     Name,

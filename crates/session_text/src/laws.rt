@@ -19,7 +19,8 @@ pub fn texts_read_back()
     ensures { TextsReadBack }
 {}
 
-/// Where a text is refused, the lines before the one that is told are a text, and that line may not stand behind them.
+/// Where a text is refused, the lines before the one that is told are a text, and that line may not
+/// stand behind them.
 pub fn first_faults_told()
     ensures { FirstFaultsTold }
 {}

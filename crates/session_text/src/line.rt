@@ -9,10 +9,12 @@ use crate::fault::LineKind;
 use serial_spec::Event;
 use std::marker::Model;
 
-// The most bytes of a command line, without its line feed: `set`, a name, a key and a value, and the spaces between them.
+// The most bytes of a command line, without its line feed: `set`, a name, a key and a value, and
+// the spaces between them.
 const MOST_BYTES: usize = 329;
 
-/// A command line: what it asks, and its text, which is the one spelling of that. It takes no memory.
+/// A command line: what it asks, and its text, which is the one spelling of that. It takes no
+/// memory.
 #[derive(Drop)]
 pub struct Line {
     event: Event,
@@ -30,7 +32,8 @@ impl Model for Line {
 
     ghost view = { λ l. l.event };
 
-    ghost invariant = { λ l. IsEvent l.event × (l.len ≤ 329) × (length l.bytes ≡ 329) × (take l.len l.bytes ≡ spelled_event l.event) };
+    ghost invariant = { λ l. IsEvent l.event × (l.len ≤ 329) × (length l.bytes ≡ 329)
+        × (take l.len l.bytes ≡ spelled_event l.event) };
 }
 
 impl Line {
@@ -52,7 +55,8 @@ impl Line {
 }
 
 impl Line {
-    /// The line of an event that is read off these bytes. It is made where it is to stand, so that the event is copied once.
+    /// The line of an event that is read off these bytes. It is made where it is to stand, so that
+    /// the event is copied once.
     #[inline(always)]
     pub(crate) fn of(event: Event, bytes: &[u8]) -> Line
         requires read { event_of bytes.now ≡ Ok event }
@@ -78,8 +82,9 @@ fn filled(bytes: &[u8]) -> [u8; MOST_BYTES]
     held
 }
 
-/// Reads a command line, without its line feed. A header is refused as `Word`; of several faults the first of
-/// `Empty`, `Word` for the first word, `Shape`, and the operands from left to right is answered.
+/// Reads a command line, without its line feed. A header is refused as `Word`; of several faults
+/// the first of `Empty`, `Word` for the first word, `Shape`, and the operands from left to right is
+/// answered.
 pub fn parse_line(bytes: &[u8]) -> Result<Line, LineKind>
     ensures read { result ≡ event_of bytes.now }
     ensures valid { IfOk result IsEvent }

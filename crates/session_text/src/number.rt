@@ -51,7 +51,8 @@ fn number_in_text(bytes: &[u8]) -> Option<i64>
 
 // The number that the bytes write, where they are digits and it is not large.
 fn counted(bytes: &[u8]) -> Option<u64>
-    ensures { IfSome result (λ n. (list_all is_ascii_digit bytes.now ≡ true) × (n ≡ digits_value 10 bytes.now) × (n < 2 ^ 63)) }
+    ensures { IfSome result (λ n. (list_all is_ascii_digit bytes.now ≡ true)
+        × (n ≡ digits_value 10 bytes.now) × (n < 2 ^ 63)) }
 {
     let mut count = 0u64;
     for &byte in bytes {
@@ -66,8 +67,9 @@ fn counted(bytes: &[u8]) -> Option<u64>
     Some(count)
 }
 
-/// The number that the bytes spell, where it is an `i64`: `0`, or digits of which the first is not `0`, with a `-` before
-/// them or not. Each number has one spelling. Digits alone, as most are, are read in one pass.
+/// The number that the bytes spell, where it is an `i64`: `0`, or digits of which the first is not
+/// `0`, with a `-` before them or not. Each number has one spelling. Digits alone, as most are, are
+/// read in one pass.
 pub fn parse_number(bytes: &[u8]) -> Option<i64>
     ensures { result ≡ number_of bytes.now }
 {

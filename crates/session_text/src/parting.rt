@@ -32,8 +32,8 @@ fn parted(bytes: &[u8], _at: u8, place: Option<usize>) -> (&[u8], Option<&[u8]>)
     }
 }
 
-/// What stands before the first `at`, and what stands behind it, where there is one. Words are short, so that byte by byte is as
-/// quick as any other way.
+/// What stands before the first `at`, and what stands behind it, where there is one. Words are
+/// short, so that byte by byte is as quick as any other way.
 pub fn cut(bytes: &[u8], at: u8) -> (&[u8], Option<&[u8]>)
     ensures before { result.0.now ≡ before at bytes.now }
     ensures behind { option_copied result.1 ≡ behind at bytes.now }

@@ -10,9 +10,11 @@ use crate::parting::cut;
 use serial_spec::Event;
 use txn_names::Label;
 
-/// Reads a request, `LABEL LINE` without its line feed: the label of a session, a space, and a command line. No request is an
-/// `after` line, since a sender that sees replies needs no conditions. Of several faults the first of these is answered: `Empty`,
-/// `Label` for the first word, `Shape` where no space is, those that `parse_line` answers for the rest, and `Word` for `after`.
+/// Reads a request, `LABEL LINE` without its line feed: the label of a session, a space, and a
+/// command line. No request is an `after` line, since a sender that sees replies needs no
+/// conditions. Of several faults the first of these is answered: `Empty`, `Label` for the first
+/// word, `Shape` where no space is, those that `parse_line` answers for the rest, and `Word` for
+/// `after`.
 pub fn parse_request(bytes: &[u8]) -> Result<(Label, Line), LineKind>
     ensures read { result ≡ request_of bytes.now }
     ensures valid { IfOk result (λ r. IsLabel r.0 × IsEvent r.1) }

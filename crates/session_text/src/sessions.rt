@@ -54,9 +54,11 @@ impl Model for Sessions {
 }
 
 impl Sessions {
-    /// Reads a text. Of one that is refused the first faulty line is told, and its kind; or that a growth was refused.
+    /// Reads a text. Of one that is refused the first faulty line is told, and its kind; or that a
+    /// growth was refused.
     pub fn parse(alloc: Global, bytes: &[u8]) -> Result<Sessions, TextFault>
-        ensures { let read = sessions_of bytes.now in MatchResult result (λ sessions. read ≡ Ok sessions) (λ fault. Tells fault read) }
+        ensures { let read = sessions_of bytes.now in MatchResult result (λ sessions.
+            read ≡ Ok sessions) (λ fault. Tells fault read) }
     {
         let mut sessions = Sessions::new(alloc);
         let mut number = 1;
@@ -91,8 +93,8 @@ impl Sessions {
         self.sessions.is_empty()
     }
 
-    /// A line of a session, where there is one: sessions count from 0 in order of their headers, lines from 1
-    /// without the header.
+    /// A line of a session, where there is one: sessions count from 0 in order of their headers,
+    /// lines from 1 without the header.
     pub fn line(&self, session: u32, line: u32) -> Option<&Line>
         ensures { option_copied result ≡ line_at self.now session line }
     {
@@ -119,7 +121,8 @@ impl Sessions {
         }
     }
 
-    // One session more, by the words behind the first of its header, which is the line of this number.
+    // One session more, by the words behind the first of its header, which is the line of this
+    // number.
     fn add_header(
         &mut self,
         alloc: Global,
@@ -221,8 +224,8 @@ impl Sessions {
         }
     }
 
-    // The line of an event, which is read off these bytes, behind those of the last session. There is room for it. The event is
-    // made where the line is to stand.
+    // The line of an event, which is read off these bytes, behind those of the last session. There
+    // is room for it. The event is made where the line is to stand.
     #[inline(always)]
     fn add_event(&mut self, event: Event, bytes: &[u8]) -> Result<(), NoMemory>
         requires read { event_of bytes.now ≡ Ok event }

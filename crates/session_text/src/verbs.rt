@@ -1,4 +1,5 @@
-//! The words of at most five bytes that begin command lines. Each is told by its length and its bytes, without a call.
+//! The words of at most five bytes that begin command lines. Each is told by its length and its
+//! bytes, without a call.
 ghost use Rattle.std.specs.Prelude.{◌≡◌, codes};
 ghost use Rattle.std.specs.Str.{bytes_eq};
 

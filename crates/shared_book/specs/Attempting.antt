@@ -13,7 +13,8 @@ pub record IsNext {S : Type 0} (t : Turning S) (s l : ℕ) (e : Event) : Type 0 
   pub event : next_event t.sessions t.core.history s ≡ Some e
 
 -- the next line makes one step of its session; any other is out of turn, and changes nothing
-abbrev pub Attempted : {S : Type 0} → Ghosts S → Turning S → Turning S → ℕ → ℕ → Event → Turn → Type 0
+abbrev pub Attempted : {S : Type 0} → Ghosts S → Turning S → Turning S → ℕ → ℕ → Event → Turn
+    → Type 0
 Attempted g old new s l e Answered = IsNext old s l e × Stepped g old new s Answered
 Attempted g old new s l e Parked = IsNext old s l e × Stepped g old new s Parked
 Attempted g old new s l e OutOfTurn = (IsNext old s l e → ⊥) × (new ≡ old)

@@ -18,9 +18,10 @@ use session_text::{Line, Sessions};
 use std::alloc::Global;
 use std::marker::Model;
 
-/// Sessions over a store. A line is attempted by its number and its text, so that a caller who has missed what others did
-/// meanwhile attempts nothing. The history is empty at first, and always legal, without a cycle of waits, and an
-/// interleaving of the sessions' lines as far as they are answered.
+/// Sessions over a store. A line is attempted by its number and its text, so that a caller who has
+/// missed what others did meanwhile attempts nothing. The history is empty at first, and always
+/// legal, without a cycle of waits, and an interleaving of the sessions' lines as far as they are
+/// answered.
 #[derive(Drop)]
 pub struct Book<'a, S: TopStore> {
     turns: Turns<'a, S>,
@@ -57,7 +58,8 @@ impl<'a, S: TopStore> Book<'a, S> {
         }
     }
 
-    /// The sessions are under way, and the manager is sound. The call does nothing: it tells the prover so.
+    /// The sessions are under way, and the manager is sound. The call does nothing: it tells the
+    /// prover so.
     pub fn has_legal_history(&self)
         ensures { Stands S.TopStore self.now }
     {
@@ -67,7 +69,8 @@ impl<'a, S: TopStore> Book<'a, S> {
     /// The number of the session's next line, where there is such a session and it has a line left.
     pub fn next_line(&self, session: u32) -> Option<u32>
         ensures next { result ≡ next_number self.now.sessions self.now.core.history session }
-        ensures within { IfSome result (λ line. (session < MOST_SESSIONS) × (0 < line) × (line ≤ MOST_LINES)) }
+        ensures within { IfSome result (λ line. (session < MOST_SESSIONS) × (0 < line)
+            × (line ≤ MOST_LINES)) }
     {
         // What is known of a text comes with its length: here that it is short.
         let _count = self.sessions.len();
@@ -103,12 +106,15 @@ impl<'a, S: TopStore> Book<'a, S> {
         same_text(own, text)
     }
 
-    /// Attempts a line, where it is its session's next: it is answered as the definitions say, or it begins to wait, or
-    /// nothing happens; then those are aborted that break the cycles of waits. A line of another number or text is out of
-    /// turn, and nothing happens. The only error is that memory runs out, and nothing has changed then.
+    /// Attempts a line, where it is its session's next: it is answered as the definitions say, or
+    /// it begins to wait, or nothing happens; then those are aborted that break the cycles of
+    /// waits. A line of another number or text is out of turn, and nothing happens. The only error
+    /// is that memory runs out, and nothing has changed then.
     pub fn attempt(&mut self, session: u32, line: u32, text: &Line) -> Result<Turn, NoMemory>
-        ensures ok { IfOk result (λ turn. Attempted S.TopStore self.old self.new session line text.now turn) }
-        ensures way { OnOk result (IsUnderWay self.new.core.rows self.new.sessions self.new.core.history) }
+        ensures ok { IfOk result (λ turn.
+            Attempted S.TopStore self.old self.new session line text.now turn) }
+        ensures way { OnOk result
+            (IsUnderWay self.new.core.rows self.new.sessions self.new.core.history) }
         ensures err { OnErr result (self.new ≡ self.old) }
     {
         if self.is_next(session, line, text) {
@@ -118,12 +124,13 @@ impl<'a, S: TopStore> Book<'a, S> {
         }
     }
 
-    /// Applies the stuck rule once: where lines are left and none of the sessions can go on, the next line of the first
-    /// session that has one is given up. Answers its session and number. The only error is that memory runs out, and
-    /// nothing has changed then.
+    /// Applies the stuck rule once: where lines are left and none of the sessions can go on, the
+    /// next line of the first session that has one is given up. Answers its session and number. The
+    /// only error is that memory runs out, and nothing has changed then.
     pub fn stuck(&mut self) -> Result<Option<(u32, u32)>, NoMemory>
         ensures ok { IfOk result (λ line. Unstuck S.TopStore self.old self.new line) }
-        ensures way { OnOk result (IsUnderWay self.new.core.rows self.new.sessions self.new.core.history) }
+        ensures way { OnOk result
+            (IsUnderWay self.new.core.rows self.new.sessions self.new.core.history) }
         ensures err { OnErr result (self.new ≡ self.old) }
     {
         self.turns.stuck()
@@ -131,13 +138,15 @@ impl<'a, S: TopStore> Book<'a, S> {
 
     /// Whether it was opened with these sessions and a store that had counted so many faults.
     pub fn is_of(&self, sessions: &Sessions, faults: u64) -> bool
-        ensures { IsTrue result ↔ (self.now.sessions ≡ sessions.now) × (self.now.core.opened.faults ≡ faults) }
+        ensures { IsTrue result ↔ (self.now.sessions ≡ sessions.now)
+            × (self.now.core.opened.faults ≡ faults) }
     {
         self.faults == faults && same_sessions(self.sessions, sessions)
     }
 
-    /// Aborts the live top-level transactions in the order in which they began, and gives the report of the run, and the
-    /// store. It gives the value back unchanged where lines are left, or memory runs out.
+    /// Aborts the live top-level transactions in the order in which they began, and gives the
+    /// report of the run, and the store. It gives the value back unchanged where lines are left, or
+    /// memory runs out.
     pub fn into_report(self) -> Result<(Report, S), Book<'a, S>>
         ensures ok { IfOk result (λ run. IsClosed S.TopStore self.entry run.0 run.1) }
         ensures err { IfErr result (λ book. book ≡ self.entry) }

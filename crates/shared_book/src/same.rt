@@ -14,7 +14,8 @@ pub(crate) fn same_text(a: &Line, b: &Line) -> bool
 
 // Whether a session has the same lines in both.
 fn same_lines(a: &Sessions, b: &Sessions, session: u32) -> bool
-    ensures { IsTrue result ↔ lines_of (slice_get a.now session) ≡ lines_of (slice_get b.now session) }
+    ensures { IsTrue result ↔ lines_of (slice_get a.now session) ≡
+        lines_of (slice_get b.now session) }
 {
     // What is known of a text comes with its length: here that its sessions are short.
     let _count = a.len();

@@ -1,4 +1,5 @@
-//! The tests of txn_bytes, txn_names, serial_spec, session_text, report_lines and txn_history, each in a module of its own.
+//! The tests of txn_bytes, txn_names, serial_spec, session_text, report_lines and txn_history, each
+//! in a module of its own.
 #![tactic(auto)]
 
 #[cfg(test)]

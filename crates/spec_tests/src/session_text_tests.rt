@@ -387,7 +387,8 @@ fn numbers_have_one_spelling(rt: HostRuntime) {
     }
 }
 
-// Whether these bytes are the request for this line of the session with this label, or have this fault.
+// Whether these bytes are the request for this line of the session with this label, or have this
+// fault.
 fn is_request(text: &str, wanted: Result<(&str, &str), LineKind>) -> bool {
     match (parse_request(text.as_bytes()), wanted) {
         (Ok((label, line)), Ok((name, spelled))) => {

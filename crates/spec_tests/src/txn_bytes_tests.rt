@@ -5,7 +5,8 @@ use std::io;
 use std::io::{ErrorKind, Write};
 use txn_bytes::{Held, WriteFault, put};
 
-/// Takes up to `step` bytes at each of `calls` calls, and then answers an error, or that it took nothing.
+/// Takes up to `step` bytes at each of `calls` calls, and then answers an error, or that it took
+/// nothing.
 #[derive(Drop)]
 struct Halting {
     taken: Vec<u8>,
@@ -54,8 +55,8 @@ fn holds_bytes(rt: HostRuntime) {
     );
 }
 
-// Whether seven bytes, three of them at each of so many calls, are answered as they have to be, and the writer has
-// taken these then.
+// Whether seven bytes, three of them at each of so many calls, are answered as they have to be, and
+// the writer has taken these then.
 fn is_put(alloc: Global, calls: usize, fails: bool, want: &[u8]) -> bool {
     let mut out = Halting {
         taken: Vec::new(alloc),

@@ -24,7 +24,8 @@ fn line(session: u32, line: u32) -> By {
     By::Line { session, line }
 }
 
-// Makes room for an entry. Where that is refused, the entries stay, and the call made again succeeds.
+// Makes room for an entry. Where that is refused, the entries stay, and the call made again
+// succeeds.
 fn make_room(rt: &impl Abort, history: &mut History)
     ensures { 0 < history.new.room }
 {
@@ -40,7 +41,8 @@ fn add(rt: &impl Abort, history: &mut History, by: By, event: Event, answer: Ans
     history.push(&Entry { by, event, answer });
 }
 
-// Whether the line is free for an access of the key with this number, and whether it waits with it alone.
+// Whether the line is free for an access of the key with this number, and whether it waits with it
+// alone.
 fn asked(rt: &impl Abort, history: &History, by: By, number: u8) -> (bool, bool) {
     let event = access(rt, number);
     (history.free(by, &event), history.waits_with(by, &event))

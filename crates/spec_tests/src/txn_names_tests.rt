@@ -1,4 +1,5 @@
-//! The worked values of names, that each call can succeed, and where a fault of the writer stops a name.
+//! The worked values of names, that each call can succeed, and where a fault of the writer stops a
+//! name.
 use std::alloc::Global;
 use std::hash::{DefaultHasher, Hash, Hasher};
 use std::io;
@@ -129,7 +130,8 @@ fn relates_names(rt: HostRuntime) {
     }
 }
 
-// Whether a writer that halts after so many calls has taken just this of the name `ab/c`, and the end was told.
+// Whether a writer that halts after so many calls has taken just this of the name `ab/c`, and the
+// end was told.
 fn halts(rt: &impl Abort, alloc: Global, fails: bool, calls: usize, want: &str) -> bool {
     let taken = Vec::new(alloc);
     let mut out = Halting {

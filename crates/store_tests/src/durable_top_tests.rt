@@ -48,7 +48,8 @@ fn word<T>(answer: &Result<T, StoreFault>) -> &'static str {
     }
 }
 
-// Whether commits of one change each are answered so, as in `x=1 -> ok`, and the faults and failures counted.
+// Whether commits of one change each are answered so, as in `x=1 -> ok`, and the faults and
+// failures counted.
 fn commits<S: TopStore>(rt: &impl Abort, store: &mut S, script: &str, counted: (u64, u64)) -> bool {
     for line in script.lines() {
         let (asked, told) = line.trim().split_once(" -> ").expect(rt, line);
@@ -127,7 +128,8 @@ fn a_store_that_fails_at_the_second(rt: HostRuntime) {
     assert!(rt; first || second);
 }
 
-// A commit that finds no memory is a fault, and leaves what the store gives. Made again, it is made.
+// A commit that finds no memory is a fault, and leaves what the store gives. Made again, it is
+// made.
 fn commits_again(rt: &impl Abort, alloc: Global, store: &mut MemStore) -> bool {
     let wanting = word(&store.commit(&[change(rt, "b=2")])) == "memory";
     if !wanting {

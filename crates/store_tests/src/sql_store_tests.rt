@@ -1,4 +1,5 @@
-//! Stores over databases in memory and over files that stop. Real files are for the tests of the program.
+//! Stores over databases in memory and over files that stop. Real files are for the tests of the
+//! program.
 mod hints;
 mod stops;
 
@@ -32,7 +33,8 @@ fn word<T>(answer: &Result<T, StoreFault>) -> &'static str {
     }
 }
 
-// Commits the one change that a word has, as in `x=1`, or its two, as in `x,y=2`, which stand in byte order of their keys.
+// Commits the one change that a word has, as in `x=1`, or its two, as in `x,y=2`, which stand in
+// byte order of their keys.
 fn commit<S: TopStore>(rt: &impl Abort, store: &mut S, word: &str) -> Result<(), StoreFault> {
     let Some((first, second)) = word.split_once(',') else {
         return store.commit(&[change(rt, word)]);
@@ -175,7 +177,8 @@ fn rows_stay_beside_another_table(rt: HostRuntime) {
     assert!(rt; first || second);
 }
 
-// Whether a store in memory begins without rows, takes the commits and gives the rows that they leave.
+// Whether a store in memory begins without rows, takes the commits and gives the rows that they
+// leave.
 fn keeps(rt: &impl Abort, alloc: Global, script: &str, rows: &str) -> bool {
     let Ok(mut store) = MemoryStore::new(alloc) else {
         return false;
@@ -197,7 +200,8 @@ fn gives_at_last<S: TopStore>(rt: &impl Abort, alloc: Global, store: &mut S, tex
     gives(rt, alloc, store, text) || gives(rt, alloc, store, text)
 }
 
-// A commit that finds no memory is a fault, and leaves what the store gives. Made again, it is made.
+// A commit that finds no memory is a fault, and leaves what the store gives. Made again, it is
+// made.
 fn commits_again<S: TopStore>(rt: &impl Abort, alloc: Global, store: &mut S) -> bool {
     let (before, faults) = match word(&store.commit(&[change(rt, "b=2")])) {
         "ok" => ("b=2:1", 0),
@@ -286,7 +290,8 @@ fn databases_that_are_served(rt: HostRuntime) {
     }
 }
 
-// The connection with what a store over it leaves, where the store takes these commits and then gives these rows.
+// The connection with what a store over it leaves, where the store takes these commits and then
+// gives these rows.
 fn after(
     rt: &impl Abort,
     alloc: Global,
@@ -300,7 +305,8 @@ fn after(
     if served { Some(left) } else { None }
 }
 
-// A row of the first version is taken over with the number 0, and the commits of one store after another are counted on.
+// A row of the first version is taken over with the number 0, and the commits of one store after
+// another are counted on.
 fn counts_on(rt: &impl Abort, alloc: Global) -> bool {
     let old =
         "CREATE TABLE results (k TEXT NOT NULL PRIMARY KEY, v INTEGER NOT NULL) STRICT;INSERT INTO results VALUES ('x', 9)";

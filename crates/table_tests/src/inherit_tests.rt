@@ -1,5 +1,5 @@
-//! What becomes of locks and values together, and each call once. Under a trial run that refuses a growth the call is made
-//! again.
+//! What becomes of locks and values together, and each call once. Under a trial run that refuses a
+//! growth the call is made again.
 use inherit::Estate;
 use serial_spec::{Asked, Event, Left, Mode, NoMemory, Op, PlainTable, Reply};
 use std::process::Abort;
@@ -138,7 +138,8 @@ fn change(rt: &impl Abort, estate: &Estate, tree: &Tree, txn: TxnNo) -> Option<C
     }
 }
 
-// What a child wrote goes with it where it is aborted, and the base keeps what it has until the topmost one commits.
+// What a child wrote goes with it where it is aborted, and the base keeps what it has until the
+// topmost one commits.
 fn nest(rt: &impl Abort, tree: &mut Tree, estate: &mut Estate) {
     let ((a, top), (l, child)) = (begin(rt, tree, b"a"), begin(rt, tree, b"a/l"));
     let ((r, _), (b, _)) = (begin(rt, tree, b"a/r"), begin(rt, tree, b"b"));
@@ -240,7 +241,8 @@ fn set(
     access(rt, estate, tree, name, &key(rt, text), Op::Set(value))
 }
 
-// A sum sees what its ancestors left over the table, keeps others from writing any key of its group, and goes up at a commit.
+// A sum sees what its ancestors left over the table, keeps others from writing any key of its
+// group, and goes up at a commit.
 fn sum_in_a_child(rt: &impl Abort, tree: &mut Tree, estate: &mut Estate) {
     let ((o, _), (a, top)) = (begin(rt, tree, b"o"), begin(rt, tree, b"a"));
     let ((l, child), (r, _)) = (begin(rt, tree, b"a/l"), begin(rt, tree, b"a/r"));

@@ -1,5 +1,5 @@
-//! The tests of the tables below the manager: orphans, txn_tree, txn_cells, lock_table, version_stack, inherit, wait_cycles and
-//! wait_graph, each in a module of its own.
+//! The tests of the tables below the manager: orphans, txn_tree, txn_cells, lock_table,
+//! version_stack, inherit, wait_cycles and wait_graph, each in a module of its own.
 #![tactic(auto)]
 
 #[cfg(test)]

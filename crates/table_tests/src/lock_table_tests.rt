@@ -1,4 +1,5 @@
-//! The worked values of the table, and each call once. Under a trial run that refuses a growth the call is made again.
+//! The worked values of the table, and each call once. Under a trial run that refuses a growth the
+//! call is made again.
 use lock_table::{Locks, Mode};
 use serial_spec::{Kind, NoMemory};
 use std::process::Abort;
@@ -102,7 +103,8 @@ fn readers_share(rt: HostRuntime) {
     share(&rt, &mut tree, &mut locks);
 }
 
-// A child's locks go up, held and retained apart, and keep others out, but no inferior of the parent.
+// A child's locks go up, held and retained apart, and keep others out, but no inferior of the
+// parent.
 fn inherit(rt: &impl Abort, tree: &mut Tree, locks: &mut Locks) {
     let (a, l) = (begin(rt, tree, b"a"), begin(rt, tree, b"a/l"));
     let (r, b) = (begin(rt, tree, b"a/r"), begin(rt, tree, b"b"));

@@ -1,4 +1,5 @@
-//! Which front is the topmost, and that a refused growth leaves the marks: a trial run has each growth refused in turn.
+//! Which front is the topmost, and that a refused growth leaves the marks: a trial run has each
+//! growth refused in turn.
 ghost use Rattle.std.specs.Prelude.{◌≤◌};
 
 use orphans::Marks;

@@ -1,5 +1,5 @@
-//! Sums over groups beside accesses of their keys, and each call once. Under a trial run that refuses a growth the call is made
-//! again.
+//! Sums over groups beside accesses of their keys, and each call once. Under a trial run that
+//! refuses a growth the call is made again.
 use lock_table::{Mode, TargetLocks};
 use serial_spec::{Kind, NoMemory, Target};
 use std::process::Abort;
@@ -146,7 +146,8 @@ fn sums_nest(rt: HostRuntime) {
     nest(&rt, &mut tree, &mut locks);
 }
 
-// A written key keeps others from a sum over each of its groups, and goes on to do so once its writer has committed.
+// A written key keeps others from a sum over each of its groups, and goes on to do so once its
+// writer has committed.
 fn shut(rt: &impl Abort, tree: &mut Tree, locks: &mut TargetLocks) {
     let (a, l) = (begin(rt, tree, b"a"), begin(rt, tree, b"a/l"));
     let (r, b) = (begin(rt, tree, b"a/r"), begin(rt, tree, b"b"));
@@ -183,7 +184,8 @@ fn writers_keep_sums_out(rt: HostRuntime) {
     shut(&rt, &mut tree, &mut locks);
 }
 
-// Of a write those are found that read the key and those that sum over a group of it, each once, the first begun first.
+// Of a write those are found that read the key and those that sum over a group of it, each once,
+// the first begun first.
 fn find(rt: &impl Abort, tree: &mut Tree, locks: &mut TargetLocks) {
     let (a, b) = (begin(rt, tree, b"a"), begin(rt, tree, b"b"));
     let (c, d) = (begin(rt, tree, b"c"), begin(rt, tree, b"d"));

@@ -1,5 +1,5 @@
-//! Each call at many transactions and keys, at a value that a child leaves in place of its parent's. Under a trial run that
-//! refuses a growth the call is made again.
+//! Each call at many transactions and keys, at a value that a child leaves in place of its
+//! parent's. Under a trial run that refuses a growth the call is made again.
 ghost use Rattle.std.specs.Prelude.{◌≡◌, false};
 
 use serial_spec::NoMemory;

@@ -1,4 +1,5 @@
-//! The worked values of versions, and each call once. Under a trial run that refuses a growth the call is made again.
+//! The worked values of versions, and each call once. Under a trial run that refuses a growth the
+//! call is made again.
 use serial_spec::{Left, NoMemory, PlainTable};
 use std::process::Abort;
 use txn_names::{Key, Name};
@@ -86,8 +87,8 @@ fn sees(
     true
 }
 
-// A child sees what its parent left until it writes itself; what it wrote goes with it where it is undone, and up where it
-// commits.
+// A child sees what its parent left until it writes itself; what it wrote goes with it where it is
+// undone, and up where it commits.
 fn nest(rt: &impl Abort, tree: &mut Tree, versions: &mut Versions) {
     let (a, l) = (begin(rt, tree, b"a"), begin(rt, tree, b"a/l"));
     let (r, b) = (begin(rt, tree, b"a/r"), begin(rt, tree, b"b"));

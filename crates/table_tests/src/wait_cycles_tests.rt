@@ -1,4 +1,5 @@
-//! The worked values of the finder, and each call on waits once. Under a trial run that refuses a growth the call is made again.
+//! The worked values of the finder, and each call on waits once. Under a trial run that refuses a
+//! growth the call is made again.
 use serial_spec::{Asked, By, NoMemory, Op};
 use std::alloc::Global;
 use std::process::Abort;
@@ -28,7 +29,8 @@ fn victim_of(rt: &impl Abort, alloc: Global, pairs: &[(TxnNo, TxnNo)]) -> Option
     }
 }
 
-// How many lie on the cycle found, and who of them is the victim, which is the one that a search with memory made before finds.
+// How many lie on the cycle found, and who of them is the victim, which is the one that a search
+// with memory made before finds.
 fn cycle_and_victim(
     rt: &impl Abort,
     alloc: Global,
@@ -71,7 +73,8 @@ fn worked_values(rt: HostRuntime) {
     worked(&rt, rt.alloc());
 }
 
-// Sixty-four wait behind each other, each for the one begun after it or before it, and then the last for the first.
+// Sixty-four wait behind each other, each for the one begun after it or before it, and then the
+// last for the first.
 fn chains(rt: &impl Abort, alloc: Global) {
     let mut up = [pair(63, 0); 64];
     let mut down = [pair(0, 63); 64];
@@ -140,7 +143,8 @@ fn waits_come_and_go(rt: HostRuntime) {
     assert!(rt; stands(&waits, &again) && stands(&waits, &second));
 }
 
-// A sum waits as an access to a key does, and is told from the read of the key that has the bytes of its group.
+// A sum waits as an access to a key does, and is told from the read of the key that has the bytes
+// of its group.
 #[test]
 fn sum_waits(rt: HostRuntime) {
     let mut waits = Waits::new(rt.alloc());

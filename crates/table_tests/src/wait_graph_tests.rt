@@ -1,4 +1,5 @@
-//! The search over small graphs of waits. Under a trial run that refuses a growth the call is made again.
+//! The search over small graphs of waits. Under a trial run that refuses a growth the call is made
+//! again.
 use lock_table::TargetLocks;
 use serial_spec::{Asked, By, Kind, NoMemory, Op, Target};
 use std::process::Abort;
@@ -131,7 +132,8 @@ fn a_third_waits_for_two_on_a_cycle(rt: HostRuntime) {
     assert!(rt; !any_edge_by_way_of(&tree, &locks, &waits, third, &x));
 }
 
-// Who waits for what a parent has written waits for the parent's child too, which waits for the other.
+// Who waits for what a parent has written waits for the parent's child too, which waits for the
+// other.
 #[test]
 fn one_waits_by_way_of_a_branch(rt: HostRuntime) {
     let (mut tree, mut locks) = (Tree::new(rt.alloc()), TargetLocks::new(rt.alloc()));

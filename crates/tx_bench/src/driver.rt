@@ -5,7 +5,8 @@ use serial_spec::{By, Event, NoMemory, Op, Refusal};
 use std::alloc::Global;
 use txn_names::{Key, Name};
 
-/// A manager over an empty table, and how many lines it has answered. Every line is the next one of one session.
+/// A manager over an empty table, and how many lines it has answered. Every line is the next one of
+/// one session.
 #[derive(Drop)]
 pub struct Driver {
     manager: Manager<MemStore>,
@@ -102,7 +103,8 @@ impl Driver {
         }
     }
 
-    /// Asks again for the access by which the transaction waits, which is done now. That is no further line.
+    /// Asks again for the access by which the transaction waits, which is done now. That is no
+    /// further line.
     pub fn retry(&mut self, name: &Name) -> Option<()> {
         if self.manager.waiting(name) && is_done(self.manager.retry(name)) {
             Some(())

@@ -1,6 +1,7 @@
-//! Drives the manager with seeded work, so that the script `bench` can time it. Its three words are a workload, about how
-//! many lines it has, and how often it is run; it prints how many lines the manager answered. Or they are how pairs of
-//! transactions that wait lie, how many there are, and how often they are searched; it prints how many searches found a victim.
+//! Drives the manager with seeded work, so that the script `bench` can time it. Its three words are
+//! a workload, about how many lines it has, and how often it is run; it prints how many lines the
+//! manager answered. Or they are how pairs of transactions that wait lie, how many there are, and
+//! how often they are searched; it prints how many searches found a victim.
 #![tactic(auto)]
 
 mod driver;

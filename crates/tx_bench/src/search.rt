@@ -71,7 +71,8 @@ fn found_in(alloc: Global, pairs: &[(TxnNo, TxnNo)], rounds: u32) -> Option<u32>
     Some(found)
 }
 
-/// Searches so many times among so many pairs, and tells how many searches found a victim. `None` if memory runs out.
+/// Searches so many times among so many pairs, and tells how many searches found a victim. `None`
+/// if memory runs out.
 pub fn search(alloc: Global, shape: Shape, count: u32, rounds: u32) -> Option<u32> {
     let mut random = Pcg32::new(0, 54);
     let mut pairs = Vec::new(alloc);

@@ -1,4 +1,5 @@
-//! The workloads. Each has about as many lines as asked for, and scales by the number of its transactions.
+//! The workloads. Each has about as many lines as asked for, and scales by the number of its
+//! transactions.
 ghost use Rattle.std.specs.Prelude.{◌<◌};
 
 use crate::driver::Driver;
@@ -18,12 +19,13 @@ pub enum Workload {
     Wide,
     /// One parent, and its children of 14 accesses each, one after another.
     Children,
-    /// Trees of depth 8, with 14 accesses in each transaction; every fourth one below the top is aborted.
+    /// Trees of depth 8, with 14 accesses in each transaction; every fourth one below the top is
+    /// aborted.
     Deep,
     /// Top-level transactions that read the same 16 keys, all begun before the first commits.
     Readers,
-    /// Groups of 64 top-level transactions that wait behind each other in a chain, which is closed to a cycle again and again:
-    /// the last of them is a victim each time, until one is left.
+    /// Groups of 64 top-level transactions that wait behind each other in a chain, which is closed
+    /// to a cycle again and again: the last of them is a victim each time, until one is left.
     Waits,
 }
 
@@ -60,7 +62,8 @@ impl Workload {
     }
 }
 
-/// Runs the workload once, by this seed, and tells how many lines were answered. `None` where a line was not done.
+/// Runs the workload once, by this seed, and tells how many lines were answered. `None` where a
+/// line was not done.
 pub fn run(alloc: Global, workload: Workload, size: u32, seed: u64) -> Option<u32> {
     // One place where the driver is dropped: each further one is proved anew.
     match Driver::open(alloc) {
@@ -200,7 +203,8 @@ fn chain_group(driver: &mut Driver, group: u32) -> Option<()> {
     Some(())
 }
 
-// The last one waits for the first, and is the victim. The one before it goes on, and is the last one then.
+// The last one waits for the first, and is the victim. The one before it goes on, and is the last
+// one then.
 fn break_group(driver: &mut Driver, group: u32) -> Option<()> {
     for turn in 1..GROUP {
         let last = GROUP - turn;

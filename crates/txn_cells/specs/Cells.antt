@@ -1,7 +1,8 @@
--- Cells as contracts see them, by two functions of a table: `content`, what each transaction, by its number, has at each
--- key, and `has_place`, where it has a place. A place may be empty: then the transaction has nothing at the key, as where
--- there is no place. The cells at one key are seen by two functions of the number alone, `content_of` and `holds`. How a
--- table is kept is told apart, in Kept, and no contract but of this crate's own parts rests on it.
+-- Cells as contracts see them, by two functions of a table: `content`, what each transaction, by
+-- its number, has at each key, and `has_place`, where it has a place. A place may be empty: then
+-- the transaction has nothing at the key, as where there is no place. The cells at one key are seen
+-- by two functions of the number alone, `content_of` and `holds`. How a table is kept is told
+-- apart, in Kept, and no contract but of this crate's own parts rests on it.
 use Rattle.std.specs.Prelude.{◌≡◌, ℕ, Bool, true, false, nat_eq, ◌&&◌, ◌||◌, if◌then◌else◌, List, Option, Some, None}
 pub use Rattle.txn_cells.specs.Kept.{Held, Table, content, content_of, has_place, holds, nothing, stands}
 use Rattle.txn_names.specs.Path.{label_eq}
@@ -25,13 +26,16 @@ pub record IsTowards (old new : ℕ → List ℕ → Bool) (child parent : ℕ) 
   pub kept : (u : ℕ) (q : List ℕ) → old u q ≡ true → new u q ≡ true
   pub added : (u : ℕ) (q : List ℕ) → new u q ≡ true → with_childs old child parent u q ≡ true
 
--- what the parent has at a key of what the child had there, if it had something, and of what it had itself
+-- what the parent has at a key of what the child had there, if it had something, and of what it had
+-- itself
 abbrev pub merged : {V : Type 0} → (V → Option V → V) → Option V → Option V → Option V
 merged inherited None own = own
 merged inherited (Some v) own = Some (inherited v own)
 
--- what u has at q, where the child has committed into its parent: it has nothing, and the parent inherits
-abbrev pub handed_up : {V : Type 0} → (V → Option V → V) → (ℕ → List ℕ → Option V) → ℕ → Option ℕ → ℕ → List ℕ → Option V
+-- what u has at q, where the child has committed into its parent: it has nothing, and the parent
+-- inherits
+abbrev pub handed_up : {V : Type 0} → (V → Option V → V) → (ℕ → List ℕ → Option V) → ℕ → Option ℕ
+    → ℕ → List ℕ → Option V
 handed_up inherited content child parent u q =
     if nat_eq child u then None
     else if is_it parent u then merged inherited (content child q) (content u q)

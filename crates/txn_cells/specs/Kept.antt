@@ -1,6 +1,7 @@
--- Cells as callers see them: for each transaction that has any, a list of its keys, each with what stands there. And as they
--- are kept: at each key the transactions with a place there, each with what it has, and beside that the keys of each
--- transaction, at its number, each with its place among all keys.
+-- Cells as callers see them: for each transaction that has any, a list of its keys, each with what
+-- stands there. And as they are kept: at each key the transactions with a place there, each with
+-- what it has, and beside that the keys of each transaction, at its number, each with its place
+-- among all keys.
 use Rattle.std.specs.Prelude.{◌≡◌, ◌+◌, ◌<◌, ◌≤◌, ℕ, suc, Bool, true, false, cond, nat_eq, List, [], ◌∷◌, Option, Some, None, is_some, unwrap_or, slice_get, length, map}
 use Rattle.std.specs.List.{AllByRecursion, list_any}
 use Rattle.std.specs.List.Sorted.{IsStrictlyIncreasing}
@@ -55,7 +56,8 @@ content_of held t = unwrap_or (lookup (nat_eq t) held) None
 
 -- of all transactions t alone has something else: this content, or no place where there is none
 abbrev pub IsChangedAt : {V : Type 0} → Held V → Held V → ℕ → Option (Option V) → Type 0
-IsChangedAt old new t now = (u : ℕ) → lookup (nat_eq u) new ≡ cond (nat_eq t u) now (lookup (nat_eq u) old)
+IsChangedAt old new t now = (u : ℕ)
+    → lookup (nat_eq u) new ≡ cond (nat_eq t u) now (lookup (nat_eq u) old)
 
 -- these are the numbers of those that have a place, each once, rising
 pub record AreHolders {V : Type 0} (numbers : List ℕ) (held : Held V) : Type 0 where
@@ -65,11 +67,13 @@ pub record AreHolders {V : Type 0} (numbers : List ℕ) (held : Held V) : Type 0
 
 -- whoever has what stands out is marked
 abbrev pub AreMarked : {V : Type 0} → (V → Bool) → Held V → List ℕ → Type 0
-AreMarked outstanding held marked = (u : ℕ) → stands outstanding (content_of held u) ≡ true → list_any (nat_eq u) marked ≡ true
+AreMarked outstanding held marked = (u : ℕ) → stands outstanding (content_of held u) ≡ true
+    → list_any (nat_eq u) marked ≡ true
 
--- of those that have a place some are marked, rising: at least those that have what stands out. There is
--- room to mark all
-pub record HasMarks {V : Type 0} (outstanding : V → Bool) (held : Held V) (marked : List ℕ) (room : ℕ) : Type 0 where
+-- of those that have a place some are marked, rising: at least those that have what stands out.
+-- There is room to mark all
+pub record HasMarks {V : Type 0} (outstanding : V → Bool) (held : Held V) (marked : List ℕ)
+    (room : ℕ) : Type 0 where
   pub rising : IsStrictlyIncreasing marked
   pub within : (u : ℕ) → list_any (nat_eq u) marked ≡ true → holds held u ≡ true
   pub fits : length held ≤ room
@@ -81,7 +85,8 @@ few = 4
 
 -- where more than a few have a place, marks are kept
 abbrev pub HasMarksPastFew : {V : Type 0} → (V → Bool) → Held V → List ℕ → ℕ → Type 0
-HasMarksPastFew outstanding held marked room = few < length held → HasMarks outstanding held marked room
+HasMarksPastFew outstanding held marked room = few < length held
+    → HasMarks outstanding held marked room
 
 -- so many transactions and what they have lie in the value itself
 abbrev pub in_value : ℕ
@@ -133,7 +138,8 @@ busy_in (listed ∷ lists) = one_busy listed + busy_in lists
 
 -- at each key those have a place that list it
 abbrev pub AreListed : {V : Type 0} → AtKeys V → Lists → Type 0
-AreListed kept lists = (u : ℕ) (q : List ℕ) → place_kept kept u q ≡ list_any (label_eq q) (keys_at lists u)
+AreListed kept lists = (u : ℕ) (q : List ℕ)
+    → place_kept kept u q ≡ list_any (label_eq q) (keys_at lists u)
 
 -- each stands among the keys at its place
 abbrev pub AreAt : List (List ℕ) → Listed → Type 0
@@ -152,7 +158,8 @@ cells_of kept t keys = map (λ k. (k, content_kept kept t k)) keys
 abbrev pub seen_from : {V : Type 0} → ℕ → Lists → AtKeys V → Table V
 seen_from t [] kept = []
 seen_from t ([] ∷ lists) kept = seen_from (suc t) lists kept
-seen_from t ((e ∷ es) ∷ lists) kept = (t, cells_of kept t (keys_of (e ∷ es))) ∷ seen_from (suc t) lists kept
+seen_from t ((e ∷ es) ∷ lists) kept =
+    (t, cells_of kept t (keys_of (e ∷ es))) ∷ seen_from (suc t) lists kept
 
 abbrev pub seen : {V : Type 0} → Lists → AtKeys V → Table V
 seen lists kept = seen_from 0 lists kept

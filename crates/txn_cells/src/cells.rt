@@ -124,8 +124,8 @@ impl<V: Copy> Cells<V> {
         }
     }
 
-    /// Gives the transaction, which has none, an empty place, and tells its index. The only error is
-    /// that memory runs out, and then nothing changes.
+    /// Gives the transaction, which has none, an empty place, and tells its index. The only error
+    /// is that memory runs out, and then nothing changes.
     pub(crate) fn insert(&mut self, txn: TxnNo) -> Result<usize, NoMemory>
         requires { IsFalse (holds self.old txn) }
         ensures at { IfOk result (λ index. slice_get (keys_of self.new) index ≡ Some txn) }

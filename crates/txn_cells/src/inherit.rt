@@ -9,7 +9,8 @@ pub trait Inherit: Copy {
 
     ghost outstanding: { Self → Bool };
 
-    /// What the parent has once the child has committed into it, of what the child had and of what it had itself.
+    /// What the parent has once the child has committed into it, of what the child had and of what
+    /// it had itself.
     fn inherit(child: Self, own: Option<Self>) -> Self
         ensures { result ≡ inherited child own };
 
@@ -17,7 +18,8 @@ pub trait Inherit: Copy {
     fn join(added: Self, own: Option<Self>) -> Self
         ensures { result ≡ joined added own };
 
-    /// Whether whoever has this is to be found at its key without going through all that have a place there.
+    /// Whether whoever has this is to be found at its key without going through all that have a
+    /// place there.
     fn stands_out(self) -> bool
         ensures { result ≡ outstanding self };
 }

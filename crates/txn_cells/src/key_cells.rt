@@ -16,10 +16,10 @@ use std::marker::Model;
 use txn_tree::TxnNo;
 
 /// What all transactions have at one key. Where those with a place are more than a few, at least
-/// those whose content stands out are marked by their numbers, rising, and there is room to mark all.
-/// Of a few no marks are kept, since it costs less to go through them all. The index of the one that
-/// `add` found or made last is remembered, since what is set is mostly set right after a place was
-/// asked for.
+/// those whose content stands out are marked by their numbers, rising, and there is room to mark
+/// all. Of a few no marks are kept, since it costs less to go through them all. The index of the
+/// one that `add` found or made last is remembered, since what is set is mostly set right after a
+/// place was asked for.
 #[derive(Drop)]
 pub struct KeyCells<V: Inherit> {
     cells: Cells<V>,
@@ -51,7 +51,8 @@ impl<V: Inherit> KeyCells<V> {
         }
     }
 
-    /// The transactions that have a place, each once, in the order in which they began. No other has anything here.
+    /// The transactions that have a place, each once, in the order in which they began. No other
+    /// has anything here.
     pub fn holders(&self) -> &[TxnNo]
         ensures each { (u : ℕ) → list_any (nat_eq u) result.now ≡ holds self.now u }
         ensures rising { IsStrictlyIncreasing result.now }

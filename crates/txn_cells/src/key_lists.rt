@@ -32,7 +32,8 @@ impl Model for KeyList {
     ghost invariant = { λ l. IsDistinct label_eq l.keys.items × (length l.places.items ≡ length l.keys.items) };
 }
 
-/// A list's first room is for so many keys. Most transactions access few, so that their lists are allocated once.
+/// A list's first room is for so many keys. Most transactions access few, so that their lists are
+/// allocated once.
 const FIRST_ROOM: usize = 16;
 
 // For how many keys more a list of this length makes room at least.
@@ -91,7 +92,8 @@ impl KeyList {
     }
 }
 
-/// The list of each transaction, at its number, and how many of the lists have keys. A number past the last list has no keys.
+/// The list of each transaction, at its number, and how many of the lists have keys. A number past
+/// the last list has no keys.
 #[derive(Drop)]
 pub(crate) struct KeyLists {
     alloc: Global,
@@ -188,7 +190,8 @@ impl KeyLists {
         Ok(())
     }
 
-    /// Adds a key that stands at a place to the transaction's list. If memory runs out, each list has the keys that it had.
+    /// Adds a key that stands at a place to the transaction's list. If memory runs out, each list
+    /// has the keys that it had.
     pub(crate) fn add(&mut self, txn: TxnNo, key: &Key, place: usize) -> Result<(), NoMemory>
         requires fresh { IsFalse (list_any (label_eq key.now) (keys_at self.old txn)) }
         ensures ok { OnOk result ((u : ℕ) → listed_at self.new u ≡

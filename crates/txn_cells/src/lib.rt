@@ -1,5 +1,5 @@
-//! A cell for each transaction and key, made beforehand, so that what a transaction has at a key is set, inherited and
-//! dropped without memory.
+//! A cell for each transaction and key, made beforehand, so that what a transaction has at a key is
+//! set, inherited and dropped without memory.
 #![tactic(auto)]
 
 mod cells;

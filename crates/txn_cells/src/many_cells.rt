@@ -16,9 +16,9 @@ use std::alloc::{AllocError, Global};
 use std::marker::Model;
 use txn_tree::TxnNo;
 
-/// What each of many transactions has. They stand in an order that is of no account, in which one is
-/// found by its number without a search and goes without moving those behind it. The numbers alone
-/// are kept in their order.
+/// What each of many transactions has. They stand in an order that is of no account, in which one
+/// is found by its number without a search and goes without moving those behind it. The numbers
+/// alone are kept in their order.
 #[derive(Drop)]
 pub(crate) struct ManyCells<V: Copy> {
     numbers: ManyNumbers,
@@ -101,8 +101,8 @@ impl<V: Copy> ManyCells<V> {
         *self.contents.get_index_mut(index).unwrap() = Some(value);
     }
 
-    /// Gives the transaction, which has none, an empty place, and tells its index. The only error is
-    /// that memory runs out, and then nothing changes.
+    /// Gives the transaction, which has none, an empty place, and tells its index. The only error
+    /// is that memory runs out, and then nothing changes.
     pub(crate) fn insert(&mut self, txn: TxnNo) -> Result<usize, NoMemory>
         requires { IsFalse (holds self.old txn) }
         ensures at { IfOk result (λ index. slice_get (keys_of self.new) index ≡ Some txn) }

@@ -62,8 +62,8 @@ impl ManyNumbers {
         Ok(())
     }
 
-    /// Fills the list, in which there is nothing, with these numbers, and puts the number in at this
-    /// place. The only error is that memory runs out, and then nothing changes.
+    /// Fills the list, in which there is nothing, with these numbers, and puts the number in at
+    /// this place. The only error is that memory runs out, and then nothing changes.
     pub(crate) fn fill(&mut self, few: &[TxnNo], place: usize, txn: TxnNo) -> Result<(), NoMemory>
         requires { place ≤ length few.now }
         ensures ok { OnOk result (self.new ≡ insert few.now place txn) }

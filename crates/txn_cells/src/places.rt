@@ -17,9 +17,9 @@ use std::marker::Model;
 use txn_names::Key;
 use txn_tree::TxnNo;
 
-/// What is held at each key. A key stays when its last holder goes, and so stands at one place among
-/// all keys for good. The place that `place_for` gave last is remembered, since what is set at a key
-/// is mostly set right after a place was asked for there.
+/// What is held at each key. A key stays when its last holder goes, and so stands at one place
+/// among all keys for good. The place that `place_for` gave last is remembered, since what is set
+/// at a key is mostly set right after a place was asked for there.
 #[derive(Drop)]
 pub(crate) struct Places<V: Inherit> {
     alloc: Global,
@@ -47,7 +47,8 @@ impl<V: Inherit> Places<V> {
         }
     }
 
-    // The remembered place, if it is that of the key. To compare costs less than to look the key up.
+    // The remembered place, if it is that of the key. To compare costs less than to look the key
+    // up.
     fn remembered(&self, key: &Key) -> Option<usize>
         ensures { IfSome result (λ p. slice_get (keys_of self.now) p ≡ Some key.now) }
     {
@@ -86,8 +87,8 @@ impl<V: Inherit> Places<V> {
         if *found == *key { Some(cells) } else { None }
     }
 
-    /// As `at`, where the key mostly stands at this place among all keys: it is compared first, which
-    /// costs less than to look the key up.
+    /// As `at`, where the key mostly stands at this place among all keys: it is compared first,
+    /// which costs less than to look the key up.
     pub(crate) fn near(&self, place: usize, key: &Key) -> Option<&KeyCells<V>>
         ensures some { IfSome result (λ cells. held_at self.now key.now ≡ cells.now) }
         ensures none { IfNone result (held_at self.now key.now ≡ []) }
@@ -115,7 +116,8 @@ impl<V: Inherit> Places<V> {
         }
     }
 
-    /// The place of the key among all keys. One that is not among them yet goes last, with no holders.
+    /// The place of the key among all keys. One that is not among them yet goes last, with no
+    /// holders.
     pub(crate) fn place_for(&mut self, key: &Key) -> Result<usize, NoMemory>
         ensures held { (q : List ℕ) → held_at self.new q ≡ held_at self.old q }
         ensures place { IfOk result (λ p. slice_get (keys_of self.new) p ≡ Some key.now) }
@@ -139,8 +141,8 @@ impl<V: Inherit> Places<V> {
         }
     }
 
-    /// Makes an empty place for the transaction, if it has none, at the key that has this index among all keys, and tells whether
-    /// it had none.
+    /// Makes an empty place for the transaction, if it has none, at the key that has this index
+    /// among all keys, and tells whether it had none.
     pub(crate) fn add(&mut self, txn: TxnNo, key: &Key, place: usize) -> Result<bool, NoMemory>
         requires at { slice_get (keys_of self.old) place ≡ Some key.now }
         ensures keys { keys_of self.new ≡ keys_of self.old }
@@ -170,7 +172,8 @@ impl<V: Inherit> Places<V> {
         self.holders.get_index_mut(place).unwrap().set(txn, value);
     }
 
-    /// Adds this to what the transaction has at the key, as an access of its own. It takes no memory.
+    /// Adds this to what the transaction has at the key, as an access of its own. It takes no
+    /// memory.
     pub(crate) fn join(&mut self, txn: TxnNo, key: &Key, added: V)
         requires { IsTrue (place_kept self.old txn key.now) }
         ensures keys { keys_of self.new ≡ keys_of self.old }
@@ -185,8 +188,8 @@ impl<V: Inherit> Places<V> {
         self.holders.get_index_mut(place).unwrap().join(txn, added);
     }
 
-    /// Takes the child out of those at the key that has this index among all keys. Its parent, if there is one, inherits what it had
-    /// there. It takes no memory.
+    /// Takes the child out of those at the key that has this index among all keys. Its parent, if
+    /// there is one, inherits what it had there. It takes no memory.
     pub(crate) fn hand_up(&mut self, key: &Key, place: usize, child: TxnNo, parent: Option<TxnNo>)
         requires at { slice_get (keys_of self.old) place ≡ Some key.now }
         requires other { IfSome parent (λ p. IsFalse (nat_eq child p)) }

@@ -17,8 +17,8 @@ use std::marker::Model;
 use txn_names::Key;
 use txn_tree::{Tree, TxnNo};
 
-/// What each transaction, by its number, has at each key. Room is made by a place for a transaction and a key; a new place
-/// is empty.
+/// What each transaction, by its number, has at each key. Room is made by a place for a transaction
+/// and a key; a new place is empty.
 #[derive(Drop)]
 pub struct CellTable<V: Inherit> {
     places: Places<V>,
@@ -35,7 +35,8 @@ impl<V: Inherit> Model for CellTable<V> {
     ghost invariant = { λ t. AreListed t.places t.keys × ArePlaced t.places t.keys };
 }
 
-// Makes a place, if there is none, at the key that has this index among all keys. The list of each other transaction stays as it is.
+// Makes a place, if there is none, at the key that has this index among all keys. The list of each
+// other transaction stays as it is.
 fn make_place_at<V: Inherit>(
     places: &mut Places<V>,
     keys: &mut KeyLists,
@@ -118,7 +119,8 @@ fn make_places<V: Inherit>(
         ≡ content_kept places.old u q }
     ensures ok { OnOk result ((u : ℕ) → (q : List ℕ) → place_kept places.new u q
         ≡ with_childs (place_kept places.old) child parent u q) }
-    ensures err { OnErr result (IsTowards (place_kept places.old) (place_kept places.new) child parent) }
+    ensures err { OnErr result
+        (IsTowards (place_kept places.old) (place_kept places.new) child parent) }
     ensures succeeds { ((q : List ℕ) → IsTrue (place_kept places.old child q) →
         IsTrue (place_kept places.old parent q)) → IsOk result }
 {
@@ -149,7 +151,8 @@ impl<V: Inherit> CellTable<V> {
         self.keys.is_empty()
     }
 
-    /// What all transactions have at the key, found by one look at it. Where there is none nobody has a place there.
+    /// What all transactions have at the key, found by one look at it. Where there is none nobody
+    /// has a place there.
     pub fn at(&self, key: &Key) -> Option<&KeyCells<V>>
         ensures some { IfSome result (λ cells. IsAt self.now key.now cells.now) }
         ensures none { IfNone result (IsBareAt self.now key.now) }
@@ -157,7 +160,8 @@ impl<V: Inherit> CellTable<V> {
         self.places.at(key)
     }
 
-    /// As `at`, of the key that was remembered or reserved last: that is found without a look-up. Any other key is looked up.
+    /// As `at`, of the key that was remembered or reserved last: that is found without a look-up.
+    /// Any other key is looked up.
     pub fn at_remembered(&self, key: &Key) -> Option<&KeyCells<V>>
         ensures some { IfSome result (λ cells. IsAt self.now key.now cells.now) }
         ensures none { IfNone result (IsBareAt self.now key.now) }
@@ -165,15 +169,16 @@ impl<V: Inherit> CellTable<V> {
         self.places.at_remembered(key)
     }
 
-    /// Looks the key up and remembers where it stands, so that `at_remembered` and the calls that change what stands there find it
-    /// without another look-up. It takes no memory.
+    /// Looks the key up and remembers where it stands, so that `at_remembered` and the calls that
+    /// change what stands there find it without another look-up. It takes no memory.
     pub fn remember(&mut self, key: &Key)
         ensures { self.new ≡ self.old }
     {
         self.places.remember(key);
     }
 
-    // As `at`, where the key mostly is the transaction's key at this index: its place stands in the list then.
+    // As `at`, where the key mostly is the transaction's key at this index: its place stands in the
+    // list then.
     fn at_listed(&self, txn: TxnNo, index: usize, key: &Key) -> Option<&KeyCells<V>>
         ensures some { IfSome result (λ cells. IsAt self.now key.now cells.now) }
         ensures none { IfNone result (IsBareAt self.now key.now) }
@@ -184,7 +189,8 @@ impl<V: Inherit> CellTable<V> {
         }
     }
 
-    /// As `get`, of a key that mostly is the transaction's key at this index in `keys`: that is found without a look-up.
+    /// As `get`, of a key that mostly is the transaction's key at this index in `keys`: that is
+    /// found without a look-up.
     pub fn get_listed(&self, txn: TxnNo, index: usize, key: &Key) -> Option<V>
         ensures { result ≡ content self.now txn key.now }
     {
@@ -198,12 +204,13 @@ impl<V: Inherit> CellTable<V> {
         self.at(key)?.get(txn)
     }
 
-    /// The transactions that have a place at the key, each once, in the order in which they began. No other has anything
-    /// there.
+    /// The transactions that have a place at the key, each once, in the order in which they began.
+    /// No other has anything there.
     pub fn holders(&self, key: &Key) -> &[TxnNo]
         ensures each { (u : ℕ) → list_any (nat_eq u) result.now ≡ has_place self.now u key.now }
         ensures rising { IsStrictlyIncreasing result.now }
-        ensures elsewhere { (u : ℕ) → IsFalse (has_place self.now u key.now) → content self.now u key.now ≡ None }
+        ensures elsewhere { (u : ℕ) → IsFalse (has_place self.now u key.now) →
+            content self.now u key.now ≡ None }
     {
         match self.at(key) {
             Some(cells) => cells.holders(),
@@ -211,11 +218,14 @@ impl<V: Inherit> CellTable<V> {
         }
     }
 
-    /// Transactions that have a place at the key, each once, in the order in which they began: all those whose content there
-    /// stands out, and maybe some whose content does not. No other transaction is looked at.
+    /// Transactions that have a place at the key, each once, in the order in which they began: all
+    /// those whose content there stands out, and maybe some whose content does not. No other
+    /// transaction is looked at.
     pub fn standing_out(&self, key: &Key) -> &[TxnNo]
-        ensures all { (u : ℕ) → IsTrue (stands V.outstanding (content self.now u key.now)) → IsTrue (list_any (nat_eq u) result.now) }
-        ensures places { (u : ℕ) → IsTrue (list_any (nat_eq u) result.now) → IsTrue (has_place self.now u key.now) }
+        ensures all { (u : ℕ) → IsTrue (stands V.outstanding (content self.now u key.now)) →
+            IsTrue (list_any (nat_eq u) result.now) }
+        ensures places { (u : ℕ) → IsTrue (list_any (nat_eq u) result.now) →
+            IsTrue (has_place self.now u key.now) }
         ensures rising { IsStrictlyIncreasing result.now }
     {
         match self.at(key) {
@@ -224,25 +234,31 @@ impl<V: Inherit> CellTable<V> {
         }
     }
 
-    /// Makes a place for the transaction and the key, if there is none, so that it can be set without memory. What any
-    /// transaction has stays, and so does each other place. If memory runs out, the only error, no place is made.
+    /// Makes a place for the transaction and the key, if there is none, so that it can be set
+    /// without memory. What any transaction has stays, and so does each other place. If memory runs
+    /// out, the only error, no place is made.
     pub fn reserve(&mut self, txn: TxnNo, key: &Key) -> Result<(), NoMemory>
         ensures contents { (u : ℕ) → (q : List ℕ) → content self.new u q ≡ content self.old u q }
-        ensures ok { OnOk result ((u : ℕ) → (q : List ℕ) → has_place self.new u q ≡ with_place (has_place self.old) txn key.now u q) }
-        ensures err { OnErr result ((u : ℕ) → (q : List ℕ) → has_place self.new u q ≡ has_place self.old u q) }
+        ensures ok { OnOk result ((u : ℕ) → (q : List ℕ) →
+            has_place self.new u q ≡ with_place (has_place self.old) txn key.now u q) }
+        ensures err { OnErr result ((u : ℕ) → (q : List ℕ) →
+            has_place self.new u q ≡ has_place self.old u q) }
         ensures succeeds { IsTrue (has_place self.old txn key.now) → IsOk result }
     {
         make_place(&mut self.places, &mut self.keys, txn, key)
     }
 
-    /// Makes a place for the parent at each key where the child has one, so that what the child has can be handed up
-    /// without memory. What any transaction has stays, and so does each other place. If memory runs out, the only error,
-    /// the parent has places at some of these keys.
+    /// Makes a place for the parent at each key where the child has one, so that what the child has
+    /// can be handed up without memory. What any transaction has stays, and so does each other
+    /// place. If memory runs out, the only error, the parent has places at some of these keys.
     pub fn reserve_for_parent(&mut self, child: TxnNo, parent: TxnNo) -> Result<(), NoMemory>
         ensures contents { (u : ℕ) → (q : List ℕ) → content self.new u q ≡ content self.old u q }
-        ensures ok { OnOk result ((u : ℕ) → (q : List ℕ) → has_place self.new u q ≡ with_childs (has_place self.old) child parent u q) }
-        ensures err { OnErr result (IsTowards (has_place self.old) (has_place self.new) child parent) }
-        ensures succeeds { ((q : List ℕ) → IsTrue (has_place self.old child q) → IsTrue (has_place self.old parent q)) → IsOk result }
+        ensures ok { OnOk result ((u : ℕ) → (q : List ℕ) →
+            has_place self.new u q ≡ with_childs (has_place self.old) child parent u q) }
+        ensures err { OnErr result
+            (IsTowards (has_place self.old) (has_place self.new) child parent) }
+        ensures succeeds { ((q : List ℕ) → IsTrue (has_place self.old child q) →
+            IsTrue (has_place self.old parent q)) → IsOk result }
     {
         if child == parent {
             return Ok(());
@@ -254,7 +270,8 @@ impl<V: Inherit> CellTable<V> {
     pub fn keys(&self, txn: TxnNo) -> &[Key]
         ensures each { (q : List ℕ) → has_place self.now txn q ≡ list_any (label_eq q) result.now }
         ensures once { IsDistinct label_eq result.now }
-        ensures elsewhere { (q : List ℕ) → IsFalse (has_place self.now txn q) → content self.now txn q ≡ None }
+        ensures elsewhere { (q : List ℕ) → IsFalse (has_place self.now txn q) →
+            content self.now txn q ≡ None }
     {
         self.keys.keys(txn)
     }
@@ -263,18 +280,20 @@ impl<V: Inherit> CellTable<V> {
     pub fn set(&mut self, txn: TxnNo, key: &Key, value: V)
         requires place { IsTrue (has_place self.old txn key.now) }
         ensures contents { (u : ℕ) → (q : List ℕ) →
-            content self.new u q ≡ (if nat_eq txn u && label_eq key.now q then Some value else content self.old u q) }
+            content self.new u q ≡ (if nat_eq txn u && label_eq key.now q then Some value
+            else content self.old u q) }
         ensures places { (u : ℕ) → (q : List ℕ) → has_place self.new u q ≡ has_place self.old u q }
     {
         self.places.set(txn, key, value);
     }
 
-    /// Adds this to what the transaction has at the key, as an access of its own: it has there what `join` makes of the two. It
-    /// takes no memory.
+    /// Adds this to what the transaction has at the key, as an access of its own: it has there what
+    /// `join` makes of the two. It takes no memory.
     pub fn join(&mut self, txn: TxnNo, key: &Key, added: V)
         requires place { IsTrue (has_place self.old txn key.now) }
         ensures contents { (u : ℕ) → (q : List ℕ) →
-            content self.new u q ≡ (if nat_eq txn u && label_eq key.now q then Some (V.joined added (content self.old u q)) else content self.old u q) }
+            content self.new u q ≡ (if nat_eq txn u && label_eq key.now q
+            then Some (V.joined added (content self.old u q)) else content self.old u q) }
         ensures places { (u : ℕ) → (q : List ℕ) → has_place self.new u q ≡ has_place self.old u q }
     {
         self.places.join(txn, key, added);
@@ -290,10 +309,14 @@ impl<V: Inherit> CellTable<V> {
         self.hand_up(txn, None);
     }
 
-    /// Drops the cells of the transaction and of all below it. No other is looked at, and it takes no memory.
+    /// Drops the cells of the transaction and of all below it. No other is looked at, and it takes
+    /// no memory.
     pub fn drop_under(&mut self, tree: &Tree, txn: TxnNo)
-        ensures contents { (u : ℕ) → (q : List ℕ) → content self.new u q ≡ (if is_under tree.now txn u then None else content self.old u q) }
-        ensures places { (u : ℕ) → (q : List ℕ) → has_place self.new u q ≡ (not (is_under tree.now txn u) && has_place self.old u q) }
+        ensures contents { (u : ℕ) → (q : List ℕ) →
+            content self.new u q ≡ (if is_under tree.now txn u then None
+            else content self.old u q) }
+        ensures places { (u : ℕ) → (q : List ℕ) →
+            has_place self.new u q ≡ (not (is_under tree.now txn u) && has_place self.old u q) }
     {
         if tree.name_of(txn).is_none() {
             return;
@@ -306,12 +329,16 @@ impl<V: Inherit> CellTable<V> {
         }
     }
 
-    /// Hands up what a committed child has: it has nothing any more, and its parent has at each key what `inherit` makes
-    /// of the two. Where the parent is the root, which has no number, it is gone. It takes no memory.
+    /// Hands up what a committed child has: it has nothing any more, and its parent has at each key
+    /// what `inherit` makes of the two. Where the parent is the root, which has no number, it is
+    /// gone. It takes no memory.
     pub fn hand_up(&mut self, child: TxnNo, parent: Option<TxnNo>)
-        requires places { IfSome parent (λ p. (q : List ℕ) → IsTrue (has_place self.old child q) → IsTrue (has_place self.old p q)) }
-        ensures contents { (u : ℕ) → (q : List ℕ) → content self.new u q ≡ handed_up V.inherited (content self.old) child parent u q }
-        ensures places { (u : ℕ) → (q : List ℕ) → has_place self.new u q ≡ (not (nat_eq child u) && has_place self.old u q) }
+        requires places { IfSome parent (λ p. (q : List ℕ) → IsTrue (has_place self.old child q) →
+            IsTrue (has_place self.old p q)) }
+        ensures contents { (u : ℕ) → (q : List ℕ) →
+            content self.new u q ≡ handed_up V.inherited (content self.old) child parent u q }
+        ensures places { (u : ℕ) → (q : List ℕ) →
+            has_place self.new u q ≡ (not (nat_eq child u) && has_place self.old u q) }
     {
         let keys = self.keys.take(child);
         let heir = heir(child, parent);

@@ -9,14 +9,16 @@ use indexmap::IndexMap;
 use serial_spec::{Answer, By, Entry, MOST_SESSIONS, NoMemory};
 use std::alloc::Global;
 
-/// For each session and line with an entry: the place of that entry, where it is one alone, a `waits`. Else the line is closed,
-/// and stays so whatever entries follow.
+/// For each session and line with an entry: the place of that entry, where it is one alone, a
+/// `waits`. Else the line is closed, and stays so whatever entries follow.
 #[derive(Drop)]
 pub(crate) struct LineStates {
-    // For each of the first `MOST_SESSIONS` sessions: its lines from 1 to this one are closed. Since most lines are closed one
-    // after the other, most states are told and kept without a look-up.
+    // For each of the first `MOST_SESSIONS` sessions: its lines from 1 to this one are closed.
+    // Since most lines are closed one after the other, most states are told and kept without a
+    // look-up.
     closed: [u32; MOST_SESSIONS],
-    // For each of these sessions: the last line of it that `others` has, or 0. So a new line is told without a look-up too.
+    // For each of these sessions: the last line of it that `others` has, or 0. So a new line is
+    // told without a look-up too.
     last: [u32; MOST_SESSIONS],
     // The states of all other lines. What it has of a line that was closed since is not asked.
     others: IndexMap<(u32, u32), Option<usize>>,
@@ -31,7 +33,8 @@ fn is_closed(closed: &[u32; MOST_SESSIONS], session: u32, line: u32) -> bool
     at < MOST_SESSIONS && 0 < line && line <= closed[at]
 }
 
-// Closes the line by its entry, if that does not wait and all lines of the session before it are closed. Whether it did so.
+// Closes the line by its entry, if that does not wait and all lines of the session before it are
+// closed. Whether it did so.
 #[inline(always)]
 fn close_next(closed: &mut [u32; MOST_SESSIONS], session: u32, line: u32, entry: &Entry) -> bool
     ensures closed { (p : Place) → has_closed closed.new p
@@ -71,7 +74,8 @@ fn raise(last: &mut [u32; MOST_SESSIONS], session: u32, line: u32) -> bool
     true
 }
 
-// Keeps the state of a line after the entry at this place. A line that is new has none, and is not looked up.
+// Keeps the state of a line after the entry at this place. A line that is new has none, and is not
+// looked up.
 fn put(
     others: &mut IndexMap<(u32, u32), Option<usize>>,
     line: (u32, u32),

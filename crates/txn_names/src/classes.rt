@@ -2,7 +2,8 @@
 ghost use Rattle.std.specs.Prelude.{◌≡◌};
 ghost use Rattle.txn_names.specs.Text.{is_key_byte, is_label_byte};
 
-// The class of each byte: `l` of one that may stand in a label, and so in a key; `k` of one that may stand in a key alone.
+// The class of each byte: `l` of one that may stand in a label, and so in a key; `k` of one that
+// may stand in a key alone.
 static CLASSES: [u8; 256] = *b"\
     ,,,,,,,,,,,,,,,,,,,,,,,,,,,,,,,,\
     ,,,,,,,,,,,,,kk,llllllllll,,,,,,\

@@ -43,7 +43,8 @@ fn is_behind(front: &[u8], bytes: &[u8]) -> bool
 }
 
 impl Group {
-    /// Reads a group. Of several faults the first of Empty, BadByte and Long is answered: a group has 31 bytes at most.
+    /// Reads a group. Of several faults the first of Empty, BadByte and Long is answered: a group
+    /// has 31 bytes at most.
     pub fn parse(bytes: &[u8]) -> Result<Group, KeyFault>
         ensures { result ≡ group_of bytes.now }
     {
@@ -70,7 +71,8 @@ impl Group {
         }
     }
 
-    /// The first key of the group in byte order: its bytes and the dot. From there on the group's keys stand together.
+    /// The first key of the group in byte order: its bytes and the dot. From there on the group's
+    /// keys stand together.
     pub fn first_key(&self) -> Key
         ensures { result ≡ self.now ++ 46 ∷ [] }
     {
@@ -80,7 +82,8 @@ impl Group {
         Key::of(&first[..bytes.len() + 1])
     }
 
-    /// The key of the same bytes, by which a table by key can hold what is kept of a group. It is none of the group's keys.
+    /// The key of the same bytes, by which a table by key can hold what is kept of a group. It is
+    /// none of the group's keys.
     pub fn as_key(&self) -> Key
         ensures value { result ≡ self.now }
         ensures group { IsGroup self.now }

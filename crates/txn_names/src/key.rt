@@ -13,7 +13,8 @@ use txn_bytes::Held;
 /// The most bytes of a key.
 const MOST_BYTES: usize = 32;
 
-/// The name of a value: 1 to 32 bytes of a-z, 0-9, `.`, `_` and `-`. Keys are ordered as their bytes are.
+/// The name of a value: 1 to 32 bytes of a-z, 0-9, `.`, `_` and `-`. Keys are ordered as their
+/// bytes are.
 #[derive(Clone, Copy, Debug, PartialEq, Eq, PartialOrd, Ord, Hash)]
 pub struct Key {
     text: Held<32>,
@@ -105,8 +106,9 @@ impl Key {
         }
     }
 
-    /// The group of the bytes before this place, counted from 0, if there are some and a dot stands there: the key is one of
-    /// its keys. Each group of the key stands before one place, which is below 32: all are found by asking for each.
+    /// The group of the bytes before this place, counted from 0, if there are some and a dot stands
+    /// there: the key is one of its keys. Each group of the key stands before one place, which is
+    /// below 32: all are found by asking for each.
     pub fn group_before(&self, place: usize) -> Option<Group>
         ensures some { IfSome result (IsGroupBefore self.now place) }
         ensures all { (g : List ℕ) → IsGroupBefore self.now place g → result ≡ Some g }

@@ -26,9 +26,12 @@ pub record IsChildrenOf (tree : States) (p : Path) (c : Children) : Type 0 where
 
 pub record IsLinked (tree : States) (nodes : List Node) (tops : Children) : Type 0 where
   pub level : length nodes ≡ length tree
-  pub parents : (n : ℕ) (t : Path) (x : Node) → slice_get (names tree) n ≡ Some t → slice_get nodes n ≡ Some x → IsParentAt (names tree) n t x.parent
-  pub next : (n : ℕ) (t : Path) (x : Node) → slice_get (names tree) n ≡ Some t → slice_get nodes n ≡ Some x → IsNext (is_child_in (names tree) (parent t)) n x.next
-  pub children : (n : ℕ) (t : Path) (x : Node) → slice_get (names tree) n ≡ Some t → slice_get nodes n ≡ Some x → IsChildrenOf tree t x.children
+  pub parents : (n : ℕ) (t : Path) (x : Node) → slice_get (names tree) n ≡ Some t
+      → slice_get nodes n ≡ Some x → IsParentAt (names tree) n t x.parent
+  pub next : (n : ℕ) (t : Path) (x : Node) → slice_get (names tree) n ≡ Some t
+      → slice_get nodes n ≡ Some x → IsNext (is_child_in (names tree) (parent t)) n x.next
+  pub children : (n : ℕ) (t : Path) (x : Node) → slice_get (names tree) n ≡ Some t
+      → slice_get nodes n ≡ Some x → IsChildrenOf tree t x.children
   pub top_level : IsChildrenOf tree [] tops
 
 -- whether m is this number, if there is one

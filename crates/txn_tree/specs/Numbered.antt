@@ -75,4 +75,5 @@ IsUpward tree = (t : Path) → IsTrue (is_active_in tree t) → IsTrue (is_activ
 
 -- of two that are a transaction or above it, the deeper one has the greater number
 abbrev pub RisesDown : States → ℕ → Type 0
-RisesDown tree u = (a b : ℕ) → IsTrue (is_under tree a u) → IsTrue (is_under tree b u) → (a ≤ b) ↔ IsTrue (is_under tree a b)
+RisesDown tree u = (a b : ℕ) → IsTrue (is_under tree a u) → IsTrue (is_under tree b u)
+    → (a ≤ b) ↔ IsTrue (is_under tree a b)

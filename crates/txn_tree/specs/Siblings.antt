@@ -1,5 +1,6 @@
--- Children and siblings by their numbers: functions of `names` alone. Who goes over the children of t from the first one,
--- each time to the next sibling, has been at every child with a smaller number than the one that he is at.
+-- Children and siblings by their numbers: functions of `names` alone. Who goes over the children of
+-- t from the first one, each time to the next sibling, has been at every child with a smaller
+-- number than the one that he is at.
 use Rattle.std.specs.Prelude.{◌≡◌, ◌<◌, ◌≤◌, ℕ, Bool, false, IsTrue, IsFalse, [], slice_get, Option, Some, None}
 use Rattle.txn_names.specs.Path.{Path, parent}
 use Rattle.txn_tree.specs.States.{States, names}
@@ -35,7 +36,8 @@ IsLast passes (Some c) = IsTrue (passes c) × ((m : ℕ) → c < m → IsFalse (
 -- the least number past n that passes, if there is one
 abbrev pub IsNext : (ℕ → Bool) → ℕ → Option ℕ → Type 0
 IsNext passes n None = (m : ℕ) → n < m → IsFalse (passes m)
-IsNext passes n (Some c) = (n < c) × IsTrue (passes c) × ((m : ℕ) → n < m → m < c → IsFalse (passes m))
+IsNext passes n (Some c) = (n < c) × IsTrue (passes c)
+    × ((m : ℕ) → n < m → m < c → IsFalse (passes m))
 
 -- whoever is below t, t itself left aside, is one child of t or below it, and below no other child
 abbrev pub HasBranches : States → ℕ → Type 0

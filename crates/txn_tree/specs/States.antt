@@ -15,7 +15,8 @@ States = List (Path × Status)
 abbrev pub names : States → List Path
 names tree = keys_of tree
 
--- the state by a transaction's own begin, commit and abort alone. The root, the empty path, is live for ever
+-- the state by a transaction's own begin, commit and abort alone. The root, the empty path, is live
+-- for ever
 abbrev pub status_in : States → Path → Status
 status_in tree [] = Live
 status_in tree (l ∷ ls) = unwrap_or (lookup (path_eq (l ∷ ls)) tree) Absent

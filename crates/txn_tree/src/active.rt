@@ -9,8 +9,8 @@ use crate::tree::Tree;
 use txn_names::Name;
 
 impl Tree {
-    /// Whether the transaction with this number is live and no orphan. It goes from parent to parent by their numbers, since the
-    /// parent of whoever is live and no orphan is so too.
+    /// Whether the transaction with this number is live and no orphan. It goes from parent to
+    /// parent by their numbers, since the parent of whoever is live and no orphan is so too.
     pub fn is_active_at(&self, txn: TxnNo) -> bool
         ensures { result ≡ is_active_at self.now txn }
     {

@@ -1,5 +1,5 @@
-//! The states of transactions: who has begun, in order of beginning, and what became of each by its own
-//! begin, commit and abort.
+//! The states of transactions: who has begun, in order of beginning, and what became of each by its
+//! own begin, commit and abort.
 #![tactic(auto)]
 
 mod active;

@@ -3,7 +3,8 @@ ghost use Rattle.std.specs.Prelude.{◌≡◌};
 
 use std::marker::Model;
 
-/// The place of a transaction in the order of beginning, from 0: the later begun has the greater number.
+/// The place of a transaction in the order of beginning, from 0: the later begun has the greater
+/// number.
 #[derive(Clone, Copy, Debug, Default, PartialEq, Eq, PartialOrd, Ord, Hash)]
 pub struct TxnNo {
     place: u32,

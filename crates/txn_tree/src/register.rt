@@ -166,7 +166,9 @@ impl Register {
         requires begins { cause_at_begin self.old name.now ≡ None }
         requires name { IsName name.now }
         ensures last { OnOk result (self.new ≡ self.old ++ (name.now, Status.Live) ∷ []) }
-        ensures live { OnOk result ((u : Path) → status_in self.new u ≡ (if path_eq name.now u then Status.Live else status_in self.old u)) }
+        ensures live { OnOk result ((u : Path) →
+            status_in self.new u ≡ (if path_eq name.now u then Status.Live
+            else status_in self.old u)) }
         ensures err { OnErr result (self.new ≡ self.old) }
     {
         match self.states.insert(*name, Status::Live) {

@@ -22,10 +22,11 @@ use std::alloc::Global;
 use std::marker::Model;
 use txn_names::Name;
 
-/// The transactions that have begun, in order of beginning, each with its own state. All stand below a root,
-/// which has no name, is live for ever, and is the parent of the names of one label.
+/// The transactions that have begun, in order of beginning, each with its own state. All stand
+/// below a root, which has no name, is live for ever, and is the parent of the names of one label.
 ///
-/// An orphan is a transaction with an aborted ancestor, itself included. Its own state may still be live.
+/// An orphan is a transaction with an aborted ancestor, itself included. Its own state may still be
+/// live.
 #[derive(Drop)]
 pub struct Tree {
     register: Register,
@@ -44,7 +45,8 @@ impl Model for Tree {
 
     ghost view = { λ t. t.register };
 
-    ghost invariant = { λ t. IsTree t.register × IsLinked t.register t.nodes.items t.tops × IsUpward t.register };
+    ghost invariant = { λ t. IsTree t.register × IsLinked t.register t.nodes.items t.tops
+        × IsUpward t.register };
 }
 
 impl Tree {
@@ -74,8 +76,8 @@ impl Tree {
         self.register.is_empty()
     }
 
-    /// Those that have begun have names, each its own, and are at most `MOST_TRANSACTIONS`. The call does nothing: it tells
-    /// the prover so.
+    /// Those that have begun have names, each its own, and are at most `MOST_TRANSACTIONS`. The
+    /// call does nothing: it tells the prover so.
     pub fn has_distinct_names(&self)
         ensures { IsTree self.now }
     {
@@ -126,19 +128,21 @@ impl Tree {
         }
     }
 
-    /// The number of the transaction's parent. It is `None` exactly if the number is unassigned or the transaction
-    /// is top-level.
+    /// The number of the transaction's parent. It is `None` exactly if the number is unassigned or
+    /// the transaction is top-level.
     pub fn parent_of(&self, txn: TxnNo) -> Option<TxnNo>
         ensures some { is_some result ≡ has_parent (slice_get (names self.now) txn) }
-        ensures named { IfSome result (λ p. IsTrue (is_parent_of (slice_get (names self.now) p) (slice_get (names self.now) txn))) }
+        ensures named { IfSome result
+            (λ p. IsTrue
+            (is_parent_of (slice_get (names self.now) p) (slice_get (names self.now) txn))) }
         ensures earlier { IfSome result (λ p. p < txn) }
         ensures closed { IsClosed self.now }
     {
         parent_in(&self.nodes, txn)
     }
 
-    /// The number of the transaction's child that began first. It is `None` exactly if the number is unassigned or
-    /// the transaction has no child.
+    /// The number of the transaction's child that began first. It is `None` exactly if the number
+    /// is unassigned or the transaction has no child.
     pub fn first_child(&self, txn: TxnNo) -> Option<TxnNo>
         ensures first { IsFirst (is_child_at self.now txn) result }
         ensures later { IfSome result (λ c. txn < c) }
@@ -147,15 +151,16 @@ impl Tree {
         children_at(&self.nodes, txn).first
     }
 
-    /// The number of the next begun child of the same parent, or of the next top-level transaction. It is `None`
-    /// exactly if the number is unassigned or none of the siblings began later.
+    /// The number of the next begun child of the same parent, or of the next top-level transaction.
+    /// It is `None` exactly if the number is unassigned or none of the siblings began later.
     pub fn next_sibling(&self, txn: TxnNo) -> Option<TxnNo>
         ensures { IsNext (is_sibling_at self.now txn) txn result }
     {
         next_in(&self.nodes, txn)
     }
 
-    /// The number of the top-level transaction that began first. It is `None` exactly if nobody has begun.
+    /// The number of the top-level transaction that began first. It is `None` exactly if nobody has
+    /// begun.
     pub fn first_top(&self) -> Option<TxnNo>
         ensures first { IsFirst (is_top_at self.now) result }
         ensures begun { IsTrue (is_some result) ↔ (self.now ≢ []) }
@@ -186,7 +191,8 @@ impl Tree {
         self.tops.live
     }
 
-    // The number of the parent, or none if that is the root. The error is why it can have no more children.
+    // The number of the parent, or none if that is the root. The error is why it can have no more
+    // children.
     fn number_of_parent(&self, name: &Name) -> Result<Option<TxnNo>, Refusal>
         ensures refused { result_err result ≡ cause_at_parent self.now (parent name.now) }
         ensures number { IfOk result (IsParentAt (names self.now) (length self.now) name.now) }
@@ -229,15 +235,18 @@ impl Tree {
         }
     }
 
-    /// Begins the transaction and gives its number. A begin is refused by the first cause that holds: Used (the
-    /// name began before), NoParent (the parent never began), Orphan (the parent is one; with the topmost
-    /// aborted one), NoParent (the parent has committed), Full (`MOST_TRANSACTIONS` have begun). With no such
-    /// cause it may still fail because memory runs out.
+    /// Begins the transaction and gives its number. A begin is refused by the first cause that
+    /// holds: Used (the name began before), NoParent (the parent never began), Orphan (the parent
+    /// is one; with the topmost aborted one), NoParent (the parent has committed), Full
+    /// (`MOST_TRANSACTIONS` have begun). With no such cause it may still fail because memory runs
+    /// out.
     pub fn begin(&mut self, name: &Name) -> Result<TxnNo, TreeFault>
         ensures refused { refusal_of result ≡ cause_at_begin self.old name.now }
         ensures number { IfOk result (λ no. no ≡ length self.old) }
         ensures last { OnOk result (self.new ≡ self.old ++ (name.now, Status.Live) ∷ []) }
-        ensures live { OnOk result ((u : Path) → status_in self.new u ≡ (if path_eq name.now u then Status.Live else status_in self.old u)) }
+        ensures live { OnOk result ((u : Path) →
+            status_in self.new u ≡ (if path_eq name.now u then Status.Live
+            else status_in self.old u)) }
         ensures err { OnErr result (self.new ≡ self.old) }
     {
         let parent = match self.parent_to_begin(name) {
@@ -280,7 +289,8 @@ impl Tree {
         end_child(&mut self.nodes, &mut self.tops, parent);
     }
 
-    // Whether the transaction with this number is live by its own state. Below one that is not, nobody is active.
+    // Whether the transaction with this number is live by its own state. Below one that is not,
+    // nobody is active.
     pub(crate) fn is_live_at(&self, txn: TxnNo) -> bool
         ensures live { result ≡ is_live (status_at self.now txn) }
         ensures upward { IsUpward self.now }
@@ -288,8 +298,8 @@ impl Tree {
         self.register.status_at(txn) == Status::Live
     }
 
-    // How many transactions an abort of this one, whose parent is no orphan, would end. Below one that is not
-    // live there are none.
+    // How many transactions an abort of this one, whose parent is no orphan, would end. Below one
+    // that is not live there are none.
     fn ended_at(&self, txn: TxnNo) -> u32
         requires upright { is_below_orphan self.now txn ≡ false }
         ensures { result ≡ ended_at self.now txn }
@@ -306,26 +316,32 @@ impl Tree {
         ended
     }
 
-    /// Commits the transaction with this number, which the caller knows to be live, no orphan and without a live
-    /// child. Its own state is Committed. It takes no memory.
+    /// Commits the transaction with this number, which the caller knows to be live, no orphan and
+    /// without a live child. Its own state is Committed. It takes no memory.
     pub fn commit_at(&mut self, txn: TxnNo)
         requires active { is_active_at self.old txn ≡ true }
         requires children { live_children_at self.old txn ≡ 0 }
         ensures committed { (t : Path) → slice_get (names self.old) txn ≡ Some t
-            → (u : Path) → status_in self.new u ≡ (if path_eq t u then Status.Committed else status_in self.old u) }
+            → (u : Path) →
+            status_in self.new u ≡ (if path_eq t u then Status.Committed
+            else status_in self.old u) }
         ensures names { names self.new ≡ names self.old }
     {
         self.end(txn, Status::Committed);
     }
 
-    /// Aborts the transaction with this number, which the caller knows to be live and no orphan. Its own state is
-    /// Aborted, and those of its inferiors stay. It gives the number of transactions, itself and inferiors, that
-    /// were live and no orphans before. It takes no memory.
+    /// Aborts the transaction with this number, which the caller knows to be live and no orphan.
+    /// Its own state is Aborted, and those of its inferiors stay. It gives the number of
+    /// transactions, itself and inferiors, that were live and no orphans before. It takes no
+    /// memory.
     pub fn abort_at(&mut self, txn: TxnNo) -> u32
         requires active { is_active_at self.old txn ≡ true }
-        ensures ended { (t : Path) → slice_get (names self.old) txn ≡ Some t → result ≡ ended_by_abort self.old t }
+        ensures ended { (t : Path) → slice_get (names self.old) txn ≡ Some t →
+            result ≡ ended_by_abort self.old t }
         ensures aborted { (t : Path) → slice_get (names self.old) txn ≡ Some t
-            → (u : Path) → status_in self.new u ≡ (if path_eq t u then Status.Aborted else status_in self.old u) }
+            → (u : Path) →
+            status_in self.new u ≡ (if path_eq t u then Status.Aborted
+            else status_in self.old u) }
         ensures names { names self.new ≡ names self.old }
     {
         let ended = self.ended_at(txn);
@@ -333,12 +349,14 @@ impl Tree {
         ended
     }
 
-    /// Commits the transaction: its own state is Committed. It takes no memory. A commit is refused by the first
-    /// cause that holds: Unknown (it never began), Orphan (it is one; with the topmost aborted one), Done (it
-    /// has committed), Children (a child is live).
+    /// Commits the transaction: its own state is Committed. It takes no memory. A commit is refused
+    /// by the first cause that holds: Unknown (it never began), Orphan (it is one; with the topmost
+    /// aborted one), Done (it has committed), Children (a child is live).
     pub fn commit(&mut self, name: &Name) -> Result<(), Refusal>
         ensures refused { result_err result ≡ cause_at_commit self.old name.now }
-        ensures committed { OnOk result ((u : Path) → status_in self.new u ≡ (if path_eq name.now u then Status.Committed else status_in self.old u)) }
+        ensures committed { OnOk result ((u : Path) →
+            status_in self.new u ≡ (if path_eq name.now u then Status.Committed
+            else status_in self.old u)) }
         ensures names { OnOk result (names self.new ≡ names self.old) }
         ensures err { OnErr result (self.new ≡ self.old) }
     {
@@ -350,14 +368,16 @@ impl Tree {
         Ok(())
     }
 
-    /// Aborts the transaction: its own state is Aborted, and those of its inferiors stay. It gives the number of
-    /// transactions, itself and inferiors, that were live and no orphans before. It takes no memory. An abort is
-    /// refused by the first cause that holds: Unknown (it never began), Orphan (it is one; with the topmost
-    /// aborted one), Done (it has committed).
+    /// Aborts the transaction: its own state is Aborted, and those of its inferiors stay. It gives
+    /// the number of transactions, itself and inferiors, that were live and no orphans before. It
+    /// takes no memory. An abort is refused by the first cause that holds: Unknown (it never
+    /// began), Orphan (it is one; with the topmost aborted one), Done (it has committed).
     pub fn abort(&mut self, name: &Name) -> Result<u32, Refusal>
         ensures refused { result_err result ≡ cause_at_abort self.old name.now }
         ensures ended { IfOk result (λ n. n ≡ ended_by_abort self.old name.now) }
-        ensures aborted { OnOk result ((u : Path) → status_in self.new u ≡ (if path_eq name.now u then Status.Aborted else status_in self.old u)) }
+        ensures aborted { OnOk result ((u : Path) →
+            status_in self.new u ≡ (if path_eq name.now u then Status.Aborted
+            else status_in self.old u)) }
         ensures names { OnOk result (names self.new ≡ names self.old) }
         ensures err { OnErr result (self.new ≡ self.old) }
     {

@@ -18,8 +18,9 @@ use txn_cells::CellTable;
 use txn_names::{Change, Group, Key};
 use txn_tree::{Tree, TxnNo};
 
-/// What each live transaction, by its number, left at each key, over a base: the table that the committed top-level
-/// transactions left. Room is made by a place for a transaction and a key; nothing is left by a place alone.
+/// What each live transaction, by its number, left at each key, over a base: the table that the
+/// committed top-level transactions left. Room is made by a place for a transaction and a key;
+/// nothing is left by a place alone.
 #[derive(Drop)]
 pub struct Versions {
     written: CellTable<Version>,
@@ -49,7 +50,9 @@ fn put_left(base: &mut PlainTable, key: &Key, left: Version)
 // Puts what the transaction left at these keys into the base.
 fn put_at(base: &mut PlainTable, written: &CellTable<Version>, txn: TxnNo, keys: &[Key])
     requires { length keys.now ≤ base.old.room }
-    ensures put { (q : List ℕ) → value_in base.new.rows q ≡ with_keys (left_at written.now txn) keys.now (value_in base.old.rows) q }
+    ensures put { (q : List ℕ) →
+        value_in base.new.rows q ≡
+        with_keys (left_at written.now txn) keys.now (value_in base.old.rows) q }
     ensures rising { IsRising base.old.rows × IsRising base.new.rows }
 {
     base.has_rising_rows();
@@ -70,7 +73,8 @@ fn amount(value: Option<i64>) -> i128
     i128::from(value.unwrap_or(0))
 }
 
-// By how much what was left at the key changes the sum over the group, where this is the value without it.
+// By how much what was left at the key changes the sum over the group, where this is the value
+// without it.
 fn change_at(key: &Key, group: &Group, left: Option<Version>, before: Option<i64>) -> i128
     ensures change { result ≡ change_of group.now key.now (option_map (λ w. w.value) left) before }
     ensures key { IsKey key.now }
@@ -126,8 +130,8 @@ impl Versions {
         }
     }
 
-    /// The value that the transaction sees at the key: what the deepest of itself and its ancestors left, else the
-    /// base's. One that has not begun sees the base's.
+    /// The value that the transaction sees at the key: what the deepest of itself and its ancestors
+    /// left, else the base's. One that has not begun sees the base's.
     pub fn value_for(&self, tree: &Tree, txn: TxnNo, key: &Key) -> Option<i64>
         ensures { result ≡ seen_in tree.now self.now txn key.now }
     {
@@ -162,9 +166,12 @@ impl Versions {
         }
     }
 
-    // By how much what the transaction left changes the sum over the group, over what another, its parent, sees.
+    // By how much what the transaction left changes the sum over the group, over what another, its
+    // parent, sees.
     fn own_part(&self, tree: &Tree, above: &Option<TxnNo>, txn: TxnNo, group: &Group) -> i128
-        ensures part { sum_in (with_own self.now txn (seen_at tree.now self.now above.now)) group.now ≡ sum_in (seen_at tree.now self.now above.now) group.now +ℤ result }
+        ensures part { sum_in
+            (with_own self.now txn (seen_at tree.now self.now above.now)) group.now ≡
+            sum_in (seen_at tree.now self.now above.now) group.now +ℤ result }
         ensures least { neg_ℤ (pos (2 ^ 122)) ≤ℤ result }
         ensures most { result ≤ℤ pos (2 ^ 122) }
     {
@@ -193,42 +200,49 @@ impl Versions {
         sum
     }
 
-    /// The sum over the group of the values that the transaction sees, an absent one counted as 0, or none where the sum is not
-    /// an i64. It goes through the group's rows and through what the transaction and its ancestors left, and takes no memory.
+    /// The sum over the group of the values that the transaction sees, an absent one counted as 0,
+    /// or none where the sum is not an i64. It goes through the group's rows and through what the
+    /// transaction and its ancestors left, and takes no memory.
     pub fn sum_for(&self, tree: &Tree, txn: TxnNo, group: &Group) -> Option<i64>
         ensures { result ≡ as_i64 (sum_in (seen_in tree.now self.now txn) group.now) }
     {
         i64::try_from(self.sum_seen(tree, txn, group)).ok()
     }
 
-    /// Makes a place for the transaction and the key, if there is none, so that a value can be put there without memory.
-    /// Nothing that was left changes, and each other place stays. If memory runs out, the only error, no place is made.
+    /// Makes a place for the transaction and the key, if there is none, so that a value can be put
+    /// there without memory. Nothing that was left changes, and each other place stays. If memory
+    /// runs out, the only error, no place is made.
     pub fn reserve(&mut self, txn: TxnNo, key: &Key) -> Result<(), NoMemory>
         ensures left { (u : ℕ) → (q : List ℕ) → left_in self.new u q ≡ left_in self.old u q }
         ensures base { self.new.base ≡ self.old.base }
-        ensures ok { OnOk result ((u : ℕ) → (q : List ℕ) → has_place self.new u q ≡ with_place (has_place self.old) txn key.now u q) }
-        ensures err { OnErr result ((u : ℕ) → (q : List ℕ) → has_place self.new u q ≡ has_place self.old u q) }
+        ensures ok { OnOk result ((u : ℕ) → (q : List ℕ) →
+            has_place self.new u q ≡ with_place (has_place self.old) txn key.now u q) }
+        ensures err { OnErr result ((u : ℕ) → (q : List ℕ) →
+            has_place self.new u q ≡ has_place self.old u q) }
         ensures succeeds { IsTrue (has_place self.old txn key.now) → IsOk result }
     {
         self.written.reserve(txn, key)
     }
 
-    /// Makes a place for the parent at each key where the child has one, so that what the child left can be handed up
-    /// without memory. Nothing that was left changes, and each other place stays. If memory runs out, the only error, the
-    /// parent has places at some of these keys.
+    /// Makes a place for the parent at each key where the child has one, so that what the child
+    /// left can be handed up without memory. Nothing that was left changes, and each other place
+    /// stays. If memory runs out, the only error, the parent has places at some of these keys.
     pub fn reserve_for_parent(&mut self, child: TxnNo, parent: TxnNo) -> Result<(), NoMemory>
         ensures left { (u : ℕ) → (q : List ℕ) → left_in self.new u q ≡ left_in self.old u q }
         ensures base { self.new.base ≡ self.old.base }
-        ensures ok { OnOk result ((u : ℕ) → (q : List ℕ) → has_place self.new u q ≡ with_childs (has_place self.old) child parent u q) }
-        ensures err { OnErr result (IsTowards (has_place self.old) (has_place self.new) child parent) }
-        ensures succeeds { ((q : List ℕ) → IsTrue (has_place self.old child q) → IsTrue (has_place self.old parent q)) → IsOk result }
+        ensures ok { OnOk result ((u : ℕ) → (q : List ℕ) →
+            has_place self.new u q ≡ with_childs (has_place self.old) child parent u q) }
+        ensures err { OnErr result
+            (IsTowards (has_place self.old) (has_place self.new) child parent) }
+        ensures succeeds { ((q : List ℕ) → IsTrue (has_place self.old child q) →
+            IsTrue (has_place self.old parent q)) → IsOk result }
     {
         self.written.reserve_for_parent(child, parent)
     }
 
-    /// Makes room in the base for each key at which the child has a place, so that what it left can go there without
-    /// memory. Nothing that was left changes, each place stays, and the base has the same rows. The only error is that
-    /// memory runs out.
+    /// Makes room in the base for each key at which the child has a place, so that what it left can
+    /// go there without memory. Nothing that was left changes, each place stays, and the base has
+    /// the same rows. The only error is that memory runs out.
     pub fn reserve_for_base(&mut self, child: TxnNo) -> Result<(), NoMemory>
         ensures ok { OnOk result (FitsBase self.new child) }
         ensures left { (u : ℕ) → (q : List ℕ) → left_in self.new u q ≡ left_in self.old u q }
@@ -240,8 +254,9 @@ impl Versions {
         self.base.reserve(keys)
     }
 
-    /// Makes room in the base for so many changes, so that they can be made without memory. Nothing that was left changes, each
-    /// place stays, and the base has the same rows. The only error is that memory runs out.
+    /// Makes room in the base for so many changes, so that they can be made without memory. Nothing
+    /// that was left changes, each place stays, and the base has the same rows. The only error is
+    /// that memory runs out.
     pub fn reserve_changes(&mut self, changes: usize) -> Result<(), NoMemory>
         ensures ok { OnOk result (changes ≤ self.new.base.room) }
         ensures written { self.new.written ≡ self.old.written }
@@ -254,22 +269,28 @@ impl Versions {
     /// The transaction leaves this value at the key, or leaves it absent. It takes no memory.
     pub fn put(&mut self, txn: TxnNo, key: &Key, value: Option<i64>)
         requires place { IsTrue (has_place self.old txn key.now) }
-        ensures left { (u : ℕ) → (q : List ℕ) → left_in self.new u q ≡ put_by self.old txn key.now value u q }
+        ensures left { (u : ℕ) → (q : List ℕ) →
+            left_in self.new u q ≡ put_by self.old txn key.now value u q }
         ensures places { (u : ℕ) → (q : List ℕ) → has_place self.new u q ≡ has_place self.old u q }
         ensures base { self.new.base ≡ self.old.base }
     {
         self.written.set(txn, key, Version { value });
     }
 
-    /// Hands up what a committed child left: it has left nothing any more, and in its parent it stands before what the
-    /// parent left. Where the parent is the root it goes into the base. It takes no memory.
+    /// Hands up what a committed child left: it has left nothing any more, and in its parent it
+    /// stands before what the parent left. Where the parent is the root it goes into the base. It
+    /// takes no memory.
     pub fn hand_up(&mut self, child: TxnNo, parent: Option<TxnNo>)
-        requires places { IfSome parent (λ p. (q : List ℕ) → IsTrue (has_place self.old child q) → IsTrue (has_place self.old p q)) }
+        requires places { IfSome parent (λ p. (q : List ℕ) → IsTrue (has_place self.old child q) →
+            IsTrue (has_place self.old p q)) }
         requires room { IfNone parent (FitsBase self.old child) }
-        ensures left { (u : ℕ) → (q : List ℕ) → left_in self.new u q ≡ handed_up self.old child parent u q }
-        ensures places { (u : ℕ) → (q : List ℕ) → has_place self.new u q ≡ (not (nat_eq child u) && has_place self.old u q) }
+        ensures left { (u : ℕ) → (q : List ℕ) →
+            left_in self.new u q ≡ handed_up self.old child parent u q }
+        ensures places { (u : ℕ) → (q : List ℕ) →
+            has_place self.new u q ≡ (not (nat_eq child u) && has_place self.old u q) }
         ensures base { (q : List ℕ) → base_in self.new q ≡ base_after self.old child parent q }
-        ensures same { ((q : List ℕ) → base_after self.old child parent q ≡ base_in self.old q) → self.new.base.rows ≡ self.old.base.rows }
+        ensures same { ((q : List ℕ) → base_after self.old child parent q ≡ base_in self.old q) →
+            self.new.base.rows ≡ self.old.base.rows }
     {
         match parent {
             Some(parent) => self.written.hand_up(child, Some(parent)),
@@ -280,8 +301,8 @@ impl Versions {
         }
     }
 
-    /// Hands up what a committed child left into the base, as `hand_up` does, by the changes that come to that: they are made in
-    /// one pass, and not key by key. It takes no memory.
+    /// Hands up what a committed child left into the base, as `hand_up` does, by the changes that
+    /// come to that: they are made in one pass, and not key by key. It takes no memory.
     pub fn hand_up_changes(&mut self, child: TxnNo, changes: &[Change])
         requires rising { AreRising changes.now }
         requires room { length changes.now ≤ self.old.base.room }
@@ -313,8 +334,11 @@ impl Versions {
 
     /// Drops what the transaction and all below it left. It takes no memory.
     pub fn drop_under(&mut self, tree: &Tree, txn: TxnNo)
-        ensures left { (u : ℕ) → (q : List ℕ) → left_in self.new u q ≡ (if is_under tree.now txn u then None else left_in self.old u q) }
-        ensures places { (u : ℕ) → (q : List ℕ) → has_place self.new u q ≡ (not (is_under tree.now txn u) && has_place self.old u q) }
+        ensures left { (u : ℕ) → (q : List ℕ) →
+            left_in self.new u q ≡ (if is_under tree.now txn u then None
+            else left_in self.old u q) }
+        ensures places { (u : ℕ) → (q : List ℕ) →
+            has_place self.new u q ≡ (not (is_under tree.now txn u) && has_place self.old u q) }
         ensures base { self.new.base ≡ self.old.base }
     {
         self.written.drop_under(tree, txn);

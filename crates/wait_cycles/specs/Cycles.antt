@@ -34,7 +34,8 @@ pub record IsGreatest (a : ℕ) (xs : List ℕ) : Type 0 where
 -- a cycle through the greatest number that lies on any
 pub record IsLastCycle (pairs : Pairs) (xs : List ℕ) : Type 0 where
   pub cycle : IsCycle pairs xs
-  pub last : (ys : List ℕ) → IsCycle pairs ys → (b : ℕ) → IsTrue (is_member b ys) → (a : ℕ) → IsGreatest a xs → b ≤ a
+  pub last : (ys : List ℕ) → IsCycle pairs ys → (b : ℕ) → IsTrue (is_member b ys) → (a : ℕ)
+      → IsGreatest a xs → b ≤ a
 
 -- it lies on a cycle, and no greater number lies on any
 pub record IsLastOn (pairs : Pairs) (a : ℕ) : Type 0 where

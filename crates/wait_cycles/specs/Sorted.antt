@@ -8,11 +8,13 @@ AreRising xs = (i j a b : ℕ) → i ≤ j → slice_get xs i ≡ Some a → sli
 
 -- no first is less than one that stands before it
 abbrev pub AreSorted : Pairs → Type 0
-AreSorted pairs = (i j : ℕ) (p q : ℕ × ℕ) → i ≤ j → slice_get pairs i ≡ Some p → slice_get pairs j ≡ Some q → p.0 ≤ q.0
+AreSorted pairs = (i j : ℕ) (p q : ℕ × ℕ) → i ≤ j → slice_get pairs i ≡ Some p
+    → slice_get pairs j ≡ Some q → p.0 ≤ q.0
 
 -- the firsts before this place are less, and from it on they are not
 abbrev pub ArePartedAt : Pairs → ℕ → ℕ → Type 0
-ArePartedAt pairs a n = (i : ℕ) (p : ℕ × ℕ) → slice_get pairs i ≡ Some p → (i < n → p.0 < a) × (n ≤ i → a ≤ p.0)
+ArePartedAt pairs a n = (i : ℕ) (p : ℕ × ℕ) → slice_get pairs i ≡ Some p → (i < n → p.0 < a)
+    × (n ≤ i → a ≤ p.0)
 
 -- one that is no greater waits for it
 abbrev pub IsAwaited : Pairs → ℕ → Type 0

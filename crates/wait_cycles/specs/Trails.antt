@@ -31,7 +31,8 @@ AreBackward trail = (i j : ℕ) (r : Reached) → slice_get trail i ≡ Some r �
 -- each once, and each comes from one that stands before it
 pub record IsFound (pairs : Pairs) (start : ℕ) (trail : List Reached) : Type 0 where
   pub distinct : IsTrue (is_distinct (nodes trail))
-  pub sound : (i : ℕ) (r : Reached) → slice_get trail i ≡ Some r → ComesFrom pairs start (nodes trail) i r
+  pub sound : (i : ℕ) (r : Reached) → slice_get trail i ≡ Some r
+      → ComesFrom pairs start (nodes trail) i r
 
 -- all that a waits for are among them
 abbrev pub Covers : Pairs → List Reached → ℕ → Type 0

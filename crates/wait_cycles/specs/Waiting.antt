@@ -5,7 +5,8 @@ use Rattle.txn_tree.specs.States.{States}
 pub use Rattle.txn_tree.specs.Numbered.{is_under}
 use Rattle.wait_cycles.specs.declared.waits.Wait.{Wait}
 
--- the waits, in the order in which they are gone through, and how many more may be added without memory
+-- the waits, in the order in which they are gone through, and how many more may be added without
+-- memory
 pub record Waiting : Type 0 where
   pub waits : List Wait
   pub room : ℕ
@@ -27,7 +28,8 @@ is_under_in tree t o = unwrap_or (option_map (λ w. is_under tree t w.txn) o) fa
 
 -- no two waits are of one transaction, so that each transaction that waits is met once
 pub record AreOnce (s : Waiting) : Type 0 where
-  pub apart : (i j : ℕ) (v w : Wait) → slice_get s.waits i ≡ Some v → slice_get s.waits j ≡ Some w → v.txn ≡ w.txn → i ≡ j
+  pub apart : (i j : ℕ) (v w : Wait) → slice_get s.waits i ≡ Some v → slice_get s.waits j ≡ Some w
+      → v.txn ≡ w.txn → i ≡ j
   pub all : (t : ℕ) (w : Wait) → wait_of s t ≡ Some w → (i : ℕ) × (slice_get s.waits i ≡ Some w)
 
 -- one waits that did not, and all others as before
@@ -38,4 +40,5 @@ pub record HasJoined (old new : Waiting) (w : Wait) : Type 0 where
 -- the wait at this place is gone, and the last stands there
 pub record IsTaken (place : ℕ) (old new : List Wait) : Type 0 where
   pub len : length new + 1 ≡ length old
-  pub from : (i : ℕ) → i < length new → slice_get new i ≡ slice_get old (if nat_eq i place then length new else i)
+  pub from : (i : ℕ) → i < length new
+      → slice_get new i ≡ slice_get old (if nat_eq i place then length new else i)

@@ -14,7 +14,8 @@ use std::alloc::Global;
 use std::marker::Model;
 use txn_tree::TxnNo;
 
-/// What a search works on: the pairs by their first, the numbers at which it starts, and those that it has reached.
+/// What a search works on: the pairs by their first, the numbers at which it starts, and those that
+/// it has reached.
 #[derive(Drop)]
 pub(crate) struct Space {
     pub(crate) sorted: Vec<(TxnNo, TxnNo)>,
@@ -50,7 +51,8 @@ fn reserve_space(space: &mut Space, pairs: usize) -> Result<(), NoMemory>
 fn cycle_to(alloc: Global, trail: &Trail, start: TxnNo, place: usize) -> Result<Cycle, NoMemory>
     requires backward { AreBackward trail.now.reached }
     requires place { slice_get (nodes trail.now.reached) place ≡ Some start }
-    ensures cycle { IfOk result (λ c. (pairs : Pairs) → IsFound pairs start trail.now.reached → IsCycle pairs c) }
+    ensures cycle { IfOk result (λ c. (pairs : Pairs) → IsFound pairs start trail.now.reached →
+        IsCycle pairs c) }
     ensures start { IfOk result (λ c. IsTrue (is_member start c)) }
 {
     let mut members = Vec::new(alloc);
@@ -130,9 +132,9 @@ fn last_start(
     None
 }
 
-// The greatest number that lies on any cycle, and then those that are reached from it, itself among them. It takes no memory.
-// The greatest member of a cycle is waited for by one that is no greater, so that only such are tried, and waits for one in turn
-// by way of nobody above it.
+// The greatest number that lies on any cycle, and then those that are reached from it, itself among
+// them. It takes no memory. The greatest member of a cycle is waited for by one that is no greater,
+// so that only such are tried, and waits for one in turn by way of nobody above it.
 fn last_on(space: &mut Space, pairs: &[(TxnNo, TxnNo)]) -> Option<TxnNo>
     requires { length pairs.now ≤ room_of space.old }
     ensures some { IfSome result (λ start. IsLastReached pairs.now start space.new.trail.reached) }
@@ -144,8 +146,9 @@ fn last_on(space: &mut Space, pairs: &[(TxnNo, TxnNo)]) -> Option<TxnNo>
     last_start(&mut space.starts, &mut space.trail, &space.sorted)
 }
 
-/// A cycle of those that wait, the first of each pair for the second: one through the last begun that lies on any, and
-/// `None` exactly if there is none. The only error is that memory runs out, and of no pairs there is none.
+/// A cycle of those that wait, the first of each pair for the second: one through the last begun
+/// that lies on any, and `None` exactly if there is none. The only error is that memory runs out,
+/// and of no pairs there is none.
 pub fn find_cycle(alloc: Global, pairs: &[(TxnNo, TxnNo)]) -> Result<Option<Cycle>, NoMemory>
     ensures some { IfOk result (λ found. IfSome found (λ c. IsLastCycle pairs.now c)) }
     ensures none { IfOk result (λ found. IfNone found ((xs : List ℕ) → IsCycle pairs.now xs → ⊥)) }
@@ -187,8 +190,8 @@ impl Work {
         }
     }
 
-    /// Makes room for lists of so many pairs. The only error is that memory runs out. Then there is no less room than
-    /// before. Where there is room for so many already it succeeds.
+    /// Makes room for lists of so many pairs. The only error is that memory runs out. Then there is
+    /// no less room than before. Where there is room for so many already it succeeds.
     pub fn reserve(&mut self, pairs: usize) -> Result<(), NoMemory>
         ensures ok { OnOk result (pairs ≤ self.new) }
         ensures kept { self.old ≤ self.new }
@@ -197,8 +200,8 @@ impl Work {
         reserve_space(&mut self.space, pairs)
     }
 
-    /// Of those that wait, the first of each pair for the second, the last begun that lies on any cycle: the greatest number, and
-    /// `None` exactly if there is no cycle. It takes no memory.
+    /// Of those that wait, the first of each pair for the second, the last begun that lies on any
+    /// cycle: the greatest number, and `None` exactly if there is no cycle. It takes no memory.
     pub fn victim(&mut self, pairs: &[(TxnNo, TxnNo)]) -> Option<TxnNo>
         requires { length pairs.now ≤ self.old }
         ensures some { IfSome result (λ txn. IsLastOn pairs.now txn) }

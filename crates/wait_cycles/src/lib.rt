@@ -1,5 +1,5 @@
-//! The accesses that wait, and cycles of waits: of pairs of transactions, the first waiting for the second, those that wait
-//! for themselves in the end.
+//! The accesses that wait, and cycles of waits: of pairs of transactions, the first waiting for the
+//! second, those that wait for themselves in the end.
 #![tactic(auto)]
 
 mod cycle;

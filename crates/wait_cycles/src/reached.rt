@@ -10,13 +10,14 @@ use txn_tree::TxnNo;
 
 // Whether it is not above the start and has not been reached yet.
 fn leads_on(trail: &Trail, start: TxnNo, other: TxnNo) -> bool
-    ensures { result ≡ (nat_le other start && not (list_any (λ r. nat_eq other r.txn) trail.now.reached)) }
+    ensures { result ≡
+        (nat_le other start && not (list_any (λ r. nat_eq other r.txn) trail.now.reached)) }
 {
     other.place() <= start.place() && !trail.has(other)
 }
 
-// Adds those up to the start that this one waits for and that have not been reached yet. There is room for one a pair that
-// leads to nobody yet.
+// Adds those up to the start that this one waits for and that have not been reached yet. There is
+// room for one a pair that leads to nobody yet.
 fn reach_from(
     trail: &mut Trail,
     sorted: &[(TxnNo, TxnNo)],
@@ -25,9 +26,11 @@ fn reach_from(
     from: Option<usize>,
 )
     requires sorted { AreSorted sorted.now }
-    requires room { open_pairs (up_to sorted.now start) trail.old.reached + length trail.old.reached ≤ trail.old.capacity }
+    requires room { open_pairs
+        (up_to sorted.now start) trail.old.reached + length trail.old.reached ≤ trail.old.capacity }
     ensures found { (first : ℕ) → IsFound (up_to sorted.now start) first trail.old.reached
-        → IsAt first (nodes trail.old.reached) (length trail.old.reached) from txn → IsFound (up_to sorted.now start) first trail.new.reached }
+        → IsAt first (nodes trail.old.reached) (length trail.old.reached) from txn →
+        IsFound (up_to sorted.now start) first trail.new.reached }
     ensures longer { IsLonger (up_to sorted.now start) trail.old.reached trail.new.reached }
     ensures covers { Covers (up_to sorted.now start) trail.new.reached txn }
     ensures capacity { trail.old.capacity ≤ trail.new.capacity }

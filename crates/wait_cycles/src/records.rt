@@ -19,8 +19,9 @@ pub(crate) struct Record {
     pub(crate) place: usize,
 }
 
-/// Waits at places, at most one of a transaction, each in a slab: its key stands at its place, and in a table at the number of
-/// its transaction. A number that is past the table is looked for among all; the table has a place for each that a tree gives.
+/// Waits at places, at most one of a transaction, each in a slab: its key stands at its place, and
+/// in a table at the number of its transaction. A number that is past the table is looked for among
+/// all; the table has a place for each that a tree gives.
 #[derive(Drop)]
 pub(crate) struct Records {
     slab: Slab<Record>,
@@ -38,13 +39,16 @@ impl Model for Records {
 
     ghost view = { λ r. record { waits = waits_under r.slab r.keys.items; room = r.room } };
 
-    ghost invariant = { λ r. AreStored r.slab r.keys.items r.table.items × HasRoom r.slab r.keys.items (vec_capacity r.keys) r.table.items r.room };
+    ghost invariant = { λ r. AreStored r.slab r.keys.items r.table.items
+        × HasRoom r.slab r.keys.items (vec_capacity r.keys) r.table.items r.room };
 }
 
 // The record of this transaction, looked for among all.
 fn search(slab: &Slab<Record>, txn: TxnNo) -> Option<&Record>
-    ensures some { IfSome (option_copied result) (λ r. (k : ℕ) × (get slab.now k ≡ Some r) × (r.wait.txn ≡ txn)) }
-    ensures none { IfNone result ((k : ℕ) (r : Record) → get slab.now k ≡ Some r → r.wait.txn ≢ txn) }
+    ensures some { IfSome (option_copied result) (λ r. (k : ℕ) × (get slab.now k ≡ Some r)
+        × (r.wait.txn ≡ txn)) }
+    ensures none { IfNone result ((k : ℕ) (r : Record) → get slab.now k ≡ Some r →
+        r.wait.txn ≢ txn) }
 {
     for (_, record) in slab.iter() {
         if record.wait.txn == txn {
@@ -68,11 +72,14 @@ fn slot_at(table: &[Option<usize>], txn: TxnNo) -> Option<Option<usize>>
     table.get(txn.place() as usize).copied()
 }
 
-// The record of this transaction: in one step, or looked for among all where the table has no place for it.
+// The record of this transaction: in one step, or looked for among all where the table has no place
+// for it.
 fn look<'a>(slab: &'a Slab<Record>, table: &[Option<usize>], txn: TxnNo) -> Option<&'a Record>
     requires { AreInTable slab.now table.now }
-    ensures some { IfSome (option_copied result) (λ r. (k : ℕ) × (get slab.now k ≡ Some r) × (r.wait.txn ≡ txn)) }
-    ensures none { IfNone result ((k : ℕ) (r : Record) → get slab.now k ≡ Some r → r.wait.txn ≢ txn) }
+    ensures some { IfSome (option_copied result) (λ r. (k : ℕ) × (get slab.now k ≡ Some r)
+        × (r.wait.txn ≡ txn)) }
+    ensures none { IfNone result ((k : ℕ) (r : Record) → get slab.now k ≡ Some r →
+        r.wait.txn ≢ txn) }
 {
     match slot_at(table, txn) {
         Some(slot) => {
@@ -87,7 +94,8 @@ fn look<'a>(slab: &'a Slab<Record>, table: &[Option<usize>], txn: TxnNo) -> Opti
 fn make(table: &mut Vec<Option<usize>>) -> Result<(), NoMemory>
     ensures ok { OnOk result (0 < length table.new.items) }
     ensures kept { 0 < length table.old.items → table.new.items ≡ table.old.items }
-    ensures none { length table.old.items ≡ 0 → (t : ℕ) (k : ℕ) → slice_get table.new.items t ≢ Some (Some k) }
+    ensures none { length table.old.items ≡ 0 → (t : ℕ) (k : ℕ) →
+        slice_get table.new.items t ≢ Some (Some k) }
 {
     if table.is_empty() {
         table.resize(MOST_TRANSACTIONS, None)?;
@@ -108,7 +116,8 @@ fn put_key(table: &mut Vec<Option<usize>>, txn: TxnNo, key: Option<usize>)
 // Gives the record under the key another place.
 fn move_to(slab: &mut Slab<Record>, key: usize, place: usize)
     requires { ContainsKey slab.old key }
-    ensures moved { (w : Wait) (p : ℕ) → get slab.old key ≡ Some (record { wait = w; place = p }) → get slab.new key ≡ Some (record { wait = w; place = place }) }
+    ensures moved { (w : Wait) (p : ℕ) → get slab.old key ≡ Some (record { wait = w; place = p }) →
+        get slab.new key ≡ Some (record { wait = w; place = place }) }
     ensures others { (other : ℕ) → other ≢ key → get slab.new other ≡ get slab.old other }
     ensures len { slab_len slab.new ≡ slab_len slab.old }
     ensures capacity { slab.new.capacity ≡ slab.old.capacity }
@@ -121,7 +130,9 @@ fn move_to(slab: &mut Slab<Record>, key: usize, place: usize)
 // Gives the record of the key at this place, if there are so many, this place.
 fn settle(slab: &mut Slab<Record>, keys: &[usize], place: usize)
     requires { IfSome (slice_get keys.now place) (ContainsKey slab.old) }
-    ensures moved { (k : ℕ) (w : Wait) (p : ℕ) → slice_get keys.now place ≡ Some k → get slab.old k ≡ Some (record { wait = w; place = p }) → get slab.new k ≡ Some (record { wait = w; place = place }) }
+    ensures moved { (k : ℕ) (w : Wait) (p : ℕ) → slice_get keys.now place ≡ Some k →
+        get slab.old k ≡ Some (record { wait = w; place = p }) →
+        get slab.new k ≡ Some (record { wait = w; place = place }) }
     ensures others { (k : ℕ) → slice_get keys.now place ≢ Some k → get slab.new k ≡ get slab.old k }
     ensures len { slab_len slab.new ≡ slab_len slab.old }
     ensures capacity { slab.new.capacity ≡ slab.old.capacity }
@@ -145,7 +156,8 @@ impl Records {
         }
     }
 
-    /// Makes room for this many more. The records are as before, also if memory runs out, which is the only error.
+    /// Makes room for this many more. The records are as before, also if memory runs out, which is
+    /// the only error.
     pub(crate) fn reserve(&mut self, additional: usize) -> Result<(), NoMemory>
         ensures waits { self.new.waits ≡ self.old.waits }
         ensures ok { OnOk result (additional ≤ self.new.room) }
@@ -181,7 +193,8 @@ impl Records {
 
     /// The record of the transaction's wait, if it waits.
     pub(crate) fn find(&self, txn: TxnNo) -> Option<&Record>
-        ensures some { IfSome (option_copied result) (λ r. (slice_get self.now.waits r.place ≡ Some r.wait) × (r.wait.txn ≡ txn)) }
+        ensures some { IfSome (option_copied result)
+            (λ r. (slice_get self.now.waits r.place ≡ Some r.wait) × (r.wait.txn ≡ txn)) }
         ensures none { IfNone result (wait_of self.now txn ≡ None) }
         ensures once { AreOnce self.now }
     {

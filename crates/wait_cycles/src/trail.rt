@@ -10,7 +10,8 @@ use std::alloc::Global;
 use std::marker::Model;
 use txn_tree::TxnNo;
 
-/// One that was reached, and the place of the one before it on the way, which is the start where there is none.
+/// One that was reached, and the place of the one before it on the way, which is the start where
+/// there is none.
 #[derive(Clone, Copy, Debug, PartialEq, Eq)]
 pub(crate) struct Reached {
     pub(crate) txn: TxnNo,
@@ -30,7 +31,11 @@ impl Model for Trail {
 
     ghost Value = { Reaching };
 
-    ghost view = { λ t. record { reached = reached_in t.before.entries; capacity = length t.before.entries + spare t.before } };
+    ghost view = { λ t. record {
+      reached = reached_in t.before.entries;
+      capacity = length
+          t.before.entries + spare t.before;
+    } };
 }
 
 impl Trail {
@@ -85,7 +90,8 @@ impl Trail {
 
     /// The place at which it was reached.
     pub(crate) fn place_of(&self, txn: TxnNo) -> Option<usize>
-        ensures some { IfSome result (λ place. slice_get (nodes self.now.reached) place ≡ Some txn) }
+        ensures some { IfSome result (λ place. slice_get (nodes self.now.reached) place ≡
+            Some txn) }
         ensures none { IfNone result (IsFalse (is_member txn (nodes self.now.reached))) }
     {
         self.before.get_index_of(&txn)

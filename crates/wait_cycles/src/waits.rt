@@ -54,8 +54,9 @@ impl Waits {
         }
     }
 
-    /// Makes room for this many more waits, so that adding them takes no memory. Those that wait are as before, also if
-    /// memory runs out, which is the only error. Where there is room for so many already it succeeds.
+    /// Makes room for this many more waits, so that adding them takes no memory. Those that wait
+    /// are as before, also if memory runs out, which is the only error. Where there is room for so
+    /// many already it succeeds.
     pub fn reserve(&mut self, additional: usize) -> Result<(), NoMemory>
         ensures waits { self.new.waits ≡ self.old.waits }
         ensures ok { OnOk result (additional ≤ self.new.room) }
@@ -112,8 +113,8 @@ impl Waits {
         Some(found.place)
     }
 
-    /// A transaction that did not wait waits for an operation at a key. If memory runs out, the only error, all is as before.
-    /// Where there is room for one it succeeds.
+    /// A transaction that did not wait waits for an operation at a key. If memory runs out, the
+    /// only error, all is as before. Where there is room for one it succeeds.
     pub fn add(&mut self, txn: TxnNo, key: &Key, op: Op, by: By) -> Result<(), NoMemory>
         requires { wait_of self.old txn ≡ None }
         ensures ok { OnOk result
@@ -125,8 +126,8 @@ impl Waits {
         self.add_asked(txn, &Asked::At(*key, op), by)
     }
 
-    /// A transaction that did not wait waits for the sum over a group. If memory runs out, the only error, all is as before.
-    /// Where there is room for one it succeeds.
+    /// A transaction that did not wait waits for the sum over a group. If memory runs out, the only
+    /// error, all is as before. Where there is room for one it succeeds.
     pub fn add_sum(&mut self, txn: TxnNo, group: &Group, by: By) -> Result<(), NoMemory>
         requires { wait_of self.old txn ≡ None }
         ensures ok { OnOk result
@@ -138,8 +139,8 @@ impl Waits {
         self.add_asked(txn, &Asked::Over(*group), by)
     }
 
-    /// A transaction that did not wait waits for what it asked. If memory runs out, the only error, all is as before. Where
-    /// there is room for one it succeeds.
+    /// A transaction that did not wait waits for what it asked. If memory runs out, the only error,
+    /// all is as before. Where there is room for one it succeeds.
     pub fn add_asked(&mut self, txn: TxnNo, asked: &Asked, by: By) -> Result<(), NoMemory>
         requires { wait_of self.old txn ≡ None }
         ensures ok { OnOk result
@@ -153,7 +154,8 @@ impl Waits {
         Ok(())
     }
 
-    /// A transaction that did not wait waits for what it asked, where there is room for it. It takes no memory.
+    /// A transaction that did not wait waits for what it asked, where there is room for it. It
+    /// takes no memory.
     pub fn add_reserved(&mut self, txn: TxnNo, asked: &Asked, by: By)
         requires none { wait_of self.old txn ≡ None }
         requires room { 0 < self.old.room }
@@ -167,9 +169,11 @@ impl Waits {
 
     /// The transaction waits no more. So fewer wait, if it did.
     pub fn cancel(&mut self, txn: TxnNo)
-        ensures waits { (u : ℕ) → wait_of self.new u ≡ (if nat_eq txn u then None else wait_of self.old u) }
+        ensures waits { (u : ℕ) →
+            wait_of self.new u ≡ (if nat_eq txn u then None else wait_of self.old u) }
         ensures len { length self.new.waits ≤ length self.old.waits }
-        ensures fewer { IsSome (wait_of self.old txn) → length self.new.waits < length self.old.waits }
+        ensures fewer { IsSome (wait_of self.old txn) →
+            length self.new.waits < length self.old.waits }
         ensures room { self.old.room ≤ self.new.room }
     {
         let Some(record) = self.records.find(txn) else {
@@ -181,9 +185,11 @@ impl Waits {
 
     /// The transaction and all its descendants wait no more. So fewer wait, if any of them did.
     pub fn drop_under(&mut self, tree: &Tree, txn: TxnNo)
-        ensures waits { (u : ℕ) → wait_of self.new u ≡ (if is_under tree.now txn u then None else wait_of self.old u) }
+        ensures waits { (u : ℕ) →
+            wait_of self.new u ≡ (if is_under tree.now txn u then None else wait_of self.old u) }
         ensures len { length self.new.waits ≤ length self.old.waits }
-        ensures fewer { (u : ℕ) → IsTrue (is_under tree.now txn u) → IsSome (wait_of self.old u) → length self.new.waits < length self.old.waits }
+        ensures fewer { (u : ℕ) → IsTrue (is_under tree.now txn u) → IsSome (wait_of self.old u) →
+            length self.new.waits < length self.old.waits }
         ensures room { self.old.room ≤ self.new.room }
     {
         let mut place = self.records.len();

@@ -1,4 +1,5 @@
--- The edges of the graph of waits: which of those that wait wait for which, by the numbers of transactions.
+-- The edges of the graph of waits: which of those that wait wait for which, by the numbers of
+-- transactions.
 use Rattle.std.specs.Prelude.{◌≡◌, ◌↔◌, ℕ, Bool, false, IsFalse, IsTrue, nat_eq, nat_lt, ◌&&◌, List, [], ◌∷◌, ◌++◌, map, filter, slice_get, Option, Some}
 use Rattle.std.specs.List.{list_any}
 use Rattle.txn_names.specs.Path.{Path, meet}
@@ -12,13 +13,15 @@ use Rattle.serial_spec.specs.Targets.{meets, target}
 use Rattle.wait_cycles.specs.Cycles.{Pairs, waits_in}
 use Rattle.wait_cycles.specs.declared.waits.Wait.{Wait}
 
--- Whether by its locks the third keeps the first from what it asks, by their numbers: a test that stands for locks
+-- Whether by its locks the third keeps the first from what it asks, by their numbers: a test that
+-- stands for locks
 abbrev pub Keeps : Type 0
 Keeps = ℕ → Asked → ℕ → Bool
 
 -- it tells who does by these locks
 abbrev pub Tells : States → Targeted → Keeps → Type 0
-Tells tree locks keeps = (t : ℕ) (a : Asked) (u : ℕ) → IsTrue (keeps t a u) ↔ BlocksAsked tree locks t a u
+Tells tree locks keeps = (t : ℕ) (a : Asked) (u : ℕ)
+    → IsTrue (keeps t a u) ↔ BlocksAsked tree locks t a u
 
 -- it is so by each test that tells by these locks
 abbrev pub ByLocks : States → Targeted → (Keeps → Type 0) → Type 0
@@ -26,7 +29,8 @@ ByLocks tree locks P = (keeps : Keeps) → Tells tree locks keeps → P keeps
 
 -- whoever keeps the access from being answered is among these
 abbrev pub AreLockers : States → Targeted → Wait → List ℕ → Type 0
-AreLockers tree locks w us = (u : ℕ) → IsFalse (list_any (nat_eq u) us) → BlocksAsked tree locks w.txn w.asked u → ⊥
+AreLockers tree locks w us = (u : ℕ) → IsFalse (list_any (nat_eq u) us)
+    → BlocksAsked tree locks w.txn w.asked u → ⊥
 
 -- Whether u is in the branch by which b parts from t: u shares more labels with b than t does.
 abbrev pub is_beside : Option Path → Option Path → Option Path → Bool
@@ -34,7 +38,8 @@ is_beside (Some t) (Some b) (Some u) = nat_lt (meet t b) (meet u b)
 is_beside t b u = false
 
 abbrev pub is_in_branch : States → ℕ → ℕ → ℕ → Bool
-is_in_branch tree t b u = is_beside (slice_get (names tree) t) (slice_get (names tree) b) (slice_get (names tree) u)
+is_in_branch tree t b u =
+    is_beside (slice_get (names tree) t) (slice_get (names tree) b) (slice_get (names tree) u)
 
 -- whether b keeps this access from being answered, and u is in its branch
 abbrev pub is_held_up : States → Keeps → Wait → ℕ → ℕ → Bool
@@ -60,12 +65,14 @@ waits_for_in tree keeps w u = list_any (is_held_up tree keeps w u) (numbers tree
 
 -- one that waits, with each of these for which it waits
 abbrev pub edges_from : States → Keeps → List Wait → Wait → Pairs
-edges_from tree keeps others w = map (λ v. (w.txn, v.txn)) (filter (λ v. waits_for_in tree keeps w v.txn) others)
+edges_from tree keeps others w =
+    map (λ v. (w.txn, v.txn)) (filter (λ v. waits_for_in tree keeps w v.txn) others)
 
 -- each of those that wait, with each of the others for which it waits
 abbrev pub edges_of : States → Keeps → List Wait → List Wait → Pairs
 edges_of tree keeps [] others = []
-edges_of tree keeps (w ∷ ws) others = edges_from tree keeps others w ++ edges_of tree keeps ws others
+edges_of tree keeps (w ∷ ws) others = edges_from tree keeps others w
+    ++ edges_of tree keeps ws others
 
 -- all edges: the pairs of those that wait of which the first waits for the second
 abbrev pub edges_among : States → Keeps → List Wait → Pairs
@@ -75,13 +82,16 @@ edges_among tree keeps ws = edges_of tree keeps ws ws
 abbrev pub is_beside_it : States → ℕ → ℕ → Wait → Bool
 is_beside_it tree t b v = is_in_branch tree t b v.txn
 
--- whether it waits for what has a key in common with this, t keeps it from being answered, and one that waits is in the branch of t
+-- whether it waits for what has a key in common with this, t keeps it from being answered, and one
+-- that waits is in the branch of t
 abbrev pub waits_by_way_of : States → Keeps → List Wait → ℕ → Target → Wait → Bool
-waits_by_way_of tree keeps others t s w = meets s (target w.asked) && (keeps w.txn w.asked t && list_any (is_beside_it tree w.txn t) others)
+waits_by_way_of tree keeps others t s w = meets s (target w.asked)
+    && (keeps w.txn w.asked t && list_any (is_beside_it tree w.txn t) others)
 
 -- nobody waits, for whatever and by whichever locks, for another by way of t
 abbrev pub IsNobodysWay : States → List Wait → ℕ → Type 0
-IsNobodysWay tree waits t = (keeps : Keeps) (s : Target) → list_any (waits_by_way_of tree keeps waits t s) waits ≡ false
+IsNobodysWay tree waits t = (keeps : Keeps) (s : Target)
+    → list_any (waits_by_way_of tree keeps waits t s) waits ≡ false
 
 -- whether there is a wait, and it passes
 abbrev pub passes : (Wait → Bool) → Option Wait → Bool

@@ -10,7 +10,8 @@ IsOnNoCycle edges a = (xs : List ℕ) → IsCycle edges xs → IsTrue (is_member
 -- a lies on a cycle, and no greater number lies on any cycle through b
 pub record IsLastThrough (edges : Pairs) (b a : ℕ) : Type 0 where
   pub through : (xs : List ℕ) × IsCycle edges xs × IsTrue (is_member a xs)
-  pub last : (ys : List ℕ) → IsCycle edges ys → IsTrue (is_member b ys) → (c : ℕ) → IsTrue (is_member c ys) → c ≤ a
+  pub last : (ys : List ℕ) → IsCycle edges ys → IsTrue (is_member b ys) → (c : ℕ)
+      → IsTrue (is_member c ys) → c ≤ a
 
 -- of all edges those are listed that lie on cycles through a, and none but edges
 pub record IsWayOf (all listed : Pairs) (a : ℕ) : Type 0 where
@@ -23,7 +24,8 @@ IsLonger old new = (i : ℕ) (p : ℕ × ℕ) → slice_get old i ≡ Some p →
 
 -- what came to the old pairs is of all
 abbrev pub HasMoreOf : Pairs → Pairs → Pairs → Type 0
-HasMoreOf all old new = (a b : ℕ) → IsTrue (waits_in new a b) → IsTrue (waits_in old a b) ⊎ IsTrue (waits_in all a b)
+HasMoreOf all old new = (a b : ℕ) → IsTrue (waits_in new a b) → IsTrue (waits_in old a b)
+    ⊎ IsTrue (waits_in all a b)
 
 -- whomever a waits for, the pair of both is listed
 abbrev pub AreListed : Pairs → Pairs → ℕ → Type 0
@@ -32,7 +34,8 @@ AreListed all listed a = (b : ℕ) → IsTrue (waits_in all a b) → IsTrue (wai
 -- so it is with each that waits at a place that is marked
 abbrev pub AreGoneOn : Pairs → List Wait → List Bool → Pairs → Type 0
 AreGoneOn all waits marks listed =
-    (place : ℕ) (w : Wait) → IsTrue (slice_index_or marks place false) → slice_get waits place ≡ Some w → AreListed all listed w.txn
+    (place : ℕ) (w : Wait) → IsTrue (slice_index_or marks place false)
+    → slice_get waits place ≡ Some w → AreListed all listed w.txn
 
 -- how many places are not marked
 abbrev pub unmarked : List Bool → ℕ

@@ -23,8 +23,8 @@ pub(crate) fn is_in_branch(tree: &Tree, txn: TxnNo, blocker: TxnNo, other: TxnNo
     }
 }
 
-/// Whether the transaction is top-level and has no descendants. Then it is in nobody's branch but its own, and nobody else is in
-/// its branch.
+/// Whether the transaction is top-level and has no descendants. Then it is in nobody's branch but
+/// its own, and nobody else is in its branch.
 pub(crate) fn is_lone_top(tree: &Tree, txn: TxnNo) -> bool
     ensures { IsTrue result → IsAlone tree.now txn }
 {
@@ -37,8 +37,9 @@ pub(crate) fn is_lone_top(tree: &Tree, txn: TxnNo) -> bool
     tree.first_child(txn).is_none()
 }
 
-// Whether the blocker is seen to be alone in the branch by which it parts from the transaction: it is above it, so that there is no
-// such branch, or it parts from it by itself and has no descendants.
+// Whether the blocker is seen to be alone in the branch by which it parts from the transaction: it
+// is above it, so that there is no such branch, or it parts from it by itself and has no
+// descendants.
 fn is_alone_in_branch(tree: &Tree, txn: TxnNo, blocker: TxnNo) -> bool
     ensures { IsTrue result → IsOwnBranch tree.now txn blocker }
 {
@@ -68,7 +69,8 @@ pub(crate) fn are_alone_in_branches(tree: &Tree, txn: TxnNo, blockers: &[TxnNo])
     true
 }
 
-/// Whether they stand in one list, and each of them is seen to be alone in the branch by which it parts from the transaction.
+/// Whether they stand in one list, and each of them is seen to be alone in the branch by which it
+/// parts from the transaction.
 pub(crate) fn are_known_alone(tree: &Tree, txn: TxnNo, all: Option<&[TxnNo]>) -> bool
     ensures { IsTrue result → IfSome all.entry (λ us. AreOwnBranches tree.now txn us.now) }
 {

@@ -11,8 +11,8 @@ use lock_table::TargetLocks;
 use txn_tree::{Tree, TxnNo};
 use wait_cycles::{Wait, Waits};
 
-// Whether there is an edge to the other by way of this holder: the holder keeps this access from being answered, and the other is
-// in its branch.
+// Whether there is an edge to the other by way of this holder: the holder keeps this access from
+// being answered, and the other is in its branch.
 fn has_edge_by(tree: &Tree, locks: &TargetLocks, wait: &Wait, other: TxnNo, holder: TxnNo) -> bool
     ensures { ByLocks tree.now locks.now (λ keeps.
         result ≡ is_held_up tree.now keeps wait.now other holder) }
@@ -41,8 +41,9 @@ fn has_edge_by_any(
     false
 }
 
-// Whether there is an edge to the other by way of the other itself, where the list has all who may keep the access from being
-// answered. Most are not in the list, and a look at the locks costs more.
+// Whether there is an edge to the other by way of the other itself, where the list has all who may
+// keep the access from being answered. Most are not in the list, and a look at the locks costs
+// more.
 #[inline]
 fn has_edge_by_itself(
     tree: &Tree,
@@ -62,8 +63,9 @@ fn has_edge_by_itself(
     }
 }
 
-// Whether there is an edge to the other, where those who may keep the access from being answered stand in several lists. That is so
-// only where somebody holds a sum, and it stays out of the loops over all that wait.
+// Whether there is an edge to the other, where those who may keep the access from being answered
+// stand in several lists. That is so only where somebody holds a sum, and it stays out of the loops
+// over all that wait.
 #[inline(never)]
 fn has_edge_by_lists(tree: &Tree, locks: &TargetLocks, wait: &Wait, other: TxnNo) -> bool
     ensures { ByLocks tree.now locks.now (λ keeps.
@@ -93,9 +95,10 @@ fn sole_blockers<'a>(locks: &'a TargetLocks, wait: &Wait) -> Option<&'a [TxnNo]>
     Some(locks.list_at(&target, 0))
 }
 
-// Whether there is an edge to the other: the other, or one that it is in the branch of, has to end or to go on before one that
-// keeps the access from being answered can. `all` is everybody who may keep the access from being answered, if one list has them,
-// and `alone` whether each of these is known to be alone in its branch. A caller that asks about many others finds both once.
+// Whether there is an edge to the other: the other, or one that it is in the branch of, has to end
+// or to go on before one that keeps the access from being answered can. `all` is everybody who may
+// keep the access from being answered, if one list has them, and `alone` whether each of these is
+// known to be alone in its branch. A caller that asks about many others finds both once.
 #[inline(always)]
 fn has_edge(
     tree: &Tree,
@@ -149,7 +152,8 @@ fn add_edges_to_waiting(
     }
 }
 
-// Whether there is an edge to the blocker, which is alone in its branch: it waits, and keeps the access from being answered.
+// Whether there is an edge to the blocker, which is alone in its branch: it waits, and keeps the
+// access from being answered.
 fn is_edge_to_blocker(
     tree: &Tree,
     locks: &TargetLocks,
@@ -158,14 +162,15 @@ fn is_edge_to_blocker(
     blocker: TxnNo,
 ) -> bool
     ensures { ByLocks tree.now locks.now (λ keeps.
-        result ≡ (is_some (wait_of waits.now blocker) && is_held_up tree.now keeps wait.now blocker blocker)) }
+        result ≡ (is_some (wait_of waits.now blocker)
+        && is_held_up tree.now keeps wait.now blocker blocker)) }
 {
     // Whether it waits is asked first: few do, and a look at the locks costs more.
     waits.of(blocker).is_some() && has_edge_by(tree, locks, wait, blocker, blocker)
 }
 
-// Adds the edges of this one that waits, by a look at each of those who may keep it from being answered, who are all alone in
-// their branches.
+// Adds the edges of this one that waits, by a look at each of those who may keep it from being
+// answered, who are all alone in their branches.
 fn add_edges_to_blockers(
     tree: &Tree,
     locks: &TargetLocks,
@@ -178,7 +183,8 @@ fn add_edges_to_blockers(
     requires alone { AreOwnBranches tree.now wait.now.txn blockers.now }
     requires room { vec_len edges.old + length blockers.now ≤ vec_capacity edges.old }
     ensures edges { ByLocks tree.now locks.now (λ keeps.
-        AreAlike edges.new.items (edges.old.items ++ edges_from tree.now keeps waits.now.waits wait.now)) }
+        AreAlike edges.new.items (edges.old.items
+        ++ edges_from tree.now keeps waits.now.waits wait.now)) }
     ensures longer { IsLonger edges.old.items edges.new.items }
     ensures len { vec_len edges.new ≤ vec_len edges.old + length blockers.now }
     ensures capacity { vec_capacity edges.old ≤ vec_capacity edges.new }
@@ -201,7 +207,8 @@ pub(crate) fn add_edges_from(
 )
     requires room { vec_len edges.old + length waits.now.waits ≤ vec_capacity edges.old }
     ensures edges { ByLocks tree.now locks.now (λ keeps.
-        AreAlike edges.new.items (edges.old.items ++ edges_from tree.now keeps waits.now.waits wait.now)) }
+        AreAlike edges.new.items (edges.old.items
+        ++ edges_from tree.now keeps waits.now.waits wait.now)) }
     ensures longer { IsLonger edges.old.items edges.new.items }
     ensures len { vec_len edges.new ≤ vec_len edges.old + length waits.now.waits }
     ensures capacity { vec_capacity edges.old ≤ vec_capacity edges.new }
@@ -216,7 +223,8 @@ pub(crate) fn add_edges_from(
     }
 }
 
-/// All edges: the pairs of those that wait of which the first waits for the second, in any order. It takes no memory.
+/// All edges: the pairs of those that wait of which the first waits for the second, in any order.
+/// It takes no memory.
 pub(crate) fn collect_edges(
     tree: &Tree,
     locks: &TargetLocks,

@@ -29,7 +29,8 @@ impl Model for CycleSearch {
     // For how many edges there is room, and for the marks of so many that wait, squared.
     ghost Value = { ℕ };
 
-    ghost view = { λ b. min (vec_capacity b.edges) (min (vec_capacity b.marks * vec_capacity b.marks) b.work) };
+    ghost view = { λ b. min (vec_capacity b.edges)
+        (min (vec_capacity b.marks * vec_capacity b.marks) b.work) };
 
     ghost invariant = { λ b. b.ready * b.ready
         ≤ min (vec_capacity b.edges) (min (vec_capacity b.marks * vec_capacity b.marks) b.work) };
@@ -48,8 +49,8 @@ impl CycleSearch {
         }
     }
 
-    /// Makes room for the edges among so many that wait. The only error is that there is no memory for them, or that they are more
-    /// than can be counted. Then there is no less room than before.
+    /// Makes room for the edges among so many that wait. The only error is that there is no memory
+    /// for them, or that they are more than can be counted. Then there is no less room than before.
     #[inline(always)]
     pub fn reserve(&mut self, waiting: usize) -> Result<(), NoMemory>
         ensures ok { OnOk result (waiting * waiting ≤ self.new) }
@@ -79,9 +80,11 @@ impl CycleSearch {
         Ok(())
     }
 
-    /// One that lies on a cycle and was begun no earlier than any on a cycle through the transaction, if there is such a cycle. So where
-    /// each cycle goes through the transaction it is the last begun of those on any, as `victim` gives. It makes the edges of those
-    /// alone that the transaction waits for, or that one of these waits for in turn, and so costs less where these are few.
+    /// One that lies on a cycle and was begun no earlier than any on a cycle through the
+    /// transaction, if there is such a cycle. So where each cycle goes through the transaction it
+    /// is the last begun of those on any, as `victim` gives. It makes the edges of those alone that
+    /// the transaction waits for, or that one of these waits for in turn, and so costs less where
+    /// these are few.
     pub fn last_through(
         &mut self,
         tree: &Tree,
@@ -106,7 +109,8 @@ impl CycleSearch {
     pub fn victim(&mut self, tree: &Tree, locks: &TargetLocks, waits: &Waits) -> Option<TxnNo>
         requires { length waits.now.waits * length waits.now.waits ≤ self.old }
         ensures some { IfSome result (λ txn.
-            ByLocks tree.now locks.now (λ keeps. IsLastOn (edges_among tree.now keeps waits.now.waits) txn)) }
+            ByLocks tree.now locks.now (λ keeps.
+            IsLastOn (edges_among tree.now keeps waits.now.waits) txn)) }
         ensures none { IfNone result (ByLocks tree.now locks.now (λ keeps.
             (xs : List ℕ) → IsCycle (edges_among tree.now keeps waits.now.waits) xs → ⊥)) }
         ensures room { self.old ≤ self.new }

@@ -1,4 +1,5 @@
-//! The walk from one that waits to those for whom it waits, and on from each of them: its edges, and whether it comes back.
+//! The walk from one that waits to those for whom it waits, and on from each of them: its edges,
+//! and whether it comes back.
 ghost use Rattle.std.specs.Prelude.{◌≡◌, ◌≤◌, ◌+◌, ◌*◌, ◌||◌, nat_eq, ℕ, false, IsFalse, length, slice_index_or, vec_len, vec_capacity};
 ghost use Rattle.wait_graph.specs.Edges.{ByLocks, edges_among};
 ghost use Rattle.wait_graph.specs.Walks.{AreGoneOn, AreListed, HasMoreOf, IsLonger, IsOnNoCycle, IsWayOf, unmarked};
@@ -21,8 +22,8 @@ fn clear_marks(marks: &mut Vec<bool>, waits: &Waits)
     }
 }
 
-// Adds the edges of the transaction's wait and marks its place, unless that is marked: then they were added. There is room for
-// the edges of one wait a place that is not marked.
+// Adds the edges of the transaction's wait and marks its place, unless that is marked: then they
+// were added. There is room for the edges of one wait a place that is not marked.
 fn go_on_from(
     tree: &Tree,
     locks: &TargetLocks,
@@ -35,8 +36,12 @@ fn go_on_from(
     requires room { vec_len edges.old + unmarked marks.old.items * length waits.now.waits
         ≤ vec_capacity edges.old }
     ensures gone_on { ByLocks tree.now locks.now (λ keeps.
-        AreGoneOn (edges_among tree.now keeps waits.now.waits) waits.now.waits marks.old.items edges.old.items
-        → AreGoneOn (edges_among tree.now keeps waits.now.waits) waits.now.waits marks.new.items edges.new.items
+        AreGoneOn
+        (edges_among tree.now keeps waits.now.waits) waits.now.waits marks.old.items
+        edges.old.items
+        → AreGoneOn
+        (edges_among tree.now keeps waits.now.waits) waits.now.waits marks.new.items
+        edges.new.items
         × AreListed (edges_among tree.now keeps waits.now.waits) edges.new.items txn) }
     ensures among { ByLocks tree.now locks.now (λ keeps.
         HasMoreOf (edges_among tree.now keeps waits.now.waits) edges.old.items edges.new.items) }
@@ -67,8 +72,9 @@ fn is_back(before: bool, reached: TxnNo, txn: TxnNo) -> bool
     before || reached == txn
 }
 
-/// Lists the edges on the way of a transaction: those of its own wait, and of each that is reached by one that is listed. It tells
-/// whether one of them comes back to the transaction. Each that waits is gone on from once. It takes no memory.
+/// Lists the edges on the way of a transaction: those of its own wait, and of each that is reached
+/// by one that is listed. It tells whether one of them comes back to the transaction. Each that
+/// waits is gone on from once. It takes no memory.
 pub(crate) fn collect_way(
     tree: &Tree,
     locks: &TargetLocks,

@@ -1,5 +1,5 @@
-//! Whether anybody who waits waits for another by way of a transaction: where that one keeps the first from being answered, and the
-//! other is in its branch.
+//! Whether anybody who waits waits for another by way of a transaction: where that one keeps the
+//! first from being answered, and the other is in its branch.
 ghost use Rattle.std.specs.Prelude.{◌≡◌, ◌&&◌, slice_get, IsTrue};
 ghost use Rattle.std.specs.List.{list_any};
 ghost use Rattle.serial_spec.specs.Targets.{target};
@@ -12,9 +12,11 @@ use serial_spec::Target;
 use txn_tree::{Tree, TxnNo};
 use wait_cycles::{Wait, Waits};
 
-// Whether one waits at this place that is in the branch by which the blocker parts from the transaction.
+// Whether one waits at this place that is in the branch by which the blocker parts from the
+// transaction.
 fn waits_in_branch_at(tree: &Tree, waits: &Waits, txn: TxnNo, blocker: TxnNo, place: usize) -> bool
-    ensures { result ≡ passes (is_beside_it tree.now txn blocker) (slice_get waits.now.waits place) }
+    ensures { result ≡
+        passes (is_beside_it tree.now txn blocker) (slice_get waits.now.waits place) }
 {
     match waits.at(place) {
         Some(other) => is_in_branch(tree, txn, blocker, other.txn),
@@ -36,7 +38,8 @@ fn any_waits_in_branch(tree: &Tree, waits: &Waits, txn: TxnNo, blocker: TxnNo) -
     false
 }
 
-// Whether the transaction keeps the access, which waits, from being answered, and one that waits is in its branch.
+// Whether the transaction keeps the access, which waits, from being answered, and one that waits is
+// in its branch.
 fn has_edge_by_way_of(
     tree: &Tree,
     locks: &TargetLocks,
@@ -45,13 +48,15 @@ fn has_edge_by_way_of(
     wait: &Wait,
 ) -> bool
     ensures { ByLocks tree.now locks.now (λ keeps.
-        result ≡ (keeps wait.now.txn wait.now.asked txn && list_any (is_beside_it tree.now wait.now.txn txn) waits.now.waits)) }
+        result ≡ (keeps wait.now.txn wait.now.asked txn
+        && list_any (is_beside_it tree.now wait.now.txn txn) waits.now.waits)) }
 {
     locks.blocks_asked(tree, txn, wait.txn, &wait.asked)
         && any_waits_in_branch(tree, waits, wait.txn, txn)
 }
 
-// Whether an access waits at this place, for what has a key in common with the target, and for another by way of the transaction.
+// Whether an access waits at this place, for what has a key in common with the target, and for
+// another by way of the transaction.
 fn has_edge_by_way_of_at(
     tree: &Tree,
     locks: &TargetLocks,
@@ -61,7 +66,8 @@ fn has_edge_by_way_of_at(
     place: usize,
 ) -> bool
     ensures { ByLocks tree.now locks.now (λ keeps.
-        result ≡ passes (waits_by_way_of tree.now keeps waits.now.waits txn target.now) (slice_get waits.now.waits place)) }
+        result ≡ passes (waits_by_way_of tree.now keeps waits.now.waits txn target.now)
+        (slice_get waits.now.waits place)) }
 {
     match waits.at(place) {
         Some(wait) => {
@@ -71,8 +77,8 @@ fn has_edge_by_way_of_at(
     }
 }
 
-// Whether the transaction is top-level without descendants, and does not wait. Then no other is in its branch, so that nobody waits
-// for another by way of it.
+// Whether the transaction is top-level without descendants, and does not wait. Then no other is in
+// its branch, so that nobody waits for another by way of it.
 #[tactic(auto, using(crate::proofs::Alone::nobodys_way))]
 fn is_way_of_none(tree: &Tree, waits: &Waits, txn: TxnNo) -> bool
     ensures { IsTrue result → IsNobodysWay tree.now waits.now.waits txn }
@@ -80,8 +86,9 @@ fn is_way_of_none(tree: &Tree, waits: &Waits, txn: TxnNo) -> bool
     is_lone_top(tree, txn) && waits.of(txn).is_none()
 }
 
-/// Whether any access that waits for what has a key in common with the target waits for another by way of the transaction: the
-/// transaction keeps it from being answered, and the other, which waits, is in the branch of the transaction.
+/// Whether any access that waits for what has a key in common with the target waits for another by
+/// way of the transaction: the transaction keeps it from being answered, and the other, which
+/// waits, is in the branch of the transaction.
 pub fn any_edge_by_way_of(
     tree: &Tree,
     locks: &TargetLocks,
@@ -90,7 +97,8 @@ pub fn any_edge_by_way_of(
     target: &Target,
 ) -> bool
     ensures result { ByLocks tree.now locks.now (λ keeps.
-        result ≡ list_any (waits_by_way_of tree.now keeps waits.now.waits txn target.now) waits.now.waits) }
+        result ≡ list_any
+        (waits_by_way_of tree.now keeps waits.now.waits txn target.now) waits.now.waits) }
     ensures once { AreOnce waits.now }
 {
     if is_way_of_none(tree, waits, txn) {

@@ -14,10 +14,12 @@ use Rattle.interleavings.specs.Runs.{IsBrokenOff, WasAsked}
 use Rattle.worker_pool.specs.declared.serving.ServeFault.{ServeFault}
 use Rattle.worker_pool.specs.declared.serving.ServeFault.TheVariants.{NoMemory, Open, Thread}
 
--- The report of these sessions over the store as it was given, and the store that comes back with it. What every
--- report says is in `IsReport`; which of the legal histories it has is not said
-pub record IsServed {S : Type 0} (g : Ghosts S) (ss : List Session) (store : S) (r : Told) (left : S) : Type 0 where
-  -- the opening rows are what the store answered, and so its table; it was asked for each commit before that was replied
+-- The report of these sessions over the store as it was given, and the store that comes back with
+-- it. What every report says is in `IsReport`; which of the legal histories it has is not said
+pub record IsServed {S : Type 0} (g : Ghosts S) (ss : List Session) (store : S) (r : Told)
+    (left : S) : Type 0 where
+  -- the opening rows are what the store answered, and so its table; it was asked for each commit
+  -- before that was replied
   pub asked : WasAsked g store r.opening r.history left
   pub opening : g.doubt left ≡ 0 → value_in r.opening ≡ g.table store
   pub labels : r.labels ≡ map (λ s. s.label) ss
@@ -31,12 +33,14 @@ pub record IsServed {S : Type 0} (g : Ghosts S) (ss : List Session) (store : S) 
   pub refusals : g.faults left ≡ counted (g.faults store + store_refusals r.history)
 
 -- these sessions went on to their close
-pub record IsServedFrom {S : Type 0} (g : Ghosts S) (first : Turning S) (r : Told) (left : S) : Type 0 where
+pub record IsServedFrom {S : Type 0} (g : Ghosts S) (first : Turning S) (r : Told)
+    (left : S) : Type 0 where
   pub last : Turning S
   pub goes : Goes g first last
   pub closed : IsClosed g last r left
 
--- Why there is no report. Memory runs out only behind the opening, and so does the start of a worker fail
+-- Why there is no report. Memory runs out only behind the opening, and so does the start of a
+-- worker fail
 abbrev pub HasServeCause : {S : Type 0} → Ghosts S → List Session → S → ServeFault → Type 0
 HasServeCause g ss store NoMemory = IsBrokenOff g ss store
 HasServeCause g ss store (Open fault) = HasCause g store fault

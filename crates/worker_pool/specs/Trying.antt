@@ -1,4 +1,5 @@
--- What one holder of the lock does: one attempt of a line, and behind a line that is parked at most one look for stuck lines.
+-- What one holder of the lock does: one attempt of a line, and behind a line that is parked at most
+-- one look for stuck lines.
 use Rattle.std.specs.Prelude.{◌≡◌, ◌↔◌, ◌⊎◌, ℕ, IsTrue, Option, None}
 use Rattle.serial_spec.specs.declared.event.Event.{Event}
 use Rattle.serial_spec.specs.Interleaving.{AllAnswered}
@@ -13,13 +14,16 @@ use Rattle.worker_pool.specs.declared.desk.Tried.{Tried}
 abbrev pub LooksNot : {S : Type 0} → Turning S → Turning S → Option (ℕ × ℕ) → Type 0
 LooksNot mid new given_up = (new ≡ mid) × (given_up ≡ None)
 
--- behind a line that is parked the stuck rule is applied once, or nothing happens; behind any other, nothing
-abbrev pub LooksForStuck : {S : Type 0} → Ghosts S → Turning S → Turning S → Turn → Option (ℕ × ℕ) → Type 0
+-- behind a line that is parked the stuck rule is applied once, or nothing happens; behind any
+-- other, nothing
+abbrev pub LooksForStuck : {S : Type 0} → Ghosts S → Turning S → Turning S → Turn → Option (ℕ × ℕ)
+    → Type 0
 LooksForStuck g mid new Parked given_up = Unstuck g mid new given_up ⊎ LooksNot mid new given_up
 LooksForStuck g mid new Answered given_up = LooksNot mid new given_up
 LooksForStuck g mid new OutOfTurn given_up = LooksNot mid new given_up
 
-pub record Tries {S : Type 0} (g : Ghosts S) (old new : Turning S) (s l : ℕ) (e : Event) (tried : Tried) : Type 0 where
+pub record Tries {S : Type 0} (g : Ghosts S) (old new : Turning S) (s l : ℕ) (e : Event)
+    (tried : Tried) : Type 0 where
   pub between : Turning S
   pub attempt : Attempted g old between s l e tried.turn
   pub stuck : LooksForStuck g between new tried.turn tried.given_up

@@ -22,7 +22,8 @@ pub(crate) trait Opening<S> {
     ghost use Rattle.std.specs.Prelude.{Option};
     ghost use Rattle.interleavings.specs.Turning.{Turning};
 
-    /// The sessions over their manager, as they were opened. It exists in proofs alone, so that no program could compare it.
+    /// The sessions over their manager, as they were opened. It exists in proofs alone, so that no
+    /// program could compare it.
     ghost first: { Option (Turning S) };
 }
 
@@ -50,7 +51,8 @@ pub(crate) struct Desk<'a, S: TopStore, J: Opening<S>> {
     book: Book<'a, S>,
     // How many sessions there are.
     sessions: u32,
-    // How many attempts were parked in a row, whoever made them, since a line was answered or stuck lines were looked for.
+    // How many attempts were parked in a row, whoever made them, since a line was answered or stuck
+    // lines were looked for.
     parked: u32,
     // How many sessions had a line left when stuck lines were last looked for.
     open: u32,
@@ -86,7 +88,8 @@ impl<'a, S: TopStore, J: Opening<S>> Desk<'a, S, J> {
     }
 
     fn attempt(&mut self, session: u32, line: u32, text: &Line) -> Result<Turn, NoMemory>
-        ensures { IfOk result (λ turn. Attempted S.TopStore self.old self.new session line text.now turn) }
+        ensures { IfOk result (λ turn.
+            Attempted S.TopStore self.old self.new session line text.now turn) }
     {
         self.book.attempt(session, line, text)
     }
@@ -104,8 +107,8 @@ impl<'a, S: TopStore, J: Opening<S>> Desk<'a, S, J> {
             .count() as u32
     }
 
-    // Counts an attempt that was parked. Answers whether so many were parked in a row that each session may have been
-    // tried, and then it begins to count anew.
+    // Counts an attempt that was parked. Answers whether so many were parked in a row that each
+    // session may have been tried, and then it begins to count anew.
     fn is_look_due(&mut self) -> bool
         ensures { self.new ≡ self.old }
     {
@@ -118,8 +121,8 @@ impl<'a, S: TopStore, J: Opening<S>> Desk<'a, S, J> {
         true
     }
 
-    // Looks for a line that must be given up, where none of the open sessions was answered for a whole round. As long as
-    // one is answered, nothing is stuck.
+    // Looks for a line that must be given up, where none of the open sessions was answered for a
+    // whole round. As long as one is answered, nothing is stuck.
     fn look_for_stuck(&mut self, turn: Turn) -> Result<Option<(u32, u32)>, NoMemory>
         ensures { IfOk result (λ line. LooksForStuck S.TopStore self.old self.new turn line) }
     {
@@ -140,7 +143,8 @@ impl<'a, S: TopStore, J: Opening<S>> Desk<'a, S, J> {
     }
 
     fn try_line(&mut self, session: u32, line: u32, text: &Line) -> Result<Tried, NoMemory>
-        ensures ok { IfOk result (λ tried. Tries S.TopStore self.old self.new session line text.now tried) }
+        ensures ok { IfOk result (λ tried.
+            Tries S.TopStore self.old self.new session line text.now tried) }
         ensures next { IfOk result (λ tried. IsNextJob session tried.next) }
     {
         let turn = self.attempt(session, line, text)?;
@@ -153,15 +157,16 @@ impl<'a, S: TopStore, J: Opening<S>> Desk<'a, S, J> {
         })
     }
 
-    /// Attempts a line, and may look for a line that must be given up where this one is parked. The only error is that memory
-    /// runs out, and then no report will be made.
+    /// Attempts a line, and may look for a line that must be given up where this one is parked. The
+    /// only error is that memory runs out, and then no report will be made.
     pub(crate) fn take_turn(
         &mut self,
         session: u32,
         line: u32,
         text: &Line,
     ) -> Result<Tried, NoMemory>
-        ensures ok { IfOk result (λ tried. Tries S.TopStore self.old self.new session line text.now tried) }
+        ensures ok { IfOk result (λ tried.
+            Tries S.TopStore self.old self.new session line text.now tried) }
         ensures next { IfOk result (λ tried. IsNextJob session tried.next) }
     {
         let tried = self.try_line(session, line, text);
@@ -224,7 +229,8 @@ impl<'a, S: TopStore, J: Opening<S>> Desk<'a, S, J> {
         self,
         worked: Result<(), ServeFault>,
     ) -> Result<(Report, S), ServeFault>
-        ensures ok { IfOk result (λ run. IfSome J.first (λ first. IsServedFrom S.TopStore first run.0 run.1)) }
+        ensures ok { IfOk result (λ run.
+            IfSome J.first (λ first. IsServedFrom S.TopStore first run.0 run.1)) }
         ensures err { IfErr result (IsOfWork worked) }
         ensures off { OnErr result (IfSome J.first (BreaksOff S.TopStore)) }
     {

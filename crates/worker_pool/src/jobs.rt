@@ -74,7 +74,8 @@ pub(crate) struct Channel {
 }
 
 impl Channel {
-    /// A channel with room for so many jobs, and the first pass. The only error is that memory runs out.
+    /// A channel with room for so many jobs, and the first pass. The only error is that memory runs
+    /// out.
     pub(crate) fn new(alloc: Global, room: usize) -> Result<(Channel, Pass<Job, ()>), AllocError>
         requires { 0 < room }
         ensures { IfOk result (λ made. IsSeatAt (sends_on made.0.sender) made.1) }
@@ -86,12 +87,14 @@ impl Channel {
     /// A pass for another thread.
     pub(crate) fn another(&self, pass: &mut Pass<Job, ()>) -> Pass<Job, ()>
         requires { IsSeatAt (sends_on self.now.sender) pass.old }
-        ensures { IsSeatAt (sends_on self.now.sender) pass.new × IsSeatAt (sends_on self.now.sender) result }
+        ensures { IsSeatAt (sends_on self.now.sender) pass.new
+            × IsSeatAt (sends_on self.now.sender) result }
     {
         self.sender.another::<Cut>(pass)
     }
 
-    /// Puts a job behind all others. One for which there is no room is lost, and the calling thread finds its line at the end.
+    /// Puts a job behind all others. One for which there is no room is lost, and the calling thread
+    /// finds its line at the end.
     pub(crate) fn put<R: Wait>(&self, rt: &R, pass: &mut Pass<Job, ()>, job: Job)
         requires seat { IsSeatAt (sends_on self.now.sender) pass.old }
         requires job { IsJob job }
@@ -100,7 +103,8 @@ impl Channel {
         let _ = self.sender.send_as::<Sends, R>(rt, pass, job);
     }
 
-    /// Takes the foremost job, if there is one. A channel that nobody can send on any more gives a stop.
+    /// Takes the foremost job, if there is one. A channel that nobody can send on any more gives a
+    /// stop.
     pub(crate) fn take<R: Wait>(&self, rt: &R, pass: &mut Pass<Job, ()>) -> Option<Job>
         requires { IsSeatAt (sends_on self.now.sender) pass.old }
         ensures seat { IsSeatAt (sends_on self.now.sender) pass.new }
@@ -114,15 +118,17 @@ impl Channel {
     }
 }
 
-/// The two channels of a run, and the passes of one thread to them. Lines that were parked go through a channel of their own,
-/// so that a worker need not take and send all of them between two lines that can be answered.
+/// The two channels of a run, and the passes of one thread to them. Lines that were parked go
+/// through a channel of their own, so that a worker need not take and send all of them between two
+/// lines that can be answered.
 #[derive(Drop)]
 pub(crate) struct Lanes<'a> {
     ready: &'a Channel,
     parked: &'a Channel,
     to_ready: Pass<Job, ()>,
     to_parked: Pass<Job, ()>,
-    ghost seats: { IsSeatAt (sends_on ready.now.sender) to_ready × IsSeatAt (sends_on parked.now.sender) to_parked },
+    ghost seats: { IsSeatAt (sends_on ready.now.sender) to_ready
+        × IsSeatAt (sends_on parked.now.sender) to_parked },
 }
 
 impl<'a> Lanes<'a> {
@@ -132,7 +138,8 @@ impl<'a> Lanes<'a> {
         to_ready: Pass<Job, ()>,
         to_parked: Pass<Job, ()>,
     ) -> Lanes<'a>
-        requires { IsSeatAt (sends_on ready.now.sender) to_ready × IsSeatAt (sends_on parked.now.sender) to_parked }
+        requires { IsSeatAt (sends_on ready.now.sender) to_ready
+            × IsSeatAt (sends_on parked.now.sender) to_parked }
     {
         Lanes {
             ready,

@@ -20,8 +20,8 @@ use std::time::Clock;
 /// Why there is no report. The store is dropped.
 #[derive(Clone, Copy, Debug, PartialEq, Eq)]
 pub enum ServeFault {
-    /// Memory ran out behind the opening. The store was asked what a legal history of these sessions asks, and has the table
-    /// that this history leaves.
+    /// Memory ran out behind the opening. The store was asked what a legal history of these
+    /// sessions asks, and has the table that this history leaves.
     NoMemory,
     /// The store was not opened.
     Open(OpenFault),
@@ -45,7 +45,8 @@ fn serve_book<
 ) -> Result<(Report, S), ServeFault>
     requires opened { HasGoneOn S.TopStore J.first book }
     requires few { workers ≤ MOST_WORKERS }
-    ensures ok { IfOk result (λ run. IfSome J.first (λ first. IsServedFrom S.TopStore first run.0 run.1)) }
+    ensures ok { IfOk result (λ run.
+        IfSome J.first (λ first. IsServedFrom S.TopStore first run.0 run.1)) }
     ensures err { IfErr result (IsAfterOpening workers) }
     ensures off { OnErr result (IfSome J.first (BreaksOff S.TopStore)) }
 {
@@ -54,9 +55,10 @@ fn serve_book<
     desk.into_inner().into_report(worked)
 }
 
-/// Serves the sessions by so many workers over one lock, and gives the report and the store. Lines that are left by the
-/// workers, of whom there may be none, are tried by the calling thread. Where it answers, the report is that of a legal
-/// history that takes all lines of the sessions in turn; which one is the threads' choice.
+/// Serves the sessions by so many workers over one lock, and gives the report and the store. Lines
+/// that are left by the workers, of whom there may be none, are tried by the calling thread. Where
+/// it answers, the report is that of a legal history that takes all lines of the sessions in turn;
+/// which one is the threads' choice.
 #[tactic(auto, using(crate::proofs::Kept::as_opened, crate::proofs::Reported::if_thread, crate::proofs::Reported::open_is_no_thread))]
 pub fn serve<R: Threads + Wait + Clock + Sync, S: TopStore + Send, G: Gate + Sync>(
     rt: &R,

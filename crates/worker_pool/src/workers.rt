@@ -22,7 +22,8 @@ use std::time::{Clock, Duration};
 
 /// What is called around a line, by whoever tries it and outside the lock.
 pub trait Gate {
-    /// Before each attempt of a line, also before one that comes to nothing because another worker has the lock.
+    /// Before each attempt of a line, also before one that comes to nothing because another worker
+    /// has the lock.
     fn pass(&self, session: u32, line: u32);
 
     /// Once for each line that was answered.
@@ -32,15 +33,16 @@ pub trait Gate {
 /// The most workers of a run.
 pub const MOST_WORKERS: u32 = 16;
 
-/// For how long a worker sleeps behind a parked line, once it has found as many parked in a row as there are sessions, in
-/// microseconds.
+/// For how long a worker sleeps behind a parked line, once it has found as many parked in a row as
+/// there are sessions, in microseconds.
 const REST: u64 = 50;
 
-/// For how long a worker stands back that finds the lock taken, or no job, in microseconds. Each time in a row it is twice as long, up to the
-/// longest.
+/// For how long a worker stands back that finds the lock taken, or no job, in microseconds. Each
+/// time in a row it is twice as long, up to the longest.
 const LOCK_REST: u64 = 200;
 
-/// The longest time for which a worker stands back that finds the lock taken, or no job, again and again, in microseconds.
+/// The longest time for which a worker stands back that finds the lock taken, or no job, again and
+/// again, in microseconds.
 const LONGEST_REST: u64 = 6400;
 
 // Tries a line under the lock, unless another worker has it.
@@ -58,7 +60,8 @@ fn try_line<S: TopStore, J: Opening<S>>(
     }
 }
 
-// Tries a line, and calls the gate around it. Where another worker has the lock, nothing comes of it.
+// Tries a line, and calls the gate around it. Where another worker has the lock, nothing comes of
+// it.
 fn turn<S: TopStore, J: Opening<S>, G: Gate>(
     desk: &Mutex<Desk<'_, S, J>>,
     gate: &G,
@@ -113,8 +116,9 @@ struct Patience {
     rest: u64,
 }
 
-// Counts a line that was tried. Behind a parked one it rests, once as many in a row were parked as there are sessions, so that each
-// may have been tried. Meanwhile nobody has the line's job, and the other workers wait for theirs.
+// Counts a line that was tried. Behind a parked one it rests, once as many in a row were parked as
+// there are sessions, so that each may have been tried. Meanwhile nobody has the line's job, and
+// the other workers wait for theirs.
 fn count_tried<R: Clock>(rt: &R, patience: &mut Patience, sessions: u32, tried: &Tried) {
     patience.rest = 0;
     if tried.turn == Turn::Answered || tried.given_up.is_some() {
@@ -135,17 +139,19 @@ fn count_idle(patience: &mut Patience) {
         .min(LONGEST_REST);
 }
 
-// Stands back, where it found the lock taken, or no job. It has passed its job on, so that whoever has the lock goes on with line
-// after line of every session, and need not wake another worker at each. The rests get longer, since each change of the worker
-// costs: what the lines read stands in the cache of another processor then. It sleeps, and does not wait in a receive, since the
-// next job may come through either channel.
+// Stands back, where it found the lock taken, or no job. It has passed its job on, so that whoever
+// has the lock goes on with line after line of every session, and need not wake another worker at
+// each. The rests get longer, since each change of the worker costs: what the lines read stands in
+// the cache of another processor then. It sleeps, and does not wait in a receive, since the next
+// job may come through either channel.
 fn stand_back<R: Clock>(rt: &R, patience: &Patience) {
     if patience.rest > 0 {
         thread::sleep(rt, Duration::from_micros(patience.rest));
     }
 }
 
-// Does a job, and gives the one that follows: the session's next line, which may be the same again, or a stop.
+// Does a job, and gives the one that follows: the session's next line, which may be the same again,
+// or a stop.
 fn follow<R: Clock, S: TopStore, J: Opening<S>, G: Gate>(
     rt: &R,
     sessions: &Sessions,
@@ -247,8 +253,9 @@ fn first_jobs<R: Wait>(rt: &R, ready: &Channel, pass: &mut Pass<Job, ()>, sessio
     }
 }
 
-// Starts the workers, hands out the first lines and waits for the workers. It answers whether each could be started. Until all
-// are there no line is in a channel, so that none is attempted where one cannot be started: those before it find a stop.
+// Starts the workers, hands out the first lines and waits for the workers. It answers whether each
+// could be started. Until all are there no line is in a channel, so that none is attempted where
+// one cannot be started: those before it find a stop.
 fn start_all<
     R: Threads + Wait + Clock + Sync,
     S: TopStore + Send,
@@ -265,14 +272,16 @@ fn start_all<
     workers: u32,
     gate: &G,
 ) -> bool
-    requires { IsSeatAt (sends_on ready.now.sender) to_ready × IsSeatAt (sends_on parked.now.sender) to_parked }
+    requires { IsSeatAt (sends_on ready.now.sender) to_ready
+        × IsSeatAt (sends_on parked.now.sender) to_parked }
     ensures { IsFalse result → 0 < workers }
 {
     thread::scope(
         thread::scope_env(),
         rt,
         |scope| -> bool
-            requires { IsSeatAt (sends_on ready.now.sender) to_ready × IsSeatAt (sends_on parked.now.sender) to_parked }
+            requires { IsSeatAt (sends_on ready.now.sender) to_ready
+                × IsSeatAt (sends_on parked.now.sender) to_parked }
             ensures { IsFalse result → 0 < workers }
         {
             for _ in 0..workers {
@@ -312,7 +321,8 @@ fn is_over<R: Wait, S: TopStore, J: Opening<S>>(rt: &R, desk: &Mutex<Desk<'_, S,
     desk.lock(rt).is_over()
 }
 
-// Tries the lines that are left, in rounds, until none is: those whose jobs were lost. Most runs leave none.
+// Tries the lines that are left, in rounds, until none is: those whose jobs were lost. Most runs
+// leave none.
 fn finish<R: Wait, S: TopStore, J: Opening<S>, G: Gate>(
     rt: &R,
     sessions: &Sessions,

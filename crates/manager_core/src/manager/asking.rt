@@ -19,41 +19,49 @@ impl<S: TopStore> Manager<S> {
     ghost use Rattle.manager_core.specs.Calls.{Answered, Retried, WaitsOrIsUndone};
     ghost use Rattle.manager_core.specs.Sound.{IsSound};
 
-    /// Reads or writes a key. It is refused by the first of these that holds: the transaction never began
-    /// (Unknown), has an aborted ancestor, itself included (Orphan), or has committed (Done); it waits by another
-    /// line (Waiting); the key is new where 4,096 are known (Full). Else it waits where a lock keeps it out. If a
-    /// cycle of waits comes of it, the last begun of those that lie on any is aborted as a victim, until none is
-    /// left; the accessing transaction may be one, and then it waits no more.
+    /// Reads or writes a key. It is refused by the first of these that holds: the transaction never
+    /// began (Unknown), has an aborted ancestor, itself included (Orphan), or has committed (Done);
+    /// it waits by another line (Waiting); the key is new where 4,096 are known (Full). Else it
+    /// waits where a lock keeps it out. If a cycle of waits comes of it, the last begun of those
+    /// that lie on any is aborted as a victim, until none is left; the accessing transaction may be
+    /// one, and then it waits no more.
     #[inline(always)]
     pub fn access(&mut self, by: By, name: &Name, key: &Key, op: Op) -> Result<Outcome, NoMemory>
         requires free { IsFree self.old.history by (Access name.now key.now op) }
-        ensures ok { IfOk result (λ outcome. Answered self.old self.new by (Access name.now key.now op) outcome) }
-        ensures waits { IfOk result (λ outcome. outcome ≡ Outcome.Waits → WaitsOrIsUndone self.new.history by name.now (At key.now op)) }
+        ensures ok { IfOk result (λ outcome.
+            Answered self.old self.new by (Access name.now key.now op) outcome) }
+        ensures waits { IfOk result (λ outcome. outcome ≡ Outcome.Waits →
+            WaitsOrIsUndone self.new.history by name.now (At key.now op)) }
         ensures err { OnErr result (self.new ≡ self.old) }
         ensures sound { OnOk result (IsSound S.TopStore self.new) }
     {
         self.ask(by, name, Asked::At(*key, op))
     }
 
-    /// Reads the sum of the values of all present keys of a group, and keeps each key of the group from being written by others,
-    /// those that are not present too. It is refused as an access is, but never for a key too many (Full); it waits, and victims
-    /// are aborted, as by `access`.
+    /// Reads the sum of the values of all present keys of a group, and keeps each key of the group
+    /// from being written by others, those that are not present too. It is refused as an access is,
+    /// but never for a key too many (Full); it waits, and victims are aborted, as by `access`.
     pub fn sum(&mut self, by: By, name: &Name, group: &Group) -> Result<Outcome, NoMemory>
         requires free { IsFree self.old.history by (Sum name.now group.now) }
-        ensures ok { IfOk result (λ outcome. Answered self.old self.new by (Sum name.now group.now) outcome) }
-        ensures waits { IfOk result (λ outcome. outcome ≡ Outcome.Waits → WaitsOrIsUndone self.new.history by name.now (Over group.now)) }
+        ensures ok { IfOk result (λ outcome.
+            Answered self.old self.new by (Sum name.now group.now) outcome) }
+        ensures waits { IfOk result (λ outcome. outcome ≡ Outcome.Waits →
+            WaitsOrIsUndone self.new.history by name.now (Over group.now)) }
         ensures err { OnErr result (self.new ≡ self.old) }
         ensures sound { OnOk result (IsSound S.TopStore self.new) }
     {
         self.ask(by, name, Asked::Over(*group))
     }
 
-    // An operation at a key, or a sum over a group. It is part of its callers, so that its outcome is made where they want it.
+    // An operation at a key, or a sum over a group. It is part of its callers, so that its outcome
+    // is made where they want it.
     #[inline(always)]
     fn ask(&mut self, by: By, name: &Name, asked: Asked) -> Result<Outcome, NoMemory>
         requires free { IsFree self.old.history by (event_of name.now asked) }
-        ensures ok { IfOk result (λ outcome. Answered self.old self.new by (event_of name.now asked) outcome) }
-        ensures waits { IfOk result (λ outcome. outcome ≡ Outcome.Waits → WaitsOrIsUndone self.new.history by name.now asked) }
+        ensures ok { IfOk result (λ outcome.
+            Answered self.old self.new by (event_of name.now asked) outcome) }
+        ensures waits { IfOk result (λ outcome. outcome ≡ Outcome.Waits →
+            WaitsOrIsUndone self.new.history by name.now asked) }
         ensures err { OnErr result (self.new ≡ self.old) }
         ensures sound { OnOk result (IsSound S.TopStore self.new) }
     {
@@ -83,8 +91,8 @@ impl<S: TopStore> Manager<S> {
         }
     }
 
-    /// Asks again for the access by which the transaction waits. It is answered now, by its own line, and victims are aborted
-    /// as by `access`; or it waits on, and then nothing changes.
+    /// Asks again for the access by which the transaction waits. It is answered now, by its own
+    /// line, and victims are aborted as by `access`; or it waits on, and then nothing changes.
     pub fn retry(&mut self, name: &Name) -> Result<Outcome, NoMemory>
         requires waits { IsTrue (is_some (wait_of self.old.history name.now)) }
         ensures ok { IfOk result (λ outcome. Retried self.old self.new name.now outcome) }

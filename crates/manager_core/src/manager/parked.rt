@@ -15,11 +15,13 @@ use txn_names::Name;
 impl<S: TopStore> Manager<S> {
     ghost use Rattle.manager_core.specs.Sound.{IsSound};
 
-    /// Answers an `after` line once its condition holds: that the transaction has begun; or that it has committed, or has
-    /// begun and has an aborted ancestor, itself included. Until then the line waits, without an entry, and nothing changes.
+    /// Answers an `after` line once its condition holds: that the transaction has begun; or that it
+    /// has committed, or has begun and has an aborted ancestor, itself included. Until then the
+    /// line waits, without an entry, and nothing changes.
     pub fn after(&mut self, by: By, name: &Name, when: When) -> Result<Outcome, NoMemory>
         requires free { IsFree self.old.history by (After name.now when) }
-        ensures ok { IfOk result (λ outcome. Awaited self.old self.new by (After name.now when) outcome) }
+        ensures ok { IfOk result (λ outcome.
+            Awaited self.old self.new by (After name.now when) outcome) }
         ensures err { OnErr result (self.new ≡ self.old) }
         ensures sound { OnOk result (IsSound S.TopStore self.new) }
     {
@@ -32,8 +34,8 @@ impl<S: TopStore> Manager<S> {
         Ok(outcome)
     }
 
-    /// Whether the line may be given up and no call answers it: its access waits by it and is kept out still, or it is free
-    /// and its condition does not hold. It takes no memory.
+    /// Whether the line may be given up and no call answers it: its access waits by it and is kept
+    /// out still, or it is free and its condition does not hold. It takes no memory.
     pub fn held_up(&self, by: By, event: &Event) -> bool
         ensures { IsTrue result ↔ IsKeptOut self.now.rows self.now.history by event.now }
     {
@@ -51,23 +53,26 @@ impl<S: TopStore> Manager<S> {
         }
     }
 
-    /// Whether nobody waits: it is so exactly where no access waits by any line. It takes no memory.
+    /// Whether nobody waits: it is so exactly where no access waits by any line. It takes no
+    /// memory.
     pub fn nobody_waits(&self) -> bool
         ensures { IsTrue result ↔ NobodyWaits self.now.history }
     {
         self.tables.nobody_waits(&self.log)
     }
 
-    /// Whether it is seen at once that the line is held up: an access waits by it that was seen kept out, and no transaction has ended
-    /// since, so that locks have only risen (Moss 1981). Else `held_up` tells. It takes no memory.
+    /// Whether it is seen at once that the line is held up: an access waits by it that was seen
+    /// kept out, and no transaction has ended since, so that locks have only risen (Moss 1981).
+    /// Else `held_up` tells. It takes no memory.
     pub fn is_parked(&self, by: By) -> bool
         ensures { IsTrue result → IsParked self.now.rows self.now.history by }
     {
         self.tables.is_parked(&self.log, by)
     }
 
-    /// As `is_parked`, and where a transaction has ended since, the locks are asked once more. An access that is kept out is
-    /// remembered until the next one ends, so that to ask again costs one look. It takes no memory.
+    /// As `is_parked`, and where a transaction has ended since, the locks are asked once more. An
+    /// access that is kept out is remembered until the next one ends, so that to ask again costs
+    /// one look. It takes no memory.
     pub fn stays_parked(&mut self, by: By) -> bool
         ensures parked { IsTrue result → IsParked self.old.rows self.old.history by }
         ensures same { self.new ≡ self.old }
@@ -78,7 +83,8 @@ impl<S: TopStore> Manager<S> {
     // Gives up an access that waits by this line.
     fn cancel_access(&mut self, by: By, event: &Event) -> Result<(), NoMemory>
         requires waits { IsWaitOf self.old.history by event.now }
-        ensures ok { OnOk result (self.new ≡ record self.old { history = entry by event.now Stuck ∷ self.old.history }) }
+        ensures ok { OnOk result
+            (self.new ≡ record self.old { history = entry by event.now Stuck ∷ self.old.history }) }
         ensures err { OnErr result (self.new ≡ self.old) }
         ensures sound { OnOk result (IsSound S.TopStore self.new) }
     {
@@ -94,7 +100,9 @@ impl<S: TopStore> Manager<S> {
     // Gives up an `after` line whose condition does not hold.
     fn cancel_after(&mut self, by: By, name: &Name, when: When) -> Result<(), NoMemory>
         requires may { CanGiveUp self.old.history by (After name.now when) }
-        ensures ok { OnOk result (self.new ≡ record self.old { history = entry by (After name.now when) Stuck ∷ self.old.history }) }
+        ensures ok { OnOk result
+            (self.new ≡
+            record self.old { history = entry by (After name.now when) Stuck ∷ self.old.history }) }
         ensures err { OnErr result (self.new ≡ self.old) }
         ensures sound { OnOk result (IsSound S.TopStore self.new) }
     {
@@ -103,11 +111,12 @@ impl<S: TopStore> Manager<S> {
         Ok(())
     }
 
-    /// Gives a line up, an access that waits by it or an `after` line whose condition does not hold: it is answered `Stuck`.
-    /// Its transaction waits no more.
+    /// Gives a line up, an access that waits by it or an `after` line whose condition does not
+    /// hold: it is answered `Stuck`. Its transaction waits no more.
     pub fn cancel(&mut self, by: By, event: &Event) -> Result<(), NoMemory>
         requires may { CanGiveUp self.old.history by event.now }
-        ensures ok { OnOk result (self.new ≡ record self.old { history = entry by event.now Stuck ∷ self.old.history }) }
+        ensures ok { OnOk result
+            (self.new ≡ record self.old { history = entry by event.now Stuck ∷ self.old.history }) }
         ensures err { OnErr result (self.new ≡ self.old) }
         ensures sound { OnOk result (IsSound S.TopStore self.new) }
     {

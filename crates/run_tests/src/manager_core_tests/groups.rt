@@ -62,7 +62,8 @@ fn a_summed_group_is_kept_from_writers(rt: HostRuntime) {
     play(&rt, rt.alloc(), "g.x=7", script, "g=2 g.new=1 g.x=7 gx=3");
 }
 
-// An own child that has written keeps the parent's sum waiting, and a child's sum goes up at its commit.
+// An own child that has written keeps the parent's sum waiting, and a child's sum goes up at its
+// commit.
 #[test]
 fn a_parent_retains_its_childs_sum(rt: HostRuntime) {
     let script = "

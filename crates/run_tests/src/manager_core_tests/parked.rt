@@ -1,7 +1,8 @@
 //! Lines that wait for a condition, and lines that are given up.
 use crate::manager_core_tests::watched::play;
 
-// What has begun is told at once, what has come to its end once it has, by its commit or by an abort above it.
+// What has begun is told at once, what has come to its end once it has, by its commit or by an
+// abort above it.
 #[test]
 fn conditions_come(rt: HostRuntime) {
     let script = "

@@ -88,8 +88,8 @@ fn is_served_at_once(rt: &impl Abort, alloc: Global) -> bool {
     served && faults == 0
 }
 
-// Beside a watch each call may want memory once, and a store refuse once. A trial run refuses one growth, and so one
-// of the two.
+// Beside a watch each call may want memory once, and a store refuse once. A trial run refuses one
+// growth, and so one of the two.
 #[test]
 fn one_of_two_sessions_is_served_at_once(rt: HostRuntime) {
     let first = is_served_at_once(&rt, rt.alloc());

@@ -19,8 +19,8 @@ fn two_in_opposite_order(rt: HostRuntime) {
     play(&rt, rt.alloc(), "", script, "x=1 y=2");
 }
 
-// An answered access closes the cycle: u's read keeps t from writing, and t is what u's child waits for. A growth of it that is
-// refused leaves nine entries and both waits.
+// An answered access closes the cycle: u's read keeps t from writing, and t is what u's child waits
+// for. A growth of it that is refused leaves nine entries and both waits.
 #[test]
 fn an_answered_access_closes_a_cycle(rt: HostRuntime) {
     let script = "

@@ -1,7 +1,8 @@
-//! A manager under watch, which plays a script. A call that finds no memory has to leave all that can be seen, and to
-//! succeed when it is made again: a trial run refuses each growth in turn.
+//! A manager under watch, which plays a script. A call that finds no memory has to leave all that
+//! can be seen, and to succeed when it is made again: a trial run refuses each growth in turn.
 //!
-//! What fails ends the process. So no function drops a manager on its way out, which would make a long proof.
+//! What fails ends the process. So no function drops a manager on its way out, which would make a
+//! long proof.
 ghost use Rattle.std.specs.Prelude.{◌≡◌, IfOk, IfSome, OnErr};
 ghost use Rattle.serial_spec.specs.declared.entry.By.TheVariants.{Line};
 ghost use Rattle.serial_spec.specs.History.{event_of};
@@ -186,8 +187,8 @@ fn is_due<S: TopStore>(watched: &Watched<S>) -> bool {
     watched.manager.history() == watched.due.as_slice()
 }
 
-// What a manager shows beside its history, as a hash: both tables, and by the entries whether their transactions
-// wait, and whether their lines are free for what they asked and for a begin.
+// What a manager shows beside its history, as a hash: both tables, and by the entries whether their
+// transactions wait, and whether their lines are free for what they asked and for a begin.
 fn look<S: TopStore>(watched: &Watched<S>) -> u64 {
     let Watched { manager, due, .. } = watched;
     let mut seen = DefaultHasher::new();
@@ -269,7 +270,8 @@ fn owe(rt: &impl Abort, due: &mut Vec<Entry>, by: By, event: &Event, answer: Ans
     entry.add_to(due);
 }
 
-// After a call its line has no other, and its transaction waits where the call waits or is refused for that.
+// After a call its line has no other, and its transaction waits where the call waits or is refused
+// for that.
 fn check_line<S: TopStore>(
     rt: &impl Abort,
     manager: &Manager<S>,
@@ -322,7 +324,8 @@ fn ask<S: TopStore>(
     outcome
 }
 
-// Asks again for an access that waits: it is answered by its own line, or waits on, and then nothing has changed.
+// Asks again for an access that waits: it is answered by its own line, or waits on, and then
+// nothing has changed.
 fn ask_again<S: TopStore>(
     rt: &impl Abort,
     watched: &mut Watched<S>,
@@ -360,7 +363,8 @@ fn access_once<S: TopStore>(
     asked: &Asked,
 ) -> Result<Outcome, NoMemory>
     requires { IsFree manager.old.history by (event_of name.now asked.now) }
-    ensures waits { IfOk result (λ outcome. outcome ≡ Outcome.Waits → WaitsOrIsUndone manager.new.history by name.now asked.now) }
+    ensures waits { IfOk result (λ outcome. outcome ≡ Outcome.Waits →
+        WaitsOrIsUndone manager.new.history by name.now asked.now) }
     ensures err { OnErr result (manager.new ≡ manager.old) }
 {
     match asked {
@@ -378,7 +382,8 @@ fn access<S: TopStore>(
     asked: &Asked,
 ) -> Outcome
     requires { IsFree watched.old.manager.history by (event_of name.now asked.now) }
-    ensures { result ≡ Outcome.Waits → WaitsOrIsUndone watched.new.manager.history by name.now asked.now }
+    ensures { result ≡ Outcome.Waits →
+        WaitsOrIsUndone watched.new.manager.history by name.now asked.now }
 {
     let before = look(watched);
     match access_once(&mut watched.manager, by, name, asked) {
@@ -457,8 +462,8 @@ fn wait_for<S: TopStore>(
 
 const NOT_STORED: Answer = Answer::Refused(Refusal::Store);
 
-// Makes the call of a line, and gives its answer. A line that waits already asks again. Where an access is to be stuck
-// it is given up when it waits.
+// Makes the call of a line, and gives its answer. A line that waits already asks again. Where an
+// access is to be stuck it is given up when it waits.
 fn answer_to<S: TopStore>(
     rt: &impl Abort,
     watched: &mut Watched<S>,
@@ -520,7 +525,8 @@ fn load<S: TopStore>(rt: &impl Abort, alloc: Global, store: &mut S) -> Vec<Row> 
     }
 }
 
-// The history is the one that is due, the table and the store have these rows, and each fault of the store is an entry.
+// The history is the one that is due, the table and the store have these rows, and each fault of
+// the store is an entry.
 fn check_parts<S: TopStore>(
     rt: &impl Abort,
     alloc: Global,
@@ -575,8 +581,8 @@ fn check_standing<S: TopStore>(rt: &impl Abort, watched: &Watched<S>, text: &str
     }
 }
 
-// A line of a script: a call with its answer, `close` with what has to be aborted, `table` with its rows, or `stand` with how
-// many entries there are and who waits.
+// A line of a script: a call with its answer, `close` with what has to be aborted, `table` with its
+// rows, or `stand` with how many entries there are and who waits.
 fn step<S: TopStore>(rt: &impl Abort, watched: &mut Watched<S>, text: &str) {
     let (word, rest) = text.split_once(' ').unwrap_or((text, ""));
     match word {

@@ -1,4 +1,5 @@
-//! As many lines are under way at once as there are workers, and one is answered while the other is held up at the gate.
+//! As many lines are under way at once as there are workers, and one is answered while the other is
+//! held up at the gate.
 use super::served;
 use interleavings::Report;
 use serial_spec::By;
@@ -86,7 +87,8 @@ impl Meeting {
         }
     }
 
-    // Tells that a first line is answered, and waits for the other's answer where both are held up so.
+    // Tells that a first line is answered, and waits for the other's answer where both are held up
+    // so.
     fn told(&self, mine: &AtomicBool, other: &AtomicBool) {
         mine.store(true, Ordering::SeqCst);
         if self.held == Held::Answered {
@@ -146,7 +148,8 @@ fn two_at_once(rt: HostRuntime) {
     }
 }
 
-/// Counts how many lines are at the gate at once, and holds each until as many as are expected have come.
+/// Counts how many lines are at the gate at once, and holds each until as many as are expected have
+/// come.
 #[derive(Drop)]
 struct Crowd {
     expected: u32,

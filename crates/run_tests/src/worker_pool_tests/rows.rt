@@ -21,11 +21,13 @@ const RETAINED: &[u8] =
     b"session p\nbegin a\nbegin a/l\nset a/l x 7\ncommit a/l\nafter b begun\ncommit a\n\
 session q\nafter a/l done\nbegin b\nget b x\ncommit b\n";
 
-/// A line that waits for what will not be, and that is given up where the other session's read waits behind it.
+/// A line that waits for what will not be, and that is given up where the other session's read
+/// waits behind it.
 const GIVEN_UP: &[u8] =
     b"session p\nbegin a\nset a x 1\nafter b done\ncommit a\nsession q\nbegin b\nget b x\ncommit b\n";
 
-/// The same, where the read always comes behind the write: so that the line is given up by any number of workers.
+/// The same, where the read always comes behind the write: so that the line is given up by any
+/// number of workers.
 const ALWAYS_GIVEN_UP: &[u8] =
     b"session p\nbegin a\nbegin a/l\nset a/l x 1\ncommit a/l\nafter b done\ncommit a\n\
 session q\nafter a/l done\nbegin b\nget b x\ncommit b\n";
@@ -66,7 +68,8 @@ impl Counts {
         }
     }
 
-    // Whether it was told of each of so many lines once that it was answered, and of no fewer attempts.
+    // Whether it was told of each of so many lines once that it was answered, and of no fewer
+    // attempts.
     fn heard(&self, lines: u32) -> bool {
         self.answered.load(Ordering::SeqCst) == lines as u64
             && self.lines.load(Ordering::SeqCst).count_ones() == lines
@@ -185,8 +188,9 @@ fn was_told(history: &[Entry], name: &Name, value: i64) -> bool {
     })
 }
 
-// Whether the commits stand in the order of the values that their transactions were told, from 1, and no line was given up
-// nor any transaction taken as a victim. Answers how many commits there are.
+// Whether the commits stand in the order of the values that their transactions were told, from 1,
+// and no line was given up nor any transaction taken as a victim. Answers how many commits there
+// are.
 fn commits_in_order(history: &[Entry]) -> Option<i64> {
     let mut commits: i64 = 0;
     for entry in history {

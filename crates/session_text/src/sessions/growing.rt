@@ -23,8 +23,8 @@ impl Sessions {
         }
     }
 
-    /// The place of the session with this label, where there is one: sessions count from 0 in order of their headers.
-    /// Labels are compared one after another, of at most 64 sessions.
+    /// The place of the session with this label, where there is one: sessions count from 0 in order
+    /// of their headers. Labels are compared one after another, of at most 64 sessions.
     pub fn place(&self, label: &Label) -> Option<u32>
         ensures { result ≡ place_of label.now self.now }
     {
@@ -32,7 +32,8 @@ impl Sessions {
         Some(place as u32)
     }
 
-    /// The number of lines of a session, without its header: at most 1,024, and 0 where there is no such session.
+    /// The number of lines of a session, without its header: at most 1,024, and 0 where there is no
+    /// such session.
     pub fn line_count(&self, session: u32) -> usize
         ensures { result ≡ length (lines_of (slice_get self.now session)) }
     {
@@ -42,9 +43,9 @@ impl Sessions {
         }
     }
 
-    /// A new session behind the others, which has no lines yet. Its label is none of theirs, as where `place` answers
-    /// `None`, and there are fewer than 64. A growth that is refused is told as `NoMemory` and leaves the sessions as they
-    /// were.
+    /// A new session behind the others, which has no lines yet. Its label is none of theirs, as
+    /// where `place` answers `None`, and there are fewer than 64. A growth that is refused is told
+    /// as `NoMemory` and leaves the sessions as they were.
     pub fn add_session(&mut self, alloc: Global, label: Label) -> Result<(), NoMemory>
         requires free { IsFalse (is_taken label self.old) }
         requires room { length self.old < MOST_SESSIONS }
@@ -57,8 +58,8 @@ impl Sessions {
         Ok(())
     }
 
-    /// A line more of a session, behind its others, of which there are fewer than 1,024. A growth that is refused is told
-    /// as `NoMemory` and leaves the sessions as they were.
+    /// A line more of a session, behind its others, of which there are fewer than 1,024. A growth
+    /// that is refused is told as `NoMemory` and leaves the sessions as they were.
     pub fn add_line(&mut self, session: u32, line: Line) -> Result<(), NoMemory>
         requires there { session < length self.old }
         requires room { length (lines_of (slice_get self.old session)) < MOST_LINES }

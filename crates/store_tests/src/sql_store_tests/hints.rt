@@ -1,5 +1,5 @@
-//! Rows that change behind the store, by an action of a foreign key: the numbers that it keeps say then what is no longer so,
-//! and its commits are made all the same.
+//! Rows that change behind the store, by an action of a foreign key: the numbers that it keeps say
+//! then what is no longer so, and its commits are made all the same.
 use super::{adopted, database, gives, serves};
 use std::alloc::Global;
 use std::process::Abort;
@@ -13,7 +13,8 @@ const GOES: &str =
 const COMES: &str =
     "CREATE TABLE results2 (k TEXT NOT NULL PRIMARY KEY DEFAULT 'a' REFERENCES results2 (p) ON DELETE SET DEFAULT, v INTEGER NOT NULL, n INTEGER NOT NULL, p TEXT UNIQUE) STRICT;INSERT INTO results2 VALUES ('a', 1, 1, 'b'), ('b', 2, 1, 'a')";
 
-// Whether a store over the database that the statements make gives these rows, takes the commits, and gives those.
+// Whether a store over the database that the statements make gives these rows, takes the commits,
+// and gives those.
 fn follows(
     rt: &impl Abort,
     alloc: Global,
@@ -34,7 +35,8 @@ fn follows(
     followed
 }
 
-// An update of `b` meets no row. A trial run refuses one growth, and so stands in the way of one of two stores.
+// An update of `b` meets no row. A trial run refuses one growth, and so stands in the way of one of
+// two stores.
 #[test]
 fn a_row_that_has_gone_is_put(rt: HostRuntime) {
     let first = follows(

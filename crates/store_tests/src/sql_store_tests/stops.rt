@@ -1,5 +1,6 @@
-//! A store over a database file and its log. Each of the two stops at some call and the machine with it: what is opened
-//! then holds the table before a commit or after it. A stop while a row of the first version is taken over leaves that row.
+//! A store over a database file and its log. Each of the two stops at some call and the machine
+//! with it: what is opened then holds the table before a commit or after it. A stop while a row of
+//! the first version is taken over leaves that row.
 use super::{are, commit};
 use durable_top::TopStore;
 use sql_store::SqlStore;
@@ -166,8 +167,8 @@ fn due(tables: &'static [&'static str], made: Option<usize>) -> Job {
     }
 }
 
-// How many commits stand after a run whose log and database stop after so many calls, or none where they hold another
-// table than that before the stop or after it.
+// How many commits stand after a run whose log and database stop after so many calls, or none where
+// they hold another table than that before the stop or after it.
 fn stopped(rt: &impl Abort, alloc: Global, is_new: bool, log: u64, db: u64) -> Option<usize> {
     let begun = begun(rt, alloc, is_new);
     let files = Files {

@@ -12,7 +12,8 @@ use std::thread::Threads;
 use std::time::Clock;
 use txn_names::{Change, Key};
 
-// Whether this fault is shown as this line without its line feed, and told by it with exit status 1.
+// Whether this fault is shown as this line without its line feed, and told by it with exit status
+// 1.
 fn is_told(rt: &impl Abort, alloc: Global, fault: Fault<'_>, line: &str) -> bool {
     let shown = format!(in alloc; "{fault}\n").expect(rt, "memory");
     let mut err = Vec::new(alloc);
@@ -93,7 +94,8 @@ fn a_line_past_the_limit(rt: HostRuntime) {
     assert!(rt; told.is_fault("tx: line 1026: limit\n"));
 }
 
-// Seventeen sessions that begin 16,385 transactions of the top level: the last has one line, each other 1,024.
+// Seventeen sessions that begin 16,385 transactions of the top level: the last has one line, each
+// other 1,024.
 fn crowded_text(rt: &impl Abort, alloc: Global) -> String {
     let mut text = String::new(alloc);
     for number in 0..16385u32 {

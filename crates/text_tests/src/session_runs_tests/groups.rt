@@ -1,5 +1,5 @@
-//! Sums over groups: each report is the one that is due to the texts of its own entries, its committed transactions are a serial
-//! run, and that run leaves its table.
+//! Sums over groups: each report is the one that is due to the texts of its own entries, its
+//! committed transactions are a serial run, and that run leaves its table.
 use crate::session_runs_tests::faults::most_rows;
 use crate::session_runs_tests::sessions::{is_judged, is_printed, text_of};
 use crate::session_runs_tests::{Told, replayed, runs};
@@ -122,7 +122,8 @@ g.x=1
 end
 ";
 
-/// A sum that waited has the values of the moment of its answer: another wrote a key of the group meanwhile, and committed.
+/// A sum that waited has the values of the moment of its answer: another wrote a key of the group
+/// meanwhile, and committed.
 const OF_ITS_ANSWER: &str = "\
 open
 p 1 begin a -> ok

@@ -1,5 +1,5 @@
-//! Runs of one session: each report is the one that is due to the texts of its own entries, its committed transactions are a
-//! serial run, and that run leaves its table.
+//! Runs of one session: each report is the one that is due to the texts of its own entries, its
+//! committed transactions are a serial run, and that run leaves its table.
 use crate::session_runs_tests::sessions::is_judged;
 use crate::session_runs_tests::{empty, replayed};
 use durable_top::{MemStore, Row};
@@ -152,7 +152,8 @@ x=1
 end
 ";
 
-/// What is live at the end is aborted in the order of beginning; an inferior has no entry of its own.
+/// What is live at the end is aborted in the order of beginning; an inferior has no entry of its
+/// own.
 const LEFT_OPEN: &str = "\
 open
 s 1 begin a -> ok

@@ -1,5 +1,5 @@
-//! A judge of reports apart from the proofs: what the committed transactions were replied is run again over one table,
-//! one transaction after another, and has to lead to the report's table.
+//! A judge of reports apart from the proofs: what the committed transactions were replied is run
+//! again over one table, one transaction after another, and has to lead to the report's table.
 use durable_top::Row;
 use interleavings::Report;
 use serial_spec::{Answer, Entry, Event, Item, PlainTable, Reply, run_items};
@@ -70,8 +70,8 @@ fn is_same(left: &PlainTable, right: &PlainTable) -> bool {
     left.len() == right.len() && (0..left.len()).all(|place| left.at(place) == right.at(place))
 }
 
-// Whether the committed top-level transactions of this history, over the report's opening rows, have these replies and leave
-// the report's table.
+// Whether the committed top-level transactions of this history, over the report's opening rows,
+// have these replies and leave the report's table.
 fn is_serial_by(rt: &impl Abort, alloc: Global, report: &Report, history: &[Entry]) -> bool {
     let mut under = Vec::new(alloc);
     begin(rt, alloc, &mut under, None);
@@ -86,12 +86,14 @@ fn is_serial_by(rt: &impl Abort, alloc: Global, report: &Report, history: &[Entr
     wrong.is_none() && is_same(&table, report.table())
 }
 
-/// Whether the committed top-level transactions, one after another, have these replies and leave this table.
+/// Whether the committed top-level transactions, one after another, have these replies and leave
+/// this table.
 pub fn is_serial(rt: &impl Abort, alloc: Global, report: &Report) -> bool {
     is_serial_by(rt, alloc, report, report.history())
 }
 
-/// Whether that were so of the same report with another sum as the reply to the first add. It must not be.
+/// Whether that were so of the same report with another sum as the reply to the first add. It must
+/// not be.
 pub fn is_serial_spoiled(rt: &impl Abort, alloc: Global, report: &Report) -> bool {
     let mut history = Vec::new(alloc);
     let mut spoiled = false;

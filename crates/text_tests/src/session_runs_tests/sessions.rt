@@ -1,5 +1,5 @@
-//! Runs of several sessions: each report is the one that is due to the texts of its own entries, its committed transactions
-//! are a serial run, and that run leaves its table.
+//! Runs of several sessions: each report is the one that is due to the texts of its own entries,
+//! its committed transactions are a serial run, and that run leaves its table.
 use crate::session_runs_tests::empty;
 use crate::session_runs_tests::serial::is_serial;
 use durable_top::{MemStore, Row, TopStore};
@@ -180,7 +180,8 @@ x=1
 end
 ";
 
-/// A session that ends leaves its transaction open, and its locks keep another out until that one is given up.
+/// A session that ends leaves its transaction open, and its locks keep another out until that one
+/// is given up.
 const LEFT_BEHIND: &str = "\
 open
 p 1 begin a -> ok
@@ -247,7 +248,8 @@ fn command_of<'a>(entry: &'a str, label: &str, before: u32) -> Option<(u32, &'a 
     }
 }
 
-// A session whose lines are the texts of the report's entries of this label, behind the text so far.
+// A session whose lines are the texts of the report's entries of this label, behind the text so
+// far.
 fn add_session(rt: &impl Abort, text: &mut String, report: &str, label: &str) {
     text.push_str("session ").expect(rt, "memory");
     text.push_str(label).expect(rt, "memory");

@@ -1,5 +1,6 @@
-//! A session text over a database file and its log. Each of the two stops at some call and the machine with it: what is
-//! opened then has the table of the commits that were acknowledged, or of one more where that one was not answered.
+//! A session text over a database file and its log. Each of the two stops at some call and the
+//! machine with it: what is opened then has the table of the commits that were acknowledged, or of
+//! one more where that one was not answered.
 use durable_top::TopStore;
 use session_runs::replay_text;
 use sql_store::SqlStore;
@@ -65,7 +66,8 @@ fn told<S: TopStore>(alloc: Global, text: &[u8], store: S) -> Option<(Vec<u8>, S
     Some((out, left))
 }
 
-// The text's report over the files and the files, where there is a report, and whether they were closed without a stop.
+// The text's report over the files and the files, where there is a report, and whether they were
+// closed without a stop.
 fn run<D: Disk + Drop>(
     alloc: Global,
     files: Files<D>,
@@ -76,7 +78,8 @@ fn run<D: Disk + Drop>(
     Some((out, files, is_whole))
 }
 
-// How many commits were acknowledged before the first that was not, and whether there is such a one.
+// How many commits were acknowledged before the first that was not, and whether there is such a
+// one.
 fn acknowledged(report: &str) -> (usize, bool) {
     let mut count: usize = 0;
     for entry in report.lines() {
@@ -97,7 +100,8 @@ fn crashed<D: Crash + Drop>(mut files: Files<D>) -> Files<D> {
     files
 }
 
-// Whether the empty text reports the table after one of the numbers of commits from the least to the most.
+// Whether the empty text reports the table after one of the numbers of commits from the least to
+// the most.
 fn is_left<D: Crash + Drop>(alloc: Global, files: Files<D>, least: usize, most: usize) -> bool {
     let Some((report, _, _)) = run(alloc, crashed(files), b"") else {
         return false;
@@ -110,8 +114,8 @@ fn is_left<D: Crash + Drop>(alloc: Global, files: Files<D>, least: usize, most: 
     false
 }
 
-// What a run comes to whose log and database stop after so many calls, or none where the files then have another table
-// than they may.
+// What a run comes to whose log and database stop after so many calls, or none where the files then
+// have another table than they may.
 fn stopped(rt: &impl Abort, alloc: Global, log: u64, db: u64) -> Option<Ended> {
     let files = Files {
         log: Fuse::new(Memory::new(alloc), log),
@@ -132,8 +136,8 @@ fn stopped(rt: &impl Abort, alloc: Global, log: u64, db: u64) -> Option<Ended> {
     }
 }
 
-// Behind how many commits a stop was met, up to the first run that meets none: the log stops after each number of calls
-// in turn, or the database does.
+// Behind how many commits a stop was met, up to the first run that meets none: the log stops after
+// each number of calls in turn, or the database does.
 fn stops(rt: &impl Abort, alloc: Global, is_log: bool) -> Option<[bool; 4]> {
     let mut met = [false; 4];
     for calls in 0..MOST {

@@ -1,4 +1,5 @@
-//! Runs over stores of all kinds: those that refuse and fail, and databases that have rows or are used again.
+//! Runs over stores of all kinds: those that refuse and fail, and databases that have rows or are
+//! used again.
 ghost use Rattle.std.specs.Prelude.{None};
 
 use crate::session_runs_tests::runs::{UNDONE_WITH_PARENT, text_of};
@@ -43,7 +44,8 @@ table
 end
 ";
 
-/// One commit adds 23 rows: by a statement of 16, one of 4, and three of one. The next changes a row, takes one away and adds 5.
+/// One commit adds 23 rows: by a statement of 16, one of 4, and three of one. The next changes a
+/// row, takes one away and adds 5.
 const ADDED_AT_ONCE: &str = "\
 open
 s 1 begin a -> ok

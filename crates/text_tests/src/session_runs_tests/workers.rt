@@ -1,4 +1,5 @@
-//! Texts by one worker, by two and by many: which order the threads take is theirs, and the table is the same.
+//! Texts by one worker, by two and by many: which order the threads take is theirs, and the table
+//! is the same.
 use crate::session_runs_tests::serial::is_serial;
 use crate::session_runs_tests::{FIRST, empty};
 use session_runs::{OpenGate, run_text};
@@ -28,7 +29,8 @@ session s2\nbegin t2\nadd t2 x 1\ncommit t2\nsession s3\nbegin t3\nadd t3 x 1\nc
 session s4\nbegin t4\nadd t4 x 1\ncommit t4\nsession s5\nbegin t5\nadd t5 x 1\ncommit t5\n\
 session s6\nbegin t6\nadd t6 x 1\ncommit t6\nsession s7\nbegin t7\nadd t7 x 1\ncommit t7\n";
 
-/// Two sessions that move an amount between keys of a group, and two that sum over it: no sum is of half a move.
+/// Two sessions that move an amount between keys of a group, and two that sum over it: no sum is of
+/// half a move.
 const MOVES: &[u8] =
     b"session p0\nbegin a0\nadd a0 g.x 5\nadd a0 g.y -5\ncommit a0\nsession q0\nbegin b0\nsum b0 g\nsum b0 g\ncommit b0\n\
 session p1\nbegin a1\nadd a1 g.x 5\nadd a1 g.y -5\ncommit a1\nsession q1\nbegin b1\nsum b1 g\nsum b1 g\ncommit b1\n";
@@ -55,7 +57,8 @@ fn leaves<R: Threads + Wait + Clock + Abort + Sync>(
     served.is_ok() && out.ends_with(table)
 }
 
-// Whether the committed transactions of a run by so many workers are a serial run, which leaves its table.
+// Whether the committed transactions of a run by so many workers are a serial run, which leaves its
+// table.
 fn is_judged_serial<R: Threads + Wait + Clock + Abort + Sync>(
     rt: &R,
     alloc: Global,

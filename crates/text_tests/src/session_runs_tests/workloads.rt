@@ -1,4 +1,5 @@
-//! Texts of 64 sessions and about 4,096 lines, of the shapes that `bench_texts` times, by workers: each report is judged.
+//! Texts of 64 sessions and about 4,096 lines, of the shapes that `bench_texts` times, by workers:
+//! each report is judged.
 use crate::session_runs_tests::empty;
 use crate::session_runs_tests::serial::{is_serial, is_serial_spoiled};
 use interleavings::Report;
@@ -143,7 +144,8 @@ impl Text {
         }
     }
 
-    // Transactions in each other, with accesses on the way down and on the way up. What has no room is left away.
+    // Transactions in each other, with accesses on the way down and on the way up. What has no room
+    // is left away.
     fn chain(&mut self, rt: &impl Abort, alloc: Global) {
         let s = self.session;
         let mut names = Vec::new(alloc);
@@ -257,7 +259,8 @@ fn report_by<R: Threads + Wait + Clock + Abort + Sync>(
     report
 }
 
-// Whether the committed transactions of a run by so many workers are a serial run, which leaves its table.
+// Whether the committed transactions of a run by so many workers are a serial run, which leaves its
+// table.
 fn is_judged<R: Threads + Wait + Clock + Abort + Sync>(
     rt: &R,
     alloc: Global,
