@@ -21,7 +21,7 @@ pub(crate) fn put_row<W: Sink>(out: &mut W, key: &Key, value: i64) -> Result<(),
         ++ spelled_number value)) }
     ensures err { OnErr result (AppendsFront (W.contents out.old) (W.contents out.new) (key.now
         ++ codes "=" ++ spelled_number value)) }
-    ensures asked { OnErr result (IsStopped W.takes out.new) }
+    ensures asked { OnErr result (IsStopped W.Sink out.new) }
 {
     put(out, key.as_bytes())?;
     put(out, b"=")?;
@@ -36,7 +36,7 @@ fn put_row_parts<W: Sink>(out: &mut W, key: &Key, value: i64) -> Result<(), Writ
     ensures err { OnErr result
         (AppendsFront (W.contents out.old) (W.contents out.new)
         (line (key.now ++ codes "=" ++ spelled_number value))) }
-    ensures asked { OnErr result (IsStopped W.takes out.new) }
+    ensures asked { OnErr result (IsStopped W.Sink out.new) }
 {
     put_row(out, key, value)?;
     put(out, b"\n")
@@ -55,7 +55,7 @@ pub(crate) fn put_row_line<W: Sink>(
     ensures err { OnErr result
         (AppendsFront (W.contents out.old) (W.contents out.new)
         (line (key.now ++ codes "=" ++ spelled_number value))) }
-    ensures asked { OnErr result (IsStopped W.takes out.new) }
+    ensures asked { OnErr result (IsStopped W.Sink out.new) }
 {
     buffer.clear();
     match put_row_parts(buffer, key, value) {
@@ -77,7 +77,7 @@ fn put_row_at<W: Sink>(
     ensures err { OnErr result
         (AppendsFront (W.contents out.old) (W.contents out.new)
         (row_lines (slice_get table.now.rows place))) }
-    ensures asked { OnErr result (IsStopped W.takes out.new) }
+    ensures asked { OnErr result (IsStopped W.Sink out.new) }
 {
     match table.at(place) {
         Some((key, value)) => put_row_line(out, buffer, key, value),
@@ -90,7 +90,7 @@ pub(crate) fn put_table<W: Sink>(out: &mut W, table: &PlainTable) -> Result<(), 
         (Appends (W.contents out.old) (W.contents out.new) (spelled_rows table.now.rows)) }
     ensures err { OnErr result
         (AppendsFront (W.contents out.old) (W.contents out.new) (spelled_rows table.now.rows)) }
-    ensures asked { OnErr result (IsStopped W.takes out.new) }
+    ensures asked { OnErr result (IsStopped W.Sink out.new) }
 {
     let mut buffer = LineBuffer::new();
     for place in 0..table.len() {
@@ -106,7 +106,7 @@ fn put_label<W: Sink>(out: &mut W, labels: &[Label], session: u32) -> Result<(),
     ensures err { OnErr result
         (AppendsFront (W.contents out.old) (W.contents out.new)
         (unwrap_or (slice_get labels.now session) [])) }
-    ensures asked { OnErr result (IsStopped W.takes out.new) }
+    ensures asked { OnErr result (IsStopped W.Sink out.new) }
 {
     match labels.get(session as usize) {
         Some(label) => put(out, label.as_bytes()),
@@ -127,7 +127,7 @@ fn put_place<W: Sink>(
     ensures err { OnErr result
         (AppendsFront (W.contents out.old) (W.contents out.new)
         (unwrap_or (slice_get labels.now session) [] ++ codes " " ++ decimal number)) }
-    ensures asked { OnErr result (IsStopped W.takes out.new) }
+    ensures asked { OnErr result (IsStopped W.Sink out.new) }
 {
     put_label(out, labels, session)?;
     put(out, b" ")?;
@@ -149,7 +149,7 @@ fn put_answered<W: Sink>(
     ensures err { OnErr result
         (AppendsFront (W.contents out.old) (W.contents out.new)
         (spelled_entry labels.now (Line session number) event.now answer.now)) }
-    ensures asked { OnErr result (IsStopped W.takes out.new) }
+    ensures asked { OnErr result (IsStopped W.Sink out.new) }
 {
     put_place(out, labels, session, number)?;
     put(out, b" ")?;
@@ -164,7 +164,7 @@ fn put_aborted<W: Sink>(out: &mut W, word: &[u8], event: &Event) -> Result<(), W
         ++ spelled_name (name_in event.now))) }
     ensures err { OnErr result (AppendsFront (W.contents out.old) (W.contents out.new) (word.now
         ++ spelled_name (name_in event.now))) }
-    ensures asked { OnErr result (IsStopped W.takes out.new) }
+    ensures asked { OnErr result (IsStopped W.Sink out.new) }
 {
     match event {
         Event::Abort(name) => put_named(out, word, name),
@@ -179,7 +179,7 @@ fn put_entry<W: Sink>(out: &mut W, labels: &[Label], entry: &Entry) -> Result<()
     ensures err { OnErr result
         (AppendsFront (W.contents out.old) (W.contents out.new)
         (spelled_entry labels.now entry.now.by entry.now.event entry.now.answer)) }
-    ensures asked { OnErr result (IsStopped W.takes out.new) }
+    ensures asked { OnErr result (IsStopped W.Sink out.new) }
 {
     match entry.by {
         By::Line {
@@ -197,7 +197,7 @@ fn put_entry_parts<W: Sink>(out: &mut W, labels: &[Label], entry: &Entry) -> Res
         (Appends (W.contents out.old) (W.contents out.new) (entry_line labels.now entry.now)) }
     ensures err { OnErr result
         (AppendsFront (W.contents out.old) (W.contents out.new) (entry_line labels.now entry.now)) }
-    ensures asked { OnErr result (IsStopped W.takes out.new) }
+    ensures asked { OnErr result (IsStopped W.Sink out.new) }
 {
     put_entry(out, labels, entry)?;
     put(out, b"\n")
@@ -214,7 +214,7 @@ fn put_entry_line<W: Sink>(
         (Appends (W.contents out.old) (W.contents out.new) (entry_line labels.now entry.now)) }
     ensures err { OnErr result
         (AppendsFront (W.contents out.old) (W.contents out.new) (entry_line labels.now entry.now)) }
-    ensures asked { OnErr result (IsStopped W.takes out.new) }
+    ensures asked { OnErr result (IsStopped W.Sink out.new) }
 {
     buffer.clear();
     match put_entry_parts(buffer, labels, entry) {
@@ -235,7 +235,7 @@ pub(crate) fn put_history<W: Sink>(
     ensures err { OnErr result
         (AppendsFront (W.contents out.old) (W.contents out.new)
         (spelled_history labels.now (reverse entries.now))) }
-    ensures asked { OnErr result (IsStopped W.takes out.new) }
+    ensures asked { OnErr result (IsStopped W.Sink out.new) }
 {
     let mut buffer = LineBuffer::new();
     for entry in entries {

@@ -27,7 +27,7 @@ fn put_opening_row<W: Sink>(
     ensures err { OnErr result
         (AppendsFront (W.contents out.old) (W.contents out.new)
         (row_line (row.now.key, row.now.value))) }
-    ensures asked { OnErr result (IsStopped W.takes out.new) }
+    ensures asked { OnErr result (IsStopped W.Sink out.new) }
 {
     put_row_line(out, buffer, &row.key, row.value)
 }
@@ -37,7 +37,7 @@ fn put_opening<W: Sink>(out: &mut W, rows: &[Row]) -> Result<(), WriteFault>
         (Appends (W.contents out.old) (W.contents out.new) (spelled_rows (plain rows.now))) }
     ensures err { OnErr result
         (AppendsFront (W.contents out.old) (W.contents out.new) (spelled_rows (plain rows.now))) }
-    ensures asked { OnErr result (IsStopped W.takes out.new) }
+    ensures asked { OnErr result (IsStopped W.Sink out.new) }
 {
     let mut buffer = LineBuffer::new();
     for row in rows {
@@ -53,7 +53,7 @@ pub fn write_opening<W: Sink>(rows: &[Row], out: &mut W) -> Result<(), WriteFaul
         (Appends (W.contents out.old) (W.contents out.new) (opening_text (plain rows.now))) }
     ensures err { OnErr result
         (AppendsFront (W.contents out.old) (W.contents out.new) (opening_text (plain rows.now))) }
-    ensures asked { OnErr result (IsStopped W.takes out.new) }
+    ensures asked { OnErr result (IsStopped W.Sink out.new) }
 {
     put(out, b"open\n")?;
     put_opening(out, rows)
@@ -72,7 +72,7 @@ pub fn write_entries<W: Sink>(
     ensures err { OnErr result
         (AppendsFront (W.contents out.old) (W.contents out.new)
         (spelled_history labels.now (reverse entries.now))) }
-    ensures asked { OnErr result (IsStopped W.takes out.new) }
+    ensures asked { OnErr result (IsStopped W.Sink out.new) }
 {
     put_history(out, labels, entries)
 }
@@ -84,7 +84,7 @@ pub fn write_ending<W: Sink>(table: &PlainTable, out: &mut W) -> Result<(), Writ
         (Appends (W.contents out.old) (W.contents out.new) (ending_text table.now.rows)) }
     ensures err { OnErr result
         (AppendsFront (W.contents out.old) (W.contents out.new) (ending_text table.now.rows)) }
-    ensures asked { OnErr result (IsStopped W.takes out.new) }
+    ensures asked { OnErr result (IsStopped W.Sink out.new) }
 {
     put(out, b"table\n")?;
     put_table(out, table)?;
@@ -103,7 +103,7 @@ pub fn write_report<W: Sink>(told: &Report, out: &mut W) -> Result<(), WriteFaul
     ensures err { OnErr result
         (AppendsFront (W.contents out.old) (W.contents out.new)
         (report told.now.opening told.now.labels told.now.history told.now.table)) }
-    ensures asked { OnErr result (IsStopped W.takes out.new) }
+    ensures asked { OnErr result (IsStopped W.Sink out.new) }
 {
     write_opening(told.opening(), out)?;
     write_entries(told.labels(), told.history(), out)?;

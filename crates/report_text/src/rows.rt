@@ -17,7 +17,7 @@ fn put_numbered<W: Sink>(out: &mut W, row: &Row) -> Result<(), WriteFault>
         (Appends (W.contents out.old) (W.contents out.new) (numbered_row row.now)) }
     ensures err { OnErr result
         (AppendsFront (W.contents out.old) (W.contents out.new) (numbered_row row.now)) }
-    ensures asked { OnErr result (IsStopped W.takes out.new) }
+    ensures asked { OnErr result (IsStopped W.Sink out.new) }
 {
     put_row(out, &row.key, row.value)?;
     put(out, b" ")?;
@@ -30,7 +30,7 @@ fn put_numbered_parts<W: Sink>(out: &mut W, row: &Row) -> Result<(), WriteFault>
         (Appends (W.contents out.old) (W.contents out.new) (line (numbered_row row.now))) }
     ensures err { OnErr result
         (AppendsFront (W.contents out.old) (W.contents out.new) (line (numbered_row row.now))) }
-    ensures asked { OnErr result (IsStopped W.takes out.new) }
+    ensures asked { OnErr result (IsStopped W.Sink out.new) }
 {
     put_numbered(out, row)?;
     put(out, b"\n")
@@ -46,7 +46,7 @@ fn put_numbered_line<W: Sink>(
         (Appends (W.contents out.old) (W.contents out.new) (line (numbered_row row.now))) }
     ensures err { OnErr result
         (AppendsFront (W.contents out.old) (W.contents out.new) (line (numbered_row row.now))) }
-    ensures asked { OnErr result (IsStopped W.takes out.new) }
+    ensures asked { OnErr result (IsStopped W.Sink out.new) }
 {
     buffer.clear();
     match put_numbered_parts(buffer, row) {
@@ -63,7 +63,7 @@ pub fn write_rows<W: Sink>(rows: &[Row], out: &mut W) -> Result<(), WriteFault>
         (Appends (W.contents out.old) (W.contents out.new) (numbered_rows rows.now)) }
     ensures err { OnErr result
         (AppendsFront (W.contents out.old) (W.contents out.new) (numbered_rows rows.now)) }
-    ensures asked { OnErr result (IsStopped W.takes out.new) }
+    ensures asked { OnErr result (IsStopped W.Sink out.new) }
 {
     let mut buffer = LineBuffer::new();
     for row in rows {

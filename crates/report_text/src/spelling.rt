@@ -16,7 +16,7 @@ pub(crate) fn put_number<W: Sink>(out: &mut W, number: i64) -> Result<(), WriteF
         (Appends (W.contents out.old) (W.contents out.new) (spelled_number number)) }
     ensures err { OnErr result
         (AppendsFront (W.contents out.old) (W.contents out.new) (spelled_number number)) }
-    ensures asked { OnErr result (IsStopped W.takes out.new) }
+    ensures asked { OnErr result (IsStopped W.Sink out.new) }
 {
     let mut buffer = Buffer::new();
     put(out, buffer.format(number).as_bytes())
@@ -26,7 +26,7 @@ pub(crate) fn put_count<W: Sink>(out: &mut W, count: u32) -> Result<(), WriteFau
     ensures ok { OnOk result (Appends (W.contents out.old) (W.contents out.new) (decimal count)) }
     ensures err { OnErr result
         (AppendsFront (W.contents out.old) (W.contents out.new) (decimal count)) }
-    ensures asked { OnErr result (IsStopped W.takes out.new) }
+    ensures asked { OnErr result (IsStopped W.Sink out.new) }
 {
     let mut buffer = Buffer::new();
     put(out, buffer.format(count).as_bytes())
@@ -36,7 +36,7 @@ pub(crate) fn put_size<W: Sink>(out: &mut W, size: usize) -> Result<(), WriteFau
     ensures ok { OnOk result (Appends (W.contents out.old) (W.contents out.new) (decimal size)) }
     ensures err { OnErr result
         (AppendsFront (W.contents out.old) (W.contents out.new) (decimal size)) }
-    ensures asked { OnErr result (IsStopped W.takes out.new) }
+    ensures asked { OnErr result (IsStopped W.Sink out.new) }
 {
     let mut buffer = Buffer::new();
     put(out, buffer.format(size).as_bytes())
@@ -48,7 +48,7 @@ pub(crate) fn put_named<W: Sink>(out: &mut W, word: &[u8], name: &Name) -> Resul
         ++ spelled_name name.now)) }
     ensures err { OnErr result (AppendsFront (W.contents out.old) (W.contents out.new) (word.now
         ++ spelled_name name.now)) }
-    ensures asked { OnErr result (IsStopped W.takes out.new) }
+    ensures asked { OnErr result (IsStopped W.Sink out.new) }
 {
     put(out, word)?;
     name.write_to(out)
@@ -65,7 +65,7 @@ fn put_spaced<W: Sink>(
         ++ spelled_name name.now ++ codes " " ++ bytes.now)) }
     ensures err { OnErr result (AppendsFront (W.contents out.old) (W.contents out.new) (word.now
         ++ spelled_name name.now ++ codes " " ++ bytes.now)) }
-    ensures asked { OnErr result (IsStopped W.takes out.new) }
+    ensures asked { OnErr result (IsStopped W.Sink out.new) }
 {
     put_named(out, word, name)?;
     put(out, b" ")?;
@@ -78,7 +78,7 @@ fn put_keyed<W: Sink>(out: &mut W, word: &[u8], name: &Name, key: &Key) -> Resul
         ++ spelled_name name.now ++ codes " " ++ key.now)) }
     ensures err { OnErr result (AppendsFront (W.contents out.old) (W.contents out.new) (word.now
         ++ spelled_name name.now ++ codes " " ++ key.now)) }
-    ensures asked { OnErr result (IsStopped W.takes out.new) }
+    ensures asked { OnErr result (IsStopped W.Sink out.new) }
 {
     put_spaced(out, word, name, key.as_bytes())
 }
@@ -95,7 +95,7 @@ fn put_valued<W: Sink>(
         ++ spelled_name name.now ++ codes " " ++ key.now ++ codes " " ++ spelled_number number)) }
     ensures err { OnErr result (AppendsFront (W.contents out.old) (W.contents out.new) (word.now
         ++ spelled_name name.now ++ codes " " ++ key.now ++ codes " " ++ spelled_number number)) }
-    ensures asked { OnErr result (IsStopped W.takes out.new) }
+    ensures asked { OnErr result (IsStopped W.Sink out.new) }
 {
     put_keyed(out, word, name, key)?;
     put(out, b" ")?;
@@ -108,7 +108,7 @@ fn put_access<W: Sink>(out: &mut W, name: &Name, key: &Key, op: Op) -> Result<()
     ensures err { OnErr result
         (AppendsFront (W.contents out.old) (W.contents out.new)
         (spelled_access name.now key.now op)) }
-    ensures asked { OnErr result (IsStopped W.takes out.new) }
+    ensures asked { OnErr result (IsStopped W.Sink out.new) }
 {
     match op {
         Op::Get => put_keyed(out, b"get ", name, key),
@@ -123,7 +123,7 @@ fn put_sum<W: Sink>(out: &mut W, name: &Name, group: &Group) -> Result<(), Write
         ++ spelled_name name.now ++ codes " " ++ group.now)) }
     ensures err { OnErr result (AppendsFront (W.contents out.old) (W.contents out.new) (codes "sum "
         ++ spelled_name name.now ++ codes " " ++ group.now)) }
-    ensures asked { OnErr result (IsStopped W.takes out.new) }
+    ensures asked { OnErr result (IsStopped W.Sink out.new) }
 {
     put_spaced(out, b"sum ", name, group.as_bytes())
 }
@@ -133,7 +133,7 @@ fn put_when<W: Sink>(out: &mut W, when: When) -> Result<(), WriteFault>
         (Appends (W.contents out.old) (W.contents out.new) (spelled_when when)) }
     ensures err { OnErr result
         (AppendsFront (W.contents out.old) (W.contents out.new) (spelled_when when)) }
-    ensures asked { OnErr result (IsStopped W.takes out.new) }
+    ensures asked { OnErr result (IsStopped W.Sink out.new) }
 {
     match when {
         When::Begun => put(out, b"begun"),
@@ -147,7 +147,7 @@ fn put_after<W: Sink>(out: &mut W, name: &Name, when: When) -> Result<(), WriteF
     ensures err { OnErr result
         (AppendsFront (W.contents out.old) (W.contents out.new) (codes "after "
         ++ spelled_name name.now ++ codes " " ++ spelled_when when)) }
-    ensures asked { OnErr result (IsStopped W.takes out.new) }
+    ensures asked { OnErr result (IsStopped W.Sink out.new) }
 {
     put_named(out, b"after ", name)?;
     put(out, b" ")?;
@@ -159,7 +159,7 @@ pub(crate) fn put_event<W: Sink>(out: &mut W, event: &Event) -> Result<(), Write
         (Appends (W.contents out.old) (W.contents out.new) (spelled_event event.now)) }
     ensures err { OnErr result
         (AppendsFront (W.contents out.old) (W.contents out.new) (spelled_event event.now)) }
-    ensures asked { OnErr result (IsStopped W.takes out.new) }
+    ensures asked { OnErr result (IsStopped W.Sink out.new) }
 {
     match event {
         Event::Begin(name) => put_named(out, b"begin ", name),
@@ -176,7 +176,7 @@ fn put_reply<W: Sink>(out: &mut W, reply: Reply) -> Result<(), WriteFault>
         (Appends (W.contents out.old) (W.contents out.new) (spelled_reply reply)) }
     ensures err { OnErr result
         (AppendsFront (W.contents out.old) (W.contents out.new) (spelled_reply reply)) }
-    ensures asked { OnErr result (IsStopped W.takes out.new) }
+    ensures asked { OnErr result (IsStopped W.Sink out.new) }
 {
     match reply {
         Reply::Ok => put(out, b"ok"),
@@ -193,7 +193,7 @@ fn put_told<W: Sink>(out: &mut W, word: &[u8], number: i64) -> Result<(), WriteF
         ++ spelled_number number)) }
     ensures err { OnErr result (AppendsFront (W.contents out.old) (W.contents out.new) (word.now
         ++ spelled_number number)) }
-    ensures asked { OnErr result (IsStopped W.takes out.new) }
+    ensures asked { OnErr result (IsStopped W.Sink out.new) }
 {
     put(out, word)?;
     put_number(out, number)
@@ -204,7 +204,7 @@ fn put_refusal<W: Sink>(out: &mut W, refusal: &Refusal) -> Result<(), WriteFault
         (Appends (W.contents out.old) (W.contents out.new) (spelled_refusal refusal.now)) }
     ensures err { OnErr result
         (AppendsFront (W.contents out.old) (W.contents out.new) (spelled_refusal refusal.now)) }
-    ensures asked { OnErr result (IsStopped W.takes out.new) }
+    ensures asked { OnErr result (IsStopped W.Sink out.new) }
 {
     match refusal {
         Refusal::Unknown => put(out, b"refused unknown"),
@@ -224,7 +224,7 @@ pub(crate) fn put_answer<W: Sink>(out: &mut W, answer: &Answer) -> Result<(), Wr
         (Appends (W.contents out.old) (W.contents out.new) (spelled_answer answer.now)) }
     ensures err { OnErr result
         (AppendsFront (W.contents out.old) (W.contents out.new) (spelled_answer answer.now)) }
-    ensures asked { OnErr result (IsStopped W.takes out.new) }
+    ensures asked { OnErr result (IsStopped W.Sink out.new) }
 {
     match answer {
         Answer::Done(reply) => put_reply(out, *reply),

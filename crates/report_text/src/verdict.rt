@@ -15,7 +15,7 @@ fn put_no<W: Sink>(out: &mut W, number: usize) -> Result<(), WriteFault>
     ensures err { OnErr result
         (AppendsFront (W.contents out.old) (W.contents out.new)
         (line (codes "no " ++ decimal number))) }
-    ensures asked { OnErr result (IsStopped W.takes out.new) }
+    ensures asked { OnErr result (IsStopped W.Sink out.new) }
 {
     put(out, b"no ")?;
     put_size(out, number)?;
@@ -30,7 +30,7 @@ pub fn write_verdict<W: Sink>(verdict: Verdict, out: &mut W) -> Result<(), Write
         (Appends (W.contents out.old) (W.contents out.new) (spelled_verdict verdict)) }
     ensures err { OnErr result
         (AppendsFront (W.contents out.old) (W.contents out.new) (spelled_verdict verdict)) }
-    ensures asked { OnErr result (IsStopped W.takes out.new) }
+    ensures asked { OnErr result (IsStopped W.Sink out.new) }
 {
     match verdict {
         Verdict::Yes => put(out, b"yes\n"),

@@ -11,9 +11,17 @@ pub record AppendsFront (old new : Option (List ℕ)) (bs : List ℕ) : Type 0 w
   pub short : rest ≢ []
   pub written : Appends old new front
 
+-- what is said of a writer: what it has got, where that is known, and which calls were made of it
+abbrev pub Writer : Type 0 → Type 1
+Writer W = record {
+  contents : W → Option (List ℕ);
+  takes : W → W → List ℕ → Result ℕ WriteFault → Type 0;
+  flushes : W → W → Result (Unit {0}) WriteFault → Type 0;
+}
+
 -- asked in some state to take some bytes, the writer answered a fault, and was left in this state
-pub record IsStopped {W : Type 0} (takes : W → W → List ℕ → Result ℕ WriteFault → Type 0) (new : W) : Type 0 where
+pub record IsStopped {W : Type 0} (w : Writer W) (new : W) : Type 0 where
   pub before : W
   pub bytes : List ℕ
   pub fault : WriteFault
-  pub refused : takes before new bytes (Err fault)
+  pub refused : w.takes before new bytes (Err fault)

@@ -11,7 +11,8 @@ use std::cmp::Ordering;
 use std::hash::{Hash, Hasher};
 use std::marker::Model;
 
-/// At most `N` bytes, where `N` is at most 255. It takes no memory, and is compared and ordered as its bytes are.
+/// At most `N` bytes, where `N` is at most 255. It takes no memory, and is compared and ordered as
+/// its bytes are.
 #[derive(Clone, Copy, Debug)]
 pub struct Held<const N: usize> {
     bytes: [u8; N],
@@ -26,7 +27,8 @@ impl<const N: usize> Model for Held<N> {
 
     ghost view = { λ s. take s.len s.bytes };
 
-    ghost invariant = { λ s. (s.len ≤ N) × (length s.bytes ≡ N) × (drop s.len s.bytes ≡ replicate (N - s.len) 0) };
+    ghost invariant = { λ s.
+        (s.len ≤ N) × (length s.bytes ≡ N) × (drop s.len s.bytes ≡ replicate (N - s.len) 0) };
 
     ghost inverse = { λ bs. record { bytes = filled N bs; len = length bs } };
 
@@ -96,8 +98,8 @@ impl<const N: usize> PartialEq for Held<N> {
 
     ghost laws = { partial_equiv_from_equiv nat_list_eq_equiv };
 
-    // The bytes behind those that are held are zeros in both, so that whole fields may be compared. Most are so short that their
-    // first word tells.
+    // The bytes behind those that are held are zeros in both, so that whole fields may be
+    // compared. Most are so short that their first word tells.
     fn eq(&self, other: &Self) -> bool {
         if self.len != other.len {
             return false;

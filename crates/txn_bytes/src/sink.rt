@@ -9,12 +9,12 @@ use crate::call::Sink;
 #[derive(Clone, Copy, Debug, PartialEq, Eq)]
 pub struct WriteFault;
 
-/// Writes the bytes. After a fault the writer has taken a beginning of them, and not all, and was asked to take more. So no
-/// bytes are written without a fault.
+/// Writes the bytes. After a fault the writer has taken a beginning of them, and not all, and was
+/// asked to take more. So no bytes are written without a fault.
 pub fn put<W: Sink>(out: &mut W, bytes: &[u8]) -> Result<(), WriteFault>
     ensures ok { OnOk result (Appends (W.contents out.old) (W.contents out.new) bytes.now) }
     ensures err { OnErr result (AppendsFront (W.contents out.old) (W.contents out.new) bytes.now) }
-    ensures asked { OnErr result (IsStopped W.takes out.new) }
+    ensures asked { OnErr result (IsStopped W.Sink out.new) }
 {
     let mut at = 0;
     while at < bytes.len() {
