@@ -1,13 +1,12 @@
 -- A line that is being taken off a reader.
-use Rattle.std.proofs.Common.{◌≡◌, ℕ, zero, suc, ◌+◌, ◌-◌, ◌^◌, ◌<◌, inl, inr, Bool, true, false, cond, eqb, List, [], ◌∷◌, ◌++◌, length, take, Option, Result, Ok, refl, sym, ap, subst, ◌∙◌, arith, append-nil, append_assoc}
+use Rattle.std.proofs.Common.{◌≡◌, ℕ, zero, suc, ◌+◌, ◌-◌, ◌^◌, ◌<◌, inl, inr, Bool, true, false, cond, eqb, List, [], ◌∷◌, ◌++◌, length, take, Ok, refl, sym, ap, subst, ◌∙◌, arith, append-nil, append_assoc}
 use Rattle.std.proofs.lemmas.Bool.{ltb-true, ltb-false, eqb-true, eqb-false}
 use Rattle.std.proofs.lemmas.List.{take_all}
 use Rattle.std.proofs.KnownBytes.{Consumes-nil, Consumes-trans, Consumes-kept}
 use Rattle.std.specs.Io.KnownBytes.{Consumes}
-use Rattle.request_lines.specs.declared.source.ReadFault.{ReadFault}
 use Rattle.request_lines.specs.declared.lines.Taken.TheVariants.{Whole, Long, Cut, End}
 use Rattle.request_lines.specs.Keeping.{Adds, EndsLine, IsLine, Keeps, KeepsLine}
-use Rattle.request_lines.specs.Sources.{HasGiven, IsFault, IsGiven, IsPiece}
+use Rattle.request_lines.specs.Sources.{HasGiven, IsFault, IsGiven, IsPiece, Requests}
 use Rattle.request_lines.specs.Taking.{Holds, Stops, Takes, TakesLast, at_end, at_feed}
 use Rattle.request_lines.proofs.Feeds.{lines_join}
 
@@ -30,23 +29,24 @@ abbrev pub holding : List ℕ → Keeps → Holds
 holding piece k = record { held = piece; kept = k.kept }
 
 -- after so many calls it has come to a line, of which so much is kept, and behind it the piece is held
-pub record IsUnderWay {R : Type 0} (gives : R → R → Result (List ℕ) ReadFault → Type 0) (remaining : R → Option (List ℕ)) (old : R) (held : List ℕ) (calls : ℕ) (now : R) (piece : List ℕ) (k : Keeps) : Type 0 where
+pub record IsUnderWay {R : Type 0} (r : Requests R) (old : R) (held : List ℕ) (calls : ℕ) (now : R)
+    (piece : List ℕ) (k : Keeps) : Type 0 where
   pub line : List ℕ
   pub bytes : List ℕ
-  pub given : IsGiven gives remaining held calls old now bytes
+  pub given : IsGiven r held calls old now bytes
   pub parts : held ++ bytes ≡ line ++ piece
   pub unbroken : IsLine line
   pub keeps : KeepsLine line k
 
-module _ {R : Type 0} (gives : R → R → Result (List ℕ) ReadFault → Type 0) (remaining : R → Option (List ℕ)) (old : R) (held : List ℕ) where
+module _ {R : Type 0} (r : Requests R) (old : R) (held : List ℕ) where
   abbrev pub Way : ℕ → R → List ℕ → Keeps → Type 0
-  Way calls now piece k = IsUnderWay gives remaining old held calls now piece k
+  Way calls now piece k = IsUnderWay r old held calls now piece k
 
   pub way_first : (k : Keeps) → KeepsLine [] k → Way 0 old held k
   way_first k keeps = record {
     line = [];
     bytes = [];
-    given = record { asked = (refl, refl); taken = Consumes-nil (remaining old) };
+    given = record { asked = (refl, refl); taken = Consumes-nil (r.remaining old) };
     parts = append-nil held;
     unbroken = tt;
     keeps = keeps;
@@ -67,7 +67,7 @@ module _ {R : Type 0} (gives : R → R → Result (List ℕ) ReadFault → Type 
   all_line calls now k way = way.parts ∙ append-nil way.line
 
   -- the reader gives the next piece
-  pub way_next : (calls : ℕ) (now new : R) (piece : List ℕ) (k : Keeps) → Way calls now [] k → IsPiece gives remaining now new piece
+  pub way_next : (calls : ℕ) (now new : R) (piece : List ℕ) (k : Keeps) → Way calls now [] k → IsPiece r now new piece
       → Way (calls + 1) new piece k
   way_next calls now new piece k way more =
       let line = all_line calls now k way in
@@ -76,7 +76,7 @@ module _ {R : Type 0} (gives : R → R → Result (List ℕ) ReadFault → Type 
         line = way.line;
         bytes = way.bytes ++ piece;
         given = record {
-          asked = subst (λ n. HasGiven gives held n old new (way.bytes ++ piece)) next (record {
+          asked = subst (λ n. HasGiven r held n old new (way.bytes ++ piece)) next (record {
             before = now;
             front = way.bytes;
             piece = piece;
@@ -94,7 +94,7 @@ module _ {R : Type 0} (gives : R → R → Result (List ℕ) ReadFault → Type 
 
   -- the line ends with a line feed
   pub ends_at_feed : (calls : ℕ) (now : R) (piece rest : List ℕ) (k l : Keeps) (before : List ℕ) → Way calls now piece k → EndsLine piece rest k l
-      → Takes gives remaining old now (record { held = held; kept = before }) (holding rest l) (at_feed l)
+      → Takes r old now (record { held = held; kept = before }) (holding rest l) (at_feed l)
   ends_at_feed calls now piece rest k l before way ends = by l.more refl
     where
       line : List ℕ
@@ -109,7 +109,7 @@ module _ {R : Type 0} (gives : R → R → Result (List ℕ) ReadFault → Type 
       unbroken : IsLine line
       unbroken = lines_join way.line ends.front way.unbroken ends.line
 
-      by : (b : Bool) → l.more ≡ b → Takes gives remaining old now (record { held = held; kept = before }) (holding rest l) (cond b Long Whole)
+      by : (b : Bool) → l.more ≡ b → Takes r old now (record { held = held; kept = before }) (holding rest l) (cond b Long Whole)
       by true more = (line, record { calls = calls; bytes = way.bytes; given = way.given; parts = parts; unbroken = unbroken; kept = keeps.kept }, ltb-true 346 (length line) (sym keeps.more ∙ more))
       by false none = record {
         calls = calls;
@@ -124,21 +124,21 @@ module _ {R : Type 0} (gives : R → R → Result (List ℕ) ReadFault → Type 
           whole = keeps.kept ∙ take_all 346 line (ltb-false 346 (length line) (sym keeps.more ∙ none))
 
   -- the input ends
-  pub ends_at_end : (calls : ℕ) (now new : R) (piece : List ℕ) (k : Keeps) (before : List ℕ) → Way calls now [] k → IsPiece gives remaining now new piece → length piece ≡ 0
-      → Takes gives remaining old new (record { held = held; kept = before }) (holding piece k) (at_end k)
+  pub ends_at_end : (calls : ℕ) (now new : R) (piece : List ℕ) (k : Keeps) (before : List ℕ) → Way calls now [] k → IsPiece r now new piece → length piece ≡ 0
+      → Takes r old new (record { held = held; kept = before }) (holding piece k) (at_end k)
   ends_at_end calls now new piece k before way last none = by (eqb (length k.kept) 0) refl
     where
       nothing : piece ≡ []
       nothing = no_bytes piece none
 
-      ended : gives now new (Ok [])
-      ended = subst (λ (ys : List ℕ). gives now new (Ok ys)) nothing last.asked
+      ended : r.gives now new (Ok [])
+      ended = subst (λ (ys : List ℕ). r.gives now new (Ok ys)) nothing last.asked
 
-      taken : Consumes (remaining old) (remaining new) way.bytes
-      taken = subst (Consumes (remaining old) (remaining new)) (append-nil way.bytes)
-          (Consumes-trans _ _ _ way.bytes [] way.given.taken (subst (Consumes (remaining now) (remaining new)) nothing last.taken))
+      taken : Consumes (r.remaining old) (r.remaining new) way.bytes
+      taken = subst (Consumes (r.remaining old) (r.remaining new)) (append-nil way.bytes)
+          (Consumes-trans _ _ _ way.bytes [] way.given.taken (subst (Consumes (r.remaining now) (r.remaining new)) nothing last.taken))
 
-      ends : (line : List ℕ) → way.line ≡ line → TakesLast gives remaining old new (record { held = held; kept = before }) (holding piece k) line
+      ends : (line : List ℕ) → way.line ≡ line → TakesLast r old new (record { held = held; kept = before }) (holding piece k) line
       ends line same = record {
         calls = calls;
         bytes = way.bytes;
@@ -153,13 +153,13 @@ module _ {R : Type 0} (gives : R → R → Result (List ℕ) ReadFault → Type 
         kept = way.keeps.kept ∙ ap (take 346) same;
       }
 
-      by : (b : Bool) → eqb (length k.kept) 0 ≡ b → Takes gives remaining old new (record { held = held; kept = before }) (holding piece k) (cond b End Cut)
+      by : (b : Bool) → eqb (length k.kept) 0 ≡ b → Takes r old new (record { held = held; kept = before }) (holding piece k) (cond b End Cut)
       by true e = ends [] (no_line 346 way.line (omega arith) (ap (λ (ys : List ℕ). length ys) (sym way.keeps.kept) ∙ eqb-true (length k.kept) 0 e))
       by false e = (way.line, ends way.line refl, λ same. eqb-false (length k.kept) 0 e (ap (λ (ys : List ℕ). length ys) way.keeps.kept ∙ none_taken 346 way.line same))
 
   -- a read fails
-  pub stops_at_fault : (calls : ℕ) (now new : R) (piece : List ℕ) (k : Keeps) (before : List ℕ) → Way calls now [] k → IsFault gives remaining now new → piece ≡ []
-      → Stops gives remaining old new (record { held = held; kept = before }) (holding piece k)
+  pub stops_at_fault : (calls : ℕ) (now new : R) (piece : List ℕ) (k : Keeps) (before : List ℕ) → Way calls now [] k → IsFault r now new → piece ≡ []
+      → Stops r old new (record { held = held; kept = before }) (holding piece k)
   stops_at_fault calls now new piece k before way fault nothing = record {
     line = way.line;
     calls = calls;
@@ -175,7 +175,7 @@ module _ {R : Type 0} (gives : R → R → Result (List ℕ) ReadFault → Type 
 
   -- there were too many
   pub stops_at_last : (calls : ℕ) (now : R) (piece : List ℕ) (k : Keeps) (before : List ℕ) → Way calls now piece k → calls ≡ 2 ^ 64 - 1
-      → Stops gives remaining old now (record { held = held; kept = before }) (holding piece k)
+      → Stops r old now (record { held = held; kept = before }) (holding piece k)
   stops_at_last calls now piece k before way most = record {
     line = way.line;
     calls = calls;

@@ -4,7 +4,8 @@ ghost use Rattle.request_lines.specs.Keeping.{Adds, KeepsLine};
 
 use std::marker::Model;
 
-/// How many bytes the longest request has, without its line feed: a label, a space, and the longest line of a session.
+/// How many bytes the longest request has, without its line feed: a label, a space, and the
+/// longest line of a session.
 pub const MOST_BYTES: usize = 346;
 
 /// The bytes of a line, or its first `MOST_BYTES` where it has more. It takes no memory.

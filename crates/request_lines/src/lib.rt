@@ -1,4 +1,5 @@
-//! Lines off a reader that gives any number of bytes at a time, of each of which no more is kept than a request may have.
+//! Lines off a reader that gives any number of bytes at a time, of each of which no more is kept
+//! than a request may have.
 #![tactic(auto)]
 
 mod kept;

@@ -20,8 +20,8 @@ pub enum Taken {
     End,
 }
 
-/// What is held of a reader's bytes: those of the line that was taken last, as far as they are kept, and those that the reader
-/// gave behind it. It takes no memory.
+/// What is held of a reader's bytes: those of the line that was taken last, as far as they are
+/// kept, and those that the reader gave behind it. It takes no memory.
 #[derive(Drop)]
 pub struct RequestLines {
     piece: Piece,
@@ -56,13 +56,14 @@ impl RequestLines {
         self.line.as_bytes()
     }
 
-    /// Takes the next line, through its line feed. Of a line with more bytes than a request may have the first are kept, and
-    /// the others are taken too. Bytes with no line feed behind them are told apart, since their sender may have been cut
-    /// off. The reader is asked only where no line feed is held, so that nobody waits for it while a line is there. After an
-    /// error the bytes of the line so far are kept as those of a line are.
+    /// Takes the next line, through its line feed. Of a line with more bytes than a request may
+    /// have the first are kept, and the others are taken too. Bytes with no line feed behind them
+    /// are told apart, since their sender may have been cut off. The reader is asked only where no
+    /// line feed is held, so that nobody waits for it while a line is there. After an error the
+    /// bytes of the line so far are kept as those of a line are.
     pub fn take_line<R: Source>(&mut self, input: &mut R) -> Result<Taken, ReadFault>
-        ensures ok { IfOk result (Takes R.gives R.remaining input.old input.new self.old self.new) }
-        ensures err { OnErr result (Stops R.gives R.remaining input.old input.new self.old self.new) }
+        ensures ok { IfOk result (Takes R.Source input.old input.new self.old self.new) }
+        ensures err { OnErr result (Stops R.Source input.old input.new self.old self.new) }
     {
         take_line(&mut self.piece, &mut self.line, input)
     }
@@ -93,10 +94,12 @@ fn take_line<R: Source>(
     line: &mut Kept,
     input: &mut R,
 ) -> Result<Taken, ReadFault>
-    ensures ok { IfOk result (Takes R.gives R.remaining input.old input.new
-        (record { held = piece.old; kept = line.old.kept }) (record { held = piece.new; kept = line.new.kept })) }
-    ensures err { OnErr result (Stops R.gives R.remaining input.old input.new
-        (record { held = piece.old; kept = line.old.kept }) (record { held = piece.new; kept = line.new.kept })) }
+    ensures ok { IfOk result (Takes R.Source input.old input.new
+        (record { held = piece.old; kept = line.old.kept })
+        (record { held = piece.new; kept = line.new.kept })) }
+    ensures err { OnErr result (Stops R.Source input.old input.new
+        (record { held = piece.old; kept = line.old.kept })
+        (record { held = piece.new; kept = line.new.kept })) }
 {
     line.clear();
     for _call in 0..u64::MAX {

@@ -74,12 +74,12 @@ impl Piece {
         self.start += len;
     }
 
-    /// Asks the reader for the next bytes, in the place of these, which it is called without. There are none at its end, and
-    /// after an error.
+    /// Asks the reader for the next bytes, in the place of these, which it is called without.
+    /// There are none at its end, and after an error.
     pub(crate) fn fill<R: Source>(&mut self, input: &mut R) -> Result<(), ReadFault>
         requires { self.old ≡ [] }
-        ensures ok { OnOk result (IsPiece R.gives R.remaining input.old input.new self.new) }
-        ensures err { OnErr result (IsFault R.gives R.remaining input.old input.new × (self.new ≡ [])) }
+        ensures ok { OnOk result (IsPiece R.Source input.old input.new self.new) }
+        ensures err { OnErr result (IsFault R.Source input.old input.new × (self.new ≡ [])) }
     {
         self.start = 0;
         self.end = 0;
@@ -87,8 +87,8 @@ impl Piece {
         Ok(())
     }
 
-    /// Hands the line what stands before the first line feed, and takes the line feed too. With none the line gets all.
-    /// The result is whether there was one.
+    /// Hands the line what stands before the first line feed, and takes the line feed too. With
+    /// none the line gets all. The result is whether there was one.
     pub(crate) fn hand_over(&mut self, line: &mut Kept) -> bool
         ensures { MatchBool result
             (EndsLine self.old self.new line.old line.new)

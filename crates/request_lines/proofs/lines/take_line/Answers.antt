@@ -1,8 +1,7 @@
 use Rattle.std.proofs.Common.{Result, Ok, Err, OnErr, sym, subst, ◌∙◌, length}
 use Rattle.std.proofs.lemmas.Bool.{eqb-true}
-use Rattle.request_lines.specs.declared.lines.Taken.{Taken}
 use Rattle.request_lines.specs.Taking.{Takes}
-use Rattle.request_lines.proofs.Lining.{ends_at_end, ends_at_feed, holding, stops_at_fault, way_next, way_over}
+use Rattle.request_lines.proofs.Lining.{ends_at_end, ends_at_feed, stops_at_fault, way_next, way_over}
 use Rattle.request_lines.proofs.lines.take_line.Goals as goal
 
 on_err : {A E : Type 0} (r : Result A E) (P : Type 0) → P → OnErr r P
@@ -11,32 +10,37 @@ on_err (Err e) P p = p
 
 pub returns-then-hand_over-clause-ok : goal.returns-then-hand_over-clause-ok
 returns-then-hand_over-clause-ok g c =
-    subst (λ (t : Taken). Takes g.R.Source.gives g.R.Read.remaining c.args.input.now c.loop-call.input (holding c.args.piece.now c.args.line.now) (holding c.hand_over.new.self c.hand_over.new.line) t)
-    (sym c.at_feed.ensures)
-    (ends_at_feed g.R.Source.gives g.R.Read.remaining c.args.input.now c.args.piece.now c.loop-call._call c.loop-call.input c.loop-call.piece c.hand_over.new.self
-    c.loop-call.line c.hand_over.new.line c.args.line.now.kept c.loop-call.invariant c.if-hand_over.ensures)
+    subst (Takes _ _ _ _ _) (sym c.at_feed.ensures)
+    (ends_at_feed _ c.args.input.now c.args.piece.now c.loop-call._call c.loop-call.input
+    c.loop-call.piece c.hand_over.new.self c.loop-call.line c.hand_over.new.line
+    c.args.line.now.kept c.loop-call.invariant c.if-hand_over.ensures)
 
 pub returns-in_err-fill-clause-err : goal.returns-in_err-fill-clause-err
 returns-in_err-fill-clause-err g c =
-    let over = way_over g.R.Source.gives g.R.Read.remaining c.args.input.now c.args.piece.now c.loop-call._call c.loop-call.input c.loop-call.piece
-    c.loop-call.line c.hand_over.new.line c.loop-call.invariant c.if-hand_over.ensures.0 c.if-hand_over.ensures.2 in
+    let over = way_over _ c.args.input.now c.args.piece.now c.loop-call._call c.loop-call.input
+    c.loop-call.piece c.loop-call.line c.hand_over.new.line c.loop-call.invariant
+    c.if-hand_over.ensures.0 c.if-hand_over.ensures.2 in
     on_err c.from_residual.result _
-    (stops_at_fault g.R.Source.gives g.R.Read.remaining c.args.input.now c.args.piece.now c.loop-call._call c.loop-call.input c.fill.new.input c.fill.new.self
-    c.hand_over.new.line c.args.line.now.kept over c.in_err-fill.ensures.err.0 c.in_err-fill.ensures.err.1)
+    (stops_at_fault _ c.args.input.now c.args.piece.now c.loop-call._call c.loop-call.input
+    c.fill.new.input c.fill.new.self c.hand_over.new.line c.args.line.now.kept over
+    c.in_err-fill.ensures.err.0 c.in_err-fill.ensures.err.1)
 
 pub returns-then-is_empty-clause-ok : goal.returns-then-is_empty-clause-ok
 returns-then-is_empty-clause-ok g c =
-    let over = way_over g.R.Source.gives g.R.Read.remaining c.args.input.now c.args.piece.now c.loop-call._call c.loop-call.input c.loop-call.piece
-    c.loop-call.line c.hand_over.new.line c.loop-call.invariant c.if-hand_over.ensures.0 c.if-hand_over.ensures.2 in
-    let none = eqb-true (length c.fill.new.self) 0 (sym c.is_empty.ensures ∙ c.if-is_empty.true) in
-    subst (λ (t : Taken). Takes g.R.Source.gives g.R.Read.remaining c.args.input.now c.fill.new.input (holding c.args.piece.now c.args.line.now) (holding c.fill.new.self c.hand_over.new.line) t)
-    (sym c.at_end.ensures)
-    (ends_at_end g.R.Source.gives g.R.Read.remaining c.args.input.now c.args.piece.now c.loop-call._call c.loop-call.input c.fill.new.input c.fill.new.self
-    c.hand_over.new.line c.args.line.now.kept over c.in_ok-fill.ensures.ok none)
+    let over = way_over _ c.args.input.now c.args.piece.now c.loop-call._call c.loop-call.input
+    c.loop-call.piece c.loop-call.line c.hand_over.new.line c.loop-call.invariant
+    c.if-hand_over.ensures.0 c.if-hand_over.ensures.2 in
+    let none = eqb-true (length c.fill.new.self) 0
+    (sym c.is_empty.ensures ∙ c.if-is_empty.true) in
+    subst (Takes _ _ _ _ _) (sym c.at_end.ensures)
+    (ends_at_end _ c.args.input.now c.args.piece.now c.loop-call._call c.loop-call.input
+    c.fill.new.input c.fill.new.self c.hand_over.new.line c.args.line.now.kept over
+    c.in_ok-fill.ensures.ok none)
 
 pub loop-call-preserved : goal.loop-call-preserved
 loop-call-preserved g c =
-    let over = way_over g.R.Source.gives g.R.Read.remaining c.args.input.now c.args.piece.now c.loop-call._call c.loop-call.input c.loop-call.piece
-    c.loop-call.line c.hand_over.new.line c.loop-call.invariant c.if-hand_over.ensures.0 c.if-hand_over.ensures.2 in
-    way_next g.R.Source.gives g.R.Read.remaining c.args.input.now c.args.piece.now c.loop-call._call c.loop-call.input c.fill.new.input c.fill.new.self
-    c.hand_over.new.line over c.in_ok-fill.ensures.ok
+    let over = way_over _ c.args.input.now c.args.piece.now c.loop-call._call c.loop-call.input
+    c.loop-call.piece c.loop-call.line c.hand_over.new.line c.loop-call.invariant
+    c.if-hand_over.ensures.0 c.if-hand_over.ensures.2 in
+    way_next _ c.args.input.now c.args.piece.now c.loop-call._call c.loop-call.input
+    c.fill.new.input c.fill.new.self c.hand_over.new.line over c.in_ok-fill.ensures.ok
