@@ -1,5 +1,5 @@
 -- A line that is being taken off a reader.
-use Rattle.std.proofs.Common.{◌≡◌, ℕ, zero, suc, ◌+◌, ◌-◌, ◌^◌, ◌<◌, inl, inr, Bool, true, false, cond, eqb, List, [], ◌∷◌, ◌++◌, length, take, Ok, refl, sym, ap, subst, ◌∙◌, arith, append-nil, append_assoc}
+use Rattle.std.proofs.Common.{◌≡◌, ◌≢◌, ℕ, zero, suc, ◌+◌, ◌-◌, ◌^◌, ◌<◌, inl, inr, Bool, true, false, cond, eqb, List, [], ◌∷◌, ◌++◌, length, take, Ok, refl, sym, ap, subst, ◌∙◌, arith, append-nil, append_assoc}
 use Rattle.std.proofs.lemmas.Bool.{ltb-true, ltb-false, eqb-true, eqb-false}
 use Rattle.std.proofs.lemmas.List.{take_all}
 use Rattle.std.proofs.KnownBytes.{Consumes-nil, Consumes-trans, Consumes-kept}
@@ -67,9 +67,9 @@ module _ {R : Type 0} (r : Requests R) (old : R) (held : List ℕ) where
   all_line calls now k way = way.parts ∙ append-nil way.line
 
   -- the reader gives the next piece
-  pub way_next : (calls : ℕ) (now new : R) (piece : List ℕ) (k : Keeps) → Way calls now [] k → IsPiece r now new piece
-      → Way (calls + 1) new piece k
-  way_next calls now new piece k way more =
+  pub way_next : (calls : ℕ) (now new : R) (piece : List ℕ) (k : Keeps) → Way calls now [] k
+      → IsPiece r now new piece → piece ≢ [] → Way (calls + 1) new piece k
+  way_next calls now new piece k way more some =
       let line = all_line calls now k way in
       let next : suc calls ≡ calls + 1 = omega arith in
       record {
@@ -83,6 +83,7 @@ module _ {R : Type 0} (r : Requests R) (old : R) (held : List ℕ) where
             earlier = way.given.asked;
             wanted = subst IsLine (sym line) way.unbroken;
             last = more.asked;
+            some = some;
             parts = refl;
           });
           taken = Consumes-trans _ _ _ way.bytes piece way.given.taken more.taken;

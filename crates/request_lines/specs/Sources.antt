@@ -1,5 +1,5 @@
 -- What the calls of a reader gave.
-use Rattle.std.specs.Prelude.{◌≡◌, ℕ, zero, suc, List, [], ◌++◌, take, Option, Result, Ok, Err}
+use Rattle.std.specs.Prelude.{◌≡◌, ◌≢◌, ℕ, zero, suc, List, [], ◌++◌, take, Option, Result, Ok, Err}
 use Rattle.std.specs.Io.KnownBytes.{Consumes, IsAtEnd, Keeps}
 use Rattle.request_lines.specs.Keeping.{IsLine}
 use Rattle.request_lines.specs.declared.source.ReadFault.{ReadFault}
@@ -28,7 +28,8 @@ pub record IsFault {R : Type 0} (r : Requests R) (old new : R) : Type 0 where
   pub asked : r.gives old new (Err (record {}))
   pub left : Keeps (r.remaining old) (r.remaining new)
 
--- a last call gave some bytes more, and was made where no line feed was held
+-- a last call gave some bytes more, and so the end had not come, and was made where no line feed
+-- was held
 pub record HasGivenMore {R : Type 0} (r : Requests R) (held : List ℕ)
     (Before : R → List ℕ → Type 0) (new : R) (bytes : List ℕ) : Type 0 where
   pub before : R
@@ -37,6 +38,7 @@ pub record HasGivenMore {R : Type 0} (r : Requests R) (held : List ℕ)
   pub earlier : Before before front
   pub wanted : IsLine (held ++ front)
   pub last : r.gives before new (Ok piece)
+  pub some : piece ≢ []
   pub parts : bytes ≡ front ++ piece
 
 -- where these bytes were held, so many calls gave these bytes, one behind the other, each made
