@@ -1,5 +1,5 @@
 -- Numbered tables: their values, their numbers, and their rows.
-use Rattle.std.proofs.Common.{is_some, ◌≡◌, inl, inr, ℕ, ◌+◌, ℤ, pos, ◌+ℤ◌, ◌≤ℤ◌, ◌<ℤ◌, Bool, true, false, cond, List, [], ◌∷◌, ◌++◌, take, map, Option, Some, None, IfSome, refl, sym, ap, subst, ◌∙◌, arith}
+use Rattle.std.proofs.Common.{is_some, ◌≡◌, inl, inr, ℕ, ◌+◌, ℤ, pos, ◌+ℤ◌, ◌≤ℤ◌, ◌<ℤ◌, Bool, true, false, cond, List, [], ◌∷◌, ◌++◌, length, take, map, Option, Some, None, IfSome, refl, sym, ap, subst, ◌∙◌, arith}
 use Rattle.std.proofs.lemmas.Int.{ints}
 use Rattle.std.proofs.lemmas.List.{take_more, map-append}
 use Rattle.std.proofs.lemmas.Option.{get_or_from_slice_get, slice_get_within}
@@ -154,6 +154,12 @@ joined_plain [] numbers each = refl
 joined_plain (r ∷ rows) numbers each =
     ap (λ n. row_of r.key r.value (number_else_0 n) ∷ joined (plain rows) numbers) (each r (inl refl))
     ∙ ap (λ rs. r ∷ rs) (joined_plain rows numbers (λ q has. each q (inr has)))
+
+-- no rows come of no values alone
+pub none_joined : (values : Rows) (numbers : Map) → joined values numbers ≡ [] → values ≡ []
+none_joined [] numbers none = refl
+none_joined (v ∷ values) numbers none =
+    absurd (omega (arith, ap (λ (rs : List Row). length rs) none))
 
 pub joined_rows : (rows : List Row) → IsRising (plain rows) → joined (plain rows) (numbers_of (entries_in rows)) ≡ rows
 joined_rows rows rising = joined_plain rows (numbers_of (entries_in rows)) (λ r has. ap (option_map (λ e. e.1)) (entry_found rows r rising has))

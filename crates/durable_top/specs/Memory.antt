@@ -1,5 +1,5 @@
 -- A store in memory as contracts see it, and what its calls do.
-use Rattle.std.specs.Prelude.{◌≡◌, ℕ, ◌-◌, Bool, true, false, ◌||◌, nat_eq, if◌then◌else◌, List, Option, Some, None, Result, Err, IfSome, IfOk, IfErr, OnOk, OnErr, is_err}
+use Rattle.std.specs.Prelude.{◌≡◌, ℕ, ◌-◌, Bool, true, false, ◌||◌, nat_eq, if◌then◌else◌, List, [], Option, Some, None, Result, Err, IfSome, IfOk, IfErr, IsOk, OnOk, OnErr, is_err}
 use Rattle.txn_names.specs.declared.change.Change.{Change}
 use Rattle.serial_spec.specs.Changes.{overlay}
 use Rattle.serial_spec.specs.Rows.{value_in}
@@ -32,21 +32,25 @@ abbrev pub planned : Memory → Option StoreFault
 planned m = if fails_now m then Some fault.Failed else if nat_eq m.refuses_in 1
     then Some fault.Refused else None
 
--- a failed device gives no rows; else they are the rows that it has, unless memory runs out
+-- a failed device gives no rows; else they are the rows that it has, unless memory runs out, which
+-- it does not where there are none
 pub record MemoryLoads (old new : Memory) (result : Result (List Row) StoreFault) : Type 0 where
   pub failed : old.has_failed ≡ true → result ≡ Err fault.Failed
   pub memory : old.has_failed ≡ false → IfErr result (λ f. f ≡ fault.Memory)
   pub rows : IfOk result (λ rows. rows ≡ old.rows)
+  pub none : old.has_failed ≡ false → old.rows ≡ [] → IsOk result
   pub kept : new ≡ old
 
 -- A planned fault comes first, then Refused where no number is left, and no other but for memory.
--- The changes are made, or the rows are as before.
+-- Where nothing is to be changed none comes but a planned one. The changes are made, or the rows
+-- are as before.
 pub record MemoryCommits (old new : Memory) (changes : List Change)
     (result : Result (Unit {0}) StoreFault) : Type 0 where
   pub due : IfSome (planned old) (λ f. result ≡ Err f)
   pub full : planned old ≡ None → IsFull changes (entries_in old.rows) → result ≡ Err fault.Refused
   pub memory : planned old ≡ None → (IsFull changes (entries_in old.rows) → ⊥)
       → IfErr result (λ f. f ≡ fault.Memory)
+  pub none : planned old ≡ None → changes ≡ [] → IsOk result
   pub ok : OnOk result (value_in (plain new.rows) ≡ overlay changes (value_in (plain old.rows)))
   pub numbers : OnOk result (Commits changes (entries_in old.rows) (entries_in new.rows))
   pub err : OnErr result (new.rows ≡ old.rows)

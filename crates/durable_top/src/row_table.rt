@@ -1,5 +1,5 @@
 //! The rows of a table in memory: their values and their numbers.
-ghost use Rattle.std.specs.Prelude.{◌≡◌, ◌<ℤ◌, ◌≤ℤ◌, ◌+ℤ◌, pos, ◌↔◌, Err, IfOk, OnOk, OnErr, IfErr};
+ghost use Rattle.std.specs.Prelude.{◌≡◌, ◌<ℤ◌, ◌≤ℤ◌, ◌+ℤ◌, pos, ◌↔◌, [], Err, IfOk, IsOk, OnOk, OnErr, IfErr};
 ghost use Rattle.serial_spec.specs.Changes.{AreRising, overlay};
 ghost use Rattle.serial_spec.specs.Rows.{IsRising, value_in};
 ghost use Rattle.durable_top.specs.Store.{plain};
@@ -49,6 +49,7 @@ fn number_of(numbers: &NumberTable, key: &Key) -> i64
 fn rows_of(alloc: Global, values: &PlainTable, numbers: &NumberTable) -> Result<Vec<Row>, NoMemory>
     ensures rows { IfOk result (λ rows.
         rows.items ≡ joined values.now.rows (value_in numbers.now.rows)) }
+    ensures none { values.now.rows ≡ [] → IsOk result }
     ensures rising { IsRising (plain (joined values.now.rows (value_in numbers.now.rows))) }
     ensures least { AreNumbered (joined values.now.rows (value_in numbers.now.rows)) }
 {
@@ -129,9 +130,11 @@ impl RowTable {
         Ok(RowTable { values, numbers })
     }
 
-    /// The rows. The only error is that memory runs out.
+    /// The rows. The only error is that memory runs out, and where there are none it takes no
+    /// memory.
     pub(crate) fn rows(&self, alloc: Global) -> Result<Vec<Row>, NoMemory>
         ensures rows { IfOk result (λ rows. rows.items ≡ self.now) }
+        ensures none { self.now ≡ [] → IsOk result }
         ensures rising { IsRising (plain self.now) }
         ensures least { AreNumbered self.now }
     {
@@ -140,7 +143,8 @@ impl RowTable {
 
     #[tactic(auto, using(crate::proofs::Numbering::full_joined, crate::proofs::Numbering::not_full, crate::proofs::Numbering::values_rows_committed))]
     /// Makes the changes under the number above the greatest. It answers Refused where there is
-    /// none, and else faults only where memory runs out; the rows are as before then.
+    /// none, and else faults only where memory runs out; the rows are as before then. Where
+    /// nothing is to be changed there is no fault.
     pub(crate) fn commit(&mut self, changes: &[Change]) -> Result<(), StoreFault>
         requires { AreRising changes.now }
         ensures ok { OnOk result (Commits changes.now (entries_in self.old) (entries_in self.new)) }
@@ -150,6 +154,7 @@ impl RowTable {
         ensures full { IsFull changes.now (entries_in self.old) → result ≡ Err StoreFault.Refused }
         ensures memory { (IsFull changes.now (entries_in self.old) → ⊥)
             → IfErr result (λ fault. fault ≡ StoreFault.Memory) }
+        ensures none { changes.now ≡ [] → IsOk result }
     {
         if changes.is_empty() {
             return Ok(());
