@@ -242,9 +242,11 @@ impl Versions {
 
     /// Makes room in the base for each key at which the child has a place, so that what it left can
     /// go there without memory. Nothing that was left changes, each place stays, and the base has
-    /// the same rows. The only error is that memory runs out.
+    /// the same rows. Where the base has the room already it takes no memory. The only error is
+    /// that memory runs out.
     pub fn reserve_for_base(&mut self, child: TxnNo) -> Result<(), NoMemory>
         ensures ok { OnOk result (FitsBase self.new child) }
+        ensures succeeds { FitsBase self.old child → IsOk result }
         ensures left { (u : ℕ) → (q : List ℕ) → left_in self.new u q ≡ left_in self.old u q }
         ensures places { (u : ℕ) → (q : List ℕ) → has_place self.new u q ≡ has_place self.old u q }
         ensures base { self.new.base.rows ≡ self.old.base.rows }
@@ -255,10 +257,11 @@ impl Versions {
     }
 
     /// Makes room in the base for so many changes, so that they can be made without memory. Nothing
-    /// that was left changes, each place stays, and the base has the same rows. The only error is
-    /// that memory runs out.
+    /// that was left changes, each place stays, and the base has the same rows. Where the base has
+    /// the room already it takes no memory. The only error is that memory runs out.
     pub fn reserve_changes(&mut self, changes: usize) -> Result<(), NoMemory>
         ensures ok { OnOk result (changes ≤ self.new.base.room) }
+        ensures succeeds { changes ≤ self.old.base.room → IsOk result }
         ensures written { self.new.written ≡ self.old.written }
         ensures base { self.new.base.rows ≡ self.old.base.rows }
         ensures room { self.old.base.room ≤ self.new.base.room }
@@ -278,8 +281,8 @@ impl Versions {
     }
 
     /// Hands up what a committed child left: it has left nothing any more, and in its parent it
-    /// stands before what the parent left. Where the parent is the root it goes into the base. It
-    /// takes no memory.
+    /// stands before what the parent left. Where the parent is the root it goes into the base, else
+    /// the base stays, and its room too. It takes no memory.
     pub fn hand_up(&mut self, child: TxnNo, parent: Option<TxnNo>)
         requires places { IfSome parent (λ p. (q : List ℕ) → IsTrue (has_place self.old child q) →
             IsTrue (has_place self.old p q)) }
@@ -291,6 +294,7 @@ impl Versions {
         ensures base { (q : List ℕ) → base_in self.new q ≡ base_after self.old child parent q }
         ensures same { ((q : List ℕ) → base_after self.old child parent q ≡ base_in self.old q) →
             self.new.base.rows ≡ self.old.base.rows }
+        ensures kept { IfSome parent (λ p. self.new.base ≡ self.old.base) }
     {
         match parent {
             Some(parent) => self.written.hand_up(child, Some(parent)),
