@@ -1,5 +1,6 @@
 -- Keys collected in byte order, and the changes that are made of them.
-use Rattle.std.proofs.Common.{◌≡◌, ℕ, ℤ, Bool, true, false, cond, ◌&&◌, ◌||◌, List, [], ◌∷◌, ◌++◌, append_assoc, map, Option, Some, None, refl, sym, ap, subst, ◌∙◌}
+use Rattle.std.proofs.Common.{◌≡◌, ℕ, ℤ, Bool, true, false, cond, ◌&&◌, ◌||◌, List, [], ◌∷◌, ◌++◌, append_assoc, map, Option, Some, None, refl, sym, ap, subst, ◌∙◌, arith}
+use Rattle.std.specs.Prelude.{length}
 use Rattle.std.proofs.lemmas.Bool.{false≢true}
 use Rattle.std.specs.BTreeSet.{insert_key}
 use Rattle.std.specs.Cmp.Lexicographic.{slice_cmp, nat_list_eq_equiv}
@@ -7,7 +8,7 @@ use Rattle.std.specs.List.{list_any, AllByRecursion}
 use Rattle.std.specs.Ordering.{nat_cmp, match_ordering}
 use Rattle.std.specs.declared.cmp.Ordering.TheVariants.{Less}
 use Rattle.txn_names.specs.Path.{label_eq}
-use Rattle.txn_names.proofs.Names.{same_label}
+use Rattle.txn_names.proofs.Names.{label_eq_self, same_label}
 use Rattle.txn_names.specs.declared.change.Change.{Change}
 use Rattle.serial_spec.specs.History.{or_else}
 use Rattle.serial_spec.specs.Rows.{AreRisingKeys}
@@ -167,6 +168,20 @@ module _ (sees : List ℕ → Option ℤ) where
   pub changes_each : (wrote : List ℕ → Bool) (ks : List (List ℕ)) → ((k : List ℕ) → list_any (label_eq k) ks ≡ wrote k)
       → (k : List ℕ) → change_at (map change_of ks) k ≡ cond (wrote k) (Some (sees k)) None
   changes_each wrote ks each k = change_at-all ks k ∙ ap (λ b. cond b (Some (sees k)) None) (each k)
+
+  -- where none of the keys was written none is left to be changed
+  pub none_left : (wrote : List ℕ → Bool) (cs : List Change) (k : List ℕ) (rest next all : List (List ℕ))
+      → cs ++ map change_of rest ≡ map change_of all → rest ≡ k ∷ next
+      → ((q : List ℕ) → list_any (label_eq q) all ≡ wrote q) → ((q : List ℕ) → wrote q ≡ false) → ⊥
+  none_left wrote cs k rest next [] so_far is each none =
+      let whole : cs ++ map change_of (k ∷ next) ≡ [] = ap (λ ks. cs ++ map change_of ks) (sym is) ∙ so_far in
+      nonempty cs whole
+    where
+      nonempty : (xs : List Change) → xs ++ map change_of (k ∷ next) ≡ [] → ⊥
+      nonempty [] e = absurd (omega (arith, ap length e))
+      nonempty (x ∷ xs) e = absurd (omega (arith, ap length e))
+  none_left wrote cs k rest next (q ∷ all) so_far is each none =
+      false≢true (sym (none q) ∙ sym (each q) ∙ ap (λ b. b || list_any (label_eq q) all) (label_eq_self q))
 
 -- ---- what is locked to write
 

@@ -75,15 +75,6 @@ IsReady tree a (Commit t) = (n : ℕ) → IsNumberOf tree t n → (p : Option �
 IsReady tree a (Abort t) = Unit {0}
 IsReady tree a (After t x) = Unit {0}
 
--- the step of this event has its room already, and none of it is in the table
-abbrev pub HasRoom : States → LocksAndVersions → Event → Type 0
-HasRoom tree a (Begin t) = Unit {0}
-HasRoom tree a (Access t k o) = IsReady tree a (Access t k o)
-HasRoom tree a (Sum t g) = IsReady tree a (Sum t g)
-HasRoom tree a (Commit t) = (length t ≡ 1 → ⊥) × IsReady tree a (Commit t)
-HasRoom tree a (Abort t) = Unit {0}
-HasRoom tree a (After t x) = Unit {0}
-
 -- the step of this event is an access that leaves no value anywhere
 abbrev pub IsRead : Event → Type 0
 IsRead (Begin t) = ⊥

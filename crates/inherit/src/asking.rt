@@ -1,5 +1,5 @@
 //! Accesses of keys and sums over groups: what is asked, in the locks and the versions at once.
-ghost use Rattle.std.specs.Prelude.{◌≡◌, ◌↔◌, ℕ, List, IsOk, OnOk, IsSome, IfNone, IfSome, IsTrue};
+ghost use Rattle.std.specs.Prelude.{◌≡◌, ◌≤◌, ◌↔◌, ℕ, List, IsOk, OnOk, IsSome, IfNone, IfSome, IsTrue};
 ghost use Rattle.serial_spec.specs.declared.operation.Kind.TheVariants.{Read};
 ghost use Rattle.serial_spec.specs.declared.target.Asked.TheVariants.{At, Over};
 ghost use Rattle.serial_spec.specs.declared.target.Target.TheVariants as target;
@@ -62,6 +62,7 @@ impl Estate {
         ensures succeeds { HasPlace self.old txn asked.now → IsOk result }
         ensures ok { OnOk result (HasPlace self.new txn asked.now) }
         ensures same { IsSame self.old self.new }
+        ensures room { self.old.versions.base.room ≤ self.new.versions.base.room }
         ensures read { kind_of asked.now ≡ Read → self.new.versions ≡ self.old.versions }
     {
         self.locks.reserve_asked(txn, asked)?;

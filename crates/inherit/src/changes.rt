@@ -1,5 +1,5 @@
 //! What a transaction would put into the table.
-ghost use Rattle.std.specs.Prelude.{◌≡◌, ℕ, List, IfOk};
+ghost use Rattle.std.specs.Prelude.{◌≡◌, ℕ, List, IfOk, IsFalse, IsOk};
 ghost use Rattle.std.specs.List.{list_any};
 ghost use Rattle.txn_names.specs.Path.{label_eq};
 ghost use Rattle.serial_spec.specs.Rows.{AreRisingKeys};
@@ -26,6 +26,7 @@ impl Estate {
         ensures rising { IfOk result (λ keys. AreRisingKeys keys.keys) }
         ensures each { IfOk result (λ keys. (k : List ℕ) →
             list_any (label_eq k) keys.keys ≡ writes self.now txn k) }
+        ensures succeeds { ((k : List ℕ) → IsFalse (writes self.now txn k)) → IsOk result }
     {
         let mut written = BTreeSet::new(self.alloc);
         let reserved = self.locks.keys(txn);
@@ -39,9 +40,12 @@ impl Estate {
     }
 
     /// The keys that the transaction locks to write, in byte order, each with the value that it
-    /// sees there. The only error is that memory runs out.
+    /// sees there. Where it locks none to write it takes no memory. The only error is that memory
+    /// runs out.
     pub fn changes(&self, tree: &Tree, txn: TxnNo) -> Result<Vec<Change>, NoMemory>
-        ensures { IfOk result (λ changes. AreChangesOf tree.now self.now txn changes.items) }
+        ensures ok { IfOk result (λ changes.
+            AreChangesOf tree.now self.now txn changes.items) }
+        ensures succeeds { ((k : List ℕ) → IsFalse (writes self.now txn k)) → IsOk result }
     {
         let written = self.written_keys(txn)?;
         let mut changes = Vec::new(self.alloc);

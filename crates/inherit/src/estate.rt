@@ -1,11 +1,11 @@
 //! The steps that touch locks and versions.
-ghost use Rattle.std.specs.Prelude.{◌≡◌, ◌≤◌, ℕ, List, length, None, Some, IsOk, OnOk, IfSome};
+ghost use Rattle.std.specs.Prelude.{◌≡◌, ◌≤◌, ℕ, List, length, None, Some, IsOk, OnOk};
 ghost use Rattle.txn_tree.specs.Asked.{IsNumberOf};
 ghost use Rattle.serial_spec.specs.Changes.{AreRising, overlay};
 ghost use Rattle.serial_spec.specs.declared.operation.Kind.TheVariants.{Read};
 ghost use Rattle.serial_spec.specs.declared.target.Target.{Target};
 ghost use Rattle.serial_spec.specs.Targets.{kind_of};
-ghost use Rattle.inherit.specs.LocksAndVersions.{HasRoom, IsRead, IsReady, IsReadyToAsk, IsSame, MayGoUp, base_of, free, left_of, modes_of};
+ghost use Rattle.inherit.specs.LocksAndVersions.{IsRead, IsReady, IsReadyToAsk, IsSame, MayGoUp, base_of, free, left_of, modes_of};
 ghost use Rattle.inherit.specs.Steps.{HasDropped, HasGoneUp};
 ghost use Rattle.version_stack.specs.Versioned.{base_after};
 
@@ -78,18 +78,21 @@ impl Estate {
         ensures succeeds { MayGoUp self.old child (Some parent) → IsOk result }
         ensures ok { OnOk result (MayGoUp self.new child (Some parent)) }
         ensures same { IsSame self.old self.new }
+        ensures room { self.old.versions.base.room ≤ self.new.versions.base.room }
     {
         self.locks.reserve_for_parent(child, parent)?;
         self.versions.reserve_for_parent(child, parent)
     }
 
     /// Makes all growths of a commit beforehand, as `reserve_for` of its event does: from the
-    /// transaction's number to its parent's, or into the table where it has none. The only error is
-    /// that memory runs out.
+    /// transaction's number to its parent's, or into the table where it has none. Where there is
+    /// room for all of it already it takes no memory. What is locked, left and seen stays, and no
+    /// room of the table's goes. The only error is that memory runs out.
     pub fn reserve_hand_up(&mut self, child: TxnNo, parent: Option<TxnNo>) -> Result<(), NoMemory>
-        ensures succeeds { IfSome parent (λ p. MayGoUp self.old child (Some p) → IsOk result) }
+        ensures succeeds { MayGoUp self.old child parent → IsOk result }
         ensures ok { OnOk result (MayGoUp self.new child parent) }
         ensures same { IsSame self.old self.new }
+        ensures room { self.old.versions.base.room ≤ self.new.versions.base.room }
     {
         match parent {
             Some(parent) => self.reserve_for_parent(child, parent),
@@ -98,10 +101,13 @@ impl Estate {
     }
 
     /// Makes room for so many changes of the table, which `commit_changes` then makes without
-    /// memory. What is locked, left and seen stays. The only error is that memory runs out.
+    /// memory. What is locked, left and seen stays, and no room of the table's goes. Where the table
+    /// has the room already it takes no memory. The only error is that memory runs out.
     pub fn reserve_changes(&mut self, changes: usize) -> Result<(), NoMemory>
         ensures ok { OnOk result (changes ≤ self.new.versions.base.room) }
+        ensures succeeds { changes ≤ self.old.versions.base.room → IsOk result }
         ensures same { IsSame self.old self.new }
+        ensures room { self.old.versions.base.room ≤ self.new.versions.base.room }
     {
         self.versions.reserve_changes(changes)
     }
@@ -109,9 +115,10 @@ impl Estate {
     // Makes room for what a commit hands up.
     fn reserve_commit(&mut self, tree: &Tree, child: TxnNo, name: &Name) -> Result<(), NoMemory>
         requires { IsNumberOf tree.now name.now child }
-        ensures succeeds { HasRoom tree.now self.old (Event.Commit name.now) → IsOk result }
+        ensures succeeds { IsReady tree.now self.old (Event.Commit name.now) → IsOk result }
         ensures ok { OnOk result (IsReady tree.now self.new (Event.Commit name.now)) }
         ensures same { IsSame self.old self.new }
+        ensures room { self.old.versions.base.room ≤ self.new.versions.base.room }
     {
         match name.parent() {
             Some(parent) => match tree.no_of(&parent) {
@@ -127,6 +134,7 @@ impl Estate {
         ensures succeeds { IsReadyToAsk tree.now self.old name.now asked.now → IsOk result }
         ensures ok { OnOk result (IsReadyToAsk tree.now self.new name.now asked.now) }
         ensures same { IsSame self.old self.new }
+        ensures room { self.old.versions.base.room ≤ self.new.versions.base.room }
         ensures read { kind_of asked.now ≡ Read → self.new.versions ≡ self.old.versions }
     {
         match tree.no_of(name) {
@@ -136,13 +144,15 @@ impl Estate {
     }
 
     /// Makes all growths of the event's step beforehand: an access's, a sum's or a commit's. What
-    /// is locked, left and seen stays. For a read or a sum no room is made among the versions.
-    /// Where the step has its room already, other than in the table, it takes no memory. The only
-    /// error is that memory runs out.
+    /// is locked, left and seen stays, and no room of the table's goes. For a read or a sum no room
+    /// is made among the versions.
+    /// Where the step has its room already it takes no memory. The only error is that memory runs
+    /// out.
     pub fn reserve_for(&mut self, tree: &Tree, event: &Event) -> Result<(), NoMemory>
         ensures ok { OnOk result (IsReady tree.now self.new event.now) }
         ensures same { IsSame self.old self.new }
-        ensures succeeds { HasRoom tree.now self.old event.now → IsOk result }
+        ensures room { self.old.versions.base.room ≤ self.new.versions.base.room }
+        ensures succeeds { IsReady tree.now self.old event.now → IsOk result }
         ensures read { IsRead event.now → self.new.versions ≡ self.old.versions }
     {
         match event {

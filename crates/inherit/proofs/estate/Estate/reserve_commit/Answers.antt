@@ -1,4 +1,4 @@
-use Rattle.std.proofs.Common.{◌≡◌, ◌<◌, Some, rules}
+use Rattle.std.proofs.Common.{◌≡◌, ◌<◌, Some, None, sym, rules}
 use Rattle.std.proofs.lemmas.Result.{on_ok_weaker}
 use Rattle.std.specs.Prelude.{length}
 use Rattle.txn_names.specs.Path.{parent}
@@ -32,9 +32,9 @@ returns-in-Some-no_of-clause-succeeds c =
     let p = c.in-Some-no_of.parent in
     let is : IsNumberOf c.args.tree.now (parent t) p = search rules in
     let below : 1 < length t = search rules in
-    λ room. c.reserve_for_parent.ensures.succeeds (room.1 c.args.child c.requires (Some p) (below, is))
+    λ ready. c.reserve_for_parent.ensures.succeeds (ready c.args.child c.requires (Some p) (below, is))
 
 pub returns-in-None-clause-succeeds : goal.returns-in-None-clause-succeeds
 returns-in-None-clause-succeeds c =
     let top : length c.args.name.now ≡ 1 = search rules in
-    λ room. absurd (room.0 top)
+    rw (sym c.self.view_is) (λ ready. c.reserve_for_base.ensures.succeeds (ready c.args.child c.requires None top))
