@@ -12,6 +12,7 @@ given_few g store m opened = record {
   rows = m.opened.given.items;
   loaded = opened.loaded;
   later = opened.later;
+  crash = opened.crash;
   are = λ none. sym (ap value_in opened.are) ∙ opened.rows none;
   rising = subst IsRising opened.are opened.rising;
   few = omega (arith, opened.few, ap length opened.are, as_many m.opened.given.items);

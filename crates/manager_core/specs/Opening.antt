@@ -11,7 +11,7 @@ use Rattle.manager_core.specs.declared.outcome.OpenFault.TheVariants.{NoMemory, 
 use Rattle.durable_top.specs.Store.{TellsFailure, plain}
 use Rattle.durable_top.specs.Numbered.{entries_in}
 use Rattle.manager_core.specs.State.{State}
-use Rattle.manager_core.specs.Asked.{IsLater}
+use Rattle.manager_core.specs.Asked.{IsLater, LeavesNoMore}
 
 abbrev pub most_rows : ℕ
 most_rows = MOST_ROWS
@@ -30,6 +30,7 @@ pub record IsOpened {S : Type 0} (g : Ghosts S) (store : S) (m : State S) : Type
   pub table : value_in m.table ≡ value_in m.rows
   pub faults : m.opened.faults ≡ g.faults store
   pub later : IsLater g store m.store
+  pub crash : LeavesNoMore g store m.store
   pub unfailed : g.failures m.store ≡ 0
 
 -- the store was asked once, answered more rows than may be, and was left so
@@ -38,6 +39,7 @@ pub record HasTooMany {S : Type 0} (g : Ghosts S) (store : S) : Type 0 where
   pub rows : List Row
   pub loaded : g.loads store left (Ok rows)
   pub later : IsLater g store left
+  pub crash : LeavesNoMore g store left
   pub are : g.doubt left ≡ 0 → value_in (plain rows) ≡ g.table store
   pub rising : IsRising (plain rows)
   pub many : most_rows < length rows
@@ -48,6 +50,7 @@ pub record HasGivenFew {S : Type 0} (g : Ghosts S) (store : S) : Type 0 where
   pub rows : List Row
   pub loaded : g.loads store left (Ok rows)
   pub later : IsLater g store left
+  pub crash : LeavesNoMore g store left
   pub are : g.doubt left ≡ 0 → value_in (plain rows) ≡ g.table store
   pub rising : IsRising (plain rows)
   pub few : length rows ≤ most_rows
@@ -57,6 +60,7 @@ pub record FailsToLoad {S : Type 0} (g : Ghosts S) (store : S) (fault : StoreFau
   pub left : S
   pub loaded : g.loads store left (Err fault)
   pub later : IsLater g store left
+  pub crash : LeavesNoMore g store left
   pub failures : TellsFailure (g.failures store) (g.failures left) (fault ≡ Failed)
   pub faults : g.faults left ≡ g.faults store
 

@@ -1,7 +1,8 @@
 //! Lines that wait for a condition, and lines that are given up.
-ghost use Rattle.std.specs.Prelude.{◌≡◌, ◌↔◌, ◌∷◌, IfOk, OnErr, OnOk, IsTrue};
+ghost use Rattle.std.specs.Prelude.{◌≡◌, ◌↔◌, ◌∷◌, IfOk, IsOk, OnErr, OnOk, IsFalse, IsTrue};
 ghost use Rattle.serial_spec.specs.declared.event.Event.TheVariants.{After};
 ghost use Rattle.serial_spec.specs.declared.entry.Answer.TheVariants.{Stuck};
+ghost use Rattle.serial_spec.specs.Allowed.{has_come};
 ghost use Rattle.manager_core.specs.Lines.{CanGiveUp, IsFree, IsWaitOf};
 ghost use Rattle.manager_core.specs.Parking.{Awaited, IsKeptOut, IsParked, NobodyWaits};
 ghost use Rattle.manager_core.specs.State.{entry};
@@ -17,12 +18,13 @@ impl<S: TopStore> Manager<S> {
 
     /// Answers an `after` line once its condition holds: that the transaction has begun; or that it
     /// has committed, or has begun and has an aborted ancestor, itself included. Until then the
-    /// line waits, without an entry, and nothing changes.
+    /// line waits, without an entry and without memory, and nothing changes.
     pub fn after(&mut self, by: By, name: &Name, when: When) -> Result<Outcome, NoMemory>
         requires free { IsFree self.old.history by (After name.now when) }
         ensures ok { IfOk result (λ outcome.
             Awaited self.old self.new by (After name.now when) outcome) }
         ensures err { OnErr result (self.new ≡ self.old) }
+        ensures waits { IsFalse (has_come self.old.history name.now when) → IsOk result }
         ensures sound { OnOk result (IsSound S.TopStore self.new) }
     {
         if !self.tables.has_come(name, when) {

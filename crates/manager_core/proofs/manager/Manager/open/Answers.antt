@@ -1,4 +1,5 @@
-use Rattle.std.proofs.Common.{rules, length, ap, arith}
+use Rattle.std.proofs.Common.{rules, length, ap, subst, sym, arith}
+use Rattle.manager_core.specs.Asked.{LeavesNoMore}
 use Rattle.manager_core.proofs.Opening.{as_many}
 use Rattle.manager_core.proofs.manager.Manager.open.Goals as goal
 
@@ -14,5 +15,7 @@ returns-in-Ok-over-clause-ok g c = record {
   table = search rules;
   faults = search rules;
   later = search rules;
+  crash = subst (λ s. LeavesNoMore g.S.TopStore c.args.store s) (sym c.in-Ok-over.ensures.store)
+      (record { tables = c.load.ensures.crash; numbers = c.load.ensures.crash_numbers });
   unfailed = search rules;
 }
