@@ -141,9 +141,9 @@ fn tell_abort(bytes: &[u8], entry: &mut Option<ReportEntry>)
     *entry = abort_of(bytes);
 }
 
-/// The entry that the bytes spell, a line of a report without its line feed: `LABEL LINE TEXT ->
-/// REPLY`, `* victim N` or `* close N`. The reply is one that a line of such a text may have;
-/// whether it has its cause is not asked.
+/// The entry that the bytes spell, a line of a report without its line feed:
+/// `LABEL LINE TEXT -> REPLY`, `* victim N` or `* close N`. The reply is one that a line of such a
+/// text may have; whether it has its cause is not asked.
 pub fn parse_entry(bytes: &[u8]) -> Option<ReportEntry>
     ensures { result ≡ entry_of bytes.now }
 {

@@ -2,14 +2,14 @@
 //! their first fault.
 //!
 //! A text is lines, each with a line feed behind it. A header `session LABEL` starts a session, and
-//! the command lines up to the next header are its lines: `begin N`, `get N K`, `set N K V`, `add N
-//! K V`, `del N K`, `sum N G`, `commit N`, `abort N`, `after N begun` and `after N done`, where N
-//! is a name, K a key, V a number and G a group. Words stand one space apart. Each line has one
-//! spelling. There are at most 64 sessions, each with a label of its own and at most 1,024 lines.
+//! the command lines up to the next header are its lines: `begin N`, `get N K`, `set N K V`,
+//! `add N K V`, `del N K`, `sum N G`, `commit N`, `abort N`, `after N begun` and `after N done`,
+//! where N is a name, K a key, V a number and G a group. Words stand one space apart. Each line has
+//! one spelling. There are at most 64 sessions, each with a label of its own and at most 1,024
+//! lines.
 //!
 //! Sessions also grow while they run: `Sessions` takes one more session or one more line of a
-//! session, and takes the last one back. A request `LABEL LINE` asks for such a line of the session
-//! with this label.
+//! session. A request `LABEL LINE` asks for such a line of the session with this label.
 #![tactic(auto)]
 
 mod command;
