@@ -13,7 +13,7 @@ use Rattle.interleavings.specs.Trails.{Trail}
 use Rattle.interleavings.specs.Attempts.{GoesOn}
 use Rattle.interleavings.specs.Turning.{Turning, NoneGoesOn, Stepped, Unstuck, GivesUpLine}
 use Rattle.interleavings.proofs.Trails.{trail_more, trail_none}
-use Rattle.interleavings.specs.Scheduled.{Goes, RunsList, RunsEach, RunsRound, RunsSoFar, RunsAll, SettlesSoFar, Settles}
+use Rattle.interleavings.specs.Scheduled.{Goes, RunsList, RunsEach, RunsRound, RunsSoFar, RunsSome, RunsAll, SettlesPartly, SettlesSoFar, Settles}
 
 -- ---- going on
 
@@ -78,6 +78,31 @@ module _ {S : Type 0} (g : Ghosts S) where
   pub goes_err_still : {T E : Type 0} (r : Result T E) (old mid new : Turning S) → Goes g old mid → OnErr r (Goes g mid new) → OnErr r (Goes g old new)
   goes_err_still (Ok x) old mid new goes more = tt
   goes_err_still (Err x) old mid new goes more = goes_still old mid new goes more
+
+  pub some_err : {T E : Type 0} (r : Result T E) (old new : Turning S) → RunsSome g old new
+      → OnErr r (RunsSome g old new)
+  some_err (Ok x) old new some = tt
+  some_err (Err x) old new some = some
+
+  pub settles_err : {T E : Type 0} (r : Result T E) (old mid new : Turning S)
+      → SettlesSoFar g old mid → RunsSome g mid new → OnErr r (SettlesPartly g old new)
+  settles_err (Ok x) old mid new so_far some = tt
+  settles_err (Err x) old mid new so_far some =
+      record { between = mid; so_far = so_far; some = some }
+
+  -- what was done until then went on
+  pub goes_some : (old new : Turning S) → RunsSome g old new → Goes g old new
+  goes_some old new some = some.runs.goes
+
+  pub goes_partly : (old new : Turning S) → SettlesPartly g old new → Goes g old new
+  goes_partly old new partly =
+      goes_still old partly.between new partly.so_far.goes partly.some.runs.goes
+
+  pub goes_partly_err : {T E : Type 0} (r : Result T E) (old mid new : Turning S) → Goes g old mid
+      → OnErr r (SettlesPartly g mid new) → OnErr r (Goes g old new)
+  goes_partly_err (Ok x) old mid new goes more = tt
+  goes_partly_err (Err x) old mid new goes more =
+      goes_still old mid new goes (goes_partly mid new more)
 
   -- ---- a list
 

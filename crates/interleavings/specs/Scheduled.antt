@@ -1,5 +1,5 @@
 -- What the parts of a run come to.
-use Rattle.std.specs.Prelude.{◌≡◌, ℕ, zero, suc, List, length}
+use Rattle.std.specs.Prelude.{◌≡◌, ◌≤◌, ℕ, zero, suc, List, length}
 use Rattle.serial_spec.specs.History.{History}
 use Rattle.serial_spec.specs.Rows.{Rows}
 use Rattle.serial_spec.specs.Interleaving.{Session, AllAnswered}
@@ -39,6 +39,12 @@ pub record RunsEach {S : Type 0} (g : Ghosts S) (n : ℕ) (old new : Turning S) 
   pub goes : Goes g old new
   pub each : StepOfEach old.core.rows old.sessions n old.core.history new.core.history
 
+-- an attempt of each of the first sessions, of as many as it is
+pub record RunsSome {S : Type 0} (g : Ghosts S) (old new : Turning S) : Type 0 where
+  pub count : ℕ
+  pub few : count ≤ length old.sessions
+  pub runs : RunsEach g count old new
+
 pub record RunsRound {S : Type 0} (g : Ghosts S) (old new : Turning S) : Type 0 where
   pub goes : Goes g old new
   pub round : Round old.core.rows old.sessions old.core.history new.core.history
@@ -67,6 +73,12 @@ pub record SettlesSoFar {S : Type 0} (g : Ghosts S) (old new : Turning S) : Type
   pub goes : Goes g old new
   pub count : ℕ
   pub steps : StepsOfAll old.core.rows old.sessions count old.core.history new.core.history
+
+-- so far, and then an attempt of each of the first sessions, of as many as it is
+pub record SettlesPartly {S : Type 0} (g : Ghosts S) (old new : Turning S) : Type 0 where
+  pub between : Turning S
+  pub so_far : SettlesSoFar g old between
+  pub some : RunsSome g between new
 
 -- until no session's next line may be answered or begin to wait
 pub record Settles {S : Type 0} (g : Ghosts S) (old new : Turning S) : Type 0 where

@@ -1,6 +1,6 @@
 //! Sessions by a schedule.
 ghost use Rattle.std.specs.Prelude.{OnErr, OnOk, length};
-ghost use Rattle.interleavings.specs.Scheduled.{Goes, RunsAll, RunsEach, RunsList, RunsRound, RunsWhole, Settles};
+ghost use Rattle.interleavings.specs.Scheduled.{Goes, RunsAll, RunsEach, RunsList, RunsRound, RunsSome, RunsWhole, Settles, SettlesPartly};
 
 use crate::turns::Turns;
 use durable_top::TopStore;
@@ -20,7 +20,7 @@ fn run_list<S: TopStore>(turns: &mut Turns<S>, schedule: &[u32]) -> Result<(), N
 // An attempt of each session, in order.
 fn run_each<S: TopStore>(turns: &mut Turns<S>) -> Result<(), NoMemory>
     ensures ok { OnOk result (RunsEach S.TopStore (length turns.old.sessions) turns.old turns.new) }
-    ensures err { OnErr result (Goes S.TopStore turns.old turns.new) }
+    ensures err { OnErr result (RunsSome S.TopStore turns.old turns.new) }
 {
     for session in 0..turns.count() {
         turns.step(session)?;
@@ -29,10 +29,11 @@ fn run_each<S: TopStore>(turns: &mut Turns<S>) -> Result<(), NoMemory>
 }
 
 /// Attempts each session, in order, again and again, until no line may be answered or begin to
-/// wait. The only error is that memory runs out; what was done until then stands.
+/// wait. The only error is that memory runs out; what was done until then stands: each session was
+/// attempted so many times, and the first of them once more.
 pub fn settle<S: TopStore>(turns: &mut Turns<S>) -> Result<(), NoMemory>
     ensures ok { OnOk result (Settles S.TopStore turns.old turns.new) }
-    ensures err { OnErr result (Goes S.TopStore turns.old turns.new) }
+    ensures err { OnErr result (SettlesPartly S.TopStore turns.old turns.new) }
 {
     while turns.goes_on() {
         run_each(turns)?;

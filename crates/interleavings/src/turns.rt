@@ -1,6 +1,7 @@
 //! Sessions under way, a line at a time.
-ghost use Rattle.std.specs.Prelude.{◌≡◌, ◌↔◌, length, replicate, IfErr, IfNone, IfOk, IfSome, IsTrue, MatchBool, None, OnErr, OnOk};
+ghost use Rattle.std.specs.Prelude.{◌≡◌, ◌↔◌, length, replicate, IfErr, IfNone, IfOk, IfSome, IsOk, IsTrue, MatchBool, None, OnErr, OnOk};
 ghost use Rattle.serial_spec.specs.Interleaving.{AllAnswered, next_event};
+ghost use Rattle.serial_spec.specs.Follows.{NoneGivesUp};
 ghost use Rattle.txn_history.specs.Turns.{IsUnderWay};
 ghost use Rattle.durable_top.specs.Store.{plain};
 ghost use Rattle.manager_core.specs.Opening.{HasCause};
@@ -158,7 +159,8 @@ impl<'a, S: TopStore> Turns<'a, S> {
 
     /// The opening rows, in byte order.
     pub fn opening(&self) -> &[Row]
-        ensures { plain result.now ≡ self.now.core.rows }
+        ensures rows { plain result.now ≡ self.now.core.rows }
+        ensures given { result.now ≡ self.now.core.opened.given.items }
     {
         self.manager.opening()
     }
@@ -172,12 +174,15 @@ impl<'a, S: TopStore> Turns<'a, S> {
 
     /// Attempts the session's next line: it is answered as the definitions say, or it begins to
     /// wait, or nothing happens; then those are aborted that break the cycles of waits. The only
-    /// error is that memory runs out, and nothing has changed then.
+    /// error is that memory runs out, and nothing has changed then. A session with no line left takes
+    /// no memory.
     pub fn step(&mut self, session: u32) -> Result<Turn, NoMemory>
         ensures ok { IfOk result (λ turn. Stepped S.TopStore self.old self.new session turn) }
         ensures way { OnOk result
             (IsUnderWay self.new.core.rows self.new.sessions self.new.core.history) }
         ensures err { OnErr result (self.new ≡ self.old) }
+        ensures idle { next_event self.old.sessions self.old.core.history session ≡ None →
+            IsOk result }
     {
         let Some((line, due)) = self.due(session) else {
             return Ok(Turn::OutOfTurn);
@@ -259,12 +264,15 @@ impl<'a, S: TopStore> Turns<'a, S> {
 
     /// Applies the stuck rule once: where lines are left and none of the sessions can go on, the
     /// next line of the first session that has one is given up. Answers its session and number. The
-    /// only error is that memory runs out, and nothing has changed then.
+    /// only error is that memory runs out, and nothing has changed then. Where no line is given up
+    /// it takes no memory.
     pub fn stuck(&mut self) -> Result<Option<(u32, u32)>, NoMemory>
         ensures ok { IfOk result (λ line. Unstuck S.TopStore self.old self.new line) }
         ensures way { OnOk result
             (IsUnderWay self.new.core.rows self.new.sessions self.new.core.history) }
         ensures err { OnErr result (self.new ≡ self.old) }
+        ensures none { NoneGivesUp self.old.core.rows self.old.sessions self.old.core.history →
+            IsOk result }
     {
         // As in `step`.
         let _count = self.sessions.len();

@@ -69,7 +69,8 @@ impl<S: TopStore> Live<S> {
 
     /// The opening rows, in byte order.
     pub fn opening(&self) -> &[Row]
-        ensures { plain result.now ≡ self.now.core.rows }
+        ensures rows { plain result.now ≡ self.now.core.rows }
+        ensures given { result.now ≡ self.now.core.opened.given.items }
     {
         self.progress.opening()
     }

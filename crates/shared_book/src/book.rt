@@ -1,6 +1,7 @@
 //! Sessions under way, which many threads take turns with.
-ghost use Rattle.std.specs.Prelude.{◌≡◌, ◌<◌, ◌≤◌, ◌↔◌, IfErr, IfOk, IfSome, IsTrue, OnErr, OnOk};
+ghost use Rattle.std.specs.Prelude.{◌≡◌, ◌<◌, ◌≤◌, ◌↔◌, IfErr, IfOk, IfSome, IsOk, IsTrue, OnErr, OnOk};
 ghost use Rattle.serial_spec.specs.declared.limits.TheConstants.{MOST_LINES, MOST_SESSIONS};
+ghost use Rattle.serial_spec.specs.Follows.{NoneGivesUp};
 ghost use Rattle.serial_spec.specs.Interleaving.{AllAnswered};
 ghost use Rattle.txn_history.specs.Turns.{IsUnderWay};
 ghost use Rattle.durable_top.specs.Store.{plain};
@@ -79,7 +80,8 @@ impl<'a, S: TopStore> Book<'a, S> {
 
     /// The opening rows, in byte order.
     pub fn opening(&self) -> &[Row]
-        ensures { plain result.now ≡ self.now.core.rows }
+        ensures rows { plain result.now ≡ self.now.core.rows }
+        ensures given { result.now ≡ self.now.core.opened.given.items }
     {
         self.turns.opening()
     }
@@ -109,13 +111,14 @@ impl<'a, S: TopStore> Book<'a, S> {
     /// Attempts a line, where it is its session's next: it is answered as the definitions say, or
     /// it begins to wait, or nothing happens; then those are aborted that break the cycles of
     /// waits. A line of another number or text is out of turn, and nothing happens. The only error
-    /// is that memory runs out, and nothing has changed then.
+    /// is that memory runs out, and nothing has changed then. A line out of turn takes no memory.
     pub fn attempt(&mut self, session: u32, line: u32, text: &Line) -> Result<Turn, NoMemory>
         ensures ok { IfOk result (λ turn.
             Attempted S.TopStore self.old self.new session line text.now turn) }
         ensures way { OnOk result
             (IsUnderWay self.new.core.rows self.new.sessions self.new.core.history) }
         ensures err { OnErr result (self.new ≡ self.old) }
+        ensures idle { (IsNext self.old session line text.now → ⊥) → IsOk result }
     {
         if self.is_next(session, line, text) {
             self.turns.step(session)
@@ -126,12 +129,15 @@ impl<'a, S: TopStore> Book<'a, S> {
 
     /// Applies the stuck rule once: where lines are left and none of the sessions can go on, the
     /// next line of the first session that has one is given up. Answers its session and number. The
-    /// only error is that memory runs out, and nothing has changed then.
+    /// only error is that memory runs out, and nothing has changed then. Where no line is given up
+    /// it takes no memory.
     pub fn stuck(&mut self) -> Result<Option<(u32, u32)>, NoMemory>
         ensures ok { IfOk result (λ line. Unstuck S.TopStore self.old self.new line) }
         ensures way { OnOk result
             (IsUnderWay self.new.core.rows self.new.sessions self.new.core.history) }
         ensures err { OnErr result (self.new ≡ self.old) }
+        ensures none { NoneGivesUp self.old.core.rows self.old.sessions self.old.core.history →
+            IsOk result }
     {
         self.turns.stuck()
     }

@@ -1,4 +1,4 @@
-use Rattle.interleavings.proofs.Schedules.{goes_err, goes_still, settles_all, settles_more, settles_none}
+use Rattle.interleavings.proofs.Schedules.{settles_all, settles_err, settles_more, settles_none}
 use Rattle.interleavings.proofs.Stuck.{some_moves}
 use Rattle.interleavings.proofs.schedule.settle.Goals as goal
 
@@ -24,5 +24,5 @@ returns-clause-ok g c =
 
 pub returns-in_err-run_each-clause-err : goal.returns-in_err-run_each-clause-err
 returns-in_err-run_each-clause-err g c =
-    goes_err g.S.TopStore c.from_residual.result c.args.turns.now c.run_each.new.turns
-    (goes_still g.S.TopStore c.args.turns.now c.loop-turns.turns c.run_each.new.turns c.loop-turns.invariant.goes c.in_err-run_each.ensures.err)
+    settles_err g.S.TopStore c.from_residual.result c.args.turns.now c.loop-turns.turns
+    c.run_each.new.turns c.loop-turns.invariant c.in_err-run_each.ensures.err

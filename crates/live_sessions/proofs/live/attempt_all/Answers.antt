@@ -1,6 +1,6 @@
 use Rattle.std.proofs.Common.{subst, sym}
 use Rattle.interleavings.specs.Scheduled.{Goes}
-use Rattle.interleavings.proofs.Schedules.{goes_err, goes_err_still, goes_same}
+use Rattle.interleavings.proofs.Schedules.{goes_err, goes_partly_err, goes_same}
 use Rattle.live_sessions.proofs.Handled.{attempted_ok}
 use Rattle.live_sessions.proofs.live.attempt_all.Goals as goal
 
@@ -15,5 +15,5 @@ returns-clause-ok g c =
 
 pub returns-clause-err : goal.returns-clause-err
 returns-clause-err g c =
-    goes_err_still g.S.TopStore c.settle.result c.args.turns.now c.step.new.self c.settle.new.turns
+    goes_partly_err g.S.TopStore c.settle.result c.args.turns.now c.step.new.self c.settle.new.turns
     (record { sessions = c.in_ok-step.ensures.ok.sessions; on = c.in_ok-step.ensures.ok.on }) c.settle.ensures.err
