@@ -7,7 +7,8 @@ use Rattle.sqlite.specs.Order.{Row as Values}
 use Rattle.sqlite.specs.Store.{Ghosts}
 use Rattle.sqlite.specs.Held.{Held, state}
 use Rattle.sqlite.specs.State.{Survives}
-use Rattle.sql_store.specs.Asked.{IfInside, Answers, Answered, RunsStatement}
+use Rattle.sql_store.specs.Asked.{Answers, Answered, RunsStatement}
+use Rattle.sql_store.specs.Calls.{IfInside}
 use Rattle.sql_store.specs.Faults.{IsCaused}
 use Rattle.sql_store.specs.Inside.{Steps}
 use Rattle.sql_store.proofs.Causes.{inside_caused, caused_later}

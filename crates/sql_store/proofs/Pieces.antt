@@ -11,7 +11,8 @@ use Rattle.sqlite.specs.State.{Survives, State, KeepsCommit, IsUnchanged, Execut
 use Rattle.sqlite.proofs.Callers.{IsPlain, command_of}
 use Rattle.txn_names.specs.declared.change.Change.{Change}
 use Rattle.durable_top.specs.Numbered.{Numbered, under, overlay_numbered}
-use Rattle.sql_store.specs.Asked.{IfInside, Answers, ChangeGives, have_values, params_all, MakesChange, FailsToChange, MakesEach, EachGives, AnsweredRows, AreLeft, MakesRows, RowsGive, MakesPiece, PieceGives, MakesPieces, ExecutedEach, joined}
+use Rattle.sql_store.specs.Asked.{Answers, ChangeGives, have_values, params_all, MakesChange, FailsToChange, MakesEach, EachGives, AnsweredRows, AreLeft, MakesRows, RowsGive, MakesPiece, PieceGives, MakesPieces, ExecutedEach, joined}
+use Rattle.sql_store.specs.Calls.{IfInside}
 use Rattle.sql_store.specs.Faults.{breaks_rule, IsCaused}
 use Rattle.sql_store.specs.Inside.{Steps}
 use Rattle.sql_store.specs.Laid.{put}

@@ -11,7 +11,8 @@ use Rattle.sqlite.specs.Store.{Ghosts}
 use Rattle.sqlite.specs.State.{State, HasCleanDisk, Survives, KeepsCommit, Executes, ExecutesInside, ExecutesIn, IsNotRun, RunsAlone, RunsCommand, IsUnchanged, Fails, shows_rows}
 use Rattle.sqlite_resolve.specs.declared.compiled.Compiled.{Compiled}
 use Rattle.sqlite_trees.specs.declared.error.StoreError.TheVariants as cause
-use Rattle.sql_store.specs.Asked.{IfInside, Answers, RunsStatement, IsLeft, PutsRow, PutGives}
+use Rattle.sql_store.specs.Asked.{Answers, RunsStatement, IsLeft, PutsRow, PutGives}
+use Rattle.sql_store.specs.Calls.{IfInside}
 use Rattle.sql_store.specs.Faults.{breaks_rule}
 use Rattle.sql_store.specs.Laid.{put}
 use Rattle.sql_store.specs.Table.{map_of, table_of, AreApart, IsReady, Makes}

@@ -6,10 +6,11 @@ use Rattle.sqlite.specs.declared.error.Error.{Error}
 use Rattle.sqlite.specs.Order.{Row as Values}
 use Rattle.sqlite.specs.Store.{Ghosts}
 use Rattle.sqlite.specs.Held.{Held, state}
-use Rattle.sqlite.specs.State.{HasCleanDisk, Shown, Shows, IsUnchanged, ExecutesInside}
+use Rattle.sqlite.specs.State.{Shown, Shows, ExecutesInside, FailsToQuery}
 use Rattle.txn_names.specs.declared.change.Change.{Change}
 use Rattle.serial_spec.specs.Serial.{Map}
 use Rattle.durable_top.specs.declared.store.Row.{Row}
+use Rattle.sql_store.specs.Calls.{IfInside, ChangesNothing}
 use Rattle.sql_store.specs.Faults.{breaks_rule, IsCaused}
 use Rattle.sql_store.specs.Inside.{Steps}
 use Rattle.sql_store.specs.Load.{load_text, old_text}
@@ -54,7 +55,8 @@ params_of r = params_for r.commit r.key r.value
 abbrev pub have_values : List Change → Bool
 have_values = list_all (λ c. is_some c.value)
 
--- the value that a change gives its key, and 0 at a removal, which is never among the rows of an insert
+-- the value that a change gives its key, and 0 at a removal, which is never among the rows of an
+-- insert
 abbrev pub value_of : Change → ℤ
 value_of c = unwrap_or c.value (pos 0)
 
@@ -78,26 +80,29 @@ is_new numbers c = is_some c.value && is_none (numbers c.key)
 
 -- where so many changes are likely new, 16 or 4 of them go together, or else one change by itself
 abbrev pub IsPieceLen : ℕ → ℕ → Type 0
-IsPieceLen fresh size = ((fresh < 4) × (size ≡ 1)) ⊎ (((4 ≤ fresh) × (fresh < 16) × (size ≡ 4)) ⊎ ((16 ≤ fresh) × (size ≡ 16)))
+IsPieceLen fresh size =
+    ((fresh < 4) × (size ≡ 1))
+    ⊎ (((4 ≤ fresh) × (fresh < 16) × (size ≡ 4)) ⊎ ((16 ≤ fresh) × (size ≡ 16)))
 
 -- changes that stand one behind another, cut into pieces
 abbrev pub joined : List (List Change) → List Change
 joined [] = []
 joined (piece ∷ more) = piece ++ joined more
 
-module _ {S : Type 0} (g : Ghosts S) where
-  -- this holds of a call that was made in a transaction, as long as the disk returns what was written
-  abbrev pub IfInside : Held S → Held S → Type 0 → Type 0
-  IfInside old new P = HasCleanDisk (state g new) → IsTrue (state g old).in_transaction → P
+-- the connection with a transaction begun
+abbrev pub begun : {S : Type 0} → Held S → Held S
+begun h = record h { in_transaction = true }
 
-  -- What a call in a transaction says. Nothing is committed, and a crash leaves what it could leave before. An error
-  -- that stands for a failure of the device has one as its cause. A call that succeeds did the one, and one that fails
-  -- gave its error as the other says.
-  pub record Answers (Did : Held S → Held S → Type 0) (Gave : Held S → Held S → Error → Type 0) (old new : Held S) (result : Result (Unit {0}) Error) : Type 0 where
+module _ {S : Type 0} (g : Ghosts S) where
+  -- What a call in a transaction says. Nothing is committed, and a crash leaves what it could leave
+  -- before. An error that stands for a failure of the device has one as its cause. A call that
+  -- succeeds did the one, and one that fails gave its error as the other says.
+  pub record Answers (Did : Held S → Held S → Type 0) (Gave : Held S → Held S → Error → Type 0)
+      (old new : Held S) (result : Result (Unit {0}) Error) : Type 0 where
     pub steps : Steps (state g old) (state g new)
-    pub cause : IfInside old new (IfErr result (IsCaused (state g old) (state g new)))
-    pub refused : IfInside old new (IfErr result (Gave old new))
-    pub asked : IfInside old new (OnOk result (Did old new))
+    pub cause : IfInside g old new (IfErr result (IsCaused (state g old) (state g new)))
+    pub refused : IfInside g old new (IfErr result (Gave old new))
+    pub asked : IfInside g old new (OnOk result (Did old new))
 
   -- the statement was executed in a transaction, and this was its answer
   abbrev pub Answered : List ℕ → Values → Held S → Held S → Result ℕ Error → Type 0
@@ -117,7 +122,8 @@ module _ {S : Type 0} (g : Ghosts S) where
 
   -- the update met a row of the key
   abbrev pub Updated : Values → Held S → Held S → Type 0
-  Updated params old new = (count : ℕ) × (0 < count) × Answered update_text params old new (Ok count)
+  Updated params old new =
+      (count : ℕ) × (0 < count) × Answered update_text params old new (Ok count)
 
   -- the update met no row, or the insert was refused since it would have broken a rule of the table
   abbrev pub IsLeft : Values → Held S → Held S → Type 0
@@ -125,7 +131,8 @@ module _ {S : Type 0} (g : Ghosts S) where
       Answered update_text params old new (Ok 0)
       ⊎ ((e : Error) × IsTrue (breaks_rule e) × Answered insert_text params old new (Err e))
 
-  -- A row was put: by an update that met one, by an insert, or by the upsert where one of these left it to that.
+  -- A row was put: by an update that met one, by an insert, or by the upsert where one of these
+  -- left it to that.
   abbrev pub PutsRow : Values → Held S → Held S → Type 0
   PutsRow params old new =
       Updated params old new
@@ -156,7 +163,8 @@ module _ {S : Type 0} (g : Ghosts S) where
       (next : Held S) × MakesChange number c.key c.value old next × MakesEach number more next new
 
   -- the changes before one of these were made in turn, and a statement of that one gave the error
-  pub record EachGives (number : ℤ) (changes : List Change) (old new : Held S) (e : Error) : Type 0 where
+  pub record EachGives (number : ℤ) (changes : List Change) (old new : Held S) (e : Error)
+      : Type 0 where
     pub before : List Change
     pub change : Change
     pub after : List Change
@@ -177,7 +185,8 @@ module _ {S : Type 0} (g : Ghosts S) where
   AreLeft number rows old new =
       (e : Error) × IsTrue (breaks_rule e) × AnsweredRows number rows old new (Err e)
 
-  -- Several changes were made: by one insert of all their rows, or each in turn where that left them.
+  -- Several changes were made: by one insert of all their rows, or each in turn where that left
+  -- them.
   abbrev pub MakesRows : ℤ → List Change → Held S → Held S → Type 0
   MakesRows number rows old new =
       ((count : ℕ) × AnsweredRows number rows old new (Ok count))
@@ -208,8 +217,10 @@ module _ {S : Type 0} (g : Ghosts S) where
   ExecutedEach number changes old new =
       (pieces : List (List Change)) × (changes ≡ joined pieces) × MakesPieces number pieces old new
 
-  -- the changes before a piece were made in a transaction that was begun, and a statement of that piece gave the error
-  pub record ChangeGives (number : ℤ) (changes : List Change) (old : Held S) (e : Error) : Type 0 where
+  -- the changes before a piece were made in a transaction that was begun, and a statement of that
+  -- piece gave the error
+  pub record ChangeGives (number : ℤ) (changes : List Change) (old : Held S) (e : Error)
+      : Type 0 where
     pub before : List Change
     pub piece : List Change
     pub after : List Change
@@ -219,46 +230,70 @@ module _ {S : Type 0} (g : Ghosts S) where
     pub executed : ExecutedEach number before old last
     pub gives : PieceGives number piece last left e
 
+  -- the transaction was committed
+  abbrev pub CommitsAll : Held S → Held S → Type 0
+  CommitsAll old new = Shows (state g old) (state g new) (state g old).now (state g old).now false
+
   -- a transaction was begun, each change was made in it, and it was committed
   pub record Transacted (number : ℤ) (changes : List Change) (old new : Held S) : Type 0 where
     pub outside : old.in_transaction ≡ false
     pub last : Held S
-    pub executed : ExecutedEach number changes (record old { in_transaction = true }) last
-    pub committed : Shows (state g last) (state g new) (state g last).now (state g last).now false
+    pub executed : ExecutedEach number changes (begun old) last
+    pub committed : CommitsAll last new
 
   -- of no change nothing is made
   abbrev pub Committed : ℤ → List Change → Held S → Held S → Type 0
-  Committed number [] old new = IsUnchanged (state g old) (state g new)
+  Committed number [] old new = ChangesNothing g old new
   Committed number (c ∷ more) old new = Transacted number (c ∷ more) old new
 
-  -- these are the rows that the query was answered
+  -- these are the rows that a query was answered
+  abbrev pub IsAnswered : List ℕ → Held S → Held S → List Values → Type 0
+  IsAnswered text old new rows = Shown text [] (state g old) (state g new) rows
+
+  -- a query gave the error
+  abbrev pub QueryFails : List ℕ → Held S → Held S → Error → Type 0
+  QueryFails text old new e = FailsToQuery text [] (state g old) (state g new) e
+
+  -- these are the rows that the query for all rows was answered
   abbrev pub Fetched : Held S → Held S → List Values → Type 0
-  Fetched old new rows = (asked : Held S) × IsUnchanged (state g old) (state g asked) × Shown load_text [] (state g asked) (state g new) rows
+  Fetched old new rows =
+      (asked : Held S) × ChangesNothing g old asked × IsAnswered load_text asked new rows
 
   -- these are the rows that the query was answered, read as keys, values and numbers
   abbrev pub Loaded : Held S → Held S → List Row → Type 0
-  Loaded old new rows = (answer : List Values) × Fetched old new answer × (map told rows ≡ map seen answer)
+  Loaded old new rows =
+      (answer : List Values) × Fetched old new answer × (map told rows ≡ map seen answer)
 
   -- ---- the opening, inside its transaction
 
   -- the statements that make the tables where they are missing were executed
   abbrev pub MakesTables : Held S → Held S → Type 0
-  MakesTables old new = (first : Held S) × Executed create_old_text [] old first × Executed create_text [] first new
+  MakesTables old new =
+      (first : Held S)
+      × Executed create_old_text [] old first × Executed create_text [] first new
 
-  -- these are the rows that the queries for each table were answered, read as rows; those of the old table get the number 0
+  -- these are the rows that the queries for each table were answered, read as rows; those of the
+  -- old table get the number 0
   abbrev pub ReadsOld : Held S → Held S → List Row → Type 0
-  ReadsOld old new rows = (answer : List Values) × Shown old_text [] (state g old) (state g new) answer × (map told rows ≡ map seen_old answer)
+  ReadsOld old new rows =
+      (answer : List Values)
+      × IsAnswered old_text old new answer × (map told rows ≡ map seen_old answer)
 
   abbrev pub ReadsNew : Held S → Held S → List Row → Type 0
-  ReadsNew old new rows = (answer : List Values) × Shown load_text [] (state g old) (state g new) answer × (map told rows ≡ map seen answer)
+  ReadsNew old new rows =
+      (answer : List Values)
+      × IsAnswered load_text old new answer × (map told rows ≡ map seen answer)
 
   abbrev pub ReadsBoth : Held S → Held S → List Row → List Row → Type 0
-  ReadsBoth old new old_rows new_rows = (next : Held S) × ReadsOld old next old_rows × ReadsNew next new new_rows
+  ReadsBoth old new old_rows new_rows =
+      (next : Held S) × ReadsOld old next old_rows × ReadsNew next new new_rows
 
   -- each row was put into the new table, the last of them first
   abbrev pub PutsEach : List Row → Held S → Held S → Type 0
   PutsEach [] old new = new ≡ old
-  PutsEach (r ∷ rows) old new = (next : Held S) × PutsEach rows old next × Executed upsert_text (params_of r) next new
+  PutsEach (r ∷ rows) old new =
+      (next : Held S)
+      × PutsEach rows old next × Executed upsert_text (params_of r) next new
 
   -- the same, and then the old table was emptied
   abbrev pub MovesOver : List Row → Held S → Held S → Type 0
@@ -272,7 +307,8 @@ module _ {S : Type 0} (g : Ghosts S) where
 
   -- the tables were read, and their rowids were asked for
   abbrev pub Finds : Held S → Held S → List Row → List Row → Type 0
-  Finds old new old_rows new_rows = (read : Held S) × ReadsBoth old read old_rows new_rows × IsUnchanged (state g read) (state g new)
+  Finds old new old_rows new_rows =
+      (read : Held S) × ReadsBoth old read old_rows new_rows × ChangesNothing g read new
 
   -- the same, and the rows of the old one were moved
   pub record SettlesInside (old new : Held S) : Type 0 where
@@ -290,5 +326,5 @@ module _ {S : Type 0} (g : Ghosts S) where
   pub record Made (old new : Held S) : Type 0 where
     pub outside : old.in_transaction ≡ false
     pub last : Held S
-    pub inside : OpensInside (record old { in_transaction = true }) last
-    pub committed : Shows (state g last) (state g new) (state g last).now (state g last).now false
+    pub inside : OpensInside (begun old) last
+    pub committed : CommitsAll last new

@@ -1,9 +1,7 @@
 -- Rowids as a query shows them, one in a row.
 use Rattle.std.specs.Prelude.{◌≡◌}
 use Rattle.sqlite.specs.Effect.{Database}
-use Rattle.sqlite.specs.Query.{IsAnswer}
-use Rattle.sqlite.specs.Program.{overlay}
-use Rattle.sql_store.specs.Load.{ids_query, old_ids_query}
+use Rattle.sql_store.specs.Load.{ids_query, old_ids_query, IsAnswerOn}
 use Rattle.std.specs.Prelude.{ℤ, Bool, true, ◌&&◌, if◌then◌else◌, List, [], ◌∷◌, Option, Some, None, is_some}
 use Rattle.std.specs.Ordering.{is_lt, int_cmp}
 use Rattle.sqlite.specs.Order.{Row, column}
@@ -18,12 +16,23 @@ abbrev pub next_id : Option ℤ → Option ℤ → Option ℤ
 next_id low None = None
 next_id low (Some id) = if is_past low id then Some id else None
 
+-- the rowid of a row, the same way
+abbrev pub id_after : Option ℤ → Row → Option ℤ
+id_after low r = next_id low (int_in (column r 0))
+
 -- the rowids are whole numbers, and rise
 abbrev pub rises : Option ℤ → List Row → Bool
 rises low [] = true
-rises low (r ∷ rows) = is_some (next_id low (int_in (column r 0))) && rises (next_id low (int_in (column r 0))) rows
+rises low (r ∷ rows) = is_some (id_after low r) && rises (id_after low r) rows
 
 -- whether the rowids rise that queries show of both tables
 abbrev pub IsDecided : Database → Bool → Type 0
 IsDecided db apart =
-    (old_ids : List Row) × (ids : List Row) × IsAnswer old_ids_query (overlay db.trees []) [] old_ids × IsAnswer ids_query (overlay db.trees []) [] ids × (apart ≡ (rises None old_ids && rises None ids))
+    (old_ids : List Row) × (ids : List Row)
+    × IsAnswerOn old_ids_query db old_ids × IsAnswerOn ids_query db ids
+    × (apart ≡ (rises None old_ids && rises None ids))
+
+-- of a database of the old table alone it is decided once the new one is made
+abbrev pub IsDecidedFirst : Database → Bool → Type 0
+IsDecidedFirst db known =
+    (mid : Database) × (mid.trees 0 ≡ db.trees 0) × (mid.trees 2 ≡ []) × IsDecided mid known

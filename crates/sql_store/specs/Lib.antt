@@ -6,6 +6,7 @@ pub mod Ids
 pub mod Reading
 pub mod Faults
 pub mod Kept
+pub mod Calls
 pub mod Asked
 pub mod Refusals
 pub mod Inside

@@ -1,9 +1,12 @@
 -- What the opening commits, and how a database comes to be known.
-use Rattle.std.specs.Prelude.{◌≡◌, Bool, [], IsTrue}
+use Rattle.std.specs.Prelude.{◌≡◌, Bool, IsTrue}
 use Rattle.sqlite.specs.Effect.{Database}
-use Rattle.sqlite.specs.State.{State}
+use Rattle.sqlite.specs.Held.{Held, state}
+use Rattle.sqlite.specs.State.{State, Survives}
+use Rattle.sqlite.specs.Store.{Ghosts}
 use Rattle.sqlite.specs.Tree.{Trees}
-use Rattle.sql_store.specs.Ids.{IsDecided}
+use Rattle.sql_store.specs.Asked.{Made}
+use Rattle.sql_store.specs.Ids.{IsDecided, IsDecidedFirst}
 use Rattle.sql_store.specs.Inside.{IsOpened}
 use Rattle.sql_store.specs.Results.{no_schema, old_schema, both_schema}
 
@@ -14,14 +17,26 @@ pub record Opens (old new : State) : Type 0 where
 
 -- what a crash may leave that the opening commits: the database behind it
 abbrev pub MayOpen : State → Trees → Type 0
-MayOpen old trees = IsTrue old.is_open × (db : Database) × IsOpened old.committed db × (trees ≡ db.trees)
+MayOpen old trees =
+    IsTrue old.is_open × (db : Database) × IsOpened old.committed db × (trees ≡ db.trees)
 
--- of a database of the old table alone it is decided once the new one is made
-abbrev pub IsDecidedFirst : Database → Bool → Type 0
-IsDecidedFirst db known = (mid : Database) × (mid.trees 0 ≡ db.trees 0) × (mid.trees 2 ≡ []) × IsDecided mid known
-
--- a database of the tables of results alone is unknown only if the rowids that queries show of them do not rise
+-- a database of the tables of results alone is unknown only if the rowids that queries show of
+-- them do not rise
 pub record IsDoubted (db : Database) (known : Bool) : Type 0 where
   pub none : db.schema ≡ no_schema → IsTrue known
   pub first : db.schema ≡ old_schema → IsDecidedFirst db known
   pub both : db.schema ≡ both_schema → IsDecided db known
+
+module _ {S : Type 0} (g : Ghosts S) where
+  -- the opening is committed on this connection
+  abbrev pub OpensDatabase : Held S → Held S → Type 0
+  OpensDatabase old new = Opens (state g old) (state g new)
+
+  -- a crash leaves what it could leave before, or the database behind the opening
+  abbrev pub SurvivesOpening : Held S → Held S → Type 0
+  SurvivesOpening old new = Survives (state g old) (state g new) (MayOpen (state g old))
+
+  -- The tables were made in the database that was found, which is unknown only if the rowids that
+  -- queries show of them do not rise.
+  abbrev pub IsFound : Held S → Bool → Type 0
+  IsFound new known = (found : Held S) × Made g found new × IsDoubted (state g found).now known

@@ -1,4 +1,5 @@
--- The rows of the tables as maps from keys to values and numbers, and what a statement makes of them.
+-- The rows of the tables as maps from keys to values and numbers, and what a statement makes of
+-- them.
 use Rattle.std.specs.Prelude.{◌≡◌, ◌≢◌, ℕ, ℤ, pos, Bool, false, if◌then◌else◌, List, [], ◌∷◌, Option, Some, None, IsTrue, ⊤}
 use Rattle.std.specs.List.{AllByRecursion}
 use Rattle.sqlite.specs.declared.types.Value.{Value}
@@ -57,7 +58,12 @@ id_of r = id_in (column r 0)
 -- each rowid is a whole number, and none comes twice
 abbrev pub AreApart : List Row → Type 0
 AreApart [] = ⊤
-AreApart (r ∷ rows) = (column r 0 ≡ Int (id_of r)) × AllByRecursion (λ q. id_of q ≢ id_of r) rows × AreApart rows
+AreApart (r ∷ rows) =
+    (column r 0 ≡ Int (id_of r)) × AllByRecursion (λ q. id_of q ≢ id_of r) rows × AreApart rows
+
+-- in each of the two tables no rowid comes twice
+abbrev pub AreBothApart : Database → Type 0
+AreBothApart db = AreApart (db.trees 0) × AreApart (db.trees 2)
 
 -- a database of the two tables alone
 pub record IsReady (db : Database) : Type 0 where
@@ -72,7 +78,8 @@ pub record IsMoved (db : Database) : Type 0 where
 abbrev pub table_of : Database → Numbered
 table_of db = map_of (db.trees 2)
 
--- a statement in a transaction gives the key this value and number, or takes it away, and leaves the old table
+-- a statement in a transaction gives the key this value and number, or takes it away, and leaves
+-- the old table
 pub record Makes (key : List ℕ) (entry : Option (ℤ × ℤ)) (old new : State) : Type 0 where
   pub was_open : IsTrue old.is_open
   pub inside : IsTrue new.in_transaction

@@ -1,7 +1,9 @@
 -- What changes make of the table under a number, in a transaction and behind its commit.
 use Rattle.std.specs.Prelude.{◌≡◌, ℤ, List, IsTrue}
+use Rattle.sqlite.specs.Held.{Held, state}
+use Rattle.sqlite.specs.Store.{Ghosts}
 use Rattle.sqlite.specs.Tree.{Trees}
-use Rattle.sqlite.specs.State.{State}
+use Rattle.sqlite.specs.State.{State, Survives}
 use Rattle.txn_names.specs.declared.change.Change.{Change}
 use Rattle.durable_top.specs.Numbered.{overlay_numbered}
 use Rattle.sql_store.specs.Table.{map_of, table_of, IsReady, IsMoved}
@@ -17,8 +19,22 @@ pub record Stores (number : ℤ) (changes : List Change) (old new : State) : Typ
   pub was_open : IsTrue old.is_open
   pub is_open : IsTrue new.is_open
   pub moved : IsMoved old.committed → IsMoved new.committed
-  pub table : IsReady old.committed → table_of new.committed ≡ overlay_numbered number changes (table_of old.committed)
+  pub table : IsReady old.committed
+      → table_of new.committed ≡ overlay_numbered number changes (table_of old.committed)
 
 -- what the connection shows with the changes made
 abbrev pub IsStored : ℤ → List Change → State → Trees → Type 0
-IsStored number changes old db = IsTrue old.is_open × (IsReady old.committed → map_of (db 2) ≡ overlay_numbered number changes (table_of old.committed))
+IsStored number changes old db =
+    IsTrue old.is_open
+    × (IsReady old.committed
+    → map_of (db 2) ≡ overlay_numbered number changes (table_of old.committed))
+
+module _ {S : Type 0} (g : Ghosts S) where
+  -- the changes are committed on this connection
+  abbrev pub StoresChanges : ℤ → List Change → Held S → Held S → Type 0
+  StoresChanges number changes old new = Stores number changes (state g old) (state g new)
+
+  -- a crash leaves what it could leave before, or the table with the changes made
+  abbrev pub SurvivesChanges : ℤ → List Change → Held S → Held S → Type 0
+  SurvivesChanges number changes old new =
+      Survives (state g old) (state g new) (IsStored number changes (state g old))

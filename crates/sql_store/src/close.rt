@@ -11,13 +11,16 @@ use sqlite::{Error, FileStore, Files};
 use sqlite_disk::Disk;
 
 impl<D: Disk + Drop> SqlStore<FileStore<D>> {
-    /// Copies the log into the database file, which then holds the last commit by itself, and gives the two files back.
-    /// The only fault is that the device fails, memory runs out, or the store had failed before. The two files then hold
-    /// together what they held before.
+    /// Copies the log into the database file, which then holds the last commit by itself, and gives
+    /// the two files back. The only fault is that the device fails, memory runs out, or the store
+    /// had failed before. The two files then hold together what they held before.
     pub fn close_files(self) -> Result<Files<D>, (Error, FileStore<D>)>
-        ensures copied { IfOk result (λ files. AreClean D.Disk files.log files.db → IsCopied self.connection files) }
-        ensures usable { IfOk result (λ files. IsTrue (D.Disk.is_usable files.log) × IsTrue (D.Disk.is_usable files.db)) }
-        ensures failed { IfErr result (λ left. IsClosed self.connection left.1 × (IsClean (view left.1) → FailsToClose self.connection left.1 left.0)) }
+        ensures copied { IfOk result (λ files.
+            AreClean D.Disk files.log files.db → IsCopied self.connection files) }
+        ensures usable { IfOk result (λ files.
+            IsTrue (D.Disk.is_usable files.log) × IsTrue (D.Disk.is_usable files.db)) }
+        ensures failed { IfErr result (λ left. IsClosed self.connection left.1
+            × (IsClean (view left.1) → FailsToClose self.connection left.1 left.0)) }
     {
         self.into_connection().close_files()
     }

@@ -1,15 +1,13 @@
 //! A commit under the number above the greatest.
 ghost use Rattle.std.specs.Prelude.{true, false, ◌≡◌, ◌≤◌, ◌<◌, ◌≤ℤ◌, ◌+ℤ◌, pos, length, ◌⊎◌, IfErr, OnOk, OnErr, IsTrue, IsErrOf};
-ghost use Rattle.sqlite_trees.specs.View.{doubt};
-ghost use Rattle.sqlite.specs.Held.{state};
-ghost use Rattle.sqlite.specs.State.{HasCleanDisk, KeepsCommit, IsUnchanged};
 ghost use Rattle.serial_spec.specs.Changes.{AreRising};
 ghost use Rattle.serial_spec.specs.Rows.{value_in};
-ghost use Rattle.durable_top.specs.Numbered.{Numbered, last_number, Follows, Commits};
-ghost use Rattle.sql_store.specs.Stored.{numbered, may_leave_numbered, IsKept, IsCounted};
+ghost use Rattle.durable_top.specs.Numbered.{last_number, Follows, Commits};
+ghost use Rattle.sql_store.specs.Stored.{numbered, IsKept, IsCounted, IfCounted, IfKept, KeepsTable, KeepsTableAt, LeavesItself, LeavesNoOther, LeavesOnly};
 ghost use Rattle.sql_store.specs.Faults.{HasFailed};
 ghost use Rattle.sql_store.specs.Refusals.{CannotWrite, CannotCommit};
 ghost use Rattle.sql_store.specs.Asked.{Committed};
+ghost use Rattle.sql_store.specs.Calls.{CommitsNothing, FailedHasCause, IfClean, IfRefused, KeepsDoubt, OnlyReads, UnlessFailed};
 
 use crate::faults::{fault_of, settle};
 use crate::statements::probe;
@@ -20,15 +18,17 @@ use txn_names::Change;
 
 // Commits nothing.
 fn commit_none<S: Alter>(conn: &mut Connection<S>) -> Result<(), StoreFault>
-    ensures same { HasCleanDisk (state S.Store conn.new) → (IsErrOf result StoreFault.Failed → ⊥) → numbered S.Store conn.new ≡ numbered S.Store conn.old }
+    ensures same { IfClean S.Store conn.new
+        (UnlessFailed result (KeepsTable S.Store conn.old conn.new)) }
     ensures still { IsKept S.Store true conn.old → IsKept S.Store true conn.new }
-    ensures clean { doubt (state S.Store conn.old).is_clean ≤ doubt (state S.Store conn.new).is_clean }
-    ensures crash { HasCleanDisk (state S.Store conn.new) → (left : Numbered) → may_leave_numbered S.Store conn.new left → may_leave_numbered S.Store conn.old left }
-    ensures settled { HasCleanDisk (state S.Store conn.new) → IsKept S.Store true conn.old → OnOk result ((left : Numbered) → may_leave_numbered S.Store conn.new left → left ≡ numbered S.Store conn.new) }
-    ensures held { HasCleanDisk (state S.Store conn.new) → KeepsCommit (state S.Store conn.old) (state S.Store conn.new) }
-    ensures cause { HasCleanDisk (state S.Store conn.new) → IsErrOf result StoreFault.Failed → HasFailed S.Store conn.old conn.new }
-    ensures unrefused { HasCleanDisk (state S.Store conn.new) → IsErrOf result StoreFault.Refused → ⊥ }
-    ensures asked { HasCleanDisk (state S.Store conn.new) → OnOk result (IsUnchanged (state S.Store conn.old) (state S.Store conn.new)) }
+    ensures clean { KeepsDoubt S.Store conn.old conn.new }
+    ensures crash { IfClean S.Store conn.new (LeavesNoOther S.Store conn.old conn.new) }
+    ensures settled { IfKept S.Store conn.old conn.new
+        (OnOk result (LeavesItself S.Store conn.new)) }
+    ensures held { IfClean S.Store conn.new (CommitsNothing S.Store conn.old conn.new) }
+    ensures cause { FailedHasCause S.Store conn.old conn.new result }
+    ensures unrefused { IfRefused S.Store conn.new result ⊥ }
+    ensures asked { OnlyReads S.Store conn.old conn.new result }
 {
     match probe(conn) {
         Ok(()) => Ok(()),
@@ -36,7 +36,8 @@ fn commit_none<S: Alter>(conn: &mut Connection<S>) -> Result<(), StoreFault>
     }
 }
 
-// Commits the changes, of which there are some, under the number above the greatest, and keeps their numbers.
+// Commits the changes, of which there are some, under the number above the greatest, and keeps
+// their numbers.
 fn commit_under<S: Alter>(
     conn: &mut Connection<S>,
     numbers: &mut NumberTable,
@@ -47,17 +48,26 @@ fn commit_under<S: Alter>(
     requires rising { AreRising changes.now }
     requires next { number ≡ numbers.old.top +ℤ pos 1 }
     requires fits { number ≤ℤ last_number }
-    ensures ok { HasCleanDisk (state S.Store conn.new) → IsKept S.Store true conn.old → IsCounted S.Store true (value_in numbers.old.rows) conn.old → OnOk result (Follows changes.now (numbered S.Store conn.old) (numbered S.Store conn.new)) }
-    ensures counted { HasCleanDisk (state S.Store conn.new) → IsKept S.Store true conn.old → IsCounted S.Store true (value_in numbers.old.rows) conn.old → IsCounted S.Store true (value_in numbers.new.rows) conn.new }
-    ensures refused { HasCleanDisk (state S.Store conn.new) → IfErr result (λ fault. (fault ≡ StoreFault.Failed → ⊥) → numbered S.Store conn.new ≡ numbered S.Store conn.old) }
+    ensures ok { IfCounted S.Store (value_in numbers.old.rows) conn.old conn.new
+        (OnOk result
+        (Follows changes.now (numbered S.Store conn.old) (numbered S.Store conn.new))) }
+    ensures counted { IfCounted S.Store (value_in numbers.old.rows) conn.old conn.new
+        (IsCounted S.Store true (value_in numbers.new.rows) conn.new) }
+    ensures refused { IfClean S.Store conn.new
+        (IfErr result (KeepsTableAt S.Store conn.old conn.new)) }
     ensures still { IsKept S.Store true conn.old → IsKept S.Store true conn.new }
-    ensures clean { doubt (state S.Store conn.old).is_clean ≤ doubt (state S.Store conn.new).is_clean }
-    ensures crash { HasCleanDisk (state S.Store conn.new) → IsKept S.Store true conn.old → IsCounted S.Store true (value_in numbers.old.rows) conn.old → (left : Numbered) → may_leave_numbered S.Store conn.new left → may_leave_numbered S.Store conn.old left ⊎ Follows changes.now (numbered S.Store conn.old) left }
-    ensures settled { HasCleanDisk (state S.Store conn.new) → IsKept S.Store true conn.old → OnOk result ((left : Numbered) → may_leave_numbered S.Store conn.new left → left ≡ numbered S.Store conn.new) }
-    ensures kept { HasCleanDisk (state S.Store conn.new) → OnErr result (KeepsCommit (state S.Store conn.old) (state S.Store conn.new)) }
-    ensures cause { HasCleanDisk (state S.Store conn.new) → IsErrOf result StoreFault.Failed → HasFailed S.Store conn.old conn.new }
-    ensures reason { HasCleanDisk (state S.Store conn.new) → IsErrOf result StoreFault.Refused → CannotWrite S.Store number changes.now conn.old conn.new }
-    ensures asked { HasCleanDisk (state S.Store conn.new) → OnOk result (Committed S.Store (number) changes.now conn.old conn.new) }
+    ensures clean { KeepsDoubt S.Store conn.old conn.new }
+    ensures crash { IfCounted S.Store (value_in numbers.old.rows) conn.old conn.new
+        (LeavesOnly S.Store (Follows changes.now (numbered S.Store conn.old)) conn.old conn.new) }
+    ensures settled { IfKept S.Store conn.old conn.new
+        (OnOk result (LeavesItself S.Store conn.new)) }
+    ensures kept { IfClean S.Store conn.new
+        (OnErr result (CommitsNothing S.Store conn.old conn.new)) }
+    ensures cause { FailedHasCause S.Store conn.old conn.new result }
+    ensures reason { IfRefused S.Store conn.new result
+        (CannotWrite S.Store number changes.now conn.old conn.new) }
+    ensures asked { IfClean S.Store conn.new
+        (OnOk result (Committed S.Store (number) changes.now conn.old conn.new)) }
 {
     numbers.has_none_below_0();
     if numbers.reserve(changes.len()).is_err() {
@@ -79,17 +89,26 @@ fn commit_counted<S: Alter>(
     changes: &[Change],
 ) -> Result<(), StoreFault>
     requires rising { AreRising changes.now }
-    ensures ok { HasCleanDisk (state S.Store conn.new) → IsKept S.Store true conn.old → IsCounted S.Store true (value_in numbers.old.rows) conn.old → OnOk result (Commits changes.now (numbered S.Store conn.old) (numbered S.Store conn.new)) }
-    ensures counted { HasCleanDisk (state S.Store conn.new) → IsKept S.Store true conn.old → IsCounted S.Store true (value_in numbers.old.rows) conn.old → IsCounted S.Store true (value_in numbers.new.rows) conn.new }
-    ensures refused { HasCleanDisk (state S.Store conn.new) → IfErr result (λ fault. (fault ≡ StoreFault.Failed → ⊥) → numbered S.Store conn.new ≡ numbered S.Store conn.old) }
+    ensures ok { IfCounted S.Store (value_in numbers.old.rows) conn.old conn.new
+        (OnOk result
+        (Commits changes.now (numbered S.Store conn.old) (numbered S.Store conn.new))) }
+    ensures counted { IfCounted S.Store (value_in numbers.old.rows) conn.old conn.new
+        (IsCounted S.Store true (value_in numbers.new.rows) conn.new) }
+    ensures refused { IfClean S.Store conn.new
+        (IfErr result (KeepsTableAt S.Store conn.old conn.new)) }
     ensures still { IsKept S.Store true conn.old → IsKept S.Store true conn.new }
-    ensures clean { doubt (state S.Store conn.old).is_clean ≤ doubt (state S.Store conn.new).is_clean }
-    ensures crash { HasCleanDisk (state S.Store conn.new) → IsKept S.Store true conn.old → IsCounted S.Store true (value_in numbers.old.rows) conn.old → (left : Numbered) → may_leave_numbered S.Store conn.new left → may_leave_numbered S.Store conn.old left ⊎ Commits changes.now (numbered S.Store conn.old) left }
-    ensures settled { HasCleanDisk (state S.Store conn.new) → IsKept S.Store true conn.old → OnOk result ((left : Numbered) → may_leave_numbered S.Store conn.new left → left ≡ numbered S.Store conn.new) }
-    ensures kept { HasCleanDisk (state S.Store conn.new) → OnErr result (KeepsCommit (state S.Store conn.old) (state S.Store conn.new)) }
-    ensures cause { HasCleanDisk (state S.Store conn.new) → IsErrOf result StoreFault.Failed → HasFailed S.Store conn.old conn.new }
-    ensures reason { HasCleanDisk (state S.Store conn.new) → IsErrOf result StoreFault.Refused → CannotCommit S.Store numbers.old.top changes.now conn.old conn.new }
-    ensures asked { HasCleanDisk (state S.Store conn.new) → OnOk result (Committed S.Store (numbers.old.top +ℤ pos 1) changes.now conn.old conn.new) }
+    ensures clean { KeepsDoubt S.Store conn.old conn.new }
+    ensures crash { IfCounted S.Store (value_in numbers.old.rows) conn.old conn.new
+        (LeavesOnly S.Store (Commits changes.now (numbered S.Store conn.old)) conn.old conn.new) }
+    ensures settled { IfKept S.Store conn.old conn.new
+        (OnOk result (LeavesItself S.Store conn.new)) }
+    ensures kept { IfClean S.Store conn.new
+        (OnErr result (CommitsNothing S.Store conn.old conn.new)) }
+    ensures cause { FailedHasCause S.Store conn.old conn.new result }
+    ensures reason { IfRefused S.Store conn.new result
+        (CannotCommit S.Store numbers.old.top changes.now conn.old conn.new) }
+    ensures asked { IfClean S.Store conn.new
+        (OnOk result (Committed S.Store (numbers.old.top +ℤ pos 1) changes.now conn.old conn.new)) }
 {
     if changes.is_empty() {
         return commit_none(conn);
@@ -100,7 +119,8 @@ fn commit_counted<S: Alter>(
     }
 }
 
-/// Makes the changes in one transaction, under the next number. A store that has failed is not asked.
+/// Makes the changes in one transaction, under the next number. A store that has failed is not
+/// asked.
 pub(crate) fn commit_unless<S: Alter>(
     has_failed: bool,
     conn: &mut Connection<S>,
@@ -109,17 +129,28 @@ pub(crate) fn commit_unless<S: Alter>(
 ) -> Result<(), StoreFault>
     requires rising { AreRising changes.now }
     ensures failed { IsTrue has_failed → IsErrOf result StoreFault.Failed × (conn.new ≡ conn.old) }
-    ensures ok { HasCleanDisk (state S.Store conn.new) → IsKept S.Store true conn.old → IsCounted S.Store true (value_in numbers.old.rows) conn.old → OnOk result (Commits changes.now (numbered S.Store conn.old) (numbered S.Store conn.new)) }
-    ensures counted { HasCleanDisk (state S.Store conn.new) → IsKept S.Store true conn.old → IsCounted S.Store true (value_in numbers.old.rows) conn.old → IsCounted S.Store true (value_in numbers.new.rows) conn.new }
-    ensures refused { HasCleanDisk (state S.Store conn.new) → IfErr result (λ fault. (fault ≡ StoreFault.Failed → ⊥) → numbered S.Store conn.new ≡ numbered S.Store conn.old) }
+    ensures ok { IfCounted S.Store (value_in numbers.old.rows) conn.old conn.new
+        (OnOk result
+        (Commits changes.now (numbered S.Store conn.old) (numbered S.Store conn.new))) }
+    ensures counted { IfCounted S.Store (value_in numbers.old.rows) conn.old conn.new
+        (IsCounted S.Store true (value_in numbers.new.rows) conn.new) }
+    ensures refused { IfClean S.Store conn.new
+        (IfErr result (KeepsTableAt S.Store conn.old conn.new)) }
     ensures still { IsKept S.Store true conn.old → IsKept S.Store true conn.new }
-    ensures clean { doubt (state S.Store conn.old).is_clean ≤ doubt (state S.Store conn.new).is_clean }
-    ensures crash { HasCleanDisk (state S.Store conn.new) → IsKept S.Store true conn.old → IsCounted S.Store true (value_in numbers.old.rows) conn.old → (left : Numbered) → may_leave_numbered S.Store conn.new left → may_leave_numbered S.Store conn.old left ⊎ Commits changes.now (numbered S.Store conn.old) left }
-    ensures settled { HasCleanDisk (state S.Store conn.new) → IsKept S.Store true conn.old → OnOk result ((left : Numbered) → may_leave_numbered S.Store conn.new left → left ≡ numbered S.Store conn.new) }
-    ensures kept { HasCleanDisk (state S.Store conn.new) → OnErr result (KeepsCommit (state S.Store conn.old) (state S.Store conn.new)) }
-    ensures cause { HasCleanDisk (state S.Store conn.new) → has_failed ≡ false → IsErrOf result StoreFault.Failed → HasFailed S.Store conn.old conn.new }
-    ensures reason { HasCleanDisk (state S.Store conn.new) → IsErrOf result StoreFault.Refused → CannotCommit S.Store numbers.old.top changes.now conn.old conn.new }
-    ensures asked { HasCleanDisk (state S.Store conn.new) → OnOk result (Committed S.Store (numbers.old.top +ℤ pos 1) changes.now conn.old conn.new) }
+    ensures clean { KeepsDoubt S.Store conn.old conn.new }
+    ensures crash { IfCounted S.Store (value_in numbers.old.rows) conn.old conn.new
+        (LeavesOnly S.Store (Commits changes.now (numbered S.Store conn.old)) conn.old conn.new) }
+    ensures settled { IfKept S.Store conn.old conn.new
+        (OnOk result (LeavesItself S.Store conn.new)) }
+    ensures kept { IfClean S.Store conn.new
+        (OnErr result (CommitsNothing S.Store conn.old conn.new)) }
+    ensures cause { IfClean S.Store conn.new
+        (has_failed ≡ false → IsErrOf result StoreFault.Failed
+        → HasFailed S.Store conn.old conn.new) }
+    ensures reason { IfRefused S.Store conn.new result
+        (CannotCommit S.Store numbers.old.top changes.now conn.old conn.new) }
+    ensures asked { IfClean S.Store conn.new
+        (OnOk result (Committed S.Store (numbers.old.top +ℤ pos 1) changes.now conn.old conn.new)) }
 {
     if has_failed {
         return Err(StoreFault::Failed);

@@ -1,9 +1,7 @@
 //! What an error of the database says of the store.
 ghost use Rattle.std.specs.Prelude.{◌≡◌, ◌⊎◌};
-ghost use Rattle.sqlite.specs.Held.{state};
-ghost use Rattle.sqlite.specs.State.{HasCleanDisk, Survives, KeepsCommit, IsUnchanged};
 ghost use Rattle.sql_store.specs.Faults.{breaks_rule, fault_of, HasFailed};
-ghost use Rattle.sql_store.specs.Kept.{IsSettled, Spares};
+ghost use Rattle.sql_store.specs.Calls.{ChangesNothing, CommitsNothing, IfClean, SparesSettled, SurvivesAsBefore};
 
 use crate::statements::probe;
 use durable_top::StoreFault;
@@ -25,7 +23,8 @@ pub(crate) fn fault_of(error: Error) -> StoreFault
     }
 }
 
-/// Whether the statement would have broken a rule of its table, as an insert where the key has a row.
+/// Whether the statement would have broken a rule of its table, as an insert where the key has a
+/// row.
 pub(crate) fn breaks_rule(error: Error) -> bool
     ensures { result ≡ breaks_rule error }
 {
@@ -35,15 +34,20 @@ pub(crate) fn breaks_rule(error: Error) -> bool
     }
 }
 
-/// The fault, and Failed where no statement can be run any more: a failure of the disk shuts the connection, even in a
-/// call that was answered another error.
+/// The fault, and Failed where no statement can be run any more: a failure of the disk shuts the
+/// connection, even in a call that was answered another error.
 pub(crate) fn settle<S: Alter>(conn: &mut Connection<S>, fault: StoreFault) -> StoreFault
-    ensures open { HasCleanDisk (state S.Store conn.new) → (result ≡ StoreFault.Failed → ⊥) → IsUnchanged (state S.Store conn.old) (state S.Store conn.new) }
-    ensures kept { HasCleanDisk (state S.Store conn.new) → KeepsCommit (state S.Store conn.old) (state S.Store conn.new) }
-    ensures survives { Survives (state S.Store conn.old) (state S.Store conn.new) (λ _. ⊥) }
-    ensures cause { HasCleanDisk (state S.Store conn.new) → result ≡ StoreFault.Failed → (fault ≡ StoreFault.Failed) ⊎ HasFailed S.Store conn.old conn.new }
-    ensures refused { HasCleanDisk (state S.Store conn.new) → result ≡ StoreFault.Refused → (fault ≡ StoreFault.Refused) × IsUnchanged (state S.Store conn.old) (state S.Store conn.new) }
-    ensures spared { HasCleanDisk (state S.Store conn.new) → IsSettled (state S.Store conn.old) → Spares (state S.Store conn.old) (state S.Store conn.new) }
+    ensures open { IfClean S.Store conn.new
+        ((result ≡ StoreFault.Failed → ⊥) → ChangesNothing S.Store conn.old conn.new) }
+    ensures kept { IfClean S.Store conn.new (CommitsNothing S.Store conn.old conn.new) }
+    ensures survives { SurvivesAsBefore S.Store conn.old conn.new }
+    ensures cause { IfClean S.Store conn.new
+        (result ≡ StoreFault.Failed
+        → (fault ≡ StoreFault.Failed) ⊎ HasFailed S.Store conn.old conn.new) }
+    ensures refused { IfClean S.Store conn.new
+        (result ≡ StoreFault.Refused
+        → (fault ≡ StoreFault.Refused) × ChangesNothing S.Store conn.old conn.new) }
+    ensures spared { SparesSettled S.Store conn.old conn.new }
 {
     match probe(conn) {
         Ok(()) => fault,

@@ -2,8 +2,7 @@
 ghost use Rattle.std.specs.Prelude.{◌≡◌, false, IfOk, codes, Err};
 ghost use Rattle.sqlite.specs.Files.{file_state, over_files};
 ghost use Rattle.sqlite.specs.State.{HasCleanDisk};
-ghost use Rattle.sql_store.specs.Asked.{Made};
-ghost use Rattle.sql_store.specs.Opening.{IsDoubted};
+ghost use Rattle.sql_store.specs.Opening.{IsFound};
 
 use crate::store::SqlStore;
 use durable_top::{Row, StoreFault, TopStore};
@@ -12,8 +11,8 @@ use std::alloc::Global;
 use std::rt::HostRuntime;
 use txn_names::Change;
 
-/// The table of a database file. It is a store over that file and nothing more: a type without parameters, so that
-/// whoever is generic over stores can name it.
+/// The table of a database file. It is a store over that file and nothing more: a type without
+/// parameters, so that whoever is generic over stores can name it.
 #[derive(Drop)]
 pub struct DatabaseStore {
     store: SqlStore<FileStore<File>>,
@@ -25,7 +24,8 @@ impl DatabaseStore {
         ensures memory { path.now ≡ codes ":memory:" → result ≡ Err StoreFault.Refused }
         ensures faults { IfOk result (λ opened. opened.store.faults ≡ 0) }
         ensures sound { IfOk result (λ opened. opened.store.has_failed ≡ false) }
-        ensures doubted { IfOk result (λ opened. HasCleanDisk (file_state opened.store.connection) → (found : _) × Made over_files found opened.store.connection × IsDoubted (file_state found).now opened.store.is_known) }
+        ensures doubted { IfOk result (λ opened. HasCleanDisk (file_state opened.store.connection)
+            → IsFound over_files opened.store.connection opened.store.is_known) }
     {
         match SqlStore::open(rt, path) {
             Ok(store) => Ok(DatabaseStore { store }),
@@ -53,13 +53,17 @@ impl TopStore for DatabaseStore {
 
     ghost faults = { λ s. ⟦<SqlStore<FileStore<File>> as TopStore>⟧.faults s.store };
 
-    ghost may_leave = { λ s left. ⟦<SqlStore<FileStore<File>> as TopStore>⟧.may_leave s.store left };
+    ghost may_leave = { λ s left.
+        ⟦<SqlStore<FileStore<File>> as TopStore>⟧.may_leave s.store left };
 
-    ghost may_leave_numbered = { λ s left. ⟦<SqlStore<FileStore<File>> as TopStore>⟧.may_leave_numbered s.store left };
+    ghost may_leave_numbered = { λ s left.
+        ⟦<SqlStore<FileStore<File>> as TopStore>⟧.may_leave_numbered s.store left };
 
-    ghost loads = { λ old new answer. ⟦<SqlStore<FileStore<File>> as TopStore>⟧.loads old.store new.store answer };
+    ghost loads = { λ old new answer.
+        ⟦<SqlStore<FileStore<File>> as TopStore>⟧.loads old.store new.store answer };
 
-    ghost commits = { λ old new changes answer. ⟦<SqlStore<FileStore<File>> as TopStore>⟧.commits old.store new.store changes answer };
+    ghost commits = { λ old new changes answer.
+        ⟦<SqlStore<FileStore<File>> as TopStore>⟧.commits old.store new.store changes answer };
 
     fn load(&mut self, alloc: Global) -> Result<Vec<Row>, StoreFault> {
         self.store.load(alloc)

@@ -1,22 +1,19 @@
 //! What the opening does inside its transaction.
 ghost use Rattle.std.specs.Prelude.{◌≡◌, ◌⊎◌, [], List, None, Err, OnOk, IfOk, IfErr, IsTrue, IsErrOf};
-ghost use Rattle.sqlite.specs.Held.{Held, state};
-ghost use Rattle.sqlite.specs.State.{HasCleanDisk, IsUnchanged, FailsToQuery};
+ghost use Rattle.sqlite.specs.Held.{state};
 ghost use Rattle.sqlite.specs.Order.{Row as Shown};
-ghost use Rattle.sqlite.specs.Query.{IsAnswer};
-ghost use Rattle.sqlite.specs.Program.{overlay};
 ghost use Rattle.serial_spec.specs.Rows.{IsRising, value_in};
 ghost use Rattle.durable_top.specs.Numbered.{AreNumbered, entries_in};
 ghost use Rattle.durable_top.specs.Store.{plain};
-ghost use Rattle.sql_store.specs.Asked.{IfInside, Answers, MakesTables, ReadsOld, ReadsNew, ReadsBoth, Finds, PutsEach, MovesOver, MovesRows, SettlesInside, OpensInside};
-ghost use Rattle.sql_store.specs.Faults.{fault_of, IsCaused, IsMeant};
+ghost use Rattle.sql_store.specs.Asked.{Answers, MakesTables, ReadsOld, ReadsNew, ReadsBoth, Finds, PutsEach, MovesOver, MovesRows, SettlesInside, OpensInside, QueryFails};
+ghost use Rattle.sql_store.specs.Faults.{fault_of, IsCaused};
 ghost use Rattle.sql_store.specs.Ids.{rises, IsDecided};
-ghost use Rattle.sql_store.specs.Inside.{Steps, GoesOn, AreMade, AreRead, IsOpened, Settles, AreSorted, AreNumbersOf, FoundOut, AreSettled};
-ghost use Rattle.sql_store.specs.Laid.{laid};
-ghost use Rattle.sql_store.specs.Load.{ids_text, ids_query, old_ids_text, old_ids_query};
+ghost use Rattle.sql_store.specs.Inside.{Steps, AreMade, AreRead, IsOpened, Settles, AreSorted, AreNumbersOf, FoundOut, AreSettled, IsLaidOver};
+ghost use Rattle.sql_store.specs.Load.{ids_text, ids_query, old_ids_text, old_ids_query, IsAnswerOn};
 ghost use Rattle.sql_store.specs.Refusals.{CannotMake, CannotReadOld, CannotReadNew, CannotReadBoth, CannotAsk, CannotFind, PutRefused, CannotMoveOver, CannotMove, CannotSettle, CannotOpenInside};
 ghost use Rattle.sql_store.specs.Results.{both_schema};
-ghost use Rattle.sql_store.specs.Table.{map_of, moved, table_of, AreApart, IsReady, IsMoved};
+ghost use Rattle.sql_store.specs.Table.{map_of, moved, AreApart, IsReady, IsMoved, AreBothApart};
+ghost use Rattle.sql_store.specs.Calls.{Continues, ErrorHasCause, FaultHasCause, IfBoth, IfClean, IfInside, IsInside, OnlyReads, database, new_tree, old_tree};
 
 use crate::faults::fault_of;
 use crate::reading::{are_apart, sorted, sorted_old};
@@ -31,11 +28,10 @@ use std::alloc::Global;
 /// Makes the tables where they are missing.
 pub(crate) fn make_tables<S: Alter>(tx: &mut Transaction<'_, S>) -> Result<(), Error>
     ensures same_reference { tx.new.conn.ghost_name ≡ tx.old.conn.ghost_name }
-    ensures on { OnOk result
-        (GoesOn (state S.Store tx.old.conn.now) (state S.Store tx.new.conn.now)) }
+    ensures on { OnOk result (Continues S.Store tx.old.conn.now tx.new.conn.now) }
     ensures made { IfInside S.Store tx.old.conn.now tx.new.conn.now
-        (OnOk result (AreMade (state S.Store tx.old.conn.now).now
-        (state S.Store tx.new.conn.now).now)) }
+        (OnOk result
+        (AreMade (database S.Store tx.old.conn.now) (database S.Store tx.new.conn.now))) }
     ensures answers { Answers S.Store (MakesTables S.Store)
         (λ old _ e. fault_of e ≡ StoreFault.Refused → CannotMake S.Store old)
         tx.old.conn.now tx.new.conn.now result }
@@ -48,15 +44,19 @@ pub(crate) fn make_tables<S: Alter>(tx: &mut Transaction<'_, S>) -> Result<(), E
 fn read_old<S: Alter>(tx: &mut Transaction<'_, S>, alloc: Global) -> Result<Vec<Row>, StoreFault>
     ensures same_reference { tx.new.conn.ghost_name ≡ tx.old.conn.ghost_name }
     ensures steps { Steps (state S.Store tx.old.conn.now) (state S.Store tx.new.conn.now) }
-    ensures on { OnOk result (GoesOn (state S.Store tx.old.conn.now) (state S.Store tx.new.conn.now)) }
+    ensures on { OnOk result (Continues S.Store tx.old.conn.now tx.new.conn.now) }
     ensures rising { IfOk result (λ rows. IsRising (plain rows.items)) }
     ensures numbers { IfOk result (λ rows. AreNumbered rows.items) }
-    ensures rows { HasCleanDisk (state S.Store tx.new.conn.now) → (state S.Store tx.old.conn.now).now.schema ≡ both_schema → IfOk result (λ rows. entries_in rows.items ≡ moved ((state S.Store tx.old.conn.now).now.trees 0)) }
-    ensures none { HasCleanDisk (state S.Store tx.new.conn.now) → (state S.Store tx.old.conn.now).now.schema ≡ both_schema → IfOk result (λ rows. rows.items ≡ [] → (state S.Store tx.old.conn.now).now.trees 0 ≡ []) }
-    ensures same { HasCleanDisk (state S.Store tx.new.conn.now) → OnOk result (IsUnchanged (state S.Store tx.old.conn.now) (state S.Store tx.new.conn.now)) }
-    ensures cause { HasCleanDisk (state S.Store tx.new.conn.now) → IsTrue (state S.Store tx.old.conn.now).in_transaction → IfErr result (IsMeant (state S.Store tx.old.conn.now) (state S.Store tx.new.conn.now)) }
-    ensures refused { HasCleanDisk (state S.Store tx.new.conn.now) → IsTrue (state S.Store tx.old.conn.now).in_transaction → IsErrOf result StoreFault.Refused → CannotReadOld S.Store tx.old.conn.now }
-    ensures asked { HasCleanDisk (state S.Store tx.new.conn.now) → IfOk result (λ rows. ReadsOld S.Store tx.old.conn.now tx.new.conn.now rows.items) }
+    ensures rows { IfBoth S.Store tx.old.conn.now tx.new.conn.now
+        (IfOk result (λ rows. entries_in rows.items ≡ moved (old_tree S.Store tx.old.conn.now))) }
+    ensures none { IfBoth S.Store tx.old.conn.now tx.new.conn.now
+        (IfOk result (λ rows. rows.items ≡ [] → old_tree S.Store tx.old.conn.now ≡ [])) }
+    ensures same { OnlyReads S.Store tx.old.conn.now tx.new.conn.now result }
+    ensures cause { FaultHasCause S.Store tx.old.conn.now tx.new.conn.now result }
+    ensures refused { IfInside S.Store tx.old.conn.now tx.new.conn.now
+        (IsErrOf result StoreFault.Refused → CannotReadOld S.Store tx.old.conn.now) }
+    ensures asked { IfClean S.Store tx.new.conn.now
+        (IfOk result (λ rows. ReadsOld S.Store tx.old.conn.now tx.new.conn.now rows.items)) }
 {
     match select_old(tx) {
         Ok(rows) => sorted_old(alloc, rows.as_slice()),
@@ -68,15 +68,19 @@ fn read_old<S: Alter>(tx: &mut Transaction<'_, S>, alloc: Global) -> Result<Vec<
 fn read_new<S: Alter>(tx: &mut Transaction<'_, S>, alloc: Global) -> Result<Vec<Row>, StoreFault>
     ensures same_reference { tx.new.conn.ghost_name ≡ tx.old.conn.ghost_name }
     ensures steps { Steps (state S.Store tx.old.conn.now) (state S.Store tx.new.conn.now) }
-    ensures on { OnOk result (GoesOn (state S.Store tx.old.conn.now) (state S.Store tx.new.conn.now)) }
+    ensures on { OnOk result (Continues S.Store tx.old.conn.now tx.new.conn.now) }
     ensures rising { IfOk result (λ rows. IsRising (plain rows.items)) }
     ensures numbers { IfOk result (λ rows. AreNumbered rows.items) }
-    ensures rows { HasCleanDisk (state S.Store tx.new.conn.now) → (state S.Store tx.old.conn.now).now.schema ≡ both_schema → IfOk result (λ rows. entries_in rows.items ≡ map_of ((state S.Store tx.old.conn.now).now.trees 2)) }
-    ensures none { HasCleanDisk (state S.Store tx.new.conn.now) → (state S.Store tx.old.conn.now).now.schema ≡ both_schema → IfOk result (λ rows. rows.items ≡ [] → (state S.Store tx.old.conn.now).now.trees 2 ≡ []) }
-    ensures same { HasCleanDisk (state S.Store tx.new.conn.now) → OnOk result (IsUnchanged (state S.Store tx.old.conn.now) (state S.Store tx.new.conn.now)) }
-    ensures cause { HasCleanDisk (state S.Store tx.new.conn.now) → IsTrue (state S.Store tx.old.conn.now).in_transaction → IfErr result (IsMeant (state S.Store tx.old.conn.now) (state S.Store tx.new.conn.now)) }
-    ensures refused { HasCleanDisk (state S.Store tx.new.conn.now) → IsTrue (state S.Store tx.old.conn.now).in_transaction → IsErrOf result StoreFault.Refused → CannotReadNew S.Store tx.old.conn.now }
-    ensures asked { HasCleanDisk (state S.Store tx.new.conn.now) → IfOk result (λ rows. ReadsNew S.Store tx.old.conn.now tx.new.conn.now rows.items) }
+    ensures rows { IfBoth S.Store tx.old.conn.now tx.new.conn.now
+        (IfOk result (λ rows. entries_in rows.items ≡ map_of (new_tree S.Store tx.old.conn.now))) }
+    ensures none { IfBoth S.Store tx.old.conn.now tx.new.conn.now
+        (IfOk result (λ rows. rows.items ≡ [] → new_tree S.Store tx.old.conn.now ≡ [])) }
+    ensures same { OnlyReads S.Store tx.old.conn.now tx.new.conn.now result }
+    ensures cause { FaultHasCause S.Store tx.old.conn.now tx.new.conn.now result }
+    ensures refused { IfInside S.Store tx.old.conn.now tx.new.conn.now
+        (IsErrOf result StoreFault.Refused → CannotReadNew S.Store tx.old.conn.now) }
+    ensures asked { IfClean S.Store tx.new.conn.now
+        (IfOk result (λ rows. ReadsNew S.Store tx.old.conn.now tx.new.conn.now rows.items)) }
 {
     match select_inside(tx) {
         Ok(rows) => sorted(alloc, rows.as_slice()),
@@ -88,12 +92,17 @@ fn read_new<S: Alter>(tx: &mut Transaction<'_, S>, alloc: Global) -> Result<Vec<
 fn is_old_apart<S: Alter>(tx: &mut Transaction<'_, S>) -> Result<bool, Error>
     ensures same_reference { tx.new.conn.ghost_name ≡ tx.old.conn.ghost_name }
     ensures steps { Steps (state S.Store tx.old.conn.now) (state S.Store tx.new.conn.now) }
-    ensures on { OnOk result (GoesOn (state S.Store tx.old.conn.now) (state S.Store tx.new.conn.now)) }
-    ensures apart { HasCleanDisk (state S.Store tx.new.conn.now) → (state S.Store tx.old.conn.now).now.schema ≡ both_schema → IfOk result (λ apart. IsTrue apart → AreApart ((state S.Store tx.old.conn.now).now.trees 0)) }
-    ensures decided { HasCleanDisk (state S.Store tx.new.conn.now) → (state S.Store tx.old.conn.now).now.schema ≡ both_schema → IfOk result (λ apart. (ids : List Shown) × IsAnswer old_ids_query (overlay (state S.Store tx.old.conn.now).now.trees []) [] ids × (apart ≡ rises None ids)) }
-    ensures same { HasCleanDisk (state S.Store tx.new.conn.now) → OnOk result (IsUnchanged (state S.Store tx.old.conn.now) (state S.Store tx.new.conn.now)) }
-    ensures cause { HasCleanDisk (state S.Store tx.new.conn.now) → IfErr result (IsCaused (state S.Store tx.old.conn.now) (state S.Store tx.new.conn.now)) }
-    ensures refused { HasCleanDisk (state S.Store tx.new.conn.now) → IsTrue (state S.Store tx.old.conn.now).in_transaction → IfErr result (FailsToQuery old_ids_text [] (state S.Store tx.old.conn.now) (state S.Store tx.new.conn.now)) }
+    ensures on { OnOk result (Continues S.Store tx.old.conn.now tx.new.conn.now) }
+    ensures apart { IfBoth S.Store tx.old.conn.now tx.new.conn.now
+        (IfOk result (λ apart. IsTrue apart → AreApart (old_tree S.Store tx.old.conn.now))) }
+    ensures decided { IfBoth S.Store tx.old.conn.now tx.new.conn.now
+        (IfOk result (λ apart.
+        (ids : List Shown) × IsAnswerOn old_ids_query (database S.Store tx.old.conn.now) ids
+        × (apart ≡ rises None ids))) }
+    ensures same { OnlyReads S.Store tx.old.conn.now tx.new.conn.now result }
+    ensures cause { ErrorHasCause S.Store tx.old.conn.now tx.new.conn.now result }
+    ensures refused { IfInside S.Store tx.old.conn.now tx.new.conn.now
+        (IfErr result (QueryFails S.Store old_ids_text tx.old.conn.now tx.new.conn.now)) }
 {
     let ids = select_old_ids(tx)?;
     Ok(are_apart(ids.as_slice()))
@@ -103,12 +112,17 @@ fn is_old_apart<S: Alter>(tx: &mut Transaction<'_, S>) -> Result<bool, Error>
 fn is_new_apart<S: Alter>(tx: &mut Transaction<'_, S>) -> Result<bool, Error>
     ensures same_reference { tx.new.conn.ghost_name ≡ tx.old.conn.ghost_name }
     ensures steps { Steps (state S.Store tx.old.conn.now) (state S.Store tx.new.conn.now) }
-    ensures on { OnOk result (GoesOn (state S.Store tx.old.conn.now) (state S.Store tx.new.conn.now)) }
-    ensures apart { HasCleanDisk (state S.Store tx.new.conn.now) → (state S.Store tx.old.conn.now).now.schema ≡ both_schema → IfOk result (λ apart. IsTrue apart → AreApart ((state S.Store tx.old.conn.now).now.trees 2)) }
-    ensures decided { HasCleanDisk (state S.Store tx.new.conn.now) → (state S.Store tx.old.conn.now).now.schema ≡ both_schema → IfOk result (λ apart. (ids : List Shown) × IsAnswer ids_query (overlay (state S.Store tx.old.conn.now).now.trees []) [] ids × (apart ≡ rises None ids)) }
-    ensures same { HasCleanDisk (state S.Store tx.new.conn.now) → OnOk result (IsUnchanged (state S.Store tx.old.conn.now) (state S.Store tx.new.conn.now)) }
-    ensures cause { HasCleanDisk (state S.Store tx.new.conn.now) → IfErr result (IsCaused (state S.Store tx.old.conn.now) (state S.Store tx.new.conn.now)) }
-    ensures refused { HasCleanDisk (state S.Store tx.new.conn.now) → IsTrue (state S.Store tx.old.conn.now).in_transaction → IfErr result (FailsToQuery ids_text [] (state S.Store tx.old.conn.now) (state S.Store tx.new.conn.now)) }
+    ensures on { OnOk result (Continues S.Store tx.old.conn.now tx.new.conn.now) }
+    ensures apart { IfBoth S.Store tx.old.conn.now tx.new.conn.now
+        (IfOk result (λ apart. IsTrue apart → AreApart (new_tree S.Store tx.old.conn.now))) }
+    ensures decided { IfBoth S.Store tx.old.conn.now tx.new.conn.now
+        (IfOk result (λ apart.
+        (ids : List Shown) × IsAnswerOn ids_query (database S.Store tx.old.conn.now) ids
+        × (apart ≡ rises None ids))) }
+    ensures same { OnlyReads S.Store tx.old.conn.now tx.new.conn.now result }
+    ensures cause { ErrorHasCause S.Store tx.old.conn.now tx.new.conn.now result }
+    ensures refused { IfInside S.Store tx.old.conn.now tx.new.conn.now
+        (IfErr result (QueryFails S.Store ids_text tx.old.conn.now tx.new.conn.now)) }
 {
     let ids = select_ids(tx)?;
     Ok(are_apart(ids.as_slice()))
@@ -118,18 +132,18 @@ fn is_new_apart<S: Alter>(tx: &mut Transaction<'_, S>) -> Result<bool, Error>
 fn move_rows<S: Alter>(tx: &mut Transaction<'_, S>, rows: &[Row]) -> Result<(), Error>
     ensures same_reference { tx.new.conn.ghost_name ≡ tx.old.conn.ghost_name }
     ensures on { IfInside S.Store tx.old.conn.now tx.new.conn.now
-        (OnOk result (IsTrue (state S.Store tx.new.conn.now).in_transaction)) }
+        (OnOk result (IsInside S.Store tx.new.conn.now)) }
     ensures ready { IfInside S.Store tx.old.conn.now tx.new.conn.now
-        (IsReady (state S.Store tx.old.conn.now).now
-        → OnOk result (IsReady (state S.Store tx.new.conn.now).now)) }
+        (IsReady (database S.Store tx.old.conn.now)
+        → OnOk result (IsReady (database S.Store tx.new.conn.now))) }
     ensures table { IfInside S.Store tx.old.conn.now tx.new.conn.now
-        (IsReady (state S.Store tx.old.conn.now).now
-        → OnOk result (table_of (state S.Store tx.new.conn.now).now ≡ laid rows.now (table_of
-        (state S.Store tx.old.conn.now).now))) }
+        (IsReady (database S.Store tx.old.conn.now)
+        → OnOk result
+        (IsLaidOver rows.now (database S.Store tx.old.conn.now)
+        (database S.Store tx.new.conn.now))) }
     ensures others { IfInside S.Store tx.old.conn.now tx.new.conn.now
-        (IsReady (state S.Store tx.old.conn.now).now
-        → OnOk result ((state S.Store tx.new.conn.now).now.trees 0 ≡
-        (state S.Store tx.old.conn.now).now.trees 0)) }
+        (IsReady (database S.Store tx.old.conn.now)
+        → OnOk result (old_tree S.Store tx.new.conn.now ≡ old_tree S.Store tx.old.conn.now)) }
     ensures answers { Answers S.Store (PutsEach S.Store rows.now)
         (λ old _ e. fault_of e ≡ StoreFault.Refused → PutRefused S.Store rows.now old)
         tx.old.conn.now tx.new.conn.now result }
@@ -147,15 +161,15 @@ fn move_rows<S: Alter>(tx: &mut Transaction<'_, S>, rows: &[Row]) -> Result<(), 
 fn move_over<S: Alter>(tx: &mut Transaction<'_, S>, rows: &[Row]) -> Result<(), Error>
     ensures same_reference { tx.new.conn.ghost_name ≡ tx.old.conn.ghost_name }
     ensures on { IfInside S.Store tx.old.conn.now tx.new.conn.now
-        (OnOk result (IsTrue (state S.Store tx.new.conn.now).in_transaction)) }
+        (OnOk result (IsInside S.Store tx.new.conn.now)) }
     ensures moved { IfInside S.Store tx.old.conn.now tx.new.conn.now
-        (IsReady (state S.Store tx.old.conn.now).now
-        → AreApart ((state S.Store tx.old.conn.now).now.trees 0)
-        → OnOk result (IsMoved (state S.Store tx.new.conn.now).now)) }
+        (IsReady (database S.Store tx.old.conn.now) → AreApart (old_tree S.Store tx.old.conn.now)
+        → OnOk result (IsMoved (database S.Store tx.new.conn.now))) }
     ensures table { IfInside S.Store tx.old.conn.now tx.new.conn.now
-        (IsReady (state S.Store tx.old.conn.now).now
-        → OnOk result (table_of (state S.Store tx.new.conn.now).now ≡ laid rows.now (table_of
-        (state S.Store tx.old.conn.now).now))) }
+        (IsReady (database S.Store tx.old.conn.now)
+        → OnOk result
+        (IsLaidOver rows.now (database S.Store tx.old.conn.now)
+        (database S.Store tx.new.conn.now))) }
     ensures answers { Answers S.Store (MovesOver S.Store rows.now)
         (λ old _ e. fault_of e ≡ StoreFault.Refused → CannotMoveOver S.Store rows.now old)
         tx.old.conn.now tx.new.conn.now result }
@@ -172,11 +186,18 @@ pub(crate) fn settle_rows<S: Alter>(
 ) -> Result<(), StoreFault>
     ensures same_reference { tx.new.conn.ghost_name ≡ tx.old.conn.ghost_name }
     ensures steps { Steps (state S.Store tx.old.conn.now) (state S.Store tx.new.conn.now) }
-    ensures on { HasCleanDisk (state S.Store tx.new.conn.now) → IsTrue (state S.Store tx.old.conn.now).in_transaction → OnOk result (IsTrue (state S.Store tx.new.conn.now).in_transaction) }
-    ensures settled { HasCleanDisk (state S.Store tx.new.conn.now) → IsTrue (state S.Store tx.old.conn.now).in_transaction → IsReady (state S.Store tx.old.conn.now).now → AreApart ((state S.Store tx.old.conn.now).now.trees 0) → OnOk result (Settles old.now new.now (state S.Store tx.old.conn.now).now (state S.Store tx.new.conn.now).now) }
-    ensures cause { HasCleanDisk (state S.Store tx.new.conn.now) → IsTrue (state S.Store tx.old.conn.now).in_transaction → IfErr result (IsMeant (state S.Store tx.old.conn.now) (state S.Store tx.new.conn.now)) }
-    ensures refused { HasCleanDisk (state S.Store tx.new.conn.now) → IsTrue (state S.Store tx.old.conn.now).in_transaction → IsErrOf result StoreFault.Refused → CannotMove S.Store old.now new.now tx.old.conn.now }
-    ensures asked { HasCleanDisk (state S.Store tx.new.conn.now) → IsTrue (state S.Store tx.old.conn.now).in_transaction → OnOk result (MovesRows S.Store old.now new.now tx.old.conn.now tx.new.conn.now) }
+    ensures on { IfInside S.Store tx.old.conn.now tx.new.conn.now
+        (OnOk result (IsInside S.Store tx.new.conn.now)) }
+    ensures settled { IfInside S.Store tx.old.conn.now tx.new.conn.now
+        (IsReady (database S.Store tx.old.conn.now) → AreApart (old_tree S.Store tx.old.conn.now)
+        → OnOk result
+        (Settles old.now new.now (database S.Store tx.old.conn.now)
+        (database S.Store tx.new.conn.now))) }
+    ensures cause { FaultHasCause S.Store tx.old.conn.now tx.new.conn.now result }
+    ensures refused { IfInside S.Store tx.old.conn.now tx.new.conn.now
+        (IsErrOf result StoreFault.Refused → CannotMove S.Store old.now new.now tx.old.conn.now) }
+    ensures asked { IfInside S.Store tx.old.conn.now tx.new.conn.now
+        (OnOk result (MovesRows S.Store old.now new.now tx.old.conn.now tx.new.conn.now)) }
 {
     if old.is_empty() {
         return Ok(());
@@ -195,12 +216,16 @@ pub(crate) fn settle_rows<S: Alter>(
 fn are_both_apart<S: Alter>(tx: &mut Transaction<'_, S>) -> Result<bool, Error>
     ensures same_reference { tx.new.conn.ghost_name ≡ tx.old.conn.ghost_name }
     ensures steps { Steps (state S.Store tx.old.conn.now) (state S.Store tx.new.conn.now) }
-    ensures on { OnOk result (GoesOn (state S.Store tx.old.conn.now) (state S.Store tx.new.conn.now)) }
-    ensures apart { HasCleanDisk (state S.Store tx.new.conn.now) → (state S.Store tx.old.conn.now).now.schema ≡ both_schema → IfOk result (λ apart. IsTrue apart → AreApart ((state S.Store tx.old.conn.now).now.trees 0) × AreApart ((state S.Store tx.old.conn.now).now.trees 2)) }
-    ensures decided { HasCleanDisk (state S.Store tx.new.conn.now) → (state S.Store tx.old.conn.now).now.schema ≡ both_schema → IfOk result (IsDecided (state S.Store tx.old.conn.now).now) }
-    ensures same { HasCleanDisk (state S.Store tx.new.conn.now) → OnOk result (IsUnchanged (state S.Store tx.old.conn.now) (state S.Store tx.new.conn.now)) }
-    ensures cause { HasCleanDisk (state S.Store tx.new.conn.now) → IsTrue (state S.Store tx.old.conn.now).in_transaction → IfErr result (IsCaused (state S.Store tx.old.conn.now) (state S.Store tx.new.conn.now)) }
-    ensures refused { HasCleanDisk (state S.Store tx.new.conn.now) → IsTrue (state S.Store tx.old.conn.now).in_transaction → IfErr result (λ e. fault_of e ≡ StoreFault.Refused → CannotAsk S.Store tx.old.conn.now) }
+    ensures on { OnOk result (Continues S.Store tx.old.conn.now tx.new.conn.now) }
+    ensures apart { IfBoth S.Store tx.old.conn.now tx.new.conn.now
+        (IfOk result (λ apart. IsTrue apart → AreBothApart (database S.Store tx.old.conn.now))) }
+    ensures decided { IfBoth S.Store tx.old.conn.now tx.new.conn.now
+        (IfOk result (IsDecided (database S.Store tx.old.conn.now))) }
+    ensures same { OnlyReads S.Store tx.old.conn.now tx.new.conn.now result }
+    ensures cause { IfInside S.Store tx.old.conn.now tx.new.conn.now
+        (IfErr result (IsCaused (state S.Store tx.old.conn.now) (state S.Store tx.new.conn.now))) }
+    ensures refused { IfInside S.Store tx.old.conn.now tx.new.conn.now
+        (IfErr result (λ e. fault_of e ≡ StoreFault.Refused → CannotAsk S.Store tx.old.conn.now)) }
 {
     let is_old_apart = is_old_apart(tx)?;
     let is_new_apart = is_new_apart(tx)?;
@@ -230,14 +255,19 @@ fn read_both<S: Alter>(
 ) -> Result<(Vec<Row>, Vec<Row>), StoreFault>
     ensures same_reference { tx.new.conn.ghost_name ≡ tx.old.conn.ghost_name }
     ensures steps { Steps (state S.Store tx.old.conn.now) (state S.Store tx.new.conn.now) }
-    ensures on { OnOk result (GoesOn (state S.Store tx.old.conn.now) (state S.Store tx.new.conn.now)) }
+    ensures on { OnOk result (Continues S.Store tx.old.conn.now tx.new.conn.now) }
     ensures old { IfOk result (λ read. AreSorted read.0.items) }
     ensures new { IfOk result (λ read. AreSorted read.1.items) }
-    ensures read { HasCleanDisk (state S.Store tx.new.conn.now) → (state S.Store tx.old.conn.now).now.schema ≡ both_schema → IfOk result (λ read. AreRead read.0.items read.1.items (state S.Store tx.old.conn.now).now) }
-    ensures same { HasCleanDisk (state S.Store tx.new.conn.now) → OnOk result (IsUnchanged (state S.Store tx.old.conn.now) (state S.Store tx.new.conn.now)) }
-    ensures cause { HasCleanDisk (state S.Store tx.new.conn.now) → IsTrue (state S.Store tx.old.conn.now).in_transaction → IfErr result (IsMeant (state S.Store tx.old.conn.now) (state S.Store tx.new.conn.now)) }
-    ensures refused { HasCleanDisk (state S.Store tx.new.conn.now) → IsTrue (state S.Store tx.old.conn.now).in_transaction → IsErrOf result StoreFault.Refused → CannotReadBoth S.Store tx.old.conn.now }
-    ensures asked { HasCleanDisk (state S.Store tx.new.conn.now) → IfOk result (λ read. ReadsBoth S.Store tx.old.conn.now tx.new.conn.now read.0.items read.1.items) }
+    ensures read { IfBoth S.Store tx.old.conn.now tx.new.conn.now
+        (IfOk result (λ read.
+        AreRead read.0.items read.1.items (database S.Store tx.old.conn.now))) }
+    ensures same { OnlyReads S.Store tx.old.conn.now tx.new.conn.now result }
+    ensures cause { FaultHasCause S.Store tx.old.conn.now tx.new.conn.now result }
+    ensures refused { IfInside S.Store tx.old.conn.now tx.new.conn.now
+        (IsErrOf result StoreFault.Refused → CannotReadBoth S.Store tx.old.conn.now) }
+    ensures asked { IfClean S.Store tx.new.conn.now
+        (IfOk result (λ read.
+        ReadsBoth S.Store tx.old.conn.now tx.new.conn.now read.0.items read.1.items)) }
 {
     let old = read_old(tx, alloc)?;
     let new = read_new(tx, alloc)?;
@@ -249,16 +279,24 @@ fn read_both<S: Alter>(
 fn find<S: Alter>(tx: &mut Transaction<'_, S>, alloc: Global) -> Result<Found, StoreFault>
     ensures same_reference { tx.new.conn.ghost_name ≡ tx.old.conn.ghost_name }
     ensures steps { Steps (state S.Store tx.old.conn.now) (state S.Store tx.new.conn.now) }
-    ensures on { OnOk result (GoesOn (state S.Store tx.old.conn.now) (state S.Store tx.new.conn.now)) }
+    ensures on { OnOk result (Continues S.Store tx.old.conn.now tx.new.conn.now) }
     ensures old { IfOk result (λ found. AreSorted found.old.items) }
     ensures new { IfOk result (λ found. AreSorted found.new.items) }
-    ensures read { HasCleanDisk (state S.Store tx.new.conn.now) → (state S.Store tx.old.conn.now).now.schema ≡ both_schema → IfOk result (λ found. AreRead found.old.items found.new.items (state S.Store tx.old.conn.now).now) }
-    ensures apart { HasCleanDisk (state S.Store tx.new.conn.now) → (state S.Store tx.old.conn.now).now.schema ≡ both_schema → IfOk result (λ found. IsTrue found.is_apart → AreApart ((state S.Store tx.old.conn.now).now.trees 0) × AreApart ((state S.Store tx.old.conn.now).now.trees 2)) }
-    ensures decided { HasCleanDisk (state S.Store tx.new.conn.now) → (state S.Store tx.old.conn.now).now.schema ≡ both_schema → IfOk result (λ found. IsDecided (state S.Store tx.old.conn.now).now found.is_apart) }
-    ensures same { HasCleanDisk (state S.Store tx.new.conn.now) → OnOk result (IsUnchanged (state S.Store tx.old.conn.now) (state S.Store tx.new.conn.now)) }
-    ensures cause { HasCleanDisk (state S.Store tx.new.conn.now) → IsTrue (state S.Store tx.old.conn.now).in_transaction → IfErr result (IsMeant (state S.Store tx.old.conn.now) (state S.Store tx.new.conn.now)) }
-    ensures refused { HasCleanDisk (state S.Store tx.new.conn.now) → IsTrue (state S.Store tx.old.conn.now).in_transaction → IsErrOf result StoreFault.Refused → CannotFind S.Store tx.old.conn.now }
-    ensures asked { HasCleanDisk (state S.Store tx.new.conn.now) → IfOk result (λ found. Finds S.Store tx.old.conn.now tx.new.conn.now found.old.items found.new.items) }
+    ensures read { IfBoth S.Store tx.old.conn.now tx.new.conn.now
+        (IfOk result (λ found.
+        AreRead found.old.items found.new.items (database S.Store tx.old.conn.now))) }
+    ensures apart { IfBoth S.Store tx.old.conn.now tx.new.conn.now
+        (IfOk result (λ found.
+        IsTrue found.is_apart → AreBothApart (database S.Store tx.old.conn.now))) }
+    ensures decided { IfBoth S.Store tx.old.conn.now tx.new.conn.now
+        (IfOk result (λ found. IsDecided (database S.Store tx.old.conn.now) found.is_apart)) }
+    ensures same { OnlyReads S.Store tx.old.conn.now tx.new.conn.now result }
+    ensures cause { FaultHasCause S.Store tx.old.conn.now tx.new.conn.now result }
+    ensures refused { IfInside S.Store tx.old.conn.now tx.new.conn.now
+        (IsErrOf result StoreFault.Refused → CannotFind S.Store tx.old.conn.now) }
+    ensures asked { IfClean S.Store tx.new.conn.now
+        (IfOk result (λ found.
+        Finds S.Store tx.old.conn.now tx.new.conn.now found.old.items found.new.items)) }
 {
     let (old, new) = read_both(tx, alloc)?;
     match are_both_apart(tx) {
@@ -271,7 +309,8 @@ fn find<S: Alter>(tx: &mut Transaction<'_, S>, alloc: Global) -> Result<Found, S
 fn table_numbers(alloc: Global, old: &[Row], new: &[Row]) -> Result<NumberTable, StoreFault>
     requires old { AreSorted old.now }
     requires new { AreSorted new.now }
-    ensures numbered { IfOk result (λ numbers. AreNumbersOf old.now new.now (value_in numbers.rows)) }
+    ensures numbered { IfOk result (λ numbers.
+        AreNumbersOf old.now new.now (value_in numbers.rows)) }
     ensures memory { IfErr result (λ fault. fault ≡ StoreFault.Memory) }
 {
     match NumberTable::of_rows(alloc, if old.is_empty() { new } else { old }) {
@@ -291,13 +330,24 @@ fn settle_found<S: Alter>(
     requires new { AreSorted found.now.new.items }
     ensures same_reference { tx.new.conn.ghost_name ≡ tx.old.conn.ghost_name }
     ensures steps { Steps (state S.Store tx.old.conn.now) (state S.Store tx.new.conn.now) }
-    ensures on { HasCleanDisk (state S.Store tx.new.conn.now) → IsTrue (state S.Store tx.old.conn.now).in_transaction → OnOk result (IsTrue (state S.Store tx.new.conn.now).in_transaction) }
-    ensures settled { HasCleanDisk (state S.Store tx.new.conn.now) → IsTrue (state S.Store tx.old.conn.now).in_transaction → IsReady (state S.Store tx.old.conn.now).now → AreApart ((state S.Store tx.old.conn.now).now.trees 0) → OnOk result (Settles found.now.old.items found.now.new.items (state S.Store tx.old.conn.now).now (state S.Store tx.new.conn.now).now) }
+    ensures on { IfInside S.Store tx.old.conn.now tx.new.conn.now
+        (OnOk result (IsInside S.Store tx.new.conn.now)) }
+    ensures settled { IfInside S.Store tx.old.conn.now tx.new.conn.now
+        (IsReady (database S.Store tx.old.conn.now) → AreApart (old_tree S.Store tx.old.conn.now)
+        → OnOk result
+        (Settles found.now.old.items found.now.new.items (database S.Store tx.old.conn.now)
+        (database S.Store tx.new.conn.now))) }
     ensures apart { IfOk result (λ opened. opened.is_apart ≡ found.now.is_apart) }
-    ensures numbered { IfOk result (λ opened. AreNumbersOf found.now.old.items found.now.new.items (value_in opened.numbers.rows)) }
-    ensures cause { HasCleanDisk (state S.Store tx.new.conn.now) → IsTrue (state S.Store tx.old.conn.now).in_transaction → IfErr result (IsMeant (state S.Store tx.old.conn.now) (state S.Store tx.new.conn.now)) }
-    ensures refused { HasCleanDisk (state S.Store tx.new.conn.now) → IsTrue (state S.Store tx.old.conn.now).in_transaction → IsErrOf result StoreFault.Refused → CannotMove S.Store found.now.old.items found.now.new.items tx.old.conn.now }
-    ensures asked { HasCleanDisk (state S.Store tx.new.conn.now) → IsTrue (state S.Store tx.old.conn.now).in_transaction → OnOk result (MovesRows S.Store found.now.old.items found.now.new.items tx.old.conn.now tx.new.conn.now) }
+    ensures numbered { IfOk result (λ opened.
+        AreNumbersOf found.now.old.items found.now.new.items (value_in opened.numbers.rows)) }
+    ensures cause { FaultHasCause S.Store tx.old.conn.now tx.new.conn.now result }
+    ensures refused { IfInside S.Store tx.old.conn.now tx.new.conn.now
+        (IsErrOf result StoreFault.Refused
+        → CannotMove S.Store found.now.old.items found.now.new.items tx.old.conn.now) }
+    ensures asked { IfInside S.Store tx.old.conn.now tx.new.conn.now
+        (OnOk result
+        (MovesRows S.Store found.now.old.items found.now.new.items
+        tx.old.conn.now tx.new.conn.now)) }
 {
     let numbers = table_numbers(alloc, &found.old, &found.new)?;
     settle_rows(tx, &found.old, &found.new)?;
@@ -315,12 +365,22 @@ fn find_and_settle<S: Alter>(
 ) -> Result<Opened, StoreFault>
     ensures same_reference { tx.new.conn.ghost_name ≡ tx.old.conn.ghost_name }
     ensures steps { Steps (state S.Store tx.old.conn.now) (state S.Store tx.new.conn.now) }
-    ensures on { HasCleanDisk (state S.Store tx.new.conn.now) → IsTrue (state S.Store tx.old.conn.now).in_transaction → OnOk result (IsTrue (state S.Store tx.new.conn.now).in_transaction) }
-    ensures settled { HasCleanDisk (state S.Store tx.new.conn.now) → IsTrue (state S.Store tx.old.conn.now).in_transaction → IfOk result (λ opened. AreSettled opened.is_apart (value_in opened.numbers.rows) (state S.Store tx.old.conn.now).now (state S.Store tx.new.conn.now).now) }
-    ensures stays { HasCleanDisk (state S.Store tx.new.conn.now) → IsTrue (state S.Store tx.old.conn.now).in_transaction → OnOk result ((state S.Store tx.old.conn.now).now.schema ≡ both_schema → (state S.Store tx.old.conn.now).now.trees 0 ≡ [] → (state S.Store tx.new.conn.now).now ≡ (state S.Store tx.old.conn.now).now) }
-    ensures cause { HasCleanDisk (state S.Store tx.new.conn.now) → IsTrue (state S.Store tx.old.conn.now).in_transaction → IfErr result (IsMeant (state S.Store tx.old.conn.now) (state S.Store tx.new.conn.now)) }
-    ensures refused { HasCleanDisk (state S.Store tx.new.conn.now) → IsTrue (state S.Store tx.old.conn.now).in_transaction → IsErrOf result StoreFault.Refused → CannotSettle S.Store tx.old.conn.now }
-    ensures asked { HasCleanDisk (state S.Store tx.new.conn.now) → IsTrue (state S.Store tx.old.conn.now).in_transaction → OnOk result (SettlesInside S.Store tx.old.conn.now tx.new.conn.now) }
+    ensures on { IfInside S.Store tx.old.conn.now tx.new.conn.now
+        (OnOk result (IsInside S.Store tx.new.conn.now)) }
+    ensures settled { IfInside S.Store tx.old.conn.now tx.new.conn.now
+        (IfOk result (λ opened.
+        AreSettled opened.is_apart (value_in opened.numbers.rows) (database S.Store tx.old.conn.now)
+        (database S.Store tx.new.conn.now))) }
+    ensures stays { IfInside S.Store tx.old.conn.now tx.new.conn.now
+        (OnOk result
+        ((database S.Store tx.old.conn.now).schema ≡ both_schema
+        → old_tree S.Store tx.old.conn.now ≡ []
+        → database S.Store tx.new.conn.now ≡ database S.Store tx.old.conn.now)) }
+    ensures cause { FaultHasCause S.Store tx.old.conn.now tx.new.conn.now result }
+    ensures refused { IfInside S.Store tx.old.conn.now tx.new.conn.now
+        (IsErrOf result StoreFault.Refused → CannotSettle S.Store tx.old.conn.now) }
+    ensures asked { IfInside S.Store tx.old.conn.now tx.new.conn.now
+        (OnOk result (SettlesInside S.Store tx.old.conn.now tx.new.conn.now)) }
 {
     let found = find(tx, alloc)?;
     settle_found(tx, alloc, &found)
@@ -334,12 +394,21 @@ pub(crate) fn open_inside<S: Alter>(
 ) -> Result<Opened, StoreFault>
     ensures same_reference { tx.new.conn.ghost_name ≡ tx.old.conn.ghost_name }
     ensures steps { Steps (state S.Store tx.old.conn.now) (state S.Store tx.new.conn.now) }
-    ensures on { HasCleanDisk (state S.Store tx.new.conn.now) → IsTrue (state S.Store tx.old.conn.now).in_transaction → OnOk result (IsTrue (state S.Store tx.new.conn.now).in_transaction × IsTrue (state S.Store tx.old.conn.now).is_open) }
-    ensures opened { HasCleanDisk (state S.Store tx.new.conn.now) → IsTrue (state S.Store tx.old.conn.now).in_transaction → OnOk result (IsOpened (state S.Store tx.old.conn.now).now (state S.Store tx.new.conn.now).now) }
-    ensures found { HasCleanDisk (state S.Store tx.new.conn.now) → IsTrue (state S.Store tx.old.conn.now).in_transaction → IfOk result (λ opened. FoundOut opened.is_apart (value_in opened.numbers.rows) (state S.Store tx.old.conn.now).now (state S.Store tx.new.conn.now).now) }
-    ensures cause { HasCleanDisk (state S.Store tx.new.conn.now) → IsTrue (state S.Store tx.old.conn.now).in_transaction → IfErr result (IsMeant (state S.Store tx.old.conn.now) (state S.Store tx.new.conn.now)) }
-    ensures refused { HasCleanDisk (state S.Store tx.new.conn.now) → IsTrue (state S.Store tx.old.conn.now).in_transaction → IsErrOf result StoreFault.Refused → CannotOpenInside S.Store tx.old.conn.now }
-    ensures asked { HasCleanDisk (state S.Store tx.new.conn.now) → IsTrue (state S.Store tx.old.conn.now).in_transaction → OnOk result (OpensInside S.Store tx.old.conn.now tx.new.conn.now) }
+    ensures on { IfInside S.Store tx.old.conn.now tx.new.conn.now
+        (OnOk result
+        (IsInside S.Store tx.new.conn.now × IsTrue (state S.Store tx.old.conn.now).is_open)) }
+    ensures opened { IfInside S.Store tx.old.conn.now tx.new.conn.now
+        (OnOk result
+        (IsOpened (database S.Store tx.old.conn.now) (database S.Store tx.new.conn.now))) }
+    ensures found { IfInside S.Store tx.old.conn.now tx.new.conn.now
+        (IfOk result (λ opened.
+        FoundOut opened.is_apart (value_in opened.numbers.rows) (database S.Store tx.old.conn.now)
+        (database S.Store tx.new.conn.now))) }
+    ensures cause { FaultHasCause S.Store tx.old.conn.now tx.new.conn.now result }
+    ensures refused { IfInside S.Store tx.old.conn.now tx.new.conn.now
+        (IsErrOf result StoreFault.Refused → CannotOpenInside S.Store tx.old.conn.now) }
+    ensures asked { IfInside S.Store tx.old.conn.now tx.new.conn.now
+        (OnOk result (OpensInside S.Store tx.old.conn.now tx.new.conn.now)) }
 {
     match make_tables(tx) {
         Ok(()) => find_and_settle(tx, alloc),

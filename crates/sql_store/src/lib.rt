@@ -1,5 +1,5 @@
-//! The tables of results in SQLite, as a store of top-level transactions: the old one, of keys and values, and the new one, in
-//! which each row has a number too.
+//! The tables of results in SQLite, as a store of top-level transactions: the old one, of keys and
+//! values, and the new one, in which each row has a number too.
 #![tactic(auto)]
 
 mod close;

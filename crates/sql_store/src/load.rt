@@ -1,20 +1,15 @@
 //! The table, read by one query.
 ghost use Rattle.std.specs.Prelude.{◌≡◌, ◌≤◌, [], OnOk, IfOk, IfErr, IsTrue, IsErrOf};
-ghost use Rattle.sqlite.specs.Tree.{Trees};
-ghost use Rattle.sqlite_trees.specs.View.{doubt};
 ghost use Rattle.sqlite.specs.Held.{state};
-ghost use Rattle.sqlite.specs.State.{HasCleanDisk, Survives, KeepsCommit, IsUnchanged};
-ghost use Rattle.sqlite.specs.Query.{IsAnswer};
-ghost use Rattle.sqlite.specs.Program.{overlay};
 ghost use Rattle.serial_spec.specs.Rows.{IsRising};
 ghost use Rattle.durable_top.specs.Numbered.{AreNumbered, entries_in};
 ghost use Rattle.durable_top.specs.Store.{plain};
-ghost use Rattle.sql_store.specs.Load.{load_query, load_text};
-ghost use Rattle.sql_store.specs.Table.{IsKnown, table_of};
-ghost use Rattle.sql_store.specs.Faults.{fault_of, IsCaused, Lasts, HasFailed};
-ghost use Rattle.sql_store.specs.Kept.{IsSettled, Spares};
+ghost use Rattle.sql_store.specs.Load.{load_query, load_text, IsAnswerOn};
+ghost use Rattle.sql_store.specs.Table.{table_of};
+ghost use Rattle.sql_store.specs.Faults.{fault_of, Lasts};
 ghost use Rattle.sql_store.specs.Refusals.{QueryGives, CannotLoad};
 ghost use Rattle.sql_store.specs.Asked.{Fetched, Loaded};
+ghost use Rattle.sql_store.specs.Calls.{ChangesNothing, CommitsNothing, ErrorHasCause, FailedHasCause, IfClean, IfKnown, IfRefused, KeepsDoubt, LeavesNoOtherTrees, SparesSettled, UnlessFailed, database};
 
 use crate::faults::{fault_of, settle};
 use crate::reading::sorted;
@@ -25,16 +20,22 @@ use std::alloc::Global;
 
 /// What the query answers.
 fn fetch<S: Alter>(conn: &mut Connection<S>) -> Result<Vec<sqlite::Row>, Error>
-    ensures rows { HasCleanDisk (state S.Store conn.new) → IsKnown (state S.Store conn.old) → IfOk result (λ rows. IsAnswer load_query (overlay (state S.Store conn.old).now.trees []) [] rows.items) }
-    ensures open { HasCleanDisk (state S.Store conn.new) → IsKnown (state S.Store conn.old) → OnOk result (IsUnchanged (state S.Store conn.old) (state S.Store conn.new)) }
-    ensures kept { HasCleanDisk (state S.Store conn.new) → IsKnown (state S.Store conn.old) → KeepsCommit (state S.Store conn.old) (state S.Store conn.new) }
-    ensures clean { doubt (state S.Store conn.old).is_clean ≤ doubt (state S.Store conn.new).is_clean }
-    ensures crash { HasCleanDisk (state S.Store conn.new) → IsKnown (state S.Store conn.old) → (db : Trees) → (state S.Store conn.new).may_leave db → (state S.Store conn.old).may_leave db }
-    ensures cause { HasCleanDisk (state S.Store conn.new) → IfErr result (IsCaused (state S.Store conn.old) (state S.Store conn.new)) }
+    ensures rows { IfKnown S.Store conn.old conn.new
+        (IfOk result (λ rows. IsAnswerOn load_query (database S.Store conn.old) rows.items)) }
+    ensures open { IfKnown S.Store conn.old conn.new
+        (OnOk result (ChangesNothing S.Store conn.old conn.new)) }
+    ensures kept { IfKnown S.Store conn.old conn.new (CommitsNothing S.Store conn.old conn.new) }
+    ensures clean { KeepsDoubt S.Store conn.old conn.new }
+    ensures crash { IfKnown S.Store conn.old conn.new
+        (LeavesNoOtherTrees S.Store conn.old conn.new) }
+    ensures cause { ErrorHasCause S.Store conn.old conn.new result }
     ensures lasts { Lasts (state S.Store conn.old) (state S.Store conn.new) }
-    ensures asked { HasCleanDisk (state S.Store conn.new) → IfOk result (λ rows. Fetched S.Store conn.old conn.new rows.items) }
-    ensures refused { HasCleanDisk (state S.Store conn.new) → IfErr result (λ e. fault_of e ≡ StoreFault.Refused → QueryGives S.Store load_text conn.old conn.new e) }
-    ensures spared { HasCleanDisk (state S.Store conn.new) → IsSettled (state S.Store conn.old) → Spares (state S.Store conn.old) (state S.Store conn.new) }
+    ensures asked { IfClean S.Store conn.new
+        (IfOk result (λ rows. Fetched S.Store conn.old conn.new rows.items)) }
+    ensures refused { IfClean S.Store conn.new
+        (IfErr result (λ e.
+        fault_of e ≡ StoreFault.Refused → QueryGives S.Store load_text conn.old conn.new e)) }
+    ensures spared { SparesSettled S.Store conn.old conn.new }
 {
     probe(conn)?;
     select(conn)
@@ -45,17 +46,21 @@ pub(crate) fn load_rows<S: Alter>(
     conn: &mut Connection<S>,
     alloc: Global,
 ) -> Result<Vec<Row>, StoreFault>
-    ensures rows { HasCleanDisk (state S.Store conn.new) → IsKnown (state S.Store conn.old) → IfOk result (λ rows. entries_in rows.items ≡ table_of (state S.Store conn.old).now) }
+    ensures rows { IfKnown S.Store conn.old conn.new
+        (IfOk result (λ rows. entries_in rows.items ≡ table_of (database S.Store conn.old))) }
     ensures rising { IfOk result (λ rows. IsRising (plain rows.items)) }
     ensures numbers { IfOk result (λ rows. AreNumbered rows.items) }
-    ensures open { HasCleanDisk (state S.Store conn.new) → IsKnown (state S.Store conn.old) → (IsErrOf result StoreFault.Failed → ⊥) → IsTrue (state S.Store conn.new).is_open }
-    ensures kept { HasCleanDisk (state S.Store conn.new) → IsKnown (state S.Store conn.old) → KeepsCommit (state S.Store conn.old) (state S.Store conn.new) }
-    ensures clean { doubt (state S.Store conn.old).is_clean ≤ doubt (state S.Store conn.new).is_clean }
-    ensures crash { HasCleanDisk (state S.Store conn.new) → IsKnown (state S.Store conn.old) → (db : Trees) → (state S.Store conn.new).may_leave db → (state S.Store conn.old).may_leave db }
-    ensures cause { HasCleanDisk (state S.Store conn.new) → IsErrOf result StoreFault.Failed → HasFailed S.Store conn.old conn.new }
-    ensures asked { HasCleanDisk (state S.Store conn.new) → IfOk result (λ rows. Loaded S.Store conn.old conn.new rows.items) }
-    ensures refused { HasCleanDisk (state S.Store conn.new) → IsErrOf result StoreFault.Refused → CannotLoad S.Store conn.old conn.new }
-    ensures spared { HasCleanDisk (state S.Store conn.new) → IsSettled (state S.Store conn.old) → Spares (state S.Store conn.old) (state S.Store conn.new) }
+    ensures open { IfKnown S.Store conn.old conn.new
+        (UnlessFailed result (IsTrue (state S.Store conn.new).is_open)) }
+    ensures kept { IfKnown S.Store conn.old conn.new (CommitsNothing S.Store conn.old conn.new) }
+    ensures clean { KeepsDoubt S.Store conn.old conn.new }
+    ensures crash { IfKnown S.Store conn.old conn.new
+        (LeavesNoOtherTrees S.Store conn.old conn.new) }
+    ensures cause { FailedHasCause S.Store conn.old conn.new result }
+    ensures asked { IfClean S.Store conn.new
+        (IfOk result (λ rows. Loaded S.Store conn.old conn.new rows.items)) }
+    ensures refused { IfRefused S.Store conn.new result (CannotLoad S.Store conn.old conn.new) }
+    ensures spared { SparesSettled S.Store conn.old conn.new }
 {
     match fetch(conn) {
         Ok(rows) => sorted(alloc, rows.as_slice()),

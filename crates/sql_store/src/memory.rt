@@ -11,8 +11,8 @@ use std::alloc::{AllocError, Global};
 use std::marker::Model;
 use txn_names::Change;
 
-/// The table of a database in memory. There is no device that could give back something else than was
-/// written, so that what is said of the table always holds.
+/// The table of a database in memory. There is no device that could give back something else than
+/// was written, so that what is said of the table always holds.
 #[derive(Drop)]
 pub struct MemoryStore {
     store: SqlStore<MemStore>,
@@ -34,10 +34,11 @@ impl Model for MemoryStore {
 }
 
 impl MemoryStore {
-    /// A store without rows. The only error is that memory runs out: what opens an empty database in memory asks
-    /// for nothing else.
+    /// A store without rows. The only error is that memory runs out: what opens an empty database
+    /// in memory asks for nothing else.
     pub fn new(alloc: Global) -> Result<MemoryStore, NoMemory>
-        ensures empty { IfOk result (λ store. (k : List ℕ) → numbered over_memory store.connection k ≡ None) }
+        ensures empty { IfOk result (λ store. (k : List ℕ)
+            → numbered over_memory store.connection k ≡ None) }
         ensures faults { IfOk result (λ store. store.faults ≡ 0) }
         ensures sound { IfOk result (λ store. store.has_failed ≡ false) }
     {

@@ -1,24 +1,25 @@
-//! A row is put by the statement that is likely to serve, and by the upsert where that one leaves it.
+//! A row is put by the statement that is likely to serve, and by the upsert where that one leaves
+//! it.
 ghost use Rattle.std.specs.Prelude.{◌≡◌, Some, OnOk, IfErr, IsTrue};
 ghost use Rattle.sqlite.specs.Values.{bound};
 ghost use Rattle.sqlite.specs.declared.types.Value.TheVariants.{Text, Int};
 ghost use Rattle.sqlite.specs.Held.{state};
-ghost use Rattle.sqlite.specs.State.{HasCleanDisk, Survives, KeepsCommit};
 ghost use Rattle.sql_store.specs.Table.{Makes};
-ghost use Rattle.sql_store.specs.Faults.{IsCaused};
-ghost use Rattle.sql_store.specs.Asked.{IfInside, Answers, update_text, insert_text, params_of, Answered, PutsRow, PutGives};
+ghost use Rattle.sql_store.specs.Asked.{Answers, update_text, insert_text, params_of, Answered, PutsRow, PutGives};
+ghost use Rattle.sql_store.specs.Calls.{IfInside, SurvivesAsBefore};
 
 use crate::faults::breaks_rule;
 use crate::statements::{of_row, put};
 use durable_top::Row;
 use sqlite::{Alter, Error, Transaction};
 
-// Gives the key of the row its value and its number where it has a row, and answers how many rows it met.
+// Gives the key of the row its value and its number where it has a row, and answers how many rows
+// it met.
 fn update<S: Alter>(tx: &mut Transaction<'_, S>, row: &Row) -> Result<usize, Error>
     ensures same_reference { tx.new.conn.ghost_name ≡ tx.old.conn.ghost_name }
     ensures runs { IfInside S.Store tx.old.conn.now tx.new.conn.now (Answered S.Store
         update_text (params_of row.now) tx.old.conn.now tx.new.conn.now result) }
-    ensures survives { Survives (state S.Store tx.old.conn.now) (state S.Store tx.new.conn.now) (λ _. ⊥) }
+    ensures survives { SurvivesAsBefore S.Store tx.old.conn.now tx.new.conn.now }
 {
     tx.execute(
         "UPDATE results2 SET v = ?2, n = ?3 WHERE k = ?1",
@@ -31,7 +32,7 @@ fn insert<S: Alter>(tx: &mut Transaction<'_, S>, row: &Row) -> Result<usize, Err
     ensures same_reference { tx.new.conn.ghost_name ≡ tx.old.conn.ghost_name }
     ensures runs { IfInside S.Store tx.old.conn.now tx.new.conn.now (Answered S.Store
         insert_text (params_of row.now) tx.old.conn.now tx.new.conn.now result) }
-    ensures survives { Survives (state S.Store tx.old.conn.now) (state S.Store tx.new.conn.now) (λ _. ⊥) }
+    ensures survives { SurvivesAsBefore S.Store tx.old.conn.now tx.new.conn.now }
 {
     tx.execute(
         "INSERT INTO results2 (k, v, n) VALUES (?1, ?2, ?3)",
@@ -68,8 +69,8 @@ fn put_new<S: Alter>(tx: &mut Transaction<'_, S>, row: &Row) -> Result<(), Error
     }
 }
 
-/// Gives the key of the row its value and its number, whether or not it has a row. That it is likely to have one
-/// says only which statement is tried first.
+/// Gives the key of the row its value and its number, whether or not it has a row. That it is
+/// likely to have one says only which statement is tried first.
 pub(crate) fn put_either<S: Alter>(
     tx: &mut Transaction<'_, S>,
     is_likely: bool,

@@ -107,7 +107,8 @@ fn read_rows(alloc: Global, rows: &[sqlite::Row]) -> Result<Vec<Row>, StoreFault
     ensures read { IfOk result (λ read. map told read.items ≡ map seen rows.now) }
     ensures numbers { IfOk result (λ read. AreNumbered read.items) }
     ensures cause { IfErr result (λ fault. fault ≡ StoreFault.Failed → ⊥) }
-    ensures unread { IsErrOf result StoreFault.Refused → (row : Shown) × Contains rows.now row × IsUnread row }
+    ensures unread { IsErrOf result StoreFault.Refused
+        → (row : Shown) × Contains rows.now row × IsUnread row }
 {
     let mut all = Vec::new(alloc);
     for row in rows {
@@ -125,7 +126,8 @@ fn read_old_rows(alloc: Global, rows: &[sqlite::Row]) -> Result<Vec<Row>, StoreF
     ensures read { IfOk result (λ read. map told read.items ≡ map seen_old rows.now) }
     ensures numbers { IfOk result (λ read. AreNumbered read.items) }
     ensures cause { IfErr result (λ fault. fault ≡ StoreFault.Failed → ⊥) }
-    ensures unread { IsErrOf result StoreFault.Refused → (row : Shown) × Contains rows.now row × IsUnreadOld row }
+    ensures unread { IsErrOf result StoreFault.Refused
+        → (row : Shown) × Contains rows.now row × IsUnreadOld row }
 {
     let mut all = Vec::new(alloc);
     for row in rows {
@@ -139,7 +141,8 @@ fn read_old_rows(alloc: Global, rows: &[sqlite::Row]) -> Result<Vec<Row>, StoreF
     Ok(all)
 }
 
-/// The rows, in byte order of their keys. A row that is none of the store's, and a key that comes twice, are refused.
+/// The rows, in byte order of their keys. A row that is none of the store's, and a key that comes
+/// twice, are refused.
 pub(crate) fn sorted(alloc: Global, rows: &[sqlite::Row]) -> Result<Vec<Row>, StoreFault>
     ensures read { IfOk result (λ read. map told read.items ≡ map seen rows.now) }
     ensures rising { IfOk result (λ read. IsRising (plain read.items)) }

@@ -1,15 +1,15 @@
 //! The rows of several changes are added by one statement.
 ghost use Rattle.std.specs.Prelude.{◌≡◌, ◌*◌, length, IsTrue};
 ghost use Rattle.sqlite.specs.Values.{bound};
-ghost use Rattle.sqlite.specs.Held.{state};
-ghost use Rattle.sqlite.specs.State.{HasCleanDisk, Survives};
-ghost use Rattle.sql_store.specs.Asked.{IfInside, value_of, params_all, AreRows, AnsweredRows};
+ghost use Rattle.sql_store.specs.Asked.{value_of, params_all, AreRows, AnsweredRows};
+ghost use Rattle.sql_store.specs.Calls.{IfInside, SurvivesAsBefore};
 
 use sqlite::types::ValueRef;
 use sqlite::{Alter, Error, Transaction};
 use txn_names::Change;
 
-// The value that the change gives its key, and 0 at a removal, which is never among the rows of an insert.
+// The value that the change gives its key, and 0 at a removal, which is never among the rows of an
+// insert.
 fn value_of(change: &Change) -> i64
     ensures { result ≡ value_of change.now }
 {
@@ -29,8 +29,8 @@ fn fill<'a>(params: &mut [ValueRef<'a>], number: i64, rows: &'a [Change])
     }
 }
 
-/// Adds the rows of 4 or of 16 changes. Where a key has a row already, or two have one key, that is refused, and
-/// nothing is added.
+/// Adds the rows of 4 or of 16 changes. Where a key has a row already, or two have one key, that is
+/// refused, and nothing is added.
 pub(crate) fn insert_rows<S: Alter>(
     tx: &mut Transaction<'_, S>,
     number: i64,
@@ -40,8 +40,7 @@ pub(crate) fn insert_rows<S: Alter>(
     ensures same_reference { tx.new.conn.ghost_name ≡ tx.old.conn.ghost_name }
     ensures runs { IfInside S.Store tx.old.conn.now tx.new.conn.now
         (AnsweredRows S.Store number rows.now tx.old.conn.now tx.new.conn.now result) }
-    ensures survives { Survives (state S.Store tx.old.conn.now)
-        (state S.Store tx.new.conn.now) (λ _. ⊥) }
+    ensures survives { SurvivesAsBefore S.Store tx.old.conn.now tx.new.conn.now }
 {
     if rows.len() == 16 {
         let mut params = [ValueRef::Int(number); 48];

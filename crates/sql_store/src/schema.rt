@@ -1,7 +1,7 @@
 //! Whether a database has the tables of results, and nothing else.
 ghost use Rattle.std.specs.Prelude.{◌≡◌, ◌↔◌, ◌∷◌, [], None, IsTrue, codes, false};
 ghost use Rattle.sqlite.specs.Kind.TheVariants as kinds;
-ghost use Rattle.sql_store.specs.Results.{keyed, old_columns, new_columns, old_results, results, old_schema, both_schema, listed_old, listed_both, key_index, column_of, no_schema, no_stamps, plain_order};
+ghost use Rattle.sql_store.specs.Results.{keyed, old_columns, new_columns, old_results, results, old_schema, both_schema, listed_old, listed_both, key_index, column_of, no_schema, no_stamps, plain_order, IsBare, IsKeyed};
 
 use sqlite_items::Items;
 use sqlite_schema::code::Terms;
@@ -112,7 +112,7 @@ fn are_new_columns(columns: &[Column]) -> bool
 
 // Whether the first column is the key, and none is the rowid.
 fn has_key(table: &Table) -> bool
-    ensures { IsTrue result ↔ (table.now ≡ record table.now { key = results.key; primary = results.primary; uniques = results.uniques; orders = results.orders }) }
+    ensures { IsTrue result ↔ IsKeyed table.now }
 {
     table.key.is_none()
         && is_first(table.primary.as_slice())
@@ -122,7 +122,7 @@ fn has_key(table: &Table) -> bool
 
 // Whether it has no rule beside its columns and its key.
 fn is_bare(table: &Table) -> bool
-    ensures { IsTrue result ↔ (table.now ≡ record table.now { checks = []; references = []; computed = []; stamps = no_stamps; is_counted = false }) }
+    ensures { IsTrue result ↔ IsBare table.now }
 {
     is_no_term(&table.checks)
         && table.references.is_empty()

@@ -1,19 +1,15 @@
 //! The statements, one a function.
 ghost use Rattle.std.specs.Prelude.{◌≡◌, ◌≤◌, [], ◌∷◌, Some, None, Err, OnOk, IfOk, IfErr, IsTrue, IsErr};
-ghost use Rattle.sqlite_trees.specs.View.{doubt};
 ghost use Rattle.sqlite.specs.Values.{bound};
 ghost use Rattle.sqlite.specs.declared.types.Value.TheVariants.{Text, Int};
 ghost use Rattle.sqlite.specs.Held.{state};
-ghost use Rattle.sqlite.specs.State.{HasCleanDisk, Survives, KeepsCommit, IsUnchanged, Shown, ExecutesInside, FailsToQuery};
-ghost use Rattle.sqlite.specs.Query.{IsAnswer};
-ghost use Rattle.sqlite.specs.Program.{overlay};
 ghost use Rattle.sql_store.specs.Results.{both_schema, old_schema, no_schema};
-ghost use Rattle.sql_store.specs.Load.{load_text, load_query, old_text, old_query, ids_text, ids_query, old_ids_text, old_ids_query};
+ghost use Rattle.sql_store.specs.Load.{load_text, load_query, old_text, old_query, ids_text, ids_query, old_ids_text, old_ids_query, IsAnswerOn};
 ghost use Rattle.sql_store.specs.Table.{Makes, AreApart};
-ghost use Rattle.sql_store.specs.Inside.{GoesOn, Selects};
-ghost use Rattle.sql_store.specs.Faults.{fault_of, IsCaused, Lasts, HasFailed};
-ghost use Rattle.sql_store.specs.Kept.{IsSettled, Spares};
-ghost use Rattle.sql_store.specs.Asked.{IfInside, RunsStatement, create_old_text, create_text, upsert_text, delete_text, empty_text, params_of, Executed};
+ghost use Rattle.sql_store.specs.Inside.{Selects};
+ghost use Rattle.sql_store.specs.Faults.{fault_of, Lasts, HasFailed};
+ghost use Rattle.sql_store.specs.Asked.{RunsStatement, create_old_text, create_text, upsert_text, delete_text, empty_text, params_of, IsAnswered, QueryFails};
+ghost use Rattle.sql_store.specs.Calls.{ChangesNothing, CommitsNothing, Continues, ErrorHasCause, IfBoth, IfClean, IfInside, KeepsDoubt, OnlyReads, SparesSettled, SurvivesAsBefore, database, new_tree, old_tree};
 
 use durable_top::{Row, StoreFault};
 use sqlite::types::ValueRef;
@@ -69,19 +65,19 @@ pub(crate) fn put<S: Alter>(tx: &mut Transaction<'_, S>, row: &Row) -> Result<()
 /// Takes all rows of the old table away.
 pub(crate) fn empty<S: Alter>(tx: &mut Transaction<'_, S>) -> Result<(), Error>
     ensures same_reference { tx.new.conn.ghost_name ≡ tx.old.conn.ghost_name }
-    ensures on { OnOk result
-        (GoesOn (state S.Store tx.old.conn.now) (state S.Store tx.new.conn.now)) }
+    ensures on { OnOk result (Continues S.Store tx.old.conn.now tx.new.conn.now) }
     ensures schema { IfInside S.Store tx.old.conn.now tx.new.conn.now
-        (OnOk result ((state S.Store tx.old.conn.now).now.schema ≡ both_schema
-        → (state S.Store tx.new.conn.now).now.schema ≡ both_schema)) }
+        (OnOk result
+        ((database S.Store tx.old.conn.now).schema ≡ both_schema
+        → (database S.Store tx.new.conn.now).schema ≡ both_schema)) }
     ensures others { IfInside S.Store tx.old.conn.now tx.new.conn.now
-        (OnOk result ((state S.Store tx.old.conn.now).now.schema ≡ both_schema
-        → (state S.Store tx.new.conn.now).now.trees 2 ≡
-        (state S.Store tx.old.conn.now).now.trees 2)) }
+        (OnOk result
+        ((database S.Store tx.old.conn.now).schema ≡ both_schema
+        → new_tree S.Store tx.new.conn.now ≡ new_tree S.Store tx.old.conn.now)) }
     ensures gone { IfInside S.Store tx.old.conn.now tx.new.conn.now
-        (OnOk result ((state S.Store tx.old.conn.now).now.schema ≡ both_schema
-        → AreApart ((state S.Store tx.old.conn.now).now.trees 0)
-        → (state S.Store tx.new.conn.now).now.trees 0 ≡ [])) }
+        (OnOk result
+        ((database S.Store tx.old.conn.now).schema ≡ both_schema
+        → AreApart (old_tree S.Store tx.old.conn.now) → old_tree S.Store tx.new.conn.now ≡ [])) }
     ensures answers { RunsStatement S.Store empty_text ([]) tx.old.conn.now tx.new.conn.now result }
 {
     tx.execute("DELETE FROM results", &[])?;
@@ -91,18 +87,20 @@ pub(crate) fn empty<S: Alter>(tx: &mut Transaction<'_, S>) -> Result<(), Error>
 /// Makes the old table where there is none.
 pub(crate) fn create_old<S: Alter>(tx: &mut Transaction<'_, S>) -> Result<(), Error>
     ensures same_reference { tx.new.conn.ghost_name ≡ tx.old.conn.ghost_name }
-    ensures on { OnOk result
-        (GoesOn (state S.Store tx.old.conn.now) (state S.Store tx.new.conn.now)) }
+    ensures on { OnOk result (Continues S.Store tx.old.conn.now tx.new.conn.now) }
     ensures made { IfInside S.Store tx.old.conn.now tx.new.conn.now
-        (OnOk result ((state S.Store tx.old.conn.now).now.schema ≡ no_schema
-        → ((state S.Store tx.new.conn.now).now.schema ≡ old_schema)
-        × ((state S.Store tx.new.conn.now).now.trees 0 ≡ []))) }
+        (OnOk result
+        ((database S.Store tx.old.conn.now).schema ≡ no_schema
+        → ((database S.Store tx.new.conn.now).schema ≡ old_schema)
+        × (old_tree S.Store tx.new.conn.now ≡ []))) }
     ensures first { IfInside S.Store tx.old.conn.now tx.new.conn.now
-        (OnOk result ((state S.Store tx.old.conn.now).now.schema ≡ old_schema
-        → (state S.Store tx.new.conn.now).now ≡ (state S.Store tx.old.conn.now).now)) }
+        (OnOk result
+        ((database S.Store tx.old.conn.now).schema ≡ old_schema
+        → database S.Store tx.new.conn.now ≡ database S.Store tx.old.conn.now)) }
     ensures both { IfInside S.Store tx.old.conn.now tx.new.conn.now
-        (OnOk result ((state S.Store tx.old.conn.now).now.schema ≡ both_schema
-        → (state S.Store tx.new.conn.now).now ≡ (state S.Store tx.old.conn.now).now)) }
+        (OnOk result
+        ((database S.Store tx.old.conn.now).schema ≡ both_schema
+        → database S.Store tx.new.conn.now ≡ database S.Store tx.old.conn.now)) }
     ensures answers { RunsStatement S.Store create_old_text ([])
         tx.old.conn.now tx.new.conn.now result }
 {
@@ -116,17 +114,17 @@ pub(crate) fn create_old<S: Alter>(tx: &mut Transaction<'_, S>) -> Result<(), Er
 /// Makes the new table where there is none.
 pub(crate) fn create<S: Alter>(tx: &mut Transaction<'_, S>) -> Result<(), Error>
     ensures same_reference { tx.new.conn.ghost_name ≡ tx.old.conn.ghost_name }
-    ensures on { OnOk result
-        (GoesOn (state S.Store tx.old.conn.now) (state S.Store tx.new.conn.now)) }
+    ensures on { OnOk result (Continues S.Store tx.old.conn.now tx.new.conn.now) }
     ensures made { IfInside S.Store tx.old.conn.now tx.new.conn.now
-        (OnOk result ((state S.Store tx.old.conn.now).now.schema ≡ old_schema
-        → ((state S.Store tx.new.conn.now).now.schema ≡ both_schema)
-        × ((state S.Store tx.new.conn.now).now.trees 2 ≡ [])
-        × ((state S.Store tx.new.conn.now).now.trees 0 ≡
-        (state S.Store tx.old.conn.now).now.trees 0))) }
+        (OnOk result
+        ((database S.Store tx.old.conn.now).schema ≡ old_schema
+        → ((database S.Store tx.new.conn.now).schema ≡ both_schema)
+        × (new_tree S.Store tx.new.conn.now ≡ [])
+        × (old_tree S.Store tx.new.conn.now ≡ old_tree S.Store tx.old.conn.now))) }
     ensures both { IfInside S.Store tx.old.conn.now tx.new.conn.now
-        (OnOk result ((state S.Store tx.old.conn.now).now.schema ≡ both_schema
-        → (state S.Store tx.new.conn.now).now ≡ (state S.Store tx.old.conn.now).now)) }
+        (OnOk result
+        ((database S.Store tx.old.conn.now).schema ≡ both_schema
+        → database S.Store tx.new.conn.now ≡ database S.Store tx.old.conn.now)) }
     ensures answers { RunsStatement S.Store create_text ([])
         tx.old.conn.now tx.new.conn.now result }
 {
@@ -179,29 +177,35 @@ pub(crate) fn select_ids<S: Alter>(tx: &mut Transaction<'_, S>) -> Result<Vec<sq
 
 /// All rows, by their keys.
 pub(crate) fn select<S: Alter>(conn: &mut Connection<S>) -> Result<Vec<sqlite::Row>, Error>
-    ensures rows { HasCleanDisk (state S.Store conn.new) → (state S.Store conn.old).now.schema ≡ both_schema → IfOk result (λ rows. IsAnswer load_query (overlay (state S.Store conn.old).now.trees []) [] rows.items) }
-    ensures open { HasCleanDisk (state S.Store conn.new) → (state S.Store conn.old).now.schema ≡ both_schema → OnOk result (IsUnchanged (state S.Store conn.old) (state S.Store conn.new)) }
-    ensures kept { HasCleanDisk (state S.Store conn.new) → (state S.Store conn.old).now.schema ≡ both_schema → KeepsCommit (state S.Store conn.old) (state S.Store conn.new) }
-    ensures clean { doubt (state S.Store conn.old).is_clean ≤ doubt (state S.Store conn.new).is_clean }
-    ensures survives { (state S.Store conn.old).now.schema ≡ both_schema → Survives (state S.Store conn.old) (state S.Store conn.new) (λ _. ⊥) }
-    ensures cause { HasCleanDisk (state S.Store conn.new) → IfErr result (IsCaused (state S.Store conn.old) (state S.Store conn.new)) }
+    ensures rows { IfBoth S.Store conn.old conn.new
+        (IfOk result (λ rows. IsAnswerOn load_query (database S.Store conn.old) rows.items)) }
+    ensures open { IfBoth S.Store conn.old conn.new
+        (OnOk result (ChangesNothing S.Store conn.old conn.new)) }
+    ensures kept { IfBoth S.Store conn.old conn.new (CommitsNothing S.Store conn.old conn.new) }
+    ensures clean { KeepsDoubt S.Store conn.old conn.new }
+    ensures survives { (database S.Store conn.old).schema ≡ both_schema
+        → SurvivesAsBefore S.Store conn.old conn.new }
+    ensures cause { ErrorHasCause S.Store conn.old conn.new result }
     ensures lasts { Lasts (state S.Store conn.old) (state S.Store conn.new) }
-    ensures asked { HasCleanDisk (state S.Store conn.new) → IfOk result (λ rows. Shown load_text [] (state S.Store conn.old) (state S.Store conn.new) rows.items) }
-    ensures refused { HasCleanDisk (state S.Store conn.new) → IfErr result (FailsToQuery load_text [] (state S.Store conn.old) (state S.Store conn.new)) }
-    ensures spared { HasCleanDisk (state S.Store conn.new) → IsSettled (state S.Store conn.old) → Spares (state S.Store conn.old) (state S.Store conn.new) }
+    ensures asked { IfClean S.Store conn.new
+        (IfOk result (λ rows. IsAnswered S.Store load_text conn.old conn.new rows.items)) }
+    ensures refused { IfClean S.Store conn.new
+        (IfErr result (QueryFails S.Store load_text conn.old conn.new)) }
+    ensures spared { SparesSettled S.Store conn.old conn.new }
 {
     conn.query_all("SELECT k, v, n FROM results2 ORDER BY k", &[])
 }
 
 /// Whether statements can still be run. The answer says why not.
 pub(crate) fn probe<S: Alter>(conn: &mut Connection<S>) -> Result<(), Error>
-    ensures open { HasCleanDisk (state S.Store conn.new) → OnOk result (IsUnchanged (state S.Store conn.old) (state S.Store conn.new)) }
-    ensures kept { HasCleanDisk (state S.Store conn.new) → KeepsCommit (state S.Store conn.old) (state S.Store conn.new) }
-    ensures survives { Survives (state S.Store conn.old) (state S.Store conn.new) (λ _. ⊥) }
-    ensures cause { HasCleanDisk (state S.Store conn.new) → IfErr result (IsCaused (state S.Store conn.old) (state S.Store conn.new)) }
-    ensures unrefused { HasCleanDisk (state S.Store conn.new) → IfErr result (λ e. fault_of e ≡ StoreFault.Refused → ⊥) }
-    ensures stops { HasCleanDisk (state S.Store conn.new) → IsErr result → HasFailed S.Store conn.old conn.new }
-    ensures spared { HasCleanDisk (state S.Store conn.new) → IsSettled (state S.Store conn.old) → Spares (state S.Store conn.old) (state S.Store conn.new) }
+    ensures open { OnlyReads S.Store conn.old conn.new result }
+    ensures kept { IfClean S.Store conn.new (CommitsNothing S.Store conn.old conn.new) }
+    ensures survives { SurvivesAsBefore S.Store conn.old conn.new }
+    ensures cause { ErrorHasCause S.Store conn.old conn.new result }
+    ensures unrefused { IfClean S.Store conn.new
+        (IfErr result (λ e. fault_of e ≡ StoreFault.Refused → ⊥)) }
+    ensures stops { IfClean S.Store conn.new (IsErr result → HasFailed S.Store conn.old conn.new) }
+    ensures spared { SparesSettled S.Store conn.old conn.new }
 {
     let _select = conn.prepare("SELECT 1")?;
     Ok(())

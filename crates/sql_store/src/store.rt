@@ -2,23 +2,22 @@
 ghost use Rattle.std.specs.Prelude.{true, false, [], ◌≡◌, ◌≤◌, ◌+◌, ◌⊎◌, ◌↔◌, ℕ, IfOk, IfErr, OnOk, OnErr, IsTrue, IsErrOf, if◌then◌else◌, is_err, codes, Err};
 ghost use Rattle.sqlite_trees.specs.View.{doubt};
 ghost use Rattle.sqlite.specs.Held.{Held, state};
-ghost use Rattle.sqlite.specs.State.{HasCleanDisk, Survives, KeepsCommit};
 ghost use Rattle.serial_spec.specs.Changes.{AreRising, overlay};
 ghost use Rattle.serial_spec.specs.Rows.{IsRising, value_in};
 ghost use Rattle.serial_spec.specs.Serial.{Map};
-ghost use Rattle.durable_top.specs.Numbered.{Numbered, values_of, Commits, entries_in, AreNumbered};
-ghost use Rattle.durable_top.specs.Store.{plain, told, faults_after, TellsFailure};
+ghost use Rattle.durable_top.specs.Numbered.{entries_in, AreNumbered};
+ghost use Rattle.durable_top.specs.Store.{plain};
 ghost use Rattle.sqlite.specs.Steps.{over_memory, IsEmpty};
-ghost use Rattle.sqlite.specs.Files.{file_state, over_files};
+ghost use Rattle.sqlite.specs.Files.{over_files};
 ghost use Rattle.sql_store.specs.Asked.{Loaded, Made};
 ghost use Rattle.sql_store.specs.Faults.{fault_of, HasFailed};
-ghost use Rattle.sql_store.specs.Ids.{IsDecided};
-ghost use Rattle.sql_store.specs.Kept.{Spares};
-ghost use Rattle.sql_store.specs.Opening.{Opens, MayOpen, IsDecidedFirst, IsDoubted};
+ghost use Rattle.sql_store.specs.Ids.{IsDecided, IsDecidedFirst};
+ghost use Rattle.sql_store.specs.Opening.{IsDoubted, IsFound, OpensDatabase, SurvivesOpening};
 ghost use Rattle.sql_store.specs.Refusals.{CannotLoad, CannotOpen};
 ghost use Rattle.sql_store.specs.Results.{no_schema, old_schema, both_schema};
-ghost use Rattle.sql_store.specs.Stored.{numbered, table, doubt_of, may_leave, may_leave_numbered, IsKept, IsCounted, SqlLoads, SqlCommits};
+ghost use Rattle.sql_store.specs.Stored.{numbered, table, doubt_of, may_leave, may_leave_numbered, IsKept, IsCounted, SqlLoads, SqlCommits, IfAdopted, IfKept, IfLeft, KeepsTable, LeavesNoOther};
 ghost use Rattle.sql_store.specs.Table.{map_of};
+ghost use Rattle.sql_store.specs.Calls.{CommitsNothing, FailedHasCause, IfClean, IfRefused, IsInside, KeepsDoubt, SparesDatabase, StaysOpen, UnlessFailed, database};
 
 use crate::commit::commit_unless;
 use crate::faults::fault_of;
@@ -31,8 +30,8 @@ use std::marker::Model;
 use std::rt::HostRuntime;
 use txn_names::Change;
 
-/// The table of one database. It keeps the numbers of the rows in memory, so that a commit reads nothing. Once the device has
-/// failed it answers nothing but Failed.
+/// The table of one database. It keeps the numbers of the rows in memory, so that a commit reads
+/// nothing. Once the device has failed it answers nothing but Failed.
 #[derive(Drop)]
 pub struct SqlStore<S: Alter> {
     connection: Connection<S>,
@@ -58,38 +57,50 @@ impl<S: Alter> Model for SqlStore<S> {
       is_known = s.is_known;
     } };
 
-    ghost invariant = { λ s. IsKept S.Store s.is_known s.connection × IsCounted S.Store s.is_known (value_in s.numbers.rows) s.connection };
+    ghost invariant = { λ s. IsKept S.Store s.is_known s.connection
+        × IsCounted S.Store s.is_known (value_in s.numbers.rows) s.connection };
 }
 
 impl<S: Alter + Drop> SqlStore<S> {
-    /// A store over this connection. In one transaction the tables are made where they are missing, and the rows of the
-    /// old table move into the empty new one, each under the number 0. The connection comes back beside the fault, with
-    /// nothing changed: Refused in the middle of a transaction, and where a table has other columns or rows that are none
-    /// of a store, or both tables have rows. One that a failure of the device has shut is answered Failed.
+    /// A store over this connection. In one transaction the tables are made where they are missing,
+    /// and the rows of the old table move into the empty new one, each under the number 0. The
+    /// connection comes back beside the fault, with nothing changed: Refused in the middle of a
+    /// transaction, and where a table has other columns or rows that are none of a store, or both
+    /// tables have rows. One that a failure of the device has shut is answered Failed.
     ///
-    /// The database is known where it was empty, and where it has the old table or both as the store makes them, alone,
-    /// and the rowids that queries show of them rise. What other databases hold is not known.
+    /// The database is known where it was empty, and where it has the old table or both as the
+    /// store makes them, alone, and the rowids that queries show of them rise. What other databases
+    /// hold is not known.
     pub fn adopt(
         alloc: Global,
         mut connection: Connection<S>,
     ) -> Result<SqlStore<S>, (StoreFault, Connection<S>)>
-        ensures known { (state S.Store connection).now.schema ≡ no_schema → IfOk result (λ store. IsTrue store.is_known) }
-        ensures decided { (state S.Store connection).now.schema ≡ both_schema → IfOk result (λ store. HasCleanDisk (state S.Store store.connection) → IsDecided (state S.Store connection).now store.is_known) }
-        ensures decided_first { (state S.Store connection).now.schema ≡ old_schema → IfOk result (λ store. HasCleanDisk (state S.Store store.connection) → IsDecidedFirst (state S.Store connection).now store.is_known) }
-        ensures opened { IfOk result (λ store. HasCleanDisk (state S.Store store.connection) → Opens (state S.Store connection) (state S.Store store.connection)) }
-        ensures same { IfErr result (λ left. HasCleanDisk (state S.Store left.1) → KeepsCommit (state S.Store connection) (state S.Store left.1)) }
-        ensures busy { IsTrue (state S.Store connection).in_transaction → result ≡ Err (StoreFault.Refused, connection) }
-        ensures open { (state S.Store connection).in_transaction ≡ false → IfErr result (λ left. HasCleanDisk (state S.Store left.1) → (left.0 ≡ StoreFault.Failed → ⊥) → IsTrue (state S.Store left.1).is_open) }
-        ensures empty { (state S.Store connection).now.schema ≡ no_schema → IfOk result (λ store. HasCleanDisk (state S.Store store.connection) → numbered S.Store store.connection ≡ map_of []) }
-        ensures crash { IfOk result (λ store. Survives (state S.Store connection) (state S.Store store.connection) (MayOpen (state S.Store connection))) }
-        ensures crash_at_fault { IfErr result (λ left. Survives (state S.Store connection) (state S.Store left.1) (MayOpen (state S.Store connection))) }
+        ensures known { (database S.Store connection).schema ≡ no_schema
+            → IfOk result (λ store. IsTrue store.is_known) }
+        ensures decided { (database S.Store connection).schema ≡ both_schema
+            → IfAdopted S.Store result (λ _. IsDecided (database S.Store connection)) }
+        ensures decided_first { (database S.Store connection).schema ≡ old_schema
+            → IfAdopted S.Store result (λ _. IsDecidedFirst (database S.Store connection)) }
+        ensures opened { IfAdopted S.Store result (λ new _. OpensDatabase S.Store connection new) }
+        ensures same { IfLeft S.Store result (λ _. CommitsNothing S.Store connection) }
+        ensures busy { IsInside S.Store connection → result ≡ Err (StoreFault.Refused, connection) }
+        ensures open { (state S.Store connection).in_transaction ≡ false
+            → IfLeft S.Store result (StaysOpen S.Store) }
+        ensures empty { (database S.Store connection).schema ≡ no_schema
+            → IfAdopted S.Store result (λ new _. numbered S.Store new ≡ map_of []) }
+        ensures crash { IfOk result (λ store.
+            SurvivesOpening S.Store connection store.connection) }
+        ensures crash_at_fault { IfErr result (λ left.
+            SurvivesOpening S.Store connection left.1) }
         ensures faults { IfOk result (λ store. store.faults ≡ 0) }
         ensures sound { IfOk result (λ store. store.has_failed ≡ false) }
-        ensures cause { IfErr result (λ left. HasCleanDisk (state S.Store left.1) → left.0 ≡ StoreFault.Failed → HasFailed S.Store connection left.1) }
-        ensures made { IfOk result (λ store. HasCleanDisk (state S.Store store.connection) → Made S.Store connection store.connection) }
-        ensures kept { IfErr result (λ left. HasCleanDisk (state S.Store left.1) → Spares (state S.Store connection) (state S.Store left.1)) }
-        ensures refused { IfErr result (λ left. HasCleanDisk (state S.Store left.1) → left.0 ≡ StoreFault.Refused → CannotOpen S.Store connection) }
-        ensures doubted { IfOk result (λ store. HasCleanDisk (state S.Store store.connection) → IsDoubted (state S.Store connection).now store.is_known) }
+        ensures cause { IfLeft S.Store result (λ fault left.
+            fault ≡ StoreFault.Failed → HasFailed S.Store connection left) }
+        ensures made { IfAdopted S.Store result (λ new _. Made S.Store connection new) }
+        ensures kept { IfLeft S.Store result (λ _. SparesDatabase S.Store connection) }
+        ensures refused { IfLeft S.Store result (λ fault _.
+            fault ≡ StoreFault.Refused → CannotOpen S.Store connection) }
+        ensures doubted { IfAdopted S.Store result (λ _. IsDoubted (database S.Store connection)) }
     {
         match prepare(&mut connection, alloc) {
             Ok(ready) => Ok(SqlStore {
@@ -121,7 +132,8 @@ impl<S: Alter + Drop> SqlStore<S> {
 impl SqlStore<MemStore> {
     /// A store over an empty database in memory.
     pub fn in_memory(alloc: Global) -> Result<SqlStore<MemStore>, StoreFault>
-        ensures refused { IsErrOf result StoreFault.Refused → (made : _) × IsEmpty (state over_memory made) × CannotOpen over_memory made }
+        ensures refused { IsErrOf result StoreFault.Refused
+            → (made : _) × IsEmpty (state over_memory made) × CannotOpen over_memory made }
         ensures known { IfOk result (λ store. IsTrue store.is_known) }
         ensures empty { IfOk result (λ store. numbered over_memory store.connection ≡ map_of []) }
         ensures faults { IfOk result (λ store. store.faults ≡ 0) }
@@ -135,15 +147,16 @@ impl SqlStore<MemStore> {
 }
 
 impl SqlStore<FileStore<File>> {
-    /// A store over the file, which is made where there is none. Failed is answered where the device failed,
-    /// Memory where memory ran out, and Refused where the file is no database, cannot be opened or is in use, or
-    /// is refused as by `adopt`. No clause says what the file holds, nor which of its errors the connection
-    /// answers for it, but of the name of a database in memory.
+    /// A store over the file, which is made where there is none. Failed is answered where the
+    /// device failed, Memory where memory ran out, and Refused where the file is no database,
+    /// cannot be opened or is in use, or is refused as by `adopt`. No clause says what the file
+    /// holds, nor which of its errors the connection answers for it, but of the name of a database
+    /// in memory.
     pub fn open(rt: &HostRuntime, path: &str) -> Result<SqlStore<FileStore<File>>, StoreFault>
         ensures memory { path.now ≡ codes ":memory:" → result ≡ Err StoreFault.Refused }
         ensures faults { IfOk result (λ store. store.faults ≡ 0) }
         ensures sound { IfOk result (λ store. store.has_failed ≡ false) }
-        ensures doubted { IfOk result (λ store. HasCleanDisk (file_state store.connection) → (found : _) × Made over_files found store.connection × IsDoubted (file_state found).now store.is_known) }
+        ensures doubted { IfAdopted over_files result (IsFound over_files) }
     {
         adopted_from(rt.alloc(), Connection::open(rt, path))
     }
@@ -153,13 +166,16 @@ fn adopted<S: Alter + Drop>(
     alloc: Global,
     connection: Connection<S>,
 ) -> Result<SqlStore<S>, StoreFault>
-    ensures refused { IsErrOf result StoreFault.Refused → (left : Held S) × (HasCleanDisk (state S.Store left) → CannotOpen S.Store connection) }
-    ensures known { (state S.Store connection).now.schema ≡ no_schema → IfOk result (λ store. IsTrue store.is_known) }
-    ensures empty { (state S.Store connection).now.schema ≡ no_schema → IfOk result (λ store. HasCleanDisk (state S.Store store.connection) → numbered S.Store store.connection ≡ map_of []) }
+    ensures refused { IsErrOf result StoreFault.Refused
+        → (left : Held S) × IfClean S.Store left (CannotOpen S.Store connection) }
+    ensures known { (database S.Store connection).schema ≡ no_schema
+        → IfOk result (λ store. IsTrue store.is_known) }
+    ensures empty { (database S.Store connection).schema ≡ no_schema
+        → IfAdopted S.Store result (λ new _. numbered S.Store new ≡ map_of []) }
     ensures faults { IfOk result (λ store. store.faults ≡ 0) }
     ensures sound { IfOk result (λ store. store.has_failed ≡ false) }
-    ensures made { IfOk result (λ store. HasCleanDisk (state S.Store store.connection) → Made S.Store connection store.connection) }
-    ensures doubted { IfOk result (λ store. HasCleanDisk (state S.Store store.connection) → IsDoubted (state S.Store connection).now store.is_known) }
+    ensures made { IfAdopted S.Store result (λ new _. Made S.Store connection new) }
+    ensures doubted { IfAdopted S.Store result (λ _. IsDoubted (database S.Store connection)) }
 {
     match SqlStore::adopt(alloc, connection) {
         Ok(store) => Ok(store),
@@ -175,7 +191,7 @@ fn adopted_from<S: Alter + Drop>(
     ensures cause { IfErr opened (λ error. result ≡ Err (fault_of error)) }
     ensures faults { IfOk result (λ store. store.faults ≡ 0) }
     ensures sound { IfOk result (λ store. store.has_failed ≡ false) }
-    ensures doubted { IfOk result (λ store. HasCleanDisk (state S.Store store.connection) → (found : Held S) × Made S.Store found store.connection × IsDoubted (state S.Store found).now store.is_known) }
+    ensures doubted { IfAdopted S.Store result (IsFound S.Store) }
 {
     match opened {
         Ok(connection) => adopted(alloc, connection),
@@ -185,17 +201,20 @@ fn adopted_from<S: Alter + Drop>(
 
 // What the connection answers, where no transaction is under way.
 fn load_settled<S: Alter>(conn: &mut Connection<S>, alloc: Global) -> Result<Vec<Row>, StoreFault>
-    ensures rows { HasCleanDisk (state S.Store conn.new) → IsKept S.Store true conn.old → IfOk result (λ rows. entries_in rows.items ≡ numbered S.Store conn.old) }
+    ensures rows { IfKept S.Store conn.old conn.new
+        (IfOk result (λ rows. entries_in rows.items ≡ numbered S.Store conn.old)) }
     ensures numbers { IfOk result (λ rows. AreNumbered rows.items) }
     ensures rising { IfOk result (λ rows. IsRising (plain rows.items)) }
-    ensures kept { HasCleanDisk (state S.Store conn.new) → IsKept S.Store true conn.old → (IsErrOf result StoreFault.Failed → ⊥) → numbered S.Store conn.new ≡ numbered S.Store conn.old }
+    ensures kept { IfKept S.Store conn.old conn.new
+        (UnlessFailed result (KeepsTable S.Store conn.old conn.new)) }
     ensures still { IsKept S.Store true conn.old → IsKept S.Store true conn.new }
-    ensures clean { doubt (state S.Store conn.old).is_clean ≤ doubt (state S.Store conn.new).is_clean }
-    ensures crash { HasCleanDisk (state S.Store conn.new) → IsKept S.Store true conn.old → (left : Numbered) → may_leave_numbered S.Store conn.new left → may_leave_numbered S.Store conn.old left }
-    ensures cause { HasCleanDisk (state S.Store conn.new) → IsErrOf result StoreFault.Failed → HasFailed S.Store conn.old conn.new }
-    ensures asked { HasCleanDisk (state S.Store conn.new) → IfOk result (λ rows. Loaded S.Store conn.old conn.new rows.items) }
-    ensures refused { HasCleanDisk (state S.Store conn.new) → IsErrOf result StoreFault.Refused → CannotLoad S.Store conn.old conn.new }
-    ensures spared { HasCleanDisk (state S.Store conn.new) → Spares (state S.Store conn.old) (state S.Store conn.new) }
+    ensures clean { KeepsDoubt S.Store conn.old conn.new }
+    ensures crash { IfKept S.Store conn.old conn.new (LeavesNoOther S.Store conn.old conn.new) }
+    ensures cause { FailedHasCause S.Store conn.old conn.new result }
+    ensures asked { IfClean S.Store conn.new
+        (IfOk result (λ rows. Loaded S.Store conn.old conn.new rows.items)) }
+    ensures refused { IfRefused S.Store conn.new result (CannotLoad S.Store conn.old conn.new) }
+    ensures spared { IfClean S.Store conn.new (SparesDatabase S.Store conn.old conn.new) }
 {
     if conn.is_autocommit() {
         load_rows(conn, alloc)

@@ -3,13 +3,13 @@ ghost use Rattle.std.specs.Prelude.{◌≡◌, ◌<◌, ◌≤◌, ◌⊎◌, le
 ghost use Rattle.std.specs.List.{prefix_len};
 ghost use Rattle.serial_spec.specs.Rows.{value_in};
 ghost use Rattle.sqlite.specs.Held.{state};
-ghost use Rattle.sqlite.specs.State.{HasCleanDisk, Survives, KeepsCommit};
 ghost use Rattle.durable_top.specs.Numbered.{under};
 ghost use Rattle.sql_store.specs.Table.{Makes, IsReady};
-ghost use Rattle.sql_store.specs.Writes.{MakesAll, Stores, IsStored};
-ghost use Rattle.sql_store.specs.Faults.{fault_of, IsCaused, HasFailed};
-ghost use Rattle.sql_store.specs.Asked.{IfInside, Answers, is_new, have_values, AreRows, IsPiece, IsPieceLen, MakesChange, FailsToChange, MakesEach, EachGives, MakesRows, RowsGive, MakesPiece, PieceGives, ExecutedEach, ChangeGives, Transacted, Committed};
+ghost use Rattle.sql_store.specs.Writes.{MakesAll, StoresChanges, SurvivesChanges};
+ghost use Rattle.sql_store.specs.Faults.{fault_of};
+ghost use Rattle.sql_store.specs.Asked.{Answers, is_new, have_values, AreRows, IsPiece, IsPieceLen, MakesChange, FailsToChange, MakesEach, EachGives, MakesRows, RowsGive, MakesPiece, PieceGives, ExecutedEach, ChangeGives, Transacted, Committed, begun};
 ghost use Rattle.sql_store.specs.Refusals.{CannotWrite};
+ghost use Rattle.sql_store.specs.Calls.{CommitsNothing, ErrorHasCause, FailedHasCause, IfClean, IfInside, IfRefused, IsInside, SeesCommitted, StaysOpen, database};
 
 use crate::faults::{breaks_rule, fault_of, settle};
 use crate::puts::put_either;
@@ -26,8 +26,8 @@ fn is_new(numbers: &NumberTable, change: &Change) -> bool
     change.value.is_some() && numbers.number(&change.key).is_none()
 }
 
-/// How many changes from the first on are such, up to 16, or 0 where there are not 4 changes. Those that are left of
-/// the ones counted before are not counted again.
+/// How many changes from the first on are such, up to 16, or 0 where there are not 4 changes. Those
+/// that are left of the ones counted before are not counted again.
 fn new_len(numbers: &NumberTable, changes: &[Change], counted: usize) -> usize
     requires within { counted ≤ length changes.now }
     requires values { IsTrue (have_values (take counted changes.now)) }
@@ -64,8 +64,8 @@ fn piece_len(fresh: usize) -> usize
     }
 }
 
-/// Gives the key the value of the change under this number, or takes its row away. The numbers say whether the key
-/// is likely to have a row.
+/// Gives the key the value of the change under this number, or takes its row away. The numbers say
+/// whether the key is likely to have a row.
 fn make<S: Alter>(
     tx: &mut Transaction<'_, S>,
     numbers: &NumberTable,
@@ -111,8 +111,8 @@ fn make_each<S: Alter>(
     Ok(())
 }
 
-/// Makes 4 or 16 changes whose keys are likely to be new, by one statement. Where that would break a rule, since a key
-/// has a row after all, it changed nothing, and each change is made by itself.
+/// Makes 4 or 16 changes whose keys are likely to be new, by one statement. Where that would break
+/// a rule, since a key has a row after all, it changed nothing, and each change is made by itself.
 fn make_rows<S: Alter>(
     tx: &mut Transaction<'_, S>,
     numbers: &NumberTable,
@@ -162,16 +162,17 @@ fn make_all<S: Alter>(
     number: i64,
     changes: &[Change],
 ) -> Result<(), Error>
-    requires inside { IsTrue (state S.Store tx.old.conn.now).in_transaction }
+    requires inside { IsInside S.Store tx.old.conn.now }
     ensures same_reference { tx.new.conn.ghost_name ≡ tx.old.conn.ghost_name }
-    ensures made { HasCleanDisk (state S.Store tx.new.conn.now)
-        → IsReady (state S.Store tx.old.conn.now).now
-        → OnOk result (MakesAll number changes.now (state S.Store tx.old.conn.now)
-        (state S.Store tx.new.conn.now)) }
-    ensures opened { HasCleanDisk (state S.Store tx.new.conn.now)
-        → OnOk result (0 < length changes.now → IsTrue (state S.Store tx.old.conn.now).is_open) }
-    ensures inside { HasCleanDisk (state S.Store tx.new.conn.now)
-        → OnOk result (IsTrue (state S.Store tx.new.conn.now).in_transaction) }
+    ensures made { IfClean S.Store tx.new.conn.now
+        (IsReady (database S.Store tx.old.conn.now)
+        → OnOk result
+        (MakesAll number changes.now (state S.Store tx.old.conn.now)
+        (state S.Store tx.new.conn.now))) }
+    ensures opened { IfClean S.Store tx.new.conn.now
+        (OnOk result (0 < length changes.now → IsTrue (state S.Store tx.old.conn.now).is_open)) }
+    ensures inside { IfClean S.Store tx.new.conn.now
+        (OnOk result (IsInside S.Store tx.new.conn.now)) }
     ensures answers { Answers S.Store (ExecutedEach S.Store number changes.now)
         (λ old _ e. ChangeGives S.Store number changes.now old e)
         tx.old.conn.now tx.new.conn.now result }
@@ -196,14 +197,20 @@ fn commit_some<S: Alter>(
     changes: &[Change],
 ) -> Result<(), Error>
     requires outside { (state S.Store conn.old).in_transaction ≡ false }
-    requires settled { IsTrue (state S.Store conn.old).is_open → (state S.Store conn.old).now ≡ (state S.Store conn.old).committed }
+    requires settled { SeesCommitted S.Store conn.old }
     requires some { 0 < length changes.now }
-    ensures stored { HasCleanDisk (state S.Store conn.new) → OnOk result (Stores number changes.now (state S.Store conn.old) (state S.Store conn.new)) }
-    ensures kept { HasCleanDisk (state S.Store conn.new) → OnErr result (KeepsCommit (state S.Store conn.old) (state S.Store conn.new)) }
-    ensures survives { Survives (state S.Store conn.old) (state S.Store conn.new) (IsStored number changes.now (state S.Store conn.old)) }
-    ensures cause { HasCleanDisk (state S.Store conn.new) → IfErr result (IsCaused (state S.Store conn.old) (state S.Store conn.new)) }
-    ensures refused { HasCleanDisk (state S.Store conn.new) → IfErr result (λ e. fault_of e ≡ StoreFault.Refused → ChangeGives S.Store number changes.now (record conn.old { in_transaction = true }) e) }
-    ensures asked { HasCleanDisk (state S.Store conn.new) → OnOk result (Transacted S.Store number changes.now conn.old conn.new) }
+    ensures stored { IfClean S.Store conn.new
+        (OnOk result (StoresChanges S.Store number changes.now conn.old conn.new)) }
+    ensures kept { IfClean S.Store conn.new
+        (OnErr result (CommitsNothing S.Store conn.old conn.new)) }
+    ensures survives { SurvivesChanges S.Store number changes.now conn.old conn.new }
+    ensures cause { ErrorHasCause S.Store conn.old conn.new result }
+    ensures refused { IfClean S.Store conn.new
+        (IfErr result (λ e.
+        fault_of e ≡ StoreFault.Refused
+        → ChangeGives S.Store number changes.now (begun conn.old) e)) }
+    ensures asked { IfClean S.Store conn.new
+        (OnOk result (Transacted S.Store number changes.now conn.old conn.new)) }
 {
     let mut tx = conn.transaction();
     make_all(&mut tx, numbers, number, changes)?;
@@ -218,12 +225,19 @@ pub(crate) fn write_all<S: Alter>(
     changes: &[Change],
 ) -> Result<(), Error>
     requires some { 0 < length changes.now }
-    ensures stored { HasCleanDisk (state S.Store conn.new) → OnOk result (Stores number changes.now (state S.Store conn.old) (state S.Store conn.new)) }
-    ensures kept { HasCleanDisk (state S.Store conn.new) → OnErr result (KeepsCommit (state S.Store conn.old) (state S.Store conn.new)) }
-    ensures survives { Survives (state S.Store conn.old) (state S.Store conn.new) (IsStored number changes.now (state S.Store conn.old)) }
-    ensures cause { HasCleanDisk (state S.Store conn.new) → IfErr result (IsCaused (state S.Store conn.old) (state S.Store conn.new)) }
-    ensures refused { HasCleanDisk (state S.Store conn.new) → IfErr result (λ e. fault_of e ≡ StoreFault.Refused → IsTrue conn.old.in_transaction ⊎ ChangeGives S.Store number changes.now (record conn.old { in_transaction = true }) e) }
-    ensures asked { HasCleanDisk (state S.Store conn.new) → OnOk result (Committed S.Store number changes.now conn.old conn.new) }
+    ensures stored { IfClean S.Store conn.new
+        (OnOk result (StoresChanges S.Store number changes.now conn.old conn.new)) }
+    ensures kept { IfClean S.Store conn.new
+        (OnErr result (CommitsNothing S.Store conn.old conn.new)) }
+    ensures survives { SurvivesChanges S.Store number changes.now conn.old conn.new }
+    ensures cause { ErrorHasCause S.Store conn.old conn.new result }
+    ensures refused { IfClean S.Store conn.new
+        (IfErr result (λ e.
+        fault_of e ≡ StoreFault.Refused
+        → IsTrue conn.old.in_transaction
+        ⊎ ChangeGives S.Store number changes.now (begun conn.old) e)) }
+    ensures asked { IfClean S.Store conn.new
+        (OnOk result (Committed S.Store number changes.now conn.old conn.new)) }
 {
     if conn.is_autocommit() {
         commit_some(conn, numbers, number, changes)
@@ -240,13 +254,18 @@ pub(crate) fn store_changes<S: Alter>(
     changes: &[Change],
 ) -> Result<(), StoreFault>
     requires some { 0 < length changes.now }
-    ensures stored { HasCleanDisk (state S.Store conn.new) → OnOk result (Stores number changes.now (state S.Store conn.old) (state S.Store conn.new)) }
-    ensures kept { HasCleanDisk (state S.Store conn.new) → OnErr result (KeepsCommit (state S.Store conn.old) (state S.Store conn.new)) }
-    ensures open { HasCleanDisk (state S.Store conn.new) → IfErr result (λ fault. (fault ≡ StoreFault.Failed → ⊥) → IsTrue (state S.Store conn.new).is_open) }
-    ensures survives { Survives (state S.Store conn.old) (state S.Store conn.new) (IsStored number changes.now (state S.Store conn.old)) }
-    ensures cause { HasCleanDisk (state S.Store conn.new) → IsErrOf result StoreFault.Failed → HasFailed S.Store conn.old conn.new }
-    ensures refused { HasCleanDisk (state S.Store conn.new) → IsErrOf result StoreFault.Refused → CannotWrite S.Store number changes.now conn.old conn.new }
-    ensures asked { HasCleanDisk (state S.Store conn.new) → OnOk result (Committed S.Store number changes.now conn.old conn.new) }
+    ensures stored { IfClean S.Store conn.new
+        (OnOk result (StoresChanges S.Store number changes.now conn.old conn.new)) }
+    ensures kept { IfClean S.Store conn.new
+        (OnErr result (CommitsNothing S.Store conn.old conn.new)) }
+    ensures open { IfClean S.Store conn.new
+        (IfErr result (λ fault. StaysOpen S.Store fault conn.new)) }
+    ensures survives { SurvivesChanges S.Store number changes.now conn.old conn.new }
+    ensures cause { FailedHasCause S.Store conn.old conn.new result }
+    ensures refused { IfRefused S.Store conn.new result
+        (CannotWrite S.Store number changes.now conn.old conn.new) }
+    ensures asked { IfClean S.Store conn.new
+        (OnOk result (Committed S.Store number changes.now conn.old conn.new)) }
 {
     match write_all(conn, numbers, number, changes) {
         Ok(()) => Ok(()),

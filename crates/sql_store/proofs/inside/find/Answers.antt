@@ -1,4 +1,4 @@
-use Rattle.std.proofs.Common.{◌≡◌, inr, sym, ◌∙◌}
+use Rattle.std.proofs.Common.{◌≡◌, Err, inl, inr, ap, sym, ◌∙◌, rules}
 use Rattle.sqlite.specs.Held.{state}
 use Rattle.sqlite.specs.State.{HasCleanDisk}
 use Rattle.durable_top.specs.declared.store.StoreFault.TheVariants.{Refused}
@@ -21,3 +21,9 @@ returns-in-Err-clause-refused g c clean inside is =
       c.in_ok-old.ensures.asked was,
       c.in-Err.ensures.refused clean (c.in_ok-old.ensures.on was inside).0 (sym c.fault_of.ensures ∙ refused),
     )
+
+pub returns-in_err-old-clause-refused : goal.returns-in_err-old-clause-refused
+returns-in_err-old-clause-refused g c clean inside is =
+    let failed : c.from_residual.result ≡ Err c.in_err-old.field-0.0 = search rules in
+    let refused : c.in_err-old.field-0.0 ≡ Refused = cc in
+    inl (c.in_err-old.ensures.refused clean inside (ap Err refused))

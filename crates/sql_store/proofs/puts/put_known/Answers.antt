@@ -1,7 +1,8 @@
 use Rattle.std.proofs.Common.{◌≡◌, ◌<◌, Ok, Err, inl, subst, rules}
 use Rattle.sqlite.specs.Held.{state}
 use Rattle.sqlite.specs.State.{ExecutesInside}
-use Rattle.sql_store.specs.Asked.{IfInside, update_text, params_of, IsLeft}
+use Rattle.sql_store.specs.Asked.{update_text, params_of, IsLeft}
+use Rattle.sql_store.specs.Calls.{IfInside}
 use Rattle.sql_store.proofs.Answering.{did_so, gave_so}
 use Rattle.sql_store.proofs.Causes.{inside_caused}
 use Rattle.sql_store.proofs.Steps.{steps_by}

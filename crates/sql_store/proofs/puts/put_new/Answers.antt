@@ -1,6 +1,7 @@
 use Rattle.std.proofs.Common.{Ok, Err, inl, inr, sym, ◌∙◌}
 use Rattle.sqlite.specs.Held.{state}
-use Rattle.sql_store.specs.Asked.{IfInside, insert_text, params_of, IsLeft}
+use Rattle.sql_store.specs.Asked.{insert_text, params_of, IsLeft}
+use Rattle.sql_store.specs.Calls.{IfInside}
 use Rattle.sql_store.proofs.Answering.{did_so, gave_so}
 use Rattle.sql_store.proofs.Causes.{inside_caused}
 use Rattle.sql_store.proofs.Steps.{steps_by}

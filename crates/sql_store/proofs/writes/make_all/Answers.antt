@@ -5,7 +5,8 @@ use Rattle.std.proofs.lemmas.List.{length-drop, drop-drop, take-append-drop}
 use Rattle.sqlite.specs.Held.{state}
 use Rattle.sqlite.specs.State.{HasCleanDisk}
 use Rattle.txn_names.specs.declared.change.Change.{Change}
-use Rattle.sql_store.specs.Asked.{have_values, Answers, IfInside, ExecutedEach, ChangeGives, MakesPiece, PieceGives, IsPiece}
+use Rattle.sql_store.specs.Asked.{have_values, Answers, ExecutedEach, ChangeGives, MakesPiece, PieceGives, IsPiece}
+use Rattle.sql_store.specs.Calls.{IfInside}
 use Rattle.sql_store.proofs.Answering.{answers_as}
 use Rattle.sql_store.proofs.Params.{later, piece_of, piece_within}
 use Rattle.sql_store.proofs.Pieces.{Goes, executed_goes, piece_then}

@@ -1,7 +1,8 @@
 use Rattle.std.proofs.Common.{drop, take, ◌+◌, ◌≤◌, ◌-◌, length}
 use Rattle.std.specs.Prelude.{◌≡◌, IsTrue}
 use Rattle.sqlite.specs.Held.{state}
-use Rattle.sql_store.specs.Asked.{IfInside, have_values, ExecutedEach}
+use Rattle.sql_store.specs.Asked.{have_values, ExecutedEach}
+use Rattle.sql_store.specs.Calls.{IfInside}
 use Rattle.sql_store.specs.Inside.{Steps}
 use Rattle.sql_store.proofs.writes.make_all.Given as goal
 

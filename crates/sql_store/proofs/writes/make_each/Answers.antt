@@ -2,7 +2,8 @@ use Rattle.std.proofs.lemmas.Int.{to_z-of_z}
 use Rattle.std.proofs.Common.{Ok, Err, append_assoc, drop, rules, SFits, w64, ◌≡◌, ◌∙◌, ◌+◌, ◌++◌, ◌∷◌, [], List, ℕ, take, sym, ap, subst, arith}
 use Rattle.std.proofs.lemmas.List.{take_more, take-append-drop}
 use Rattle.txn_names.specs.declared.change.Change.{Change}
-use Rattle.sql_store.specs.Asked.{IfInside, Answers, MakesEach, EachGives, MakesChange, FailsToChange}
+use Rattle.sql_store.specs.Asked.{Answers, MakesEach, EachGives, MakesChange, FailsToChange}
+use Rattle.sql_store.specs.Calls.{IfInside}
 use Rattle.sql_store.proofs.Answering.{answers_as}
 use Rattle.sql_store.proofs.Pieces.{each_then}
 use Rattle.sql_store.proofs.writes.make_each.Goals as goal

@@ -1,7 +1,8 @@
 use Rattle.std.proofs.Common.{take}
 use Rattle.std.specs.Prelude.{◌≡◌}
 use Rattle.sqlite.specs.Held.{state}
-use Rattle.sql_store.specs.Asked.{IfInside, MakesEach}
+use Rattle.sql_store.specs.Asked.{MakesEach}
+use Rattle.sql_store.specs.Calls.{IfInside}
 use Rattle.sql_store.specs.Inside.{Steps}
 use Rattle.sql_store.proofs.writes.make_each.Given as goal
 

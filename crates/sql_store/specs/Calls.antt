@@ -1,0 +1,128 @@
+-- What is said of a call on a connection: what it changed, what a crash leaves, and why it failed.
+use Rattle.std.specs.Prelude.{◌≡◌, ◌≤◌, List, Result, IfErr, OnOk, IsErrOf, IsTrue}
+use Rattle.sqlite_trees.specs.View.{doubt}
+use Rattle.sqlite.specs.declared.error.Error.{Error}
+use Rattle.sqlite.specs.Effect.{Database}
+use Rattle.sqlite.specs.Held.{Held, state}
+use Rattle.sqlite.specs.Order.{Row as Values}
+use Rattle.sqlite.specs.State.{HasCleanDisk, Survives, KeepsCommit, IsUnchanged}
+use Rattle.sqlite.specs.Store.{Ghosts}
+use Rattle.sqlite.specs.Tree.{Trees}
+use Rattle.durable_top.specs.declared.store.StoreFault.{StoreFault}
+use Rattle.durable_top.specs.declared.store.StoreFault.TheVariants.{Refused, Failed}
+use Rattle.sql_store.specs.Faults.{IsCaused, IsMeant, HasFailed}
+use Rattle.sql_store.specs.Inside.{GoesOn}
+use Rattle.sql_store.specs.Kept.{IsSettled, Spares}
+use Rattle.sql_store.specs.Results.{both_schema}
+use Rattle.sql_store.specs.Table.{IsKnown}
+
+-- this holds unless the call answered Failed
+abbrev pub UnlessFailed : {T : Type 0} → Result T StoreFault → Type 0 → Type 0
+UnlessFailed result P = (IsErrOf result Failed → ⊥) → P
+
+module _ {S : Type 0} (g : Ghosts S) where
+  -- the database, as the connection sees it
+  abbrev pub database : Held S → Database
+  database h = (state g h).now
+
+  -- the rows that it sees in the old table, and in the new one
+  abbrev pub old_tree : Held S → List Values
+  old_tree h = (state g h).now.trees 0
+
+  abbrev pub new_tree : Held S → List Values
+  new_tree h = (state g h).now.trees 2
+
+  -- a transaction is under way
+  abbrev pub IsInside : Held S → Type 0
+  IsInside h = IsTrue (state g h).in_transaction
+
+  -- while the connection is open, all that it sees is committed
+  abbrev pub SeesCommitted : Held S → Type 0
+  SeesCommitted h = IsTrue (state g h).is_open → (state g h).now ≡ (state g h).committed
+
+  -- ---- when something is said
+
+  -- this holds as long as the disk has returned what was written
+  abbrev pub IfClean : Held S → Type 0 → Type 0
+  IfClean new P = HasCleanDisk (state g new) → P
+
+  -- the same of a call that was made in a transaction
+  abbrev pub IfInside : Held S → Held S → Type 0 → Type 0
+  IfInside old new P = HasCleanDisk (state g new) → IsTrue (state g old).in_transaction → P
+
+  -- the same of a database of the two tables alone
+  abbrev pub IfBoth : Held S → Held S → Type 0 → Type 0
+  IfBoth old new P = HasCleanDisk (state g new) → (state g old).now.schema ≡ both_schema → P
+
+  -- the same of a connection that has the two tables alone while it is open
+  abbrev pub IfKnown : Held S → Held S → Type 0 → Type 0
+  IfKnown old new P = HasCleanDisk (state g new) → IsKnown (state g old) → P
+
+  -- ---- what a call changed
+
+  -- the connection is as it was
+  abbrev pub ChangesNothing : Held S → Held S → Type 0
+  ChangesNothing old new = IsUnchanged (state g old) (state g new)
+
+  -- what was committed is as it was
+  abbrev pub CommitsNothing : Held S → Held S → Type 0
+  CommitsNothing old new = KeepsCommit (state g old) (state g new)
+
+  -- while the connection is open, the database is as it was, and so is what was committed
+  abbrev pub SparesDatabase : Held S → Held S → Type 0
+  SparesDatabase old new = Spares (state g old) (state g new)
+
+  -- the same of a call outside a transaction, as long as the disk returns what was written
+  abbrev pub SparesSettled : Held S → Held S → Type 0
+  SparesSettled old new =
+      HasCleanDisk (state g new) → IsSettled (state g old) → Spares (state g old) (state g new)
+
+  -- the transaction goes on, as long as the disk returns what was written
+  abbrev pub Continues : Held S → Held S → Type 0
+  Continues old new = GoesOn (state g old) (state g new)
+
+  -- a call that succeeds leaves the connection as it was, as long as the disk returns what was
+  -- written
+  abbrev pub OnlyReads : {T E : Type 0} → Held S → Held S → Result T E → Type 0
+  OnlyReads old new result =
+      HasCleanDisk (state g new) → OnOk result (IsUnchanged (state g old) (state g new))
+
+  -- the connection is open unless the fault is Failed
+  abbrev pub StaysOpen : StoreFault → Held S → Type 0
+  StaysOpen fault new = (fault ≡ Failed → ⊥) → IsTrue (state g new).is_open
+
+  -- ---- what a crash leaves
+
+  -- a disk that has once returned something else is never trusted again
+  abbrev pub KeepsDoubt : Held S → Held S → Type 0
+  KeepsDoubt old new = doubt (state g old).is_clean ≤ doubt (state g new).is_clean
+
+  -- a crash leaves nothing that it could not leave before, and no fault of the device is forgotten
+  abbrev pub SurvivesAsBefore : Held S → Held S → Type 0
+  SurvivesAsBefore old new = Survives (state g old) (state g new) (λ _. ⊥)
+
+  -- a crash leaves no database that it could not leave before
+  abbrev pub LeavesNoOtherTrees : Held S → Held S → Type 0
+  LeavesNoOtherTrees old new =
+      (db : Trees) → (state g new).may_leave db → (state g old).may_leave db
+
+  -- ---- why a call failed, as long as the disk returns what was written
+
+  -- an error that stands for a failure of the device has one as its cause
+  abbrev pub ErrorHasCause : {T : Type 0} → Held S → Held S → Result T Error → Type 0
+  ErrorHasCause old new result =
+      HasCleanDisk (state g new) → IfErr result (IsCaused (state g old) (state g new))
+
+  -- the same of a fault that a call in a transaction answers
+  abbrev pub FaultHasCause : {T : Type 0} → Held S → Held S → Result T StoreFault → Type 0
+  FaultHasCause old new result =
+      IfInside old new (IfErr result (IsMeant (state g old) (state g new)))
+
+  -- Failed is answered only where the device has failed, or memory ran out in the asking
+  abbrev pub FailedHasCause : {T : Type 0} → Held S → Held S → Result T StoreFault → Type 0
+  FailedHasCause old new result =
+      HasCleanDisk (state g new) → IsErrOf result Failed → HasFailed g old new
+
+  -- Refused is answered only for this reason
+  abbrev pub IfRefused : {T : Type 0} → Held S → Result T StoreFault → Type 0 → Type 0
+  IfRefused new result Why = HasCleanDisk (state g new) → IsErrOf result Refused → Why
