@@ -11,13 +11,13 @@ use Rattle.sqlite.specs.Store.{Ghosts}
 use Rattle.sqlite.specs.State.{State, HasCleanDisk, Survives, KeepsCommit, Executes, ExecutesInside, ExecutesIn, IsNotRun, RunsAlone, RunsCommand, IsUnchanged, Fails, shows_rows}
 use Rattle.sqlite_resolve.specs.declared.compiled.Compiled.{Compiled}
 use Rattle.sqlite_trees.specs.declared.error.StoreError.TheVariants as cause
-use Rattle.sql_store.specs.Asked.{Answers, RunsStatement, IsLeft, PutsRow, PutGives}
+use Rattle.sql_store.specs.Asked.{Answers, Answered, RunsStatement, IsLeft, PutsRow, PutGives, TriesFirst}
 use Rattle.sql_store.specs.Calls.{IfInside}
 use Rattle.sql_store.specs.Faults.{breaks_rule}
 use Rattle.sql_store.specs.Laid.{put}
 use Rattle.sql_store.specs.Table.{map_of, table_of, AreApart, IsReady, Makes}
 use Rattle.sql_store.proofs.Texts.{upsert_text, update_text, insert_text}
-use Rattle.sql_store.proofs.Steps.{kept_by, on_ok_then, steps_from}
+use Rattle.sql_store.proofs.Steps.{clean_before, kept_by, on_ok_then, steps_from}
 use Rattle.sql_store.proofs.Answering.{answers_then}
 use Rattle.sql_store.proofs.Composed.{keeps_then}
 use Rattle.sql_store.proofs.Updates.{updates, renews}
@@ -127,3 +127,17 @@ module _ {S : Type 0} (g : Ghosts S) (key : List ℕ) (value number : ℤ) where
       let stood = λ (clean : HasCleanDisk (state g next)) (inside : IsTrue (state g old).in_transaction). passes old next inside (were_left clean inside) in
       answers_then g (steps_from (state g old) (state g next) (λ clean inside. (stood clean inside).kept) survives) (λ clean inside. (stood clean inside).inside)
       (λ was inside. on_ok_then r (λ ran. inr (inr (next, were_left was inside, ran)))) (λ was inside e gave. inr (inr (next, were_left was inside, gave))) h
+
+  -- a call that executes the upsert has an answer of it
+  answered_last : (r : Result (Unit {0}) Error) (next new : Held S) → RunsStatement g upsert_text params next new r
+      → IfInside g next new ((answer : Result ℕ Error) × Answered g upsert_text params next new answer)
+  answered_last (Ok x) next new h clean inside = let it = h.asked clean inside in (Ok it.0, it.1)
+  answered_last (Err e) next new h clean inside = (Err e, h.refused clean inside)
+
+  -- what left the row to the upsert was tried first
+  pub left_first : (text : List ℕ) (first : Result ℕ Error) (old next new : Held S) {r : Result (Unit {0}) Error} → IfInside g old next (Answered g text params old next first)
+      → IfInside g old next (IsLeft g params old next) → RunsStatement g upsert_text params next new r → IfInside g old new (TriesFirst g text params old new)
+  left_first text first old next new {r = r} ran were_left h clean inside =
+      let was = clean_before (state g next) (state g new) h.steps.survives clean in
+      let it = answered_last r next new h clean (passes old next inside (were_left was inside)).inside in
+      inr (next, first, it.0, ran was inside, it.1)

@@ -38,6 +38,16 @@ insert_4_text = codes "INSERT INTO results2 (k, v, n) VALUES (?1, ?2, ?3), (?4, 
 abbrev pub insert_16_text : List ℕ
 insert_16_text = codes "INSERT INTO results2 (k, v, n) VALUES (?1, ?2, ?3), (?4, ?5, ?6), (?7, ?8, ?9), (?10, ?11, ?12), (?13, ?14, ?15), (?16, ?17, ?18), (?19, ?20, ?21), (?22, ?23, ?24), (?25, ?26, ?27), (?28, ?29, ?30), (?31, ?32, ?33), (?34, ?35, ?36), (?37, ?38, ?39), (?40, ?41, ?42), (?43, ?44, ?45), (?46, ?47, ?48)"
 
+-- the statement that is tried first: the update where the key is likely to have a row, or else the
+-- insert
+abbrev pub first_text : Bool → List ℕ
+first_text true = update_text
+first_text false = insert_text
+
+-- a key is likely to have a row where it has a number
+abbrev pub text_for : Map → List ℕ → List ℕ
+text_for numbers key = first_text (is_some (numbers key))
+
 abbrev pub delete_text : List ℕ
 delete_text = codes "DELETE FROM results2 WHERE k = ?1"
 
@@ -138,6 +148,13 @@ module _ {S : Type 0} (g : Ghosts S) where
       Updated params old new
       ⊎ (Executed insert_text params old new
       ⊎ ((next : Held S) × IsLeft params old next × Executed upsert_text params next new))
+
+  -- the statement was tried first: it was executed alone, or the upsert was executed behind it
+  abbrev pub TriesFirst : List ℕ → Values → Held S → Held S → Type 0
+  TriesFirst text params old new =
+      ((answer : Result ℕ Error) × Answered text params old new answer)
+      ⊎ ((next : Held S) × (first last : Result ℕ Error)
+      × Answered text params old next first × Answered upsert_text params next new last)
 
   -- the update, the insert, or the upsert to which one of them left the row gave the error
   abbrev pub PutGives : Values → Held S → Held S → Error → Type 0

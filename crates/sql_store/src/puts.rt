@@ -5,7 +5,7 @@ ghost use Rattle.sqlite.specs.Values.{bound};
 ghost use Rattle.sqlite.specs.declared.types.Value.TheVariants.{Text, Int};
 ghost use Rattle.sqlite.specs.Held.{state};
 ghost use Rattle.sql_store.specs.Table.{Makes};
-ghost use Rattle.sql_store.specs.Asked.{Answers, update_text, insert_text, params_of, Answered, PutsRow, PutGives};
+ghost use Rattle.sql_store.specs.Asked.{Answers, update_text, insert_text, first_text, params_of, Answered, PutsRow, PutGives, TriesFirst};
 ghost use Rattle.sql_store.specs.Calls.{IfInside, SurvivesAsBefore};
 
 use crate::faults::breaks_rule;
@@ -45,6 +45,9 @@ fn put_known<S: Alter>(tx: &mut Transaction<'_, S>, row: &Row) -> Result<(), Err
     ensures same_reference { tx.new.conn.ghost_name ≡ tx.old.conn.ghost_name }
     ensures answers { Answers S.Store (PutsRow S.Store (params_of row.now))
         (PutGives S.Store (params_of row.now)) tx.old.conn.now tx.new.conn.now result }
+    ensures first { IfInside S.Store tx.old.conn.now tx.new.conn.now
+        (TriesFirst S.Store update_text (params_of row.now)
+        tx.old.conn.now tx.new.conn.now) }
 {
     let count = update(tx, row)?;
     let is_left = count == 0;
@@ -56,6 +59,9 @@ fn put_new<S: Alter>(tx: &mut Transaction<'_, S>, row: &Row) -> Result<(), Error
     ensures same_reference { tx.new.conn.ghost_name ≡ tx.old.conn.ghost_name }
     ensures answers { Answers S.Store (PutsRow S.Store (params_of row.now))
         (PutGives S.Store (params_of row.now)) tx.old.conn.now tx.new.conn.now result }
+    ensures first { IfInside S.Store tx.old.conn.now tx.new.conn.now
+        (TriesFirst S.Store insert_text (params_of row.now)
+        tx.old.conn.now tx.new.conn.now) }
 {
     match insert(tx, row) {
         Ok(_) => Ok(()),
@@ -82,6 +88,9 @@ pub(crate) fn put_either<S: Alter>(
         (state S.Store tx.old.conn.now) (state S.Store tx.new.conn.now))) }
     ensures answers { Answers S.Store (PutsRow S.Store (params_of row.now))
         (PutGives S.Store (params_of row.now)) tx.old.conn.now tx.new.conn.now result }
+    ensures first { IfInside S.Store tx.old.conn.now tx.new.conn.now
+        (TriesFirst S.Store (first_text is_likely) (params_of row.now)
+        tx.old.conn.now tx.new.conn.now) }
 {
     if is_likely {
         put_known(tx, row)

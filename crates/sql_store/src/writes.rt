@@ -1,5 +1,5 @@
 //! Changes of the table in one transaction.
-ghost use Rattle.std.specs.Prelude.{◌≡◌, ◌<◌, ◌≤◌, ◌⊎◌, length, min, take, false, true, Some, None, is_some, OnOk, OnErr, IfErr, IsTrue, IsErrOf};
+ghost use Rattle.std.specs.Prelude.{◌≡◌, ◌<◌, ◌≤◌, ◌⊎◌, length, min, take, false, true, Some, None, is_some, OnOk, OnErr, IfErr, IfSome, IsTrue, IsErrOf};
 ghost use Rattle.std.specs.List.{prefix_len};
 ghost use Rattle.serial_spec.specs.Rows.{value_in};
 ghost use Rattle.sqlite.specs.Held.{state};
@@ -7,7 +7,7 @@ ghost use Rattle.durable_top.specs.Numbered.{under};
 ghost use Rattle.sql_store.specs.Table.{Makes, IsReady};
 ghost use Rattle.sql_store.specs.Writes.{MakesAll, StoresChanges, SurvivesChanges};
 ghost use Rattle.sql_store.specs.Faults.{fault_of};
-ghost use Rattle.sql_store.specs.Asked.{Answers, is_new, have_values, AreRows, IsPiece, IsPieceLen, MakesChange, FailsToChange, MakesEach, EachGives, MakesRows, RowsGive, MakesPiece, PieceGives, ExecutedEach, ChangeGives, Transacted, Committed, begun};
+ghost use Rattle.sql_store.specs.Asked.{Answers, is_new, have_values, AreRows, IsPiece, IsPieceLen, MakesChange, FailsToChange, MakesEach, EachGives, MakesRows, RowsGive, MakesPiece, PieceGives, ExecutedEach, ChangeGives, Transacted, Committed, begun, TriesFirst, params_for, text_for};
 ghost use Rattle.sql_store.specs.Refusals.{CannotWrite};
 ghost use Rattle.sql_store.specs.Calls.{CommitsNothing, ErrorHasCause, FailedHasCause, IfClean, IfInside, IfRefused, IsInside, SeesCommitted, StaysOpen, database};
 
@@ -79,6 +79,10 @@ fn make<S: Alter>(
     ensures answers { Answers S.Store (MakesChange S.Store number change.now.key change.now.value)
         (FailsToChange S.Store number change.now.key change.now.value)
         tx.old.conn.now tx.new.conn.now result }
+    ensures first { IfInside S.Store tx.old.conn.now tx.new.conn.now
+        (IfSome change.now.value (λ value.
+        TriesFirst S.Store (text_for (value_in numbers.now.rows) change.now.key)
+        (params_for number change.now.key value) tx.old.conn.now tx.new.conn.now)) }
 {
     match change.value {
         Some(value) => put_either(
