@@ -49,3 +49,19 @@ executes_spares old new sql params e settled (inr h) = elim (cases_Bool (shows_r
   | inl shows ↦ same_spares old new (rw shows at h.2).1
   | inr runs ↦ command_spares old new sql h.0 _ e settled (rw runs at h.2)
 ]
+
+-- one call behind the other
+pub spares_then : (old mid new : State) → IsSettled old → Spares old mid
+    → (IsSettled mid → Spares mid new) → Spares old new
+spares_then old mid new settled first next =
+    let still : IsSettled mid = (
+      first.mode ∙ settled.0,
+      λ o. first.now_is o ∙ settled.1 (first.was_open o) ∙ sym (first.committed_is o),
+    ) in
+    let last = next still in
+    record {
+      was_open = λ o. first.was_open (last.was_open o);
+      now_is = λ o. last.now_is o ∙ first.now_is (last.was_open o);
+      committed_is = λ o. last.committed_is o ∙ first.committed_is (last.was_open o);
+      mode = last.mode ∙ first.mode;
+    }

@@ -1,5 +1,5 @@
 -- What is said of a call on a connection: what it changed, what a crash leaves, and why it failed.
-use Rattle.std.specs.Prelude.{◌≡◌, ◌≤◌, List, Result, IfErr, OnOk, IsErrOf, IsTrue}
+use Rattle.std.specs.Prelude.{◌≡◌, ◌≤◌, List, Result, IfErr, OnErr, OnOk, IsErrOf, IsTrue}
 use Rattle.sqlite_trees.specs.View.{doubt}
 use Rattle.sqlite.specs.declared.error.Error.{Error}
 use Rattle.sqlite.specs.Effect.{Database}
@@ -76,6 +76,12 @@ module _ {S : Type 0} (g : Ghosts S) where
   abbrev pub SparesSettled : Held S → Held S → Type 0
   SparesSettled old new =
       HasCleanDisk (state g new) → IsSettled (state g old) → Spares (state g old) (state g new)
+
+  -- the same of a call that fails
+  abbrev pub SparesAtFault : {T E : Type 0} → Held S → Held S → Result T E → Type 0
+  SparesAtFault old new result =
+      HasCleanDisk (state g new) → IsSettled (state g old)
+      → OnErr result (Spares (state g old) (state g new))
 
   -- the transaction goes on, as long as the disk returns what was written
   abbrev pub Continues : Held S → Held S → Type 0

@@ -9,7 +9,7 @@ ghost use Rattle.sql_store.specs.Writes.{MakesAll, StoresChanges, SurvivesChange
 ghost use Rattle.sql_store.specs.Faults.{fault_of};
 ghost use Rattle.sql_store.specs.Asked.{Answers, is_new, have_values, AreRows, IsPiece, IsPieceLen, MakesChange, FailsToChange, MakesEach, EachGives, MakesRows, RowsGive, MakesPiece, PieceGives, ExecutedEach, ChangeGives, Transacted, Committed, begun, TriesFirst, params_for, text_for};
 ghost use Rattle.sql_store.specs.Refusals.{CannotWrite};
-ghost use Rattle.sql_store.specs.Calls.{CommitsNothing, ErrorHasCause, FailedHasCause, IfClean, IfInside, IfRefused, IsInside, SeesCommitted, StaysOpen, database};
+ghost use Rattle.sql_store.specs.Calls.{CommitsNothing, ErrorHasCause, FailedHasCause, IfClean, IfInside, IfRefused, IsInside, SeesCommitted, SparesAtFault, SparesDatabase, StaysOpen, database};
 
 use crate::faults::{breaks_rule, fault_of, settle};
 use crate::puts::put_either;
@@ -208,6 +208,8 @@ fn commit_some<S: Alter>(
     ensures kept { IfClean S.Store conn.new
         (OnErr result (CommitsNothing S.Store conn.old conn.new)) }
     ensures survives { SurvivesChanges S.Store number changes.now conn.old conn.new }
+    ensures spared { IfClean S.Store conn.new
+        (OnErr result (SparesDatabase S.Store conn.old conn.new)) }
     ensures cause { ErrorHasCause S.Store conn.old conn.new result }
     ensures refused { IfClean S.Store conn.new
         (IfErr result (λ e.
@@ -234,6 +236,7 @@ pub(crate) fn write_all<S: Alter>(
     ensures kept { IfClean S.Store conn.new
         (OnErr result (CommitsNothing S.Store conn.old conn.new)) }
     ensures survives { SurvivesChanges S.Store number changes.now conn.old conn.new }
+    ensures spared { SparesAtFault S.Store conn.old conn.new result }
     ensures cause { ErrorHasCause S.Store conn.old conn.new result }
     ensures refused { IfClean S.Store conn.new
         (IfErr result (λ e.
@@ -265,6 +268,7 @@ pub(crate) fn store_changes<S: Alter>(
     ensures open { IfClean S.Store conn.new
         (IfErr result (λ fault. StaysOpen S.Store fault conn.new)) }
     ensures survives { SurvivesChanges S.Store number changes.now conn.old conn.new }
+    ensures spared { SparesAtFault S.Store conn.old conn.new result }
     ensures cause { FailedHasCause S.Store conn.old conn.new result }
     ensures refused { IfRefused S.Store conn.new result
         (CannotWrite S.Store number changes.now conn.old conn.new) }

@@ -5,6 +5,7 @@ use Rattle.durable_top.specs.declared.store.StoreFault.TheVariants.{Refused}
 use Rattle.sqlite.specs.Held.{state}
 use Rattle.sqlite.proofs.StateLemmas.{survives_then}
 use Rattle.sql_store.specs.Writes.{IsStored}
+use Rattle.sql_store.proofs.Spared.{spares_then}
 use Rattle.sql_store.proofs.writes.store_changes.Goals as goal
 
 pub returns-in-Err-clause-survives : goal.returns-in-Err-clause-survives
@@ -23,3 +24,9 @@ returns-in-Err-clause-refused g c clean is =
     let why = c.in-Err.ensures.refused was (sym c.fault_of.ensures ∙ h.0) in
     let gave = simp to_z-of_z at why in
     elim gave [ inl busy ↦ inl busy | inr it ↦ inr (c.write_all.new.conn, c.in-Err.error, it, sym c.fault_of.ensures ∙ h.0, h.1) ]
+
+pub returns-in-Err-clause-spared : goal.returns-in-Err-clause-spared
+returns-in-Err-clause-spared g c clean settled =
+    let was : HasCleanDisk (state g.S.Store c.write_all.new.conn) =
+    omega (arith, c.settle.ensures.survives.clean, clean) in
+    spares_then _ _ _ settled (c.in-Err.ensures.spared was settled) (c.settle.ensures.spared clean)

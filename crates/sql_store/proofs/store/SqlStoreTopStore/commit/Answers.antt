@@ -61,6 +61,7 @@ returns-then-is_err-clause-asked g c = record {
   refused = λ clean is.
       subst (λ (v : Stored _). CannotCommit g.S.Store v.top c.args.changes.now v.connection c.commit_unless-answer.new.conn) c.self.view_is (c.commit_unless-answer.ensures.reason clean is);
   kept = search rules;
+  spared = search rules;
 }
 
 pub returns-else-is_err-clause-asked : goal.returns-else-is_err-clause-asked
@@ -73,4 +74,5 @@ returns-else-is_err-clause-asked g c = record {
       subst (λ (v : Stored _). OnOk c.commit_unless-answer.result (Committed g.S.Store (v.top +ℤ pos 1) c.args.changes.now v.connection c.commit_unless-answer.new.conn)) c.self.view_is (c.commit_unless-answer.ensures.asked clean);
   refused = search rules;
   kept = search rules;
+  spared = search rules;
 }
