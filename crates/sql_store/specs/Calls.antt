@@ -97,6 +97,16 @@ module _ {S : Type 0} (g : Ghosts S) where
   abbrev pub StaysOpen : StoreFault → Held S → Type 0
   StaysOpen fault new = (fault ≡ Failed → ⊥) → IsTrue (state g new).is_open
 
+  -- a call on an open connection leaves it open, unless it answers Failed
+  abbrev pub KeepsOpen : {T : Type 0} → Held S → Held S → Result T StoreFault → Type 0
+  KeepsOpen old new result =
+      HasCleanDisk (state g new) → IsTrue (state g old).is_open
+      → IfErr result (λ fault. StaysOpen fault new)
+
+  -- how many steps a statement may take is as it was
+  abbrev pub KeepsLimit : Held S → Held S → Type 0
+  KeepsLimit old new = (state g new).step_limit ≡ (state g old).step_limit
+
   -- ---- what a crash leaves
 
   -- a disk that has once returned something else is never trusted again

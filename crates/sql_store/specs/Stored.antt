@@ -14,7 +14,7 @@ use Rattle.durable_top.specs.declared.store.StoreFault.TheVariants.{Failed}
 use Rattle.durable_top.specs.Numbered.{Numbered, values_of, numbers_of}
 use Rattle.durable_top.specs.Store.{faults_after}
 use Rattle.sql_store.specs.Asked.{Loaded, Committed}
-use Rattle.sql_store.specs.Calls.{IfClean, IfRefused, CommitsNothing, SparesAtFault, SparesDatabase}
+use Rattle.sql_store.specs.Calls.{IfClean, IfRefused, CommitsNothing, KeepsLimit, KeepsOpen, SparesAtFault, SparesDatabase}
 use Rattle.sql_store.specs.Faults.{HasFailed}
 use Rattle.sql_store.specs.Refusals.{CannotLoad, CannotCommit}
 use Rattle.sql_store.specs.Table.{map_of, table_of, IsMoved}
@@ -153,3 +153,6 @@ module _ {S : Type 0} (g : Ghosts S) where
         (OnErr result (CommitsNothing g old.connection new.connection))
     -- and no transaction was left open
     pub spared : SparesAtFault g old.connection new.connection result
+    -- whichever it is but Failed, more statements can be run, of as many steps as before
+    pub stays_open : KeepsOpen g old.connection new.connection result
+    pub limit : KeepsLimit g old.connection new.connection

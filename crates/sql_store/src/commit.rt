@@ -7,7 +7,7 @@ ghost use Rattle.sql_store.specs.Stored.{numbered, IsKept, IsCounted, IfCounted,
 ghost use Rattle.sql_store.specs.Faults.{HasFailed};
 ghost use Rattle.sql_store.specs.Refusals.{CannotWrite, CannotCommit};
 ghost use Rattle.sql_store.specs.Asked.{Committed};
-ghost use Rattle.sql_store.specs.Calls.{CommitsNothing, FailedHasCause, IfClean, IfRefused, KeepsDoubt, OnlyReads, SparesAtFault, UnlessFailed};
+ghost use Rattle.sql_store.specs.Calls.{CommitsNothing, FailedHasCause, IfClean, IfRefused, KeepsDoubt, KeepsLimit, KeepsOpen, OnlyReads, SparesAtFault, UnlessFailed};
 
 use crate::faults::{fault_of, settle};
 use crate::statements::probe;
@@ -27,6 +27,8 @@ fn commit_none<S: Alter>(conn: &mut Connection<S>) -> Result<(), StoreFault>
         (OnOk result (LeavesItself S.Store conn.new)) }
     ensures held { IfClean S.Store conn.new (CommitsNothing S.Store conn.old conn.new) }
     ensures spared { SparesAtFault S.Store conn.old conn.new result }
+    ensures open { KeepsOpen S.Store conn.old conn.new result }
+    ensures limit { KeepsLimit S.Store conn.old conn.new }
     ensures cause { FailedHasCause S.Store conn.old conn.new result }
     ensures unrefused { IfRefused S.Store conn.new result ⊥ }
     ensures asked { OnlyReads S.Store conn.old conn.new result }
@@ -65,6 +67,8 @@ fn commit_under<S: Alter>(
     ensures kept { IfClean S.Store conn.new
         (OnErr result (CommitsNothing S.Store conn.old conn.new)) }
     ensures spared { SparesAtFault S.Store conn.old conn.new result }
+    ensures open { KeepsOpen S.Store conn.old conn.new result }
+    ensures limit { KeepsLimit S.Store conn.old conn.new }
     ensures cause { FailedHasCause S.Store conn.old conn.new result }
     ensures reason { IfRefused S.Store conn.new result
         (CannotWrite S.Store number changes.now conn.old conn.new) }
@@ -107,6 +111,8 @@ fn commit_counted<S: Alter>(
     ensures kept { IfClean S.Store conn.new
         (OnErr result (CommitsNothing S.Store conn.old conn.new)) }
     ensures spared { SparesAtFault S.Store conn.old conn.new result }
+    ensures open { KeepsOpen S.Store conn.old conn.new result }
+    ensures limit { KeepsLimit S.Store conn.old conn.new }
     ensures cause { FailedHasCause S.Store conn.old conn.new result }
     ensures reason { IfRefused S.Store conn.new result
         (CannotCommit S.Store numbers.old.top changes.now conn.old conn.new) }
@@ -148,6 +154,8 @@ pub(crate) fn commit_unless<S: Alter>(
     ensures kept { IfClean S.Store conn.new
         (OnErr result (CommitsNothing S.Store conn.old conn.new)) }
     ensures spared { SparesAtFault S.Store conn.old conn.new result }
+    ensures open { KeepsOpen S.Store conn.old conn.new result }
+    ensures limit { KeepsLimit S.Store conn.old conn.new }
     ensures cause { IfClean S.Store conn.new
         (has_failed ≡ false → IsErrOf result StoreFault.Failed
         → HasFailed S.Store conn.old conn.new) }

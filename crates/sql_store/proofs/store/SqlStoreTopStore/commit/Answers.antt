@@ -62,6 +62,8 @@ returns-then-is_err-clause-asked g c = record {
       subst (λ (v : Stored _). CannotCommit g.S.Store v.top c.args.changes.now v.connection c.commit_unless-answer.new.conn) c.self.view_is (c.commit_unless-answer.ensures.reason clean is);
   kept = search rules;
   spared = search rules;
+  stays_open = search rules;
+  limit = search rules;
 }
 
 pub returns-else-is_err-clause-asked : goal.returns-else-is_err-clause-asked
@@ -75,4 +77,6 @@ returns-else-is_err-clause-asked g c = record {
   refused = search rules;
   kept = search rules;
   spared = search rules;
+  stays_open = search rules;
+  limit = search rules;
 }
