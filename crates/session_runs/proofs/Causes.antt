@@ -1,7 +1,6 @@
 -- The causes of the first step of a run and of the last, as causes of the whole.
 use Rattle.std.proofs.Common.{ℕ, List, Option}
-use Rattle.std.specs.Prelude.{Result}
-use Rattle.txn_bytes.specs.declared.sink.WriteFault.{WriteFault}
+use Rattle.txn_bytes.specs.Written.{Writer}
 use Rattle.durable_top.specs.declared.store.TopStore.{Ghosts}
 use Rattle.interleavings.specs.Told.{Told}
 use Rattle.session_runs.specs.Ways.{Way}
@@ -31,8 +30,8 @@ written old new r (Serve fault) none before = none
 written old new r (Write fault) cut before = before
 
 -- a fault of the text is none of the writer
-pub unread_answered : {W : Type 0} (takes : W → W → List ℕ → Result ℕ WriteFault → Type 0) (new : W) (text : List ℕ) (fault : ReplayFault) → IsUnread text fault → IsAnswered takes new fault
-unread_answered takes new text (Text fault) told = tt
-unread_answered takes new text (Run fault) none = absurd none
-unread_answered takes new text (Serve fault) none = absurd none
-unread_answered takes new text (Write fault) none = absurd none
+pub unread_answered : {W : Type 0} (w : Writer W) (new : W) (text : List ℕ) (fault : ReplayFault) → IsUnread text fault → IsAnswered w new fault
+unread_answered w new text (Text fault) told = tt
+unread_answered w new text (Run fault) none = absurd none
+unread_answered w new text (Serve fault) none = absurd none
+unread_answered w new text (Write fault) none = absurd none

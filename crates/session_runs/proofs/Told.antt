@@ -1,7 +1,7 @@
 -- Which line the error writer got, at the end of a run and by the exit status.
-use Rattle.std.proofs.Common.{◌≡◌, ◌⊎◌, ◌≤◌, ℕ, List, Option, subst, sym, inl, inr, arith}
+use Rattle.std.proofs.Common.{◌≡◌, ◌⊎◌, ◌≤◌, ℕ, List, subst, sym, inl, inr, arith}
 use Rattle.std.specs.Prelude.{◌≢◌, Result, Ok, Err, IfErr, IfOk}
-use Rattle.txn_bytes.specs.declared.sink.WriteFault.{WriteFault}
+use Rattle.txn_bytes.specs.Written.{Writer}
 use Rattle.serial_spec.specs.Report.{line}
 use Rattle.durable_top.specs.declared.store.TopStore.{Ghosts}
 use Rattle.session_runs.specs.Faults.{IsSaid, spelled_fault, told}
@@ -12,38 +12,36 @@ use Rattle.session_runs.specs.declared.fault.Fault.{Fault}
 use Rattle.session_runs.specs.declared.fault.Fault.TheVariants.{CannotWrite}
 use Rattle.session_runs.specs.declared.replay.ReplayFault.{ReplayFault}
 
-module _ {S W E : Type 0} (g : Ghosts S) (contents : W → Option (List ℕ)) (takes : W → W → List ℕ → Result ℕ WriteFault → Type 0)
-    (flushes : W → W → Result (Unit {0}) WriteFault → Type 0)
-    (err_contents : E → Option (List ℕ)) (err_takes : E → E → List ℕ → Result ℕ WriteFault → Type 0) where
+module _ {S W E : Type 0} (g : Ghosts S) (w : Writer W) (e : Writer E) where
   -- the end of a run that was not done
   pub end_told : (old mid new : W) (err_old err_new : E) (text : List ℕ) (way : Way) (store : S) (status : ℕ) (ran : Result S ReplayFault)
-      → IfErr ran (λ fault. HasReplayCause g (contents old) (contents mid) text way store fault)
-      → IfErr ran (λ fault. IsAnswered takes mid fault)
+      → IfErr ran (λ fault. HasReplayCause g (w.contents old) (w.contents mid) text way store fault)
+      → IfErr ran (λ fault. IsAnswered w mid fault)
       → IfErr ran (λ fault. IsUnwritten fault → mid ≡ old)
       → IfErr ran (λ fault. new ≡ mid)
-      → IfOk ran (λ left. status ≢ 0 → IsUnflushed flushes err_contents err_takes new err_old err_new)
-      → IfErr ran (λ fault. IsSaid err_contents err_takes err_old err_new (spelled_fault (told fault)))
-      → status ≢ 0 → IsUnflushed flushes err_contents err_takes new err_old err_new ⊎ IsFaulted g contents takes err_contents err_takes old new err_old err_new text way store
+      → IfOk ran (λ left. status ≢ 0 → IsUnflushed w e new err_old err_new)
+      → IfErr ran (λ fault. IsSaid e err_old err_new (spelled_fault (told fault)))
+      → status ≢ 0 → IsUnflushed w e new err_old err_new ⊎ IsFaulted g w e old new err_old err_new text way store
   end_told old mid new err_old err_new text way store status (Ok left) cause answered before same unflushed said undone = inl (unflushed undone)
   end_told old mid new err_old err_new text way store status (Err fault) cause answered before same unflushed said undone = inr (record {
     fault = fault;
-    cause = subst (λ (w : W). HasReplayCause g (contents old) (contents w) text way store fault) (sym same) cause;
-    answered = subst (λ (w : W). IsAnswered takes w fault) (sym same) answered;
-    unwritten = λ none. subst (λ (w : W). w ≡ old) (sym same) (before none);
+    cause = subst (λ x. HasReplayCause g (w.contents old) (w.contents x) text way store fault) (sym same) cause;
+    answered = subst (λ x. IsAnswered w x fault) (sym same) answered;
+    unwritten = λ none. subst (λ (x : W). x ≡ old) (sym same) (before none);
     said = said;
   })
 
   fault_line : (old new : W) (err_old err_new : E) (text : List ℕ) (way : Way) (store : S)
-      → IsUnflushed flushes err_contents err_takes new err_old err_new ⊎ IsFaulted g contents takes err_contents err_takes old new err_old err_new text way store
-      → HasFaultLine err_contents err_takes err_old err_new
+      → IsUnflushed w e new err_old err_new ⊎ IsFaulted g w e old new err_old err_new text way store
+      → HasFaultLine e err_old err_new
   fault_line old new err_old err_new text way store (inl u) = record { fault = CannotWrite; said = u.said }
   fault_line old new err_old err_new text way store (inr f) = record { fault = told f.fault; said = f.said }
 
   -- the status of a run accounts for its writers
   pub run_accounts : (old new : W) (err_old err_new : E) (text : List ℕ) (way : Way) (store : S) (status : ℕ)
-      → (status ≡ 0 → IsFlushed flushes new (Ok tt)) → (status ≡ 0 → err_new ≡ err_old)
-      → (status ≢ 0 → IsUnflushed flushes err_contents err_takes new err_old err_new ⊎ IsFaulted g contents takes err_contents err_takes old new err_old err_new text way store)
-      → status ≤ 1 → Accounts flushes err_contents err_takes new err_old err_new status
+      → (status ≡ 0 → IsFlushed w new (Ok tt)) → (status ≡ 0 → err_new ≡ err_old)
+      → (status ≢ 0 → IsUnflushed w e new err_old err_new ⊎ IsFaulted g w e old new err_old err_new text way store)
+      → status ≤ 1 → Accounts w e new err_old err_new status
   run_accounts old new err_old err_new text way store status passed silent undone bound = record {
     passed = passed;
     silent = silent;
@@ -51,10 +49,9 @@ module _ {S W E : Type 0} (g : Ghosts S) (contents : W → Option (List ℕ)) (t
     misused = λ is. absurd (omega (arith, is, bound));
   }
 
-module _ {W E : Type 0} (flushes : W → W → Result (Unit {0}) WriteFault → Type 0)
-    (err_contents : E → Option (List ℕ)) (err_takes : E → E → List ℕ → Result ℕ WriteFault → Type 0) (new : W) (err_old err_new : E) where
+module _ {W E : Type 0} (w : Writer W) (e : Writer E) (new : W) (err_old err_new : E) where
   -- so does that of a fault which was told
-  pub fault_accounts : (fault : Fault) (status : ℕ) → IsSaid err_contents err_takes err_old err_new (spelled_fault fault) → status ≡ 1 → Accounts flushes err_contents err_takes new err_old err_new status
+  pub fault_accounts : (fault : Fault) (status : ℕ) → IsSaid e err_old err_new (spelled_fault fault) → status ≡ 1 → Accounts w e new err_old err_new status
   fault_accounts fault status said is = record {
     passed = λ done. absurd (omega (arith, is, done));
     silent = λ done. absurd (omega (arith, is, done));
@@ -63,9 +60,9 @@ module _ {W E : Type 0} (flushes : W → W → Result (Unit {0}) WriteFault → 
   }
 
   -- and that of an output which was asked to pass on what it held
-  pub finish_accounts : (old : W) (status : ℕ) → (status ≡ 0 → flushes old new (Ok tt)) → (status ≡ 0 → err_new ≡ err_old)
-      → (status ≢ 0 → IsSaid err_contents err_takes err_old err_new (spelled_fault CannotWrite)) → status ≤ 1
-      → Accounts flushes err_contents err_takes new err_old err_new status
+  pub finish_accounts : (old : W) (status : ℕ) → (status ≡ 0 → w.flushes old new (Ok tt)) → (status ≡ 0 → err_new ≡ err_old)
+      → (status ≢ 0 → IsSaid e err_old err_new (spelled_fault CannotWrite)) → status ≤ 1
+      → Accounts w e new err_old err_new status
   finish_accounts old status passed silent told bound = record {
     passed = λ is. record { before = old; asked = passed is };
     silent = silent;
@@ -74,7 +71,7 @@ module _ {W E : Type 0} (flushes : W → W → Result (Unit {0}) WriteFault → 
   }
 
   -- and that of words that are no command line
-  pub misuse_accounts : (text : List ℕ) (status : ℕ) → IsSaid err_contents err_takes err_old err_new (line text) → status ≡ 2 → Accounts flushes err_contents err_takes new err_old err_new status
+  pub misuse_accounts : (text : List ℕ) (status : ℕ) → IsSaid e err_old err_new (line text) → status ≡ 2 → Accounts w e new err_old err_new status
   misuse_accounts text status said is = record {
     passed = λ done. absurd (omega (arith, is, done));
     silent = λ done. absurd (omega (arith, is, done));

@@ -1,8 +1,7 @@
 -- By which line the program tells why there is no report.
-use Rattle.std.specs.Prelude.{◌⊎◌, ℕ, List, ◌++◌, Option, Result, codes, decimal}
+use Rattle.std.specs.Prelude.{◌⊎◌, ℕ, List, ◌++◌, codes, decimal}
 use Rattle.std.specs.Io.KnownBytes.{Appends}
-use Rattle.txn_bytes.specs.Written.{AppendsFront, IsStopped}
-use Rattle.txn_bytes.specs.declared.sink.WriteFault.{WriteFault}
+use Rattle.txn_bytes.specs.Written.{AppendsFront, IsStopped, Writer}
 use Rattle.serial_spec.specs.Report.{line}
 use Rattle.session_text.specs.declared.fault.LineKind.{LineKind}
 use Rattle.session_text.specs.declared.fault.LineKind.TheVariants as kinds
@@ -60,10 +59,10 @@ abbrev pub spelled_fault : Fault → List ℕ
 spelled_fault fault = line (spelled_cause fault)
 
 -- the writer failed: it took a beginning of these bytes, and was then asked in vain to take more
-pub record IsCut {W : Type 0} (contents : W → Option (List ℕ)) (takes : W → W → List ℕ → Result ℕ WriteFault → Type 0) (old new : W) (bytes : List ℕ) : Type 0 where
-  pub front : AppendsFront (contents old) (contents new) bytes
-  pub stopped : IsStopped takes new
+pub record IsCut {W : Type 0} (w : Writer W) (old new : W) (bytes : List ℕ) : Type 0 where
+  pub front : AppendsFront (w.contents old) (w.contents new) bytes
+  pub stopped : IsStopped w new
 
 -- it took these bytes, or it failed on the way
-abbrev pub IsSaid : {W : Type 0} → (W → Option (List ℕ)) → (W → W → List ℕ → Result ℕ WriteFault → Type 0) → W → W → List ℕ → Type 0
-IsSaid contents takes old new bytes = Appends (contents old) (contents new) bytes ⊎ IsCut contents takes old new bytes
+abbrev pub IsSaid : {W : Type 0} → Writer W → W → W → List ℕ → Type 0
+IsSaid w old new bytes = Appends (w.contents old) (w.contents new) bytes ⊎ IsCut w old new bytes

@@ -22,7 +22,8 @@ use Rattle.session_runs.specs.declared.replay.ReplayFault.TheVariants.{Text, Run
 abbrev pub spelled_report : Told → List ℕ
 spelled_report r = report r.opening r.labels r.history r.table
 
--- The text spells sessions, and this is the report of their run in this way over the store, which comes back as `left`
+-- The text spells sessions, and this is the report of their run in this way over the store, which
+-- comes back as `left`
 pub record IsTold {S : Type 0} (g : Ghosts S) (text : List ℕ) (way : Way) (store left : S) (r : Told) : Type 0 where
   pub sessions : List Session
   pub read : sessions_of text ≡ Ok sessions

@@ -3,7 +3,8 @@ use Rattle.std.specs.Prelude.{ℕ, ℤ, pos, negsuc, ◌^◌, nat_lt, ◌==◌, 
 use Rattle.std.specs.List.{slice_split}
 use Rattle.session_text.specs.Numbers.{number_of}
 
--- what stands for an item that is no number of 32 bits: the greatest of them, which is no session's
+-- what stands for an item that is no number of 32 bits: the greatest of them, which is no
+-- session's
 abbrev pub no_session : ℕ
 no_session = 4294967295
 

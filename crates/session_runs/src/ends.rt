@@ -1,4 +1,5 @@
-//! The first step and the last of every run of a text: from its bytes to its sessions, and from the report to its bytes.
+//! The first step and the last of every run of a text: from its bytes to its sessions, and from
+//! the report to its bytes.
 ghost use Rattle.std.specs.Prelude.{◌≡◌, Ok, IfErr, IfOk, OnOk};
 ghost use Rattle.session_text.specs.Texts.{sessions_of};
 ghost use Rattle.txn_bytes.specs.Written.{AppendsFront};
@@ -26,13 +27,13 @@ pub(crate) fn read_sessions(alloc: Global, text: &[u8]) -> Result<Sessions, Repl
     }
 }
 
-/// Writes the report, which has the verdict yes. After the fault, which is one that the writer answered, `out` has taken a
-/// beginning of it.
+/// Writes the report, which has the verdict yes. After the fault, which is one that the writer
+/// answered, `out` has taken a beginning of it.
 pub(crate) fn put_report<W: Sink>(report: &Report, out: &mut W) -> Result<(), ReplayFault>
     ensures ok { OnOk result (Appends (W.contents out.old) (W.contents out.new) (spelled_report report.now)) }
     ensures accepted { OnOk result (HasVerdict (spelled_report report.now) Yes) }
     ensures err { IfErr result (λ fault. IsUnended (W.contents out.old) (W.contents out.new) report.now fault) }
-    ensures asked { IfErr result (λ fault. IsAnswered W.takes out.new fault) }
+    ensures asked { IfErr result (λ fault. IsAnswered W.Sink out.new fault) }
 {
     match write_report(report, out) {
         Ok(()) => Ok(()),

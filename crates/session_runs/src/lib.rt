@@ -1,5 +1,5 @@
-//! Runs of session texts: from a text's bytes and a store to the bytes of a report, or of the line that says why there is none.
-//! Beside them, the rows of a store.
+//! Runs of session texts: from a text's bytes and a store to the bytes of a report, or of the line
+//! that says why there is none. Beside them, the rows of a store.
 #![tactic(auto)]
 
 mod ends;

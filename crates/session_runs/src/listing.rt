@@ -12,8 +12,9 @@ use report_text::write_rows;
 use std::alloc::Global;
 use txn_bytes::Sink;
 
-/// Prints the rows of this store in byte order of their keys, each with the number of the commit that set it, and answers the
-/// exit status. The lines go to `out`; a fault goes to `err`, in one line.
+/// Prints the rows of this store in byte order of their keys, each with the number of the commit
+/// that set it, and answers the exit status. The lines go to `out`; a fault goes to `err`, in one
+/// line.
 pub fn list_rows<S: TopStore, W: Sink, E: Sink>(
     alloc: Global,
     store: &mut S,
@@ -21,12 +22,12 @@ pub fn list_rows<S: TopStore, W: Sink, E: Sink>(
     err: &mut E,
 ) -> u8
     ensures done { result ≡ DONE →
-        IsListed S.TopStore W.contents W.flushes
+        IsListed S.TopStore W.Sink E.Sink
         store.old store.new out.old out.new err.old err.new }
     ensures failed { result ≡ FAILED →
-        IsUnlisted S.TopStore W.contents W.takes W.flushes E.contents E.takes
+        IsUnlisted S.TopStore W.Sink E.Sink
         store.old store.new out.old out.new err.old err.new }
-    ensures accounts { Accounts W.flushes E.contents E.takes out.new err.old err.new result }
+    ensures accounts { Accounts W.Sink E.Sink out.new err.old err.new result }
     ensures status { result ≤ FAILED }
 {
     match store.load(alloc) {
@@ -38,11 +39,11 @@ pub fn list_rows<S: TopStore, W: Sink, E: Sink>(
 // The output is asked to take the lines of the rows and to pass them on.
 fn print_rows<W: Sink, E: Sink>(rows: &[Row], out: &mut W, err: &mut E) -> u8
     ensures done { result ≡ DONE →
-        IsGiven W.contents W.flushes out.old out.new err.old err.new (numbered_rows rows.now) }
+        IsGiven W.Sink E.Sink out.old out.new err.old err.new (numbered_rows rows.now) }
     ensures failed { result ≡ FAILED →
-        IsUngiven W.contents W.takes W.flushes E.contents E.takes
+        IsUngiven W.Sink E.Sink
         out.old out.new err.old err.new (numbered_rows rows.now) }
-    ensures accounts { Accounts W.flushes E.contents E.takes out.new err.old err.new result }
+    ensures accounts { Accounts W.Sink E.Sink out.new err.old err.new result }
     ensures status { result ≤ FAILED }
 {
     match write_rows(rows, out) {

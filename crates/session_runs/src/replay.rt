@@ -24,9 +24,9 @@ pub enum ReplayFault {
     Write(WriteFault),
 }
 
-/// Reads a session text, runs it over the store by the schedule, writes the report, and gives the store back. The first
-/// fault is told: of the text, of the run, or one that the writer answered. Only after one of the writer has `out` taken bytes, which
-/// are a beginning of the report.
+/// Reads a session text, runs it over the store by the schedule, writes the report, and gives the
+/// store back. The first fault is told: of the text, of the run, or one that the writer answered.
+/// Only after one of the writer has `out` taken bytes, which are a beginning of the report.
 #[tactic(auto, using(crate::proofs::Causes::unread, crate::proofs::Causes::unread_answered, crate::proofs::Causes::unended, crate::proofs::Causes::written))]
 pub fn replay_text<S: TopStore, W: Sink>(
     alloc: Global,
@@ -37,7 +37,7 @@ pub fn replay_text<S: TopStore, W: Sink>(
 ) -> Result<S, ReplayFault>
     ensures ok { IfOk result (λ left. IsReplayed S.TopStore (W.contents out.old) (W.contents out.new) text.now (Scheduled schedule.now) store left) }
     ensures err { IfErr result (λ fault. HasReplayCause S.TopStore (W.contents out.old) (W.contents out.new) text.now (Scheduled schedule.now) store fault) }
-    ensures asked { IfErr result (λ fault. IsAnswered W.takes out.new fault) }
+    ensures asked { IfErr result (λ fault. IsAnswered W.Sink out.new fault) }
     ensures unwritten { IfErr result (λ fault. IsUnwritten fault → out.new ≡ out.old) }
 {
     let sessions = read_sessions(alloc, text)?;

@@ -1,4 +1,5 @@
-//! A run of a text over a store that is there, from the text's bytes to a report or a fault line, and an exit status.
+//! A run of a text over a store that is there, from the text's bytes to a report or a fault line,
+//! and an exit status.
 ghost use Rattle.std.specs.Prelude.{◌≡◌, ◌≢◌, ◌≤◌, ◌⊎◌, IsNone, IfErr, IfOk, OnErr, Ok};
 ghost use Rattle.std.specs.Io.KnownBytes.{Keeps};
 ghost use Rattle.session_runs.specs.declared.fault.Fault.TheVariants.{CannotOpen};
@@ -30,12 +31,14 @@ pub const FAILED: u8 = 1;
 pub struct Ended<S> {
     /// The exit status.
     pub status: u8,
-    /// The store, where the run gave it back. A fault of the run drops it, and so does a writer that fails on the way.
+    /// The store, where the run gave it back. A fault of the run drops it, and so does a writer
+    /// that fails on the way.
     pub left: Option<S>,
 }
 
-/// Runs this text over this store in this way, and answers the exit status with the store that the run left. The report goes
-/// to `out`, and only where the whole run was done; a fault goes to `err`, in one line.
+/// Runs this text over this store in this way, and answers the exit status with the store that the
+/// run left. The report goes to `out`, and only where the whole run was done; a fault goes to
+/// `err`, in one line.
 pub fn report_over<R: Threads + Wait + Clock + Sync, S: TopStore + Send, W: Sink, E: Sink>(
     threads: &R,
     alloc: Global,
@@ -48,9 +51,9 @@ pub fn report_over<R: Threads + Wait + Clock + Sync, S: TopStore + Send, W: Sink
     requires { IsServable way.now }
     ensures done { result.status ≡ DONE → IsPrinted S.TopStore (W.contents out.old) (W.contents out.new) text.now (way_of way.now) store result.left }
     ensures undone { result.status ≢ DONE → IsMissed S.TopStore (W.contents out.old) (W.contents out.new) text.now (way_of way.now) store result.left }
-    ensures told { result.status ≢ DONE → IsUnflushed W.flushes E.contents E.takes out.new err.old err.new
-        ⊎ IsFaulted S.TopStore W.contents W.takes E.contents E.takes out.old out.new err.old err.new text.now (way_of way.now) store }
-    ensures accounts { Accounts W.flushes E.contents E.takes out.new err.old err.new result.status }
+    ensures told { result.status ≢ DONE → IsUnflushed W.Sink E.Sink out.new err.old err.new
+        ⊎ IsFaulted S.TopStore W.Sink E.Sink out.old out.new err.old err.new text.now (way_of way.now) store }
+    ensures accounts { Accounts W.Sink E.Sink out.new err.old err.new result.status }
     ensures status { result.status ≤ FAILED }
 {
     match way {
@@ -72,12 +75,12 @@ pub fn report_opened<R: Threads + Wait + Clock + Sync, S: TopStore + Send, W: Si
     requires { IsServable way.now }
     ensures done { IfOk opened (λ store. result.status ≡ DONE → IsPrinted S.TopStore (W.contents out.old) (W.contents out.new) text.now (way_of way.now) store result.left) }
     ensures undone { IfOk opened (λ store. result.status ≢ DONE → IsMissed S.TopStore (W.contents out.old) (W.contents out.new) text.now (way_of way.now) store result.left) }
-    ensures told { IfOk opened (λ store. result.status ≢ DONE → IsUnflushed W.flushes E.contents E.takes out.new err.old err.new
-        ⊎ IsFaulted S.TopStore W.contents W.takes E.contents E.takes out.old out.new err.old err.new text.now (way_of way.now) store) }
+    ensures told { IfOk opened (λ store. result.status ≢ DONE → IsUnflushed W.Sink E.Sink out.new err.old err.new
+        ⊎ IsFaulted S.TopStore W.Sink E.Sink out.old out.new err.old err.new text.now (way_of way.now) store) }
     ensures unopened { IfErr opened (λ fault. (result.status ≡ FAILED) × IsNone result.left) }
     ensures unwritten { OnErr opened (out.new ≡ out.old) }
-    ensures unopened_told { OnErr opened (IsSaid E.contents E.takes err.old err.new (spelled_fault CannotOpen)) }
-    ensures accounts { Accounts W.flushes E.contents E.takes out.new err.old err.new result.status }
+    ensures unopened_told { OnErr opened (IsSaid E.Sink err.old err.new (spelled_fault CannotOpen)) }
+    ensures accounts { Accounts W.Sink E.Sink out.new err.old err.new result.status }
     ensures status { result.status ≤ FAILED }
 {
     match opened {
@@ -89,8 +92,9 @@ pub fn report_opened<R: Threads + Wait + Clock + Sync, S: TopStore + Send, W: Si
     }
 }
 
-/// Replays this text over this store by this schedule, and answers the exit status with the store that the run left. The report
-/// goes to `out`, and only where the whole run was done; a fault goes to `err`, in one line.
+/// Replays this text over this store by this schedule, and answers the exit status with the store
+/// that the run left. The report goes to `out`, and only where the whole run was done; a fault
+/// goes to `err`, in one line.
 pub fn replay_over<S: TopStore, W: Sink, E: Sink>(
     alloc: Global,
     text: &[u8],
@@ -101,9 +105,9 @@ pub fn replay_over<S: TopStore, W: Sink, E: Sink>(
 ) -> Ended<S>
     ensures done { result.status ≡ DONE → IsPrinted S.TopStore (W.contents out.old) (W.contents out.new) text.now (Scheduled schedule.now) store result.left }
     ensures undone { result.status ≢ DONE → IsMissed S.TopStore (W.contents out.old) (W.contents out.new) text.now (Scheduled schedule.now) store result.left }
-    ensures told { result.status ≢ DONE → IsUnflushed W.flushes E.contents E.takes out.new err.old err.new
-        ⊎ IsFaulted S.TopStore W.contents W.takes E.contents E.takes out.old out.new err.old err.new text.now (Scheduled schedule.now) store }
-    ensures accounts { Accounts W.flushes E.contents E.takes out.new err.old err.new result.status }
+    ensures told { result.status ≢ DONE → IsUnflushed W.Sink E.Sink out.new err.old err.new
+        ⊎ IsFaulted S.TopStore W.Sink E.Sink out.old out.new err.old err.new text.now (Scheduled schedule.now) store }
+    ensures accounts { Accounts W.Sink E.Sink out.new err.old err.new result.status }
     ensures status { result.status ≤ FAILED }
 {
     let ran = replay_text(alloc, text, schedule, store, out);
@@ -123,9 +127,9 @@ fn serve_over<R: Threads + Wait + Clock + Sync, S: TopStore + Send, W: Sink, E: 
     requires { AreFew workers }
     ensures done { result.status ≡ DONE → IsPrinted S.TopStore (W.contents out.old) (W.contents out.new) text.now ByWorkers store result.left }
     ensures undone { result.status ≢ DONE → IsMissed S.TopStore (W.contents out.old) (W.contents out.new) text.now ByWorkers store result.left }
-    ensures told { result.status ≢ DONE → IsUnflushed W.flushes E.contents E.takes out.new err.old err.new
-        ⊎ IsFaulted S.TopStore W.contents W.takes E.contents E.takes out.old out.new err.old err.new text.now ByWorkers store }
-    ensures accounts { Accounts W.flushes E.contents E.takes out.new err.old err.new result.status }
+    ensures told { result.status ≢ DONE → IsUnflushed W.Sink E.Sink out.new err.old err.new
+        ⊎ IsFaulted S.TopStore W.Sink E.Sink out.old out.new err.old err.new text.now ByWorkers store }
+    ensures accounts { Accounts W.Sink E.Sink out.new err.old err.new result.status }
     ensures status { result.status ≤ FAILED }
 {
     let ran = run_text(threads, alloc, text, store, workers, &OpenGate, out);
@@ -142,10 +146,10 @@ fn end_run<S: Drop, W: Sink, E: Sink>(
     ensures kept { IfOk ran (λ left. Keeps (W.contents out.old) (W.contents out.new)) }
     ensures dropped { IfErr ran (λ fault. (result.status ≡ FAILED) × IsNone result.left) }
     ensures unwritten { IfErr ran (λ fault. out.new ≡ out.old) }
-    ensures passed { result.status ≡ DONE → IsFlushed W.flushes out.new (Ok tt) }
+    ensures passed { result.status ≡ DONE → IsFlushed W.Sink out.new (Ok tt) }
     ensures silent { result.status ≡ DONE → err.new ≡ err.old }
-    ensures unflushed { IfOk ran (λ left. result.status ≢ DONE → IsUnflushed W.flushes E.contents E.takes out.new err.old err.new) }
-    ensures told { IfErr ran (λ fault. IsSaid E.contents E.takes err.old err.new (spelled_fault (told fault))) }
+    ensures unflushed { IfOk ran (λ left. result.status ≢ DONE → IsUnflushed W.Sink E.Sink out.new err.old err.new) }
+    ensures told { IfErr ran (λ fault. IsSaid E.Sink err.old err.new (spelled_fault (told fault))) }
     ensures status { result.status ≤ FAILED }
 {
     match ran {

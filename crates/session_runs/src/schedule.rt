@@ -18,8 +18,9 @@ fn session_in(item: &[u8]) -> u32
     }
 }
 
-/// The session numbers of a list, one comma apart: each is written `0` or without a leading zero. An item that is none,
-/// or is past 32 bits, stands for 4294967295, which is no session's number; so does the one item of the empty list.
+/// The session numbers of a list, one comma apart: each is written `0` or without a leading zero.
+/// An item that is none, or is past 32 bits, stands for 4294967295, which is no session's number;
+/// so does the one item of the empty list.
 pub fn schedule_of(alloc: Global, list: &[u8]) -> Result<Vec<u32>, AllocError>
     ensures { IfOk result (λ schedule. schedule.items ≡ schedule_of list.now) }
 {

@@ -25,10 +25,11 @@ impl Gate for OpenGate {
     fn answered(&self, _session: u32, _line: u32) {}
 }
 
-/// Reads a session text, has so many workers attempt its lines over the store, writes the report, and gives the store back.
-/// In which order the lines are attempted is the threads' choice; whichever it is, the report says of it what every
-/// report says. The first fault is told: of the text, of the run, or one that the writer answered. Only after one of the writer has `out`
-/// taken bytes, which are a beginning of the report.
+/// Reads a session text, has so many workers attempt its lines over the store, writes the report,
+/// and gives the store back. In which order the lines are attempted is the threads' choice;
+/// whichever it is, the report says of it what every report says. The first fault is told: of the
+/// text, of the run, or one that the writer answered. Only after one of the writer has `out` taken
+/// bytes, which are a beginning of the report.
 #[tactic(auto, using(crate::proofs::Causes::unread, crate::proofs::Causes::unread_answered, crate::proofs::Causes::unended, crate::proofs::Causes::written))]
 pub fn run_text<R: Threads + Wait + Clock + Sync, S: TopStore + Send, G: Gate + Sync, W: Sink>(
     rt: &R,
@@ -42,7 +43,7 @@ pub fn run_text<R: Threads + Wait + Clock + Sync, S: TopStore + Send, G: Gate + 
     requires { AreFew workers }
     ensures ok { IfOk result (λ left. IsReplayed S.TopStore (W.contents out.old) (W.contents out.new) text.now ByWorkers store left) }
     ensures err { IfErr result (λ fault. HasReplayCause S.TopStore (W.contents out.old) (W.contents out.new) text.now ByWorkers store fault) }
-    ensures asked { IfErr result (λ fault. IsAnswered W.takes out.new fault) }
+    ensures asked { IfErr result (λ fault. IsAnswered W.Sink out.new fault) }
     ensures unwritten { IfErr result (λ fault. IsUnwritten fault → out.new ≡ out.old) }
 {
     let sessions = read_sessions(alloc, text)?;

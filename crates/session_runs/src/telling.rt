@@ -18,7 +18,7 @@ pub const MISUSED: u8 = 2;
 fn put_number<E: Sink>(err: &mut E, number: usize) -> Result<(), WriteFault>
     ensures ok { OnOk result (Appends (E.contents err.old) (E.contents err.new) (decimal number)) }
     ensures err { OnErr result (AppendsFront (E.contents err.old) (E.contents err.new) (decimal number)) }
-    ensures asked { OnErr result (IsStopped E.takes err.new) }
+    ensures asked { OnErr result (IsStopped E.Sink err.new) }
 {
     let mut buffer = Buffer::new();
     put(err, buffer.format(number).as_bytes())
@@ -27,7 +27,7 @@ fn put_number<E: Sink>(err: &mut E, number: usize) -> Result<(), WriteFault>
 fn put_kind<E: Sink>(err: &mut E, kind: LineKind) -> Result<(), WriteFault>
     ensures ok { OnOk result (Appends (E.contents err.old) (E.contents err.new) (spelled_kind kind)) }
     ensures err { OnErr result (AppendsFront (E.contents err.old) (E.contents err.new) (spelled_kind kind)) }
-    ensures asked { OnErr result (IsStopped E.takes err.new) }
+    ensures asked { OnErr result (IsStopped E.Sink err.new) }
 {
     put(err, word_of(&kind).as_bytes())
 }
@@ -36,7 +36,7 @@ fn put_kind<E: Sink>(err: &mut E, kind: LineKind) -> Result<(), WriteFault>
 fn put_behind<E: Sink>(err: &mut E, first: &[u8], second: &[u8]) -> Result<(), WriteFault>
     ensures ok { OnOk result (Appends (E.contents err.old) (E.contents err.new) (first.now ++ second.now)) }
     ensures err { OnErr result (AppendsFront (E.contents err.old) (E.contents err.new) (first.now ++ second.now)) }
-    ensures asked { OnErr result (IsStopped E.takes err.new) }
+    ensures asked { OnErr result (IsStopped E.Sink err.new) }
 {
     put(err, first)?;
     put(err, second)
@@ -46,7 +46,7 @@ fn put_behind<E: Sink>(err: &mut E, first: &[u8], second: &[u8]) -> Result<(), W
 fn put_counted<E: Sink>(err: &mut E, words: &[u8], number: usize) -> Result<(), WriteFault>
     ensures ok { OnOk result (Appends (E.contents err.old) (E.contents err.new) (words.now ++ decimal number)) }
     ensures err { OnErr result (AppendsFront (E.contents err.old) (E.contents err.new) (words.now ++ decimal number)) }
-    ensures asked { OnErr result (IsStopped E.takes err.new) }
+    ensures asked { OnErr result (IsStopped E.Sink err.new) }
 {
     put(err, words)?;
     put_number(err, number)
@@ -56,7 +56,7 @@ fn put_counted<E: Sink>(err: &mut E, words: &[u8], number: usize) -> Result<(), 
 fn put_place<E: Sink>(err: &mut E, number: usize, kind: LineKind) -> Result<(), WriteFault>
     ensures ok { OnOk result (Appends (E.contents err.old) (E.contents err.new) (codes "tx: line " ++ decimal number ++ codes ": " ++ spelled_kind kind)) }
     ensures err { OnErr result (AppendsFront (E.contents err.old) (E.contents err.new) (codes "tx: line " ++ decimal number ++ codes ": " ++ spelled_kind kind)) }
-    ensures asked { OnErr result (IsStopped E.takes err.new) }
+    ensures asked { OnErr result (IsStopped E.Sink err.new) }
 {
     put_counted(err, b"tx: line ", number)?;
     put(err, b": ")?;
@@ -67,7 +67,7 @@ fn put_place<E: Sink>(err: &mut E, number: usize, kind: LineKind) -> Result<(), 
 fn put_cause<E: Sink>(err: &mut E, fault: Fault<'_>) -> Result<(), WriteFault>
     ensures ok { OnOk result (Appends (E.contents err.old) (E.contents err.new) (spelled_cause fault.entry)) }
     ensures err { OnErr result (AppendsFront (E.contents err.old) (E.contents err.new) (spelled_cause fault.entry)) }
-    ensures asked { OnErr result (IsStopped E.takes err.new) }
+    ensures asked { OnErr result (IsStopped E.Sink err.new) }
 {
     match fault {
         Fault::CannotRead(file) => put_behind(err, b"tx: cannot read ", file.as_bytes()),
@@ -84,16 +84,16 @@ fn put_cause<E: Sink>(err: &mut E, fault: Fault<'_>) -> Result<(), WriteFault>
 fn put_fault<E: Sink>(err: &mut E, fault: Fault<'_>) -> Result<(), WriteFault>
     ensures ok { OnOk result (Appends (E.contents err.old) (E.contents err.new) (spelled_fault fault.entry)) }
     ensures err { OnErr result (AppendsFront (E.contents err.old) (E.contents err.new) (spelled_fault fault.entry)) }
-    ensures asked { OnErr result (IsStopped E.takes err.new) }
+    ensures asked { OnErr result (IsStopped E.Sink err.new) }
 {
     put_cause(err, fault)?;
     put(err, b"\n")
 }
 
-/// Says why there is no report, in one line. Where the error writer fails it has taken a beginning of that line and was
-/// asked in vain to take more, and the exit status alone tells.
+/// Says why there is no report, in one line. Where the error writer fails it has taken a beginning
+/// of that line and was asked in vain to take more, and the exit status alone tells.
 pub fn tell<E: Sink>(err: &mut E, fault: Fault<'_>) -> u8
-    ensures told { IsSaid E.contents E.takes err.old err.new (spelled_fault fault.entry) }
+    ensures told { IsSaid E.Sink err.old err.new (spelled_fault fault.entry) }
     ensures status { result ≡ FAILED }
 {
     match put_fault(err, fault) {
@@ -102,10 +102,10 @@ pub fn tell<E: Sink>(err: &mut E, fault: Fault<'_>) -> u8
     }
 }
 
-/// Says how the program is used, in this text and a line feed. Where the error writer fails it has taken a beginning of
-/// them and was asked in vain to take more, and the exit status alone tells.
+/// Says how the program is used, in this text and a line feed. Where the error writer fails it has
+/// taken a beginning of them and was asked in vain to take more, and the exit status alone tells.
 pub fn misuse<E: Sink>(err: &mut E, text: &[u8]) -> u8
-    ensures told { IsSaid E.contents E.takes err.old err.new (line text.now) }
+    ensures told { IsSaid E.Sink err.old err.new (line text.now) }
     ensures status { result ≡ MISUSED }
 {
     match put_behind(err, text, b"\n") {
@@ -120,7 +120,7 @@ pub fn finish<W: Sink, E: Sink>(out: &mut W, err: &mut E) -> u8
     ensures passed { result ≡ DONE → W.flushes out.old out.new (Ok tt) }
     ensures silent { result ≡ DONE → err.new ≡ err.old }
     ensures failed { result ≢ DONE → W.flushes out.old out.new (Err (record {})) }
-    ensures told { result ≢ DONE → IsSaid E.contents E.takes err.old err.new (spelled_fault CannotWrite) }
+    ensures told { result ≢ DONE → IsSaid E.Sink err.old err.new (spelled_fault CannotWrite) }
     ensures status { result ≤ FAILED }
 {
     match out.pass_on() {

@@ -18,7 +18,8 @@ pub enum Way {
     Workers(u32),
 }
 
-/// How many workers a word asks for, and 4 where there is no word. The word is a number from 1 to 16.
+/// How many workers a word asks for, and 4 where there is no word. The word is a number from 1 to
+/// 16.
 pub fn workers_of(word: Option<&str>) -> Option<u32>
     ensures count { result ≡ workers_of (option_copied word.entry) }
     ensures few { IfSome result AreFew }

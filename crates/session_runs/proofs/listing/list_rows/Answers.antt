@@ -4,4 +4,4 @@ use Rattle.session_runs.proofs.listing.list_rows.Goals as goal
 
 pub returns-in-Err-clause-accounts : goal.returns-in-Err-clause-accounts
 returns-in-Err-clause-accounts g c =
-    fault_accounts g.W.Sink.flushes g.E.Write.contents g.E.Sink.takes c.args.out.now c.args.err.now c.tell.new.err CannotOpen c.tell.result c.tell.ensures.told c.tell.ensures.status
+    fault_accounts _ _ c.args.out.now c.args.err.now c.tell.new.err CannotOpen c.tell.result c.tell.ensures.told c.tell.ensures.status

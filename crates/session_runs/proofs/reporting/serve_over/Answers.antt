@@ -13,10 +13,10 @@ returns-clause-undone g c = λ undone.
 
 pub returns-clause-told : goal.returns-clause-told
 returns-clause-told g c =
-    end_told _ g.W.Write.contents g.W.Sink.takes g.W.Sink.flushes g.E.Write.contents g.E.Sink.takes _ _ _ _ _ _ _ _ _ c.run_text-ran.result c.run_text-ran.ensures.err c.run_text-ran.ensures.asked c.run_text-ran.ensures.unwritten c.end_run.ensures.unwritten c.end_run.ensures.unflushed c.end_run.ensures.told
+    end_told _ _ _ _ _ _ _ _ _ _ _ _ c.run_text-ran.result c.run_text-ran.ensures.err c.run_text-ran.ensures.asked c.run_text-ran.ensures.unwritten c.end_run.ensures.unwritten c.end_run.ensures.unflushed c.end_run.ensures.told
 
 pub returns-clause-accounts : goal.returns-clause-accounts
 returns-clause-accounts g c =
-    run_accounts g.S.TopStore g.W.Write.contents g.W.Sink.takes g.W.Sink.flushes g.E.Write.contents g.E.Sink.takes _ _ _ _ c.args.text.now ByWorkers c.args.store _ c.end_run.ensures.passed c.end_run.ensures.silent
-    (end_told g.S.TopStore g.W.Write.contents g.W.Sink.takes g.W.Sink.flushes g.E.Write.contents g.E.Sink.takes _ _ _ _ _ _ _ _ _ c.run_text-ran.result c.run_text-ran.ensures.err c.run_text-ran.ensures.asked c.run_text-ran.ensures.unwritten c.end_run.ensures.unwritten c.end_run.ensures.unflushed c.end_run.ensures.told)
+    run_accounts g.S.TopStore _ _ _ _ _ _ c.args.text.now ByWorkers c.args.store _ c.end_run.ensures.passed c.end_run.ensures.silent
+    (end_told g.S.TopStore _ _ _ _ _ _ _ _ _ _ _ c.run_text-ran.result c.run_text-ran.ensures.err c.run_text-ran.ensures.asked c.run_text-ran.ensures.unwritten c.end_run.ensures.unwritten c.end_run.ensures.unflushed c.end_run.ensures.told)
     c.end_run.ensures.status
