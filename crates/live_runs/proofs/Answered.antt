@@ -1,7 +1,7 @@
 -- What a request brought about, as it is shown.
 use Rattle.std.proofs.Common.{◌≡◌, ◌≤◌, ℕ, List, length, reverse, Option, Some, None, Result, sym, ap, subst, ◌∙◌, arith}
 use Rattle.std.proofs.lemmas.List.{length-reverse}
-use Rattle.txn_bytes.specs.declared.sink.WriteFault.{WriteFault}
+use Rattle.txn_bytes.specs.Written.{Writer}
 use Rattle.serial_spec.specs.declared.entry.Entry.{Entry}
 use Rattle.serial_spec.specs.declared.event.Event.{Event}
 use Rattle.serial_spec.specs.History.{History}
@@ -34,8 +34,7 @@ module _ {S : Type 0} (g : Ghosts S) (old new : Turning S) (bytes : List ℕ) (t
   pub room_behind : n ≤ length items
   room_behind = omega (arith, count, as_many g old new taken.grows.on, length-reverse items, ap (λ (h : History). length h) history)
 
-  module _ {W : Type 0} (contents : W → Option (List ℕ)) (takes : W → W → List ℕ → Result ℕ WriteFault → Type 0)
-      (flushes : W → W → Result (Unit {0}) WriteFault → Type 0) (stands : Stands g old) (ls : List (List ℕ)) (labelled : ls ≡ labels_in new.sessions) (out_old out_new : W) where
+  module _ {W : Type 0} (w : Writer W) (stands : Stands g old) (ls : List (List ℕ)) (labelled : ls ≡ labels_in new.sessions) (out_old out_new : W) where
     abbrev more : List ℕ
     more = spelled_history (labels_in new.sessions) (entries_behind (length old.core.history) new.core.history)
 
@@ -48,17 +47,17 @@ module _ {S : Type 0} (g : Ghosts S) (old new : Turning S) (bytes : List ℕ) (t
     extends : Extends old.sessions new.sessions
     extends = subst (Extends old.sessions) (sym taken.grows.sessions) (request_extends old.sessions taken.label taken.event)
 
-    pub shown_since : IsShown contents flushes out_old out_new (spelled_history ls (entries_behind n (reverse items))) → IsShownSince contents flushes old new out_old out_new
+    pub shown_since : IsShown w out_old out_new (spelled_history ls (entries_behind n (reverse items))) → IsShownSince w old new out_old out_new
     shown_since shown = record {
       more = more;
       grown = begun_grown g old new taken.grows.on extends stands.way.in_turn;
-      shown = subst (IsShown contents flushes out_old out_new) more_is shown;
+      shown = subst (IsShown w out_old out_new) more_is shown;
     }
 
-    pub unshown_since : IsUnshown contents takes flushes out_old out_new (spelled_history ls (entries_behind n (reverse items)))
-        → IsUnshownSince contents takes flushes old new out_old out_new
+    pub unshown_since : IsUnshown w out_old out_new (spelled_history ls (entries_behind n (reverse items)))
+        → IsUnshownSince w old new out_old out_new
     unshown_since unshown = record {
       more = more;
       grown = begun_grown g old new taken.grows.on extends stands.way.in_turn;
-      unshown = subst (IsUnshown contents takes flushes out_old out_new) more_is unshown;
+      unshown = subst (IsUnshown w out_old out_new) more_is unshown;
     }

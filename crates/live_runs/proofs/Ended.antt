@@ -1,6 +1,6 @@
 -- The end of a live run, of which something was shown before.
 use Rattle.std.proofs.Common.{◌≡◌, ℕ, List, [], ◌++◌, length, Option, Result, sym, ap, ◌∙◌}
-use Rattle.txn_bytes.specs.declared.sink.WriteFault.{WriteFault}
+use Rattle.txn_bytes.specs.Written.{Writer}
 use Rattle.serial_spec.specs.Report.{spelled_history}
 use Rattle.durable_top.specs.declared.store.TopStore.{Ghosts}
 use Rattle.interleavings.specs.Reports.{IsReport}
@@ -14,8 +14,7 @@ use Rattle.live_runs.specs.Living.{Finishes, IsUnshownEnd}
 use Rattle.live_runs.specs.Showing.{IsShown, IsUnshown, entries_behind}
 use Rattle.live_runs.proofs.Shown.{report_grown}
 
-module _ {S W : Type 0} (g : Ghosts S) (contents : W → Option (List ℕ)) (takes : W → W → List ℕ → Result ℕ WriteFault → Type 0)
-    (flushes : W → W → Result (Unit {0}) WriteFault → Type 0) (old : Turning S) (told : Told) (left : S) (run : RunsOut g [] old told left) (report : IsReport told)
+module _ {S W : Type 0} (g : Ghosts S) (w : Writer W) (old : Turning S) (told : Told) (left : S) (run : RunsOut g [] old told left) (report : IsReport told)
     (out_old out_new : W) (n : ℕ) (count : n ≡ length old.core.history) where
   abbrev rest : List ℕ
   rest = spelled_history told.labels (entries_behind n told.history) ++ ending_text told.table
@@ -25,8 +24,8 @@ module _ {S W : Type 0} (g : Ghosts S) (contents : W → Option (List ℕ)) (tak
       report_grown g old told left run
       ∙ ap (λ m. begun_of old ++ (spelled_history told.labels (entries_behind m told.history) ++ ending_text told.table)) (sym count)
 
-  pub finishes : IsShown contents flushes out_old out_new rest → Finishes g contents flushes old left out_old out_new
+  pub finishes : IsShown w out_old out_new rest → Finishes g w old left out_old out_new
   finishes shown = record { told = told; run = run; report = report; more = rest; grown = grown; shown = shown }
 
-  pub unfinished : IsUnshown contents takes flushes out_old out_new rest → IsUnshownEnd g contents takes flushes old out_old out_new
+  pub unfinished : IsUnshown w out_old out_new rest → IsUnshownEnd g w old out_old out_new
   unfinished unshown = record { left = left; told = told; run = run; report = report; more = rest; grown = grown; unshown = unshown }

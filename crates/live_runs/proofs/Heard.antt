@@ -2,7 +2,7 @@
 use Rattle.std.proofs.Common.{◌≡◌, ℕ, List, [], ◌∷◌, Option, Some, None, Result, sym, ap, subst, ◌∙◌}
 use Rattle.std.proofs.lemmas.Option.{none-some}
 use Rattle.std.specs.Io.KnownBytes.{Appends}
-use Rattle.txn_bytes.specs.declared.sink.WriteFault.{WriteFault}
+use Rattle.txn_bytes.specs.Written.{Writer}
 use Rattle.txn_bytes.proofs.Appending.{then}
 use Rattle.session_text.specs.declared.fault.LineKind.{LineKind}
 use Rattle.session_text.specs.declared.fault.LineKind.TheVariants as kind
@@ -10,7 +10,7 @@ use Rattle.durable_top.specs.declared.store.TopStore.{Ghosts}
 use Rattle.interleavings.specs.Attempts.{GoesOn}
 use Rattle.interleavings.specs.Turning.{Turning}
 use Rattle.interleavings.proofs.Schedules.{on_same, on_still}
-use Rattle.request_lines.specs.declared.source.ReadFault.{ReadFault}
+use Rattle.request_lines.specs.Sources.{Requests}
 use Rattle.request_lines.specs.declared.lines.Taken.{Taken}
 use Rattle.request_lines.specs.declared.lines.Taken.TheVariants.{Whole, Long, Cut, End}
 use Rattle.live_runs.specs.Hearing.{Becomes, Heard, Hears, IsShownOf, Moment, begun_of, sessions_heard, with_heard, with_read}
@@ -34,29 +34,28 @@ module _ {S : Type 0} (g : Ghosts S) where
   went_become Cut bytes fault old new t = absurd t
   went_become End bytes fault old new t = absurd t
 
-  module _ {W : Type 0} (contents : W → Option (List ℕ)) (flushes : W → W → Result (Unit {0}) WriteFault → Type 0) (a : Option (List ℕ)) where
-    pub written_same : (old new : Turning S) (out_old out_new : W) → new ≡ old → out_new ≡ out_old → Appends a (contents out_old) (begun_of old)
-        → Appends a (contents out_new) (begun_of new)
+  module _ {W : Type 0} (w : Writer W) (a : Option (List ℕ)) where
+    pub written_same : (old new : Turning S) (out_old out_new : W) → new ≡ old → out_new ≡ out_old → Appends a (w.contents out_old) (begun_of old)
+        → Appends a (w.contents out_new) (begun_of new)
     written_same old new out_old out_new same out h =
-        subst (λ (x : Turning S). Appends a (contents out_new) (begun_of x)) (sym same)
-        (subst (λ (w : W). Appends a (contents w) (begun_of old)) (sym out) h)
+        subst (λ (x : Turning S). Appends a (w.contents out_new) (begun_of x)) (sym same)
+        (subst (λ x. Appends a (w.contents x) (begun_of old)) (sym out) h)
 
     written_become : (taken : Taken) (bytes : List ℕ) (fault : Option LineKind) (old new : Turning S) (out_old out_new : W) → Becomes g taken bytes fault old new
-        → IsShownOf contents flushes fault old new out_old out_new → Appends a (contents out_old) (begun_of old) → Appends a (contents out_new) (begun_of new)
+        → IsShownOf w fault old new out_old out_new → Appends a (w.contents out_old) (begun_of old) → Appends a (w.contents out_new) (begun_of new)
     written_become Whole bytes None old new out_old out_new t shown h =
-        subst (λ bs. Appends a (contents out_new) bs) (sym shown.grown)
-        (then a (contents out_old) (contents out_new) (begun_of old) shown.more h shown.shown.given)
+        subst (λ bs. Appends a (w.contents out_new) bs) (sym shown.grown)
+        (then a (w.contents out_old) (w.contents out_new) (begun_of old) shown.more h shown.shown.given)
     written_become Whole bytes (Some k) old new out_old out_new t shown h = written_same old new out_old out_new t.1 shown h
     written_become Long bytes None old new out_old out_new t shown h = absurd (none-some kind.Long t.0)
     written_become Long bytes (Some k) old new out_old out_new t shown h = written_same old new out_old out_new t.1 shown h
     written_become Cut bytes fault old new out_old out_new t shown h = absurd t
     written_become End bytes fault old new out_old out_new t shown h = absurd t
 
-module _ {R S W E : Type 0} (gives : R → R → Result (List ℕ) ReadFault → Type 0) (remaining : R → Option (List ℕ)) (g : Ghosts S)
-    (contents : W → Option (List ℕ)) (flushes : W → W → Result (Unit {0}) WriteFault → Type 0)
-    (err_contents : E → Option (List ℕ)) (err_takes : E → E → List ℕ → Result ℕ WriteFault → Type 0) (first : Moment R S W E) where
+module _ {R S W E : Type 0} (r : Requests R) (g : Ghosts S) (w : Writer W) (e : Writer E)
+    (first : Moment R S W E) where
   abbrev HearsHere : List Heard → Moment R S W E → Type 0
-  HearsHere list last = Hears gives remaining g contents flushes err_contents err_takes first list last
+  HearsHere list last = Hears r g w e first list last
 
   -- the sessions are those that the lines make
   pub hears_sessions : (list : List Heard) (last : Moment R S W E) → first.live.sessions ≡ [] → HearsHere list last → last.live.sessions ≡ sessions_heard list
@@ -73,9 +72,9 @@ module _ {R S W E : Type 0} (gives : R → R → Result (List ℕ) ReadFault →
       (went_become g one.taken x.bytes x.fault before.live last.live one.becomes)
 
   -- and what was written is the beginning of their report
-  pub hears_written : (a : Option (List ℕ)) (list : List Heard) (last : Moment R S W E) → Appends a (contents first.out) (begun_of first.live) → HearsHere list last
-      → Appends a (contents last.out) (begun_of last.live)
+  pub hears_written : (a : Option (List ℕ)) (list : List Heard) (last : Moment R S W E) → Appends a (w.contents first.out) (begun_of first.live) → HearsHere list last
+      → Appends a (w.contents last.out) (begun_of last.live)
   hears_written a [] last h same =
-      written_same g contents flushes a first.live last.live first.out last.out (ap (λ (m : Moment R S W E). m.live) same) (ap (λ (m : Moment R S W E). m.out) same) h
+      written_same g w a first.live last.live first.out last.out (ap (λ (m : Moment R S W E). m.live) same) (ap (λ (m : Moment R S W E). m.out) same) h
   hears_written a (x ∷ list) last h (before, heard, one) =
-      written_become g contents flushes a one.taken x.bytes x.fault before.live last.live before.out last.out one.becomes one.shown (hears_written a list before h heard)
+      written_become g w a one.taken x.bytes x.fault before.live last.live before.out last.out one.becomes one.shown (hears_written a list before h heard)

@@ -1,7 +1,7 @@
 -- What a whole live run comes to.
 use Rattle.std.proofs.Common.{◌≡◌, ℕ, ◌+◌, inr, List, Option, Result, Ok, Err, IfOk, IfErr, sym, ap, subst, ◌∙◌, arith}
 use Rattle.std.specs.Io.KnownBytes.{Appends}
-use Rattle.txn_bytes.specs.declared.sink.WriteFault.{WriteFault}
+use Rattle.txn_bytes.specs.Written.{Writer}
 use Rattle.txn_bytes.proofs.Appending.{then}
 use Rattle.serial_spec.specs.Interleaving.{IsFinished, IsInterleaving}
 use Rattle.serial_spec.specs.History.{History}
@@ -20,20 +20,18 @@ use Rattle.interleavings.proofs.Closed.{numbered_from}
 use Rattle.interleavings.proofs.Schedules.{on_still}
 use Rattle.interleavings.proofs.Trails.{trail_more}
 use Rattle.report_text.proofs.Accepted.{accepted}
-use Rattle.request_lines.specs.declared.source.ReadFault.{ReadFault}
+use Rattle.request_lines.specs.Sources.{Requests}
 use Rattle.live_runs.specs.Hearing.{HearsAll, Moment, begun_of, holds_nothing, moment, sessions_heard}
 use Rattle.live_runs.specs.declared.fault.LiveFault.{LiveFault}
 use Rattle.live_runs.specs.Living.{Begins, ComesTo, Finishes, HasEndFault, HasLiveCause, IsLived}
 use Rattle.live_runs.proofs.Heard.{hears_sessions, hears_went, hears_written, written_same}
 use Rattle.live_runs.proofs.Shown.{end_trail, labels_are, opening_is, went}
 
-module _ {R S W E : Type 0} (gives : R → R → Result (List ℕ) ReadFault → Type 0) (remaining : R → Option (List ℕ)) (g : Ghosts S)
-    (contents : W → Option (List ℕ)) (flushes : W → W → Result (Unit {0}) WriteFault → Type 0)
-    (err_contents : E → Option (List ℕ)) (err_takes : E → E → List ℕ → Result ℕ WriteFault → Type 0)
+module _ {R S W E : Type 0} (r : Requests R) (g : Ghosts S) (w : Writer W) (e : Writer E)
     (store : S) (in_old in_new : R) (out_old opened between out_new : W) (err_old err_new : E) (first last : Turning S) (left : S)
-    (begins : Begins g contents flushes store first out_old opened)
-    (heard : HearsAll gives remaining g contents flushes err_contents err_takes (moment in_old holds_nothing first opened err_old) in_new last between err_new)
-    (ends : Finishes g contents flushes last left between out_new) where
+    (begins : Begins g w store first out_old opened)
+    (heard : HearsAll r g w e (moment in_old holds_nothing first opened err_old) in_new last between err_new)
+    (ends : Finishes g w last left between out_new) where
   abbrev told : Told
   told = ends.told
 
@@ -43,12 +41,12 @@ module _ {R S W E : Type 0} (gives : R → R → Result (List ℕ) ReadFault →
   sessions : last.sessions ≡ sessions_heard heard.list
   sessions =
       ap (λ (t : Turning S). t.sessions) heard.ends.same
-      ∙ hears_sessions gives remaining g contents flushes err_contents err_takes at_first heard.list heard.last begins.start.sessions heard.hears
+      ∙ hears_sessions r g w e at_first heard.list heard.last begins.start.sessions heard.hears
 
   -- from the opening to the end of the input
   on : GoesOn g first.core last.core
   on = subst (λ (t : Turning S). GoesOn g first.core t.core) (sym heard.ends.same)
-      (hears_went gives remaining g contents flushes err_contents err_takes at_first heard.list heard.last heard.hears)
+      (hears_went r g w e at_first heard.list heard.last heard.hears)
 
   -- and on to the close
   on_all : GoesOn g first.core ends.run.last.core
@@ -71,11 +69,11 @@ module _ {R S W E : Type 0} (gives : R → R → Result (List ℕ) ReadFault →
   all_sessions : ends.run.last.sessions ≡ sessions_heard heard.list
   all_sessions = (went g last told left ends.run).sessions ∙ sessions
 
-  written : Appends (contents out_old) (contents between) (begun_of last)
-  written = written_same g contents flushes (contents out_old) heard.last.live last heard.last.out between heard.ends.same heard.ends.unwritten
-      (hears_written gives remaining g contents flushes err_contents err_takes at_first (contents out_old) heard.list heard.last begins.shown.given heard.hears)
+  written : Appends (w.contents out_old) (w.contents between) (begun_of last)
+  written = written_same g w (w.contents out_old) heard.last.live last heard.last.out between heard.ends.same heard.ends.unwritten
+      (hears_written r g w e at_first (w.contents out_old) heard.list heard.last begins.shown.given heard.hears)
 
-  pub comes_to : ComesTo g contents store heard.list told left out_old out_new
+  pub comes_to : ComesTo g w store heard.list told left out_old out_new
   comes_to = record {
     report = ends.report;
     labels = labels_are g last told left ends.run ∙ ap labels_in sessions;
@@ -96,20 +94,18 @@ module _ {R S W E : Type 0} (gives : R → R → Result (List ℕ) ReadFault →
     refusals =
         ends.run.closed.refusals
         ∙ ap (λ n. counted (n + store_refusals told.history)) (ap (λ (o : AtOpening). o.faults) on_all.opened ∙ begins.start.opened.faults);
-    written = subst (λ bs. Appends (contents out_old) (contents out_new) bs) (sym ends.grown)
-        (then (contents out_old) (contents between) (contents out_new) (begun_of last) ends.more written ends.shown.given);
+    written = subst (λ bs. Appends (w.contents out_old) (w.contents out_new) bs) (sym ends.grown)
+        (then (w.contents out_old) (w.contents between) (w.contents out_new) (begun_of last) ends.more written ends.shown.given);
     accepted = accepted told ends.report;
   }
 
 -- a run that came to its end, and one that did not
-module _ {R S W E : Type 0} (gives : R → R → Result (List ℕ) ReadFault → Type 0) (remaining : R → Option (List ℕ)) (g : Ghosts S)
-    (contents : W → Option (List ℕ)) (takes : W → W → List ℕ → Result ℕ WriteFault → Type 0) (flushes : W → W → Result (Unit {0}) WriteFault → Type 0)
-    (err_contents : E → Option (List ℕ)) (err_takes : E → E → List ℕ → Result ℕ WriteFault → Type 0)
+module _ {R S W E : Type 0} (r : Requests R) (g : Ghosts S) (w : Writer W) (e : Writer E)
     (store : S) (in_old in_new : R) (out_old opened between out_new : W) (err_old err_new : E) (first last : Turning S)
-    (begins : Begins g contents flushes store first out_old opened)
-    (heard : HearsAll gives remaining g contents flushes err_contents err_takes (moment in_old holds_nothing first opened err_old) in_new last between err_new) where
-  pub lived : (r : Result S LiveFault) → IfOk r (λ left. Finishes g contents flushes last left between out_new)
-      → IfOk r (λ left. IsLived gives remaining g contents flushes err_contents err_takes store in_old in_new out_old out_new err_old err_new left)
+    (begins : Begins g w store first out_old opened)
+    (heard : HearsAll r g w e (moment in_old holds_nothing first opened err_old) in_new last between err_new) where
+  pub lived : (ran : Result S LiveFault) → IfOk ran (λ left. Finishes g w last left between out_new)
+      → IfOk ran (λ left. IsLived r g w e store in_old in_new out_old out_new err_old err_new left)
   lived (Ok left) ends = record {
     first = first;
     opened = opened;
@@ -118,12 +114,12 @@ module _ {R S W E : Type 0} (gives : R → R → Result (List ℕ) ReadFault →
     between = between;
     heard = heard;
     finishes = ends;
-    comes = comes_to gives remaining g contents flushes err_contents err_takes store in_old in_new out_old opened between out_new err_old err_new first last left begins heard ends;
+    comes = comes_to r g w e store in_old in_new out_old opened between out_new err_old err_new first last left begins heard ends;
   }
   lived (Err fault) ends = tt
 
-  pub unlived : (r : Result S LiveFault) → IfErr r (λ fault. HasEndFault g contents takes flushes last between out_new fault)
-      → IfErr r (λ fault. HasLiveCause gives remaining g contents takes flushes err_contents err_takes store in_old in_new out_old out_new err_old err_new fault)
+  pub unlived : (ran : Result S LiveFault) → IfErr ran (λ fault. HasEndFault g w last between out_new fault)
+      → IfErr ran (λ fault. HasLiveCause r g w e store in_old in_new out_old out_new err_old err_new fault)
   unlived (Ok left) cause = tt
   unlived (Err fault) cause =
       inr (inr (record { first = first; opened = opened; begins = begins; last = last; between = between; heard = heard; cause = cause }))

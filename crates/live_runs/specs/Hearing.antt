@@ -1,6 +1,6 @@
 -- A live run, line by line of its input.
 use Rattle.std.specs.Prelude.{◌≡◌, ◌⊎◌, ◌^◌, ℕ, suc, Bool, true, false, List, [], ◌∷◌, ◌++◌, length, Option, Some, None, Result, Ok, Err}
-use Rattle.txn_bytes.specs.declared.sink.WriteFault.{WriteFault}
+use Rattle.txn_bytes.specs.Written.{Writer}
 use Rattle.serial_spec.specs.declared.event.Event.{Event}
 use Rattle.serial_spec.specs.Interleaving.{Session}
 use Rattle.session_text.specs.declared.fault.LineKind.{LineKind}
@@ -10,9 +10,9 @@ use Rattle.growing_sessions.specs.Growing.{begun_report, labels_in}
 use Rattle.durable_top.specs.declared.store.TopStore.{Ghosts}
 use Rattle.interleavings.specs.Scheduled.{Stands}
 use Rattle.interleavings.specs.Turning.{Turning}
-use Rattle.request_lines.specs.declared.source.ReadFault.{ReadFault}
 use Rattle.request_lines.specs.declared.lines.Taken.{Taken}
 use Rattle.request_lines.specs.declared.lines.Taken.TheVariants.{Whole, Long, Cut, End}
+use Rattle.request_lines.specs.Sources.{Requests}
 use Rattle.request_lines.specs.Taking.{Holds, Stops, Takes}
 use Rattle.live_sessions.specs.Requested.{with_request}
 use Rattle.live_sessions.specs.Handling.{Breaks, Handled, IsTaken}
@@ -53,7 +53,8 @@ pub record Moment (R S W E : Type 0) : Type 0 where
   pub err : E
 
 abbrev pub moment : {R S W E : Type 0} → R → Holds → Turning S → W → E → Moment R S W E
-moment reader holds live out err = record { reader = reader; holds = holds; live = live; out = out; err = err }
+moment reader holds live out err =
+    record { reader = reader; holds = holds; live = live; out = out; err = err }
 
 -- nothing is held yet
 abbrev pub holds_nothing : Holds
@@ -63,151 +64,154 @@ holds_nothing = record { held = []; kept = [] }
 abbrev pub begun_of : {S : Type 0} → Turning S → List ℕ
 begun_of t = begun_report t.core.rows (labels_in t.sessions) t.core.history
 
--- what of it the sessions have brought about since, and the first have not, was written and passed on
-pub record IsShownSince {S W : Type 0} (contents : W → Option (List ℕ)) (flushes : W → W → Result (Unit {0}) WriteFault → Type 0)
-    (old new : Turning S) (out_old out_new : W) : Type 0 where
-  pub more : List ℕ
-  pub grown : begun_of new ≡ begun_of old ++ more
-  pub shown : IsShown contents flushes out_old out_new more
-
--- it was written in part, or not passed on
-pub record IsUnshownSince {S W : Type 0} (contents : W → Option (List ℕ)) (takes : W → W → List ℕ → Result ℕ WriteFault → Type 0)
-    (flushes : W → W → Result (Unit {0}) WriteFault → Type 0) (old new : Turning S) (out_old out_new : W) : Type 0 where
-  pub more : List ℕ
-  pub grown : begun_of new ≡ begun_of old ++ more
-  pub unshown : IsUnshown contents takes flushes out_old out_new more
-
 -- ---- one line
 
--- nothing was told, or the line that says why line n was not taken
-abbrev pub IsToldOf : {E : Type 0} → (E → Option (List ℕ)) → (E → E → List ℕ → Result ℕ WriteFault → Type 0) → ℕ → Option LineKind → E → E → Type 0
-IsToldOf err_contents err_takes n None old new = new ≡ old
-IsToldOf err_contents err_takes n (Some k) old new = IsSaid err_contents err_takes old new (spelled_fault (Line n k))
+module _ {S W : Type 0} (w : Writer W) where
+  -- what of it the sessions have brought about since, and the first have not, was written and
+  -- passed on
+  pub record IsShownSince (old new : Turning S) (out_old out_new : W) : Type 0 where
+    pub more : List ℕ
+    pub grown : begun_of new ≡ begun_of old ++ more
+    pub shown : IsShown w out_old out_new more
 
--- what a request brought about was shown; what was not taken brought nothing about
-abbrev pub IsShownOf : {S W : Type 0} → (W → Option (List ℕ)) → (W → W → Result (Unit {0}) WriteFault → Type 0)
-    → Option LineKind → Turning S → Turning S → W → W → Type 0
-IsShownOf contents flushes None old new out_old out_new = IsShownSince contents flushes old new out_old out_new
-IsShownOf contents flushes (Some k) old new out_old out_new = out_new ≡ out_old
+  -- it was written in part, or not passed on
+  pub record IsUnshownSince (old new : Turning S) (out_old out_new : W) : Type 0 where
+    pub more : List ℕ
+    pub grown : begun_of new ≡ begun_of old ++ more
+    pub unshown : IsUnshown w out_old out_new more
+
+  -- what a request brought about was shown; what was not taken brought nothing about
+  abbrev pub IsShownOf : Option LineKind → Turning S → Turning S → W → W → Type 0
+  IsShownOf None old new out_old out_new = IsShownSince old new out_old out_new
+  IsShownOf (Some k) old new out_old out_new = out_new ≡ out_old
+
+-- nothing was told, or the line that says why line n was not taken
+abbrev pub IsToldOf : {E : Type 0} → Writer E → ℕ → Option LineKind → E → E → Type 0
+IsToldOf e n None old new = new ≡ old
+IsToldOf e n (Some k) old new = IsSaid e old new (spelled_fault (Line n k))
 
 -- what becomes of a line, as it was taken off the reader
-abbrev pub Becomes : {S : Type 0} → Ghosts S → Taken → List ℕ → Option LineKind → Turning S → Turning S → Type 0
+abbrev pub Becomes : {S : Type 0} → Ghosts S → Taken → List ℕ → Option LineKind
+    → Turning S → Turning S → Type 0
 Becomes g Whole bytes fault old new = Handled g old bytes new fault
 Becomes g Long bytes fault old new = (fault ≡ Some kind.Long) × (new ≡ old)
 Becomes g Cut bytes fault old new = ⊥
 Becomes g End bytes fault old new = ⊥
 
 -- a whole line was handled, and what came of it was told or shown
-pub record Answers {S W E : Type 0} (g : Ghosts S) (contents : W → Option (List ℕ)) (flushes : W → W → Result (Unit {0}) WriteFault → Type 0)
-    (err_contents : E → Option (List ℕ)) (err_takes : E → E → List ℕ → Result ℕ WriteFault → Type 0)
-    (n : ℕ) (bytes : List ℕ) (old new : Turning S) (out_old out_new : W) (err_old err_new : E) : Type 0 where
+pub record Answers {S W E : Type 0} (g : Ghosts S) (w : Writer W) (e : Writer E) (n : ℕ)
+    (bytes : List ℕ) (old new : Turning S) (out_old out_new : W) (err_old err_new : E) : Type 0 where
   pub fault : Option LineKind
   pub handled : Handled g old bytes new fault
-  pub told : IsToldOf err_contents err_takes n fault err_old err_new
-  pub shown : IsShownOf contents flushes fault old new out_old out_new
+  pub told : IsToldOf e n fault err_old err_new
+  pub shown : IsShownOf w fault old new out_old out_new
 
--- it was taken, and what came of it was not shown
-pub record IsUnshownAnswer {S W : Type 0} (g : Ghosts S) (contents : W → Option (List ℕ)) (takes : W → W → List ℕ → Result ℕ WriteFault → Type 0)
-    (flushes : W → W → Result (Unit {0}) WriteFault → Type 0) (bytes : List ℕ) (old : Turning S) (out_old out_new : W) : Type 0 where
-  pub new : Turning S
-  pub taken : IsTaken g old bytes new
-  pub stands : Stands g new
-  pub unshown : IsUnshownSince contents takes flushes old new out_old out_new
+module _ {S W : Type 0} (g : Ghosts S) (w : Writer W) where
+  -- it was taken, and what came of it was not shown
+  pub record IsUnshownAnswer (bytes : List ℕ) (old : Turning S) (out_old out_new : W) : Type 0 where
+    pub new : Turning S
+    pub taken : IsTaken g old bytes new
+    pub stands : Stands g new
+    pub unshown : IsUnshownSince w old new out_old out_new
 
--- why a whole line has no answer
-abbrev pub HasAnswerFault : {S W : Type 0} → Ghosts S → (W → Option (List ℕ)) → (W → W → List ℕ → Result ℕ WriteFault → Type 0)
-    → (W → W → Result (Unit {0}) WriteFault → Type 0) → List ℕ → Turning S → W → W → LiveFault → Type 0
-HasAnswerFault g contents takes flushes bytes old out_old out_new (Open cause) = ⊥
-HasAnswerFault g contents takes flushes bytes old out_old out_new Read = ⊥
-HasAnswerFault g contents takes flushes bytes old out_old out_new NoMemory = Breaks g old bytes × (out_new ≡ out_old)
-HasAnswerFault g contents takes flushes bytes old out_old out_new Write = IsUnshownAnswer g contents takes flushes bytes old out_old out_new
+  -- why a whole line has no answer
+  abbrev pub HasAnswerFault : List ℕ → Turning S → W → W → LiveFault → Type 0
+  HasAnswerFault bytes old out_old out_new (Open cause) = ⊥
+  HasAnswerFault bytes old out_old out_new Read = ⊥
+  HasAnswerFault bytes old out_old out_new NoMemory = Breaks g old bytes × (out_new ≡ out_old)
+  HasAnswerFault bytes old out_old out_new Write = IsUnshownAnswer bytes old out_old out_new
 
 -- ---- line after line
 
-module _ {R S W E : Type 0} (gives : R → R → Result (List ℕ) ReadFault → Type 0) (remaining : R → Option (List ℕ)) (g : Ghosts S)
-    (contents : W → Option (List ℕ)) where
-  module _ (flushes : W → W → Result (Unit {0}) WriteFault → Type 0)
-      (err_contents : E → Option (List ℕ)) (err_takes : E → E → List ℕ → Result ℕ WriteFault → Type 0) where
-    -- line n was taken off the reader, and was told or answered
-    pub record HearsOne (n : ℕ) (old : Moment R S W E) (x : Heard) (new : Moment R S W E) : Type 0 where
-      pub taken : Taken
-      pub takes : Takes gives remaining old.reader new.reader old.holds new.holds taken
-      pub bytes : x.bytes ≡ new.holds.kept
-      pub becomes : Becomes g taken x.bytes x.fault old.live new.live
-      pub told : IsToldOf err_contents err_takes n x.fault old.err new.err
-      pub shown : IsShownOf contents flushes x.fault old.live new.live old.out new.out
+module _ {R S W E : Type 0} (r : Requests R) (g : Ghosts S) (w : Writer W) (e : Writer E) where
+  -- line n was taken off the reader, and was told or answered
+  pub record HearsOne (n : ℕ) (old : Moment R S W E) (x : Heard) (new : Moment R S W E) : Type 0 where
+    pub taken : Taken
+    pub takes : Takes r old.reader new.reader old.holds new.holds taken
+    pub bytes : x.bytes ≡ new.holds.kept
+    pub becomes : Becomes g taken x.bytes x.fault old.live new.live
+    pub told : IsToldOf e n x.fault old.err new.err
+    pub shown : IsShownOf w x.fault old.live new.live old.out new.out
 
-    -- these lines were, the newest first
-    abbrev pub Hears : Moment R S W E → List Heard → Moment R S W E → Type 0
-    Hears first [] now = now ≡ first
-    Hears first (x ∷ list) now = (before : Moment R S W E) × Hears first list before × HearsOne (suc (length list)) before x now
+  -- these lines were, the newest first
+  abbrev pub Hears : Moment R S W E → List Heard → Moment R S W E → Type 0
+  Hears first [] now = now ≡ first
+  Hears first (x ∷ list) now =
+      (before : Moment R S W E) × Hears first list before
+      × HearsOne (suc (length list)) before x now
 
-    -- in place of line n the input ended, or bytes with no line feed came, and that was told
-    abbrev pub IsEndOf : ℕ → Taken → E → E → Type 0
-    IsEndOf n End old new = new ≡ old
-    IsEndOf n Cut old new = IsSaid err_contents err_takes old new (spelled_fault (Line n kind.End))
-    IsEndOf n Whole old new = ⊥
-    IsEndOf n Long old new = ⊥
+  -- in place of line n the input ended, or bytes with no line feed came, and that was told
+  abbrev pub IsEndOf : ℕ → Taken → E → E → Type 0
+  IsEndOf n End old new = new ≡ old
+  IsEndOf n Cut old new = IsSaid e old new (spelled_fault (Line n kind.End))
+  IsEndOf n Whole old new = ⊥
+  IsEndOf n Long old new = ⊥
 
-    pub record EndsAt (n : ℕ) (old new : Moment R S W E) : Type 0 where
-      pub taken : Taken
-      pub takes : Takes gives remaining old.reader new.reader old.holds new.holds taken
-      pub told : IsEndOf n taken old.err new.err
-      pub same : new.live ≡ old.live
-      pub unwritten : new.out ≡ old.out
+  -- the input ended in place of line n, and nothing else came of that
+  pub record EndsAt (n : ℕ) (old new : Moment R S W E) : Type 0 where
+    pub taken : Taken
+    pub takes : Takes r old.reader new.reader old.holds new.holds taken
+    pub told : IsEndOf n taken old.err new.err
+    pub same : new.live ≡ old.live
+    pub unwritten : new.out ≡ old.out
 
-    -- one turn: a line, and whether there may be more
-    pub record HearsSome (n : ℕ) (old new : Moment R S W E) : Type 0 where
-      pub line : Heard
-      pub heard : HearsOne n old line new
+  -- one turn: a line, and whether there may be more
+  pub record HearsSome (n : ℕ) (old new : Moment R S W E) : Type 0 where
+    pub line : Heard
+    pub heard : HearsOne n old line new
 
-    abbrev pub HearsNext : ℕ → Moment R S W E → Moment R S W E → Bool → Type 0
-    HearsNext n old new true = HearsSome n old new
-    HearsNext n old new false = EndsAt n old new
+  -- one turn, by whether there may be more
+  abbrev pub HearsNext : ℕ → Moment R S W E → Moment R S W E → Bool → Type 0
+  HearsNext n old new true = HearsSome n old new
+  HearsNext n old new false = EndsAt n old new
 
-    -- all lines of the input, up to its end
-    pub record HearsAll (first : Moment R S W E) (reader : R) (live : Turning S) (out : W) (err : E) : Type 0 where
-      pub list : List Heard
-      pub last : Moment R S W E
-      pub hears : Hears first list last
-      pub holds : Holds
-      pub ends : EndsAt (suc (length list)) last (moment reader holds live out err)
+  -- all lines of the input, up to its end
+  pub record HearsAll (first : Moment R S W E) (reader : R) (live : Turning S) (out : W)
+      (err : E) : Type 0 where
+    pub list : List Heard
+    pub last : Moment R S W E
+    pub hears : Hears first list last
+    pub holds : Holds
+    pub ends : EndsAt (suc (length list)) last (moment reader holds live out err)
 
   -- ---- why a line was not heard
 
-  module _ (takes : W → W → List ℕ → Result ℕ WriteFault → Type 0) (flushes : W → W → Result (Unit {0}) WriteFault → Type 0) where
-    -- the reader failed in the midst of it
-    pub record IsUnread (old : Moment R S W E) (reader : R) (out : W) : Type 0 where
-      pub holds : Holds
-      pub stops : Stops gives remaining old.reader reader old.holds holds
-      pub unwritten : out ≡ old.out
-      pub stands : Stands g old.live
+  -- the reader failed in the midst of it
+  pub record IsUnread (old : Moment R S W E) (reader : R) (out : W) : Type 0 where
+    pub holds : Holds
+    pub stops : Stops r old.reader reader old.holds holds
+    pub unwritten : out ≡ old.out
+    pub stands : Stands g old.live
 
-    -- it was whole, and has no answer
-    pub record IsUnanswered (old : Moment R S W E) (reader : R) (out : W) (fault : LiveFault) : Type 0 where
-      pub holds : Holds
-      pub whole : Takes gives remaining old.reader reader old.holds holds Whole
-      pub cause : HasAnswerFault g contents takes flushes holds.kept old.live old.out out fault
+  -- it was whole, and has no answer
+  pub record IsUnanswered (old : Moment R S W E) (reader : R) (out : W)
+      (fault : LiveFault) : Type 0 where
+    pub holds : Holds
+    pub whole : Takes r old.reader reader old.holds holds Whole
+    pub cause : HasAnswerFault g w holds.kept old.live old.out out fault
 
-    abbrev pub HasHearingFault : Moment R S W E → R → W → LiveFault → Type 0
-    HasHearingFault old reader out (Open cause) = ⊥
-    HasHearingFault old reader out Read = IsUnread old reader out
-    HasHearingFault old reader out NoMemory = IsUnanswered old reader out NoMemory
-    HasHearingFault old reader out Write = IsUnanswered old reader out Write
+  -- why it was not heard
+  abbrev pub HasHearingFault : Moment R S W E → R → W → LiveFault → Type 0
+  HasHearingFault old reader out (Open cause) = ⊥
+  HasHearingFault old reader out Read = IsUnread old reader out
+  HasHearingFault old reader out NoMemory = IsUnanswered old reader out NoMemory
+  HasHearingFault old reader out Write = IsUnanswered old reader out Write
 
-    -- so many lines that they cannot be counted
-    pub record IsUncounted (count : ℕ) (old : Moment R S W E) (reader : R) (out : W) (fault : LiveFault) : Type 0 where
-      pub many : suc (suc count) ≡ 2 ^ 64
-      pub told : fault ≡ Read
-      pub read : reader ≡ old.reader
-      pub unwritten : out ≡ old.out
-      pub stands : Stands g old.live
+  -- so many lines that they cannot be counted
+  pub record IsUncounted (count : ℕ) (old : Moment R S W E) (reader : R) (out : W)
+      (fault : LiveFault) : Type 0 where
+    pub many : suc (suc count) ≡ 2 ^ 64
+    pub told : fault ≡ Read
+    pub read : reader ≡ old.reader
+    pub unwritten : out ≡ old.out
+    pub stands : Stands g old.live
 
-    -- behind these lines one was not heard; nothing was told of it yet
-    pub record BreaksHearing (err_contents : E → Option (List ℕ)) (err_takes : E → E → List ℕ → Result ℕ WriteFault → Type 0)
-        (first : Moment R S W E) (reader : R) (out : W) (err : E) (fault : LiveFault) : Type 0 where
-      pub list : List Heard
-      pub last : Moment R S W E
-      pub hears : Hears flushes err_contents err_takes first list last
-      pub untold : err ≡ last.err
-      pub cause : HasHearingFault last reader out fault ⊎ IsUncounted (length list) last reader out fault
+  -- behind these lines one was not heard; nothing was told of it yet
+  pub record BreaksHearing (first : Moment R S W E) (reader : R) (out : W) (err : E)
+      (fault : LiveFault) : Type 0 where
+    pub list : List Heard
+    pub last : Moment R S W E
+    pub hears : Hears first list last
+    pub untold : err ≡ last.err
+    pub cause : HasHearingFault last reader out fault
+        ⊎ IsUncounted (length list) last reader out fault

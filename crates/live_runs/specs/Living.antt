@@ -1,7 +1,7 @@
 -- A live run, from its opening to its close.
-use Rattle.std.specs.Prelude.{◌≡◌, ◌⊎◌, ◌+◌, ℕ, List, [], ◌++◌, Option, Result}
+use Rattle.std.specs.Prelude.{◌≡◌, ◌⊎◌, ◌+◌, ℕ, List, [], ◌++◌}
 use Rattle.std.specs.Io.KnownBytes.{Appends}
-use Rattle.txn_bytes.specs.declared.sink.WriteFault.{WriteFault}
+use Rattle.txn_bytes.specs.Written.{Writer}
 use Rattle.serial_spec.specs.Interleaving.{IsFinished, IsInterleaving}
 use Rattle.serial_spec.specs.Rows.{value_in}
 use Rattle.durable_top.specs.declared.store.TopStore.{Ghosts}
@@ -18,7 +18,7 @@ use Rattle.interleavings.specs.Turning.{IsStart, Turning}
 use Rattle.report_check.specs.Verdicts.{HasVerdict}
 use Rattle.report_check.specs.declared.verdict.Verdict.TheVariants.{Yes}
 use Rattle.report_text.specs.Lines.{opening_text}
-use Rattle.request_lines.specs.declared.source.ReadFault.{ReadFault}
+use Rattle.request_lines.specs.Sources.{Requests}
 use Rattle.session_runs.specs.Faults.{IsSaid}
 use Rattle.session_runs.specs.Replays.{spelled_report}
 use Rattle.live_runs.specs.declared.fault.LiveFault.{LiveFault}
@@ -29,129 +29,128 @@ use Rattle.live_runs.specs.Showing.{IsShown, IsUnshown}
 
 -- ---- the opening
 
--- there are no sessions yet, over this store, and the opening was shown
-pub record Begins {S W : Type 0} (g : Ghosts S) (contents : W → Option (List ℕ)) (flushes : W → W → Result (Unit {0}) WriteFault → Type 0)
-    (store : S) (first : Turning S) (old new : W) : Type 0 where
-  pub start : IsStart g [] store first
-  pub shown : IsShown contents flushes old new (begun_of first)
+module _ {S W : Type 0} (g : Ghosts S) (w : Writer W) where
+  -- there are no sessions yet, over this store, and the opening was shown
+  pub record Begins (store : S) (first : Turning S) (old new : W) : Type 0 where
+    pub start : IsStart g [] store first
+    pub shown : IsShown w old new (begun_of first)
 
--- it was not shown
-pub record IsUnshownOpening {S W : Type 0} (g : Ghosts S) (contents : W → Option (List ℕ)) (takes : W → W → List ℕ → Result ℕ WriteFault → Type 0)
-    (flushes : W → W → Result (Unit {0}) WriteFault → Type 0) (store : S) (old new : W) : Type 0 where
-  pub first : Turning S
-  pub start : IsStart g [] store first
-  pub stands : Stands g first
-  pub unshown : IsUnshown contents takes flushes old new (opening_text first.core.rows)
+  -- it was not shown
+  pub record IsUnshownOpening (store : S) (old new : W) : Type 0 where
+    pub first : Turning S
+    pub start : IsStart g [] store first
+    pub stands : Stands g first
+    pub unshown : IsUnshown w old new (opening_text first.core.rows)
 
-abbrev pub HasBeginFault : {S W : Type 0} → Ghosts S → (W → Option (List ℕ)) → (W → W → List ℕ → Result ℕ WriteFault → Type 0)
-    → (W → W → Result (Unit {0}) WriteFault → Type 0) → S → W → W → LiveFault → Type 0
-HasBeginFault g contents takes flushes store old new (Open cause) = HasCause g store cause × (new ≡ old)
-HasBeginFault g contents takes flushes store old new Read = ⊥
-HasBeginFault g contents takes flushes store old new NoMemory = ⊥
-HasBeginFault g contents takes flushes store old new Write = IsUnshownOpening g contents takes flushes store old new
+  -- why a run was not begun
+  abbrev pub HasBeginFault : S → W → W → LiveFault → Type 0
+  HasBeginFault store old new (Open cause) = HasCause g store cause × (new ≡ old)
+  HasBeginFault store old new Read = ⊥
+  HasBeginFault store old new NoMemory = ⊥
+  HasBeginFault store old new Write = IsUnshownOpening store old new
 
--- ---- the end
+  -- ---- the end
 
--- The sessions, which take no line any more, ran to this report, and what of it was not shown before was shown
-pub record Finishes {S W : Type 0} (g : Ghosts S) (contents : W → Option (List ℕ)) (flushes : W → W → Result (Unit {0}) WriteFault → Type 0)
-    (last : Turning S) (left : S) (old new : W) : Type 0 where
-  pub told : Told
-  pub run : RunsOut g [] last told left
-  pub report : IsReport told
-  pub more : List ℕ
-  pub grown : spelled_report told ≡ begun_of last ++ more
-  pub shown : IsShown contents flushes old new more
+  -- The sessions, which take no line any more, ran to this report, and what of it was not shown
+  -- before was shown
+  pub record Finishes (last : Turning S) (left : S) (old new : W) : Type 0 where
+    pub told : Told
+    pub run : RunsOut g [] last told left
+    pub report : IsReport told
+    pub more : List ℕ
+    pub grown : spelled_report told ≡ begun_of last ++ more
+    pub shown : IsShown w old new more
 
--- it was not shown
-pub record IsUnshownEnd {S W : Type 0} (g : Ghosts S) (contents : W → Option (List ℕ)) (takes : W → W → List ℕ → Result ℕ WriteFault → Type 0)
-    (flushes : W → W → Result (Unit {0}) WriteFault → Type 0) (last : Turning S) (old new : W) : Type 0 where
-  pub left : S
-  pub told : Told
-  pub run : RunsOut g [] last told left
-  pub report : IsReport told
-  pub more : List ℕ
-  pub grown : spelled_report told ≡ begun_of last ++ more
-  pub unshown : IsUnshown contents takes flushes old new more
+  -- it was not shown
+  pub record IsUnshownEnd (last : Turning S) (old new : W) : Type 0 where
+    pub left : S
+    pub told : Told
+    pub run : RunsOut g [] last told left
+    pub report : IsReport told
+    pub more : List ℕ
+    pub grown : spelled_report told ≡ begun_of last ++ more
+    pub unshown : IsUnshown w old new more
 
-abbrev pub HasEndFault : {S W : Type 0} → Ghosts S → (W → Option (List ℕ)) → (W → W → List ℕ → Result ℕ WriteFault → Type 0)
-    → (W → W → Result (Unit {0}) WriteFault → Type 0) → Turning S → W → W → LiveFault → Type 0
-HasEndFault g contents takes flushes last old new (Open cause) = ⊥
-HasEndFault g contents takes flushes last old new Read = ⊥
-HasEndFault g contents takes flushes last old new NoMemory = BreaksOff g last × (new ≡ old)
-HasEndFault g contents takes flushes last old new Write = IsUnshownEnd g contents takes flushes last old new
+  -- why a run was not ended
+  abbrev pub HasEndFault : Turning S → W → W → LiveFault → Type 0
+  HasEndFault last old new (Open cause) = ⊥
+  HasEndFault last old new Read = ⊥
+  HasEndFault last old new NoMemory = BreaksOff g last × (new ≡ old)
+  HasEndFault last old new Write = IsUnshownEnd last old new
 
--- ---- the whole
+  -- ---- the whole
 
--- What a live run comes to that heard these lines, the newest first. Its report is one of the sessions that these lines make
-pub record ComesTo {S W : Type 0} (g : Ghosts S) (contents : W → Option (List ℕ)) (store : S) (list : List Heard) (told : Told) (left : S) (old new : W) : Type 0 where
-  -- legal, serially correct, finished, with the table that is due
-  pub report : IsReport told
-  pub labels : told.labels ≡ labels_in (sessions_heard list)
-  pub in_turn : IsInterleaving told.opening (sessions_heard list) told.history
-  pub finished : IsFinished (sessions_heard list) told.history
-  -- over the rows that the store answered; it was asked for each commit before that was replied
-  pub asked : WasAsked g store told.opening told.history left
-  pub opening : g.doubt left ≡ 0 → value_in told.opening ≡ g.table store
-  -- the store has the final table until its device fails, with the numbers that the history gives
-  pub stored : IsTrusted g left → g.table left ≡ value_in told.table
-  pub numbered : IsTrusted g left → IsNumberedAfter (g.numbered store) told.history (g.numbered left)
-  pub refusals : g.faults left ≡ counted (g.faults store + store_refusals told.history)
-  -- the writer got the whole report, and whoever checks it accepts it
-  pub written : Appends (contents old) (contents new) (spelled_report told)
-  pub accepted : HasVerdict (spelled_report told) Yes
+  -- What a live run comes to that heard these lines, the newest first. Its report is one of the
+  -- sessions that these lines make
+  pub record ComesTo (store : S) (list : List Heard) (told : Told) (left : S)
+      (old new : W) : Type 0 where
+    -- legal, serially correct, finished, with the table that is due
+    pub report : IsReport told
+    pub labels : told.labels ≡ labels_in (sessions_heard list)
+    pub in_turn : IsInterleaving told.opening (sessions_heard list) told.history
+    pub finished : IsFinished (sessions_heard list) told.history
+    -- over the rows that the store answered; it was asked for each commit before that was replied
+    pub asked : WasAsked g store told.opening told.history left
+    pub opening : g.doubt left ≡ 0 → value_in told.opening ≡ g.table store
+    -- the store has the final table until its device fails, with the numbers that the history
+    -- gives
+    pub stored : IsTrusted g left → g.table left ≡ value_in told.table
+    pub numbered : IsTrusted g left
+        → IsNumberedAfter (g.numbered store) told.history (g.numbered left)
+    pub refusals : g.faults left ≡ counted (g.faults store + store_refusals told.history)
+    -- the writer got the whole report, and whoever checks it accepts it
+    pub written : Appends (w.contents old) (w.contents new) (spelled_report told)
+    pub accepted : HasVerdict (spelled_report told) Yes
 
-module _ {R S W E : Type 0} (gives : R → R → Result (List ℕ) ReadFault → Type 0) (remaining : R → Option (List ℕ)) (g : Ghosts S)
-    (contents : W → Option (List ℕ)) where
+module _ {R S W E : Type 0} (r : Requests R) (g : Ghosts S) (w : Writer W) (e : Writer E)
+    (store : S) (in_old in_new : R) (out_old out_new : W) (err_old err_new : E) where
   -- The opening, the lines of the input up to its end, and the end of the run, one behind another
-  pub record IsLived (flushes : W → W → Result (Unit {0}) WriteFault → Type 0)
-      (err_contents : E → Option (List ℕ)) (err_takes : E → E → List ℕ → Result ℕ WriteFault → Type 0)
-      (store : S) (in_old in_new : R) (out_old out_new : W) (err_old err_new : E) (left : S) : Type 0 where
+  pub record IsLived (left : S) : Type 0 where
     pub first : Turning S
     pub opened : W
-    pub begins : Begins g contents flushes store first out_old opened
+    pub begins : Begins g w store first out_old opened
     pub last : Turning S
     pub between : W
-    pub heard : HearsAll gives remaining g contents flushes err_contents err_takes
-        (moment in_old holds_nothing first opened err_old) in_new last between err_new
-    pub finishes : Finishes g contents flushes last left between out_new
-    pub comes : ComesTo g contents store heard.list finishes.told left out_old out_new
+    pub heard : HearsAll r g w e (moment in_old holds_nothing first opened err_old)
+        in_new last between err_new
+    pub finishes : Finishes g w last left between out_new
+    pub comes : ComesTo g w store heard.list finishes.told left out_old out_new
 
-  module _ (takes : W → W → List ℕ → Result ℕ WriteFault → Type 0) (flushes : W → W → Result (Unit {0}) WriteFault → Type 0)
-      (err_contents : E → Option (List ℕ)) (err_takes : E → E → List ℕ → Result ℕ WriteFault → Type 0) where
-    -- it failed at the opening, and nothing was read
-    pub record FailsAtOpening (store : S) (in_old in_new : R) (out_old out_new : W) (err_old err_new : E) (fault : LiveFault) : Type 0 where
-      pub cause : HasBeginFault g contents takes flushes store out_old out_new fault
-      pub unread : in_new ≡ in_old
-      pub untold : err_new ≡ err_old
+  -- it failed at the opening, and nothing was read
+  pub record FailsAtOpening (fault : LiveFault) : Type 0 where
+    pub cause : HasBeginFault g w store out_old out_new fault
+    pub unread : in_new ≡ in_old
+    pub untold : err_new ≡ err_old
 
-    -- while lines were heard
-    pub record FailsAtLine (store : S) (in_old in_new : R) (out_old out_new : W) (err_old err_new : E) (fault : LiveFault) : Type 0 where
-      pub first : Turning S
-      pub opened : W
-      pub begins : Begins g contents flushes store first out_old opened
-      pub breaks : BreaksHearing gives remaining g contents takes flushes err_contents err_takes
-          (moment in_old holds_nothing first opened err_old) in_new out_new err_new fault
+  -- while lines were heard
+  pub record FailsAtLine (fault : LiveFault) : Type 0 where
+    pub first : Turning S
+    pub opened : W
+    pub begins : Begins g w store first out_old opened
+    pub breaks : BreaksHearing r g w e (moment in_old holds_nothing first opened err_old)
+        in_new out_new err_new fault
 
-    -- behind them
-    pub record FailsAtEnd (store : S) (in_old in_new : R) (out_old out_new : W) (err_old err_new : E) (fault : LiveFault) : Type 0 where
-      pub first : Turning S
-      pub opened : W
-      pub begins : Begins g contents flushes store first out_old opened
-      pub last : Turning S
-      pub between : W
-      pub heard : HearsAll gives remaining g contents flushes err_contents err_takes
-          (moment in_old holds_nothing first opened err_old) in_new last between err_new
-      pub cause : HasEndFault g contents takes flushes last between out_new fault
+  -- behind them
+  pub record FailsAtEnd (fault : LiveFault) : Type 0 where
+    pub first : Turning S
+    pub opened : W
+    pub begins : Begins g w store first out_old opened
+    pub last : Turning S
+    pub between : W
+    pub heard : HearsAll r g w e (moment in_old holds_nothing first opened err_old)
+        in_new last between err_new
+    pub cause : HasEndFault g w last between out_new fault
 
-    abbrev pub HasLiveCause : S → R → R → W → W → E → E → LiveFault → Type 0
-    HasLiveCause store in_old in_new out_old out_new err_old err_new fault =
-        FailsAtOpening store in_old in_new out_old out_new err_old err_new fault
-        ⊎ (FailsAtLine store in_old in_new out_old out_new err_old err_new fault
-        ⊎ FailsAtEnd store in_old in_new out_old out_new err_old err_new fault)
+  -- why it failed
+  abbrev pub HasLiveCause : LiveFault → Type 0
+  HasLiveCause fault = FailsAtOpening fault ⊎ (FailsAtLine fault ⊎ FailsAtEnd fault)
 
-    -- it failed for a cause, and the error writer got the line of that behind those of the lines that were not taken
-    pub record IsUnlived (store : S) (in_old in_new : R) (out_old out_new : W) (err_old err_new : E) : Type 0 where
-      pub fault : LiveFault
-      pub err : E
-      pub cause : HasLiveCause store in_old in_new out_old out_new err_old err fault
-      pub said : IsSaid err_contents err_takes err err_new (spelled_end fault)
+-- it failed for a cause, and the error writer got the line of that behind those of the lines that
+-- were not taken
+pub record IsUnlived {R S W E : Type 0} (r : Requests R) (g : Ghosts S) (w : Writer W)
+    (e : Writer E) (store : S) (in_old in_new : R) (out_old out_new : W)
+    (err_old err_new : E) : Type 0 where
+  pub fault : LiveFault
+  pub err : E
+  pub cause : HasLiveCause r g w e store in_old in_new out_old out_new err_old err fault
+  pub said : IsSaid e err err_new (spelled_end fault)

@@ -21,10 +21,10 @@ pub enum LiveFault {
     Write,
 }
 
-/// Says why there is no whole report, in one line. Where the error writer fails it has taken a beginning of that line, and the
-/// exit status alone tells.
+/// Says why there is no whole report, in one line. Where the error writer fails it has taken a
+/// beginning of that line, and the exit status alone tells.
 pub(crate) fn tell_end<E: Sink>(err: &mut E, fault: LiveFault) -> u8
-    ensures told { IsSaid E.contents E.takes err.old err.new (spelled_end fault) }
+    ensures told { IsSaid E.Sink err.old err.new (spelled_end fault) }
     ensures status { result ≡ FAILED }
 {
     match fault {

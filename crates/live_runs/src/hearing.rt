@@ -16,7 +16,7 @@ use txn_bytes::Sink;
 
 // Says that this line of the input was not taken, and why.
 fn refuse<E: Sink>(err: &mut E, line: usize, kind: LineKind)
-    ensures { IsSaid E.contents E.takes err.old err.new (spelled_fault (Line line kind)) }
+    ensures { IsSaid E.Sink err.old err.new (spelled_fault (Line line kind)) }
 {
     let _status = tell(err, Fault::Line { line, kind });
 }
@@ -38,10 +38,10 @@ fn answer<S: TopStore, W: Sink, E: Sink>(
     out: &mut W,
     err: &mut E,
 ) -> Result<Live<S>, LiveFault>
-    ensures ok { IfOk result (λ new. Answers S.TopStore W.contents W.flushes E.contents E.takes
+    ensures ok { IfOk result (λ new. Answers S.TopStore W.Sink E.Sink
         line bytes.now live new out.old out.new err.old err.new) }
     ensures err { IfErr result (λ fault.
-        HasAnswerFault S.TopStore W.contents W.takes W.flushes bytes.now live out.old out.new fault) }
+        HasAnswerFault S.TopStore W.Sink bytes.now live out.old out.new fault) }
     ensures untold { OnErr result (err.new ≡ err.old) }
 {
     live.has_legal_history();
@@ -69,11 +69,9 @@ fn hear_next<R: Source, S: TopStore, W: Sink, E: Sink>(
     out: &mut W,
     err: &mut E,
 ) -> Result<(Live<S>, bool), LiveFault>
-    ensures ok { IfOk result (λ r. HearsNext R.gives R.remaining S.TopStore
-        W.contents W.flushes E.contents E.takes line
+    ensures ok { IfOk result (λ r. HearsNext R.Source S.TopStore W.Sink E.Sink line
         (moment input.old lines.old live out.old err.old) (moment input.new lines.new r.0 out.new err.new) r.1) }
-    ensures err { IfErr result (λ fault. HasHearingFault R.gives R.remaining S.TopStore
-        W.contents W.takes W.flushes
+    ensures err { IfErr result (λ fault. HasHearingFault R.Source S.TopStore W.Sink E.Sink
         (moment input.old lines.old live out.old err.old) input.new out.new fault) }
     ensures untold { OnErr result (err.new ≡ err.old) }
 {
@@ -95,20 +93,19 @@ fn hear_next<R: Source, S: TopStore, W: Sink, E: Sink>(
     }
 }
 
-/// Takes the lines of the input up to its end, one after another, and answers the sessions as they are then. What each request
-/// brought about is written and passed on before the next one is read. A line that was not taken is told on `err` by its number in
-/// the input, from 1, and so are bytes at the end with no line feed behind them. After a fault nothing more was told.
+/// Takes the lines of the input up to its end, one after another, and answers the sessions as they
+/// are then. What each request brought about is written and passed on before the next one is read.
+/// A line that was not taken is told on `err` by its number in the input, from 1, and so are bytes
+/// at the end with no line feed behind them. After a fault nothing more was told.
 pub(crate) fn hear_all<R: Source, S: TopStore, W: Sink, E: Sink>(
     live: Live<S>,
     input: &mut R,
     out: &mut W,
     err: &mut E,
 ) -> Result<Live<S>, LiveFault>
-    ensures ok { IfOk result (λ last. HearsAll R.gives R.remaining S.TopStore
-        W.contents W.flushes E.contents E.takes
+    ensures ok { IfOk result (λ last. HearsAll R.Source S.TopStore W.Sink E.Sink
         (moment input.old holds_nothing live out.old err.old) input.new last out.new err.new) }
-    ensures err { IfErr result (λ fault. BreaksHearing R.gives R.remaining S.TopStore
-        W.contents W.takes W.flushes E.contents E.takes
+    ensures err { IfErr result (λ fault. BreaksHearing R.Source S.TopStore W.Sink E.Sink
         (moment input.old holds_nothing live out.old err.old) input.new out.new err.new fault) }
 {
     let mut live = live;

@@ -1,4 +1,5 @@
-//! Live runs: requests that are read as they come, each attempted at once, and a report that grows with them.
+//! Live runs: requests that are read as they come, each attempted at once, and a report that grows
+//! with them.
 #![tactic(auto)]
 
 mod fault;

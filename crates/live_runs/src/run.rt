@@ -15,9 +15,9 @@ use txn_bytes::Sink;
 
 // No sessions yet, and the opening is shown.
 fn begin<S: TopStore, W: Sink>(alloc: Global, store: S, out: &mut W) -> Result<Live<S>, LiveFault>
-    ensures ok { IfOk result (λ live. Begins S.TopStore W.contents W.flushes store live out.old out.new) }
+    ensures ok { IfOk result (λ live. Begins S.TopStore W.Sink store live out.old out.new) }
     ensures err { IfErr result (λ fault.
-        HasBeginFault S.TopStore W.contents W.takes W.flushes store out.old out.new fault) }
+        HasBeginFault S.TopStore W.Sink store out.old out.new fault) }
 {
     let live = match Live::open(alloc, store) {
         Ok(live) => live,
@@ -31,9 +31,9 @@ fn begin<S: TopStore, W: Sink>(alloc: Global, store: S, out: &mut W) -> Result<L
 
 // Runs the sessions to their end, and shows what of the report was not shown before.
 fn end<S: TopStore, W: Sink>(live: Live<S>, out: &mut W) -> Result<S, LiveFault>
-    ensures ok { IfOk result (λ left. Finishes S.TopStore W.contents W.flushes live left out.old out.new) }
+    ensures ok { IfOk result (λ left. Finishes S.TopStore W.Sink live left out.old out.new) }
     ensures err { IfErr result (λ fault.
-        HasEndFault S.TopStore W.contents W.takes W.flushes live out.old out.new fault) }
+        HasEndFault S.TopStore W.Sink live out.old out.new fault) }
 {
     let written = live.history().len();
     let (report, left) = match live.finish() {
@@ -46,7 +46,8 @@ fn end<S: TopStore, W: Sink>(live: Live<S>, out: &mut W) -> Result<S, LiveFault>
     }
 }
 
-// The opening, the lines of the input, and the end. What the error writer is told of a fault is not among it.
+// The opening, the lines of the input, and the end. What the error writer is told of a fault is
+// not among it.
 fn run_live<R: Source, S: TopStore, W: Sink, E: Sink>(
     alloc: Global,
     input: &mut R,
@@ -54,11 +55,9 @@ fn run_live<R: Source, S: TopStore, W: Sink, E: Sink>(
     out: &mut W,
     err: &mut E,
 ) -> Result<S, LiveFault>
-    ensures ok { IfOk result (λ left. IsLived R.gives R.remaining S.TopStore
-        W.contents W.flushes E.contents E.takes
+    ensures ok { IfOk result (λ left. IsLived R.Source S.TopStore W.Sink E.Sink
         store input.old input.new out.old out.new err.old err.new left) }
-    ensures err { IfErr result (λ fault. HasLiveCause R.gives R.remaining S.TopStore
-        W.contents W.takes W.flushes E.contents E.takes
+    ensures err { IfErr result (λ fault. HasLiveCause R.Source S.TopStore W.Sink E.Sink
         store input.old input.new out.old out.new err.old err.new fault) }
 {
     let live = begin(alloc, store, out)?;
@@ -69,13 +68,16 @@ fn run_live<R: Source, S: TopStore, W: Sink, E: Sink>(
     end(live, out)
 }
 
-/// Runs sessions whose lines are read as they come, over this store, and answers the exit status with the store that the run left.
+/// Runs sessions whose lines are read as they come, over this store, and answers the exit status
+/// with the store that the run left.
 ///
-/// Each line of the input is a request, `LABEL LINE`: a line for the session with that label. It is attempted, and what it brings
-/// about is written to `out` and passed on, before the next one is read. What was written is always a beginning of the report,
-/// and at the end of the input the whole report. A line that is not taken costs nobody else anything: it changes nothing, and `err` gets
-/// one line with its number and why. A fault that ends the run goes to `err` too; then the store is dropped, and what had
-/// committed until then stands in it. Where `err` fails, the run goes on without it.
+/// Each line of the input is a request, `LABEL LINE`: a line for the session with that label. It
+/// is attempted, and what it brings about is written to `out` and passed on, before the next one
+/// is read. What was written is always a beginning of the report, and at the end of the input the
+/// whole report. A line that is not taken costs nobody else anything: it changes nothing, and
+/// `err` gets one line with its number and why. A fault that ends the run goes to `err` too; then
+/// the store is dropped, and what had committed until then stands in it. Where `err` fails, the
+/// run goes on without it.
 pub fn live_over<R: Source, S: TopStore, W: Sink, E: Sink>(
     alloc: Global,
     input: &mut R,
@@ -84,10 +86,10 @@ pub fn live_over<R: Source, S: TopStore, W: Sink, E: Sink>(
     err: &mut E,
 ) -> Ended<S>
     ensures done { result.status ≡ DONE → IsSomeAnd result.left (λ left.
-        IsLived R.gives R.remaining S.TopStore W.contents W.flushes E.contents E.takes
+        IsLived R.Source S.TopStore W.Sink E.Sink
         store input.old input.new out.old out.new err.old err.new left) }
     ensures failed { result.status ≡ FAILED →
-        IsUnlived R.gives R.remaining S.TopStore W.contents W.takes W.flushes E.contents E.takes
+        IsUnlived R.Source S.TopStore W.Sink E.Sink
         store input.old input.new out.old out.new err.old err.new }
     ensures dropped { result.status ≡ FAILED → IsNone result.left }
     ensures status { result.status ≤ FAILED }

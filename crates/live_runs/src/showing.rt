@@ -15,9 +15,9 @@ use txn_names::Label;
 
 /// The opening.
 pub(crate) fn show_opening<W: Sink>(rows: &[Row], out: &mut W) -> Result<(), WriteFault>
-    ensures ok { OnOk result (IsShown W.contents W.flushes out.old out.new (opening_text (plain rows.now))) }
+    ensures ok { OnOk result (IsShown W.Sink out.old out.new (opening_text (plain rows.now))) }
     ensures err { OnErr result
-        (IsUnshown W.contents W.takes W.flushes out.old out.new (opening_text (plain rows.now))) }
+        (IsUnshown W.Sink out.old out.new (opening_text (plain rows.now))) }
 {
     write_opening(rows, out)?;
     out.pass_on()
@@ -31,9 +31,9 @@ pub(crate) fn show_entries<W: Sink>(
     out: &mut W,
 ) -> Result<(), WriteFault>
     requires { written ≤ length history.now }
-    ensures ok { OnOk result (IsShown W.contents W.flushes out.old out.new
+    ensures ok { OnOk result (IsShown W.Sink out.old out.new
         (spelled_history labels.now (entries_behind written (reverse history.now)))) }
-    ensures err { OnErr result (IsUnshown W.contents W.takes W.flushes out.old out.new
+    ensures err { OnErr result (IsUnshown W.Sink out.old out.new
         (spelled_history labels.now (entries_behind written (reverse history.now)))) }
 {
     write_entries(labels, &history[written..], out)?;
@@ -47,9 +47,9 @@ pub(crate) fn show_rest<W: Sink>(
     out: &mut W,
 ) -> Result<(), WriteFault>
     requires { written ≤ length report.now.history }
-    ensures ok { OnOk result (IsShown W.contents W.flushes out.old out.new
+    ensures ok { OnOk result (IsShown W.Sink out.old out.new
         (spelled_history report.now.labels (entries_behind written report.now.history) ++ ending_text report.now.table)) }
-    ensures err { OnErr result (IsUnshown W.contents W.takes W.flushes out.old out.new
+    ensures err { OnErr result (IsUnshown W.Sink out.old out.new
         (spelled_history report.now.labels (entries_behind written report.now.history) ++ ending_text report.now.table)) }
     ensures report { IsReport report.now }
 {

@@ -25,7 +25,7 @@ returns-in-Ok-show_entries-clause-ok g c =
       handled = taken;
       told = refl;
       shown = shown_since g.S.TopStore old new c.args.bytes.now taken (length c.history-written.result.now) count c.history.result.now c.history.ensures
-          g.W.Write.contents g.W.Sink.takes g.W.Sink.flushes c.has_legal_history.ensures c.labels.result.now c.labels.ensures
+          _ c.has_legal_history.ensures c.labels.result.now c.labels.ensures
           c.args.out.now c.show_entries.new.out c.in-Ok-show_entries.ensures.ok;
     }
 
@@ -35,13 +35,13 @@ returns-in-Err-show_entries-clause-err g c =
     let new = c.in-Ok.handled.0 in
     let taken = subst (λ f. Handled g.S.TopStore old c.args.bytes.now new f) c.in_default.is c.in-Ok.ensures.ok in
     let count = sym (length-reverse c.history-written.result.now) ∙ ap (λ (h : History). length h) c.history-written.ensures in
-    subst (HasAnswerFault g.S.TopStore g.W.Write.contents g.W.Sink.takes g.W.Sink.flushes c.args.bytes.now old c.args.out.now c.show_entries.new.out)
+    subst (HasAnswerFault g.S.TopStore _ c.args.bytes.now old c.args.out.now c.show_entries.new.out)
     (sym c.end_by.ensures.fault)
     (record {
       new = new;
       taken = taken;
       stands = c.end_by.ensures.stands;
       unshown = unshown_since g.S.TopStore old new c.args.bytes.now taken (length c.history-written.result.now) count c.history.result.now c.history.ensures
-          g.W.Write.contents g.W.Sink.takes g.W.Sink.flushes c.has_legal_history.ensures c.labels.result.now c.labels.ensures
+          _ c.has_legal_history.ensures c.labels.result.now c.labels.ensures
           c.args.out.now c.show_entries.new.out c.in-Err-show_entries.ensures.err;
     })

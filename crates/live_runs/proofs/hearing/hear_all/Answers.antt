@@ -5,14 +5,14 @@ use Rattle.live_runs.proofs.hearing.hear_all.Goals as goal
 
 pub loop-line-init : goal.loop-line-init
 loop-line-init g c =
-    hears_none g.R.Source.gives g.R.Read.remaining g.S.TopStore g.W.Write.contents g.W.Sink.takes g.W.Sink.flushes g.E.Write.contents g.E.Sink.takes
+    hears_none _ g.S.TopStore _ _
     c.args.input.now c.new-lines.result c.args.live c.args.out.now c.args.err.now c.new-lines.ensures.held c.new-lines.ensures.kept
 
 pub returns-in-Err-clause-err : goal.returns-in-Err-clause-err
 returns-in-Err-clause-err g c =
     let first = moment c.args.input.now holds_nothing c.args.live c.args.out.now c.args.err.now in
     let now = moment c.loop-line.input c.loop-line.lines c.loop-line.live c.loop-line.out c.loop-line.err in
-    breaks_at g.R.Source.gives g.R.Read.remaining g.S.TopStore g.W.Write.contents g.W.Sink.takes g.W.Sink.flushes g.E.Write.contents g.E.Sink.takes
+    breaks_at _ g.S.TopStore _ _
     first now c.loop-line.line c.hear_next.new.input c.hear_next.new.out c.hear_next.new.err c.in-Err.fault c.loop-line.invariant c.in-Err.ensures.untold
     c.in-Err.ensures.err
 
@@ -20,7 +20,7 @@ pub returns-then-not-more-clause-ok : goal.returns-then-not-more-clause-ok
 returns-then-not-more-clause-ok g c =
     let first = moment c.args.input.now holds_nothing c.args.live c.args.out.now c.args.err.now in
     let now = moment c.loop-line.input c.loop-line.lines c.loop-line.live c.loop-line.out c.loop-line.err in
-    hears_all g.R.Source.gives g.R.Read.remaining g.S.TopStore g.W.Write.contents g.W.Sink.takes g.W.Sink.flushes g.E.Write.contents g.E.Sink.takes
+    hears_all _ g.S.TopStore _ _
     first now c.loop-line.line c.in-Ok.heard.1 c.hear_next.new.input c.hear_next.new.lines c.in-Ok.heard.0 c.hear_next.new.out c.hear_next.new.err
     c.loop-line.invariant c.if-not-more.true c.in-Ok.ensures.ok
 
@@ -29,12 +29,12 @@ loop-line-preserved g c =
     let first = moment c.args.input.now holds_nothing c.args.live c.args.out.now c.args.err.now in
     let now = moment c.loop-line.input c.loop-line.lines c.loop-line.live c.loop-line.out c.loop-line.err in
     let next = moment c.hear_next.new.input c.hear_next.new.lines c.in-Ok.heard.0 c.hear_next.new.out c.hear_next.new.err in
-    hears_more g.R.Source.gives g.R.Read.remaining g.S.TopStore g.W.Write.contents g.W.Sink.takes g.W.Sink.flushes g.E.Write.contents g.E.Sink.takes
+    hears_more _ g.S.TopStore _ _
     first now next c.loop-line.line c.in-Ok.heard.1 c.loop-line.invariant c.if-not-more.false c.in-Ok.ensures.ok
 
 pub returns-clause-err : goal.returns-clause-err
 returns-clause-err g c =
     let first = moment c.args.input.now holds_nothing c.args.live c.args.out.now c.args.err.now in
     let now = moment c.loop-line.input c.loop-line.lines c.loop-line.live c.loop-line.out c.loop-line.err in
-    breaks_off g.R.Source.gives g.R.Read.remaining g.S.TopStore g.W.Write.contents g.W.Sink.takes g.W.Sink.flushes g.E.Write.contents g.E.Sink.takes
+    breaks_off _ g.S.TopStore _ _
     first now c.loop-line.line c.end_by.result c.loop-line.invariant (omega (arith, c.loop-line-test.false, c.loop-line.auto.line-end)) c.end_by.ensures.fault c.end_by.ensures.stands

@@ -1,6 +1,6 @@
 use Rattle.std.proofs.Common.{refl, subst}
 use Rattle.request_lines.specs.Taking.{Takes}
-use Rattle.live_runs.specs.Hearing.{Answers, HasAnswerFault, moment}
+use Rattle.live_runs.specs.Hearing.{moment}
 use Rattle.live_runs.proofs.Lines.{hears_long, hears_whole, unheard}
 use Rattle.live_runs.proofs.hearing.hear_next.Goals as goal
 
@@ -8,28 +8,25 @@ pub returns-in-Ok-clause-ok : goal.returns-in-Ok-clause-ok
 returns-in-Ok-clause-ok g c =
     let old = moment c.args.input.now c.args.lines.now c.args.live c.args.out.now c.args.err.now in
     let new = moment c.take_line.new.input c.take_line.new.self c.in-Ok.live c.answer.new.out c.answer.new.err in
-    let takes = subst (λ t. Takes g.R.Source.gives g.R.Read.remaining c.args.input.now c.take_line.new.input c.args.lines.now c.take_line.new.self t)
+    let takes = subst (Takes _ c.args.input.now c.take_line.new.input c.args.lines.now c.take_line.new.self)
     c.in-Ok-Whole.field-0-is c.in-Ok-Whole.ensures.ok in
-    hears_whole g.R.Source.gives g.R.Read.remaining g.S.TopStore g.W.Write.contents g.W.Sink.takes g.W.Sink.flushes g.E.Write.contents g.E.Sink.takes
-    c.args.line old new takes
-    (subst (λ bytes. Answers g.S.TopStore g.W.Write.contents g.W.Sink.flushes g.E.Write.contents g.E.Sink.takes c.args.line bytes
-    c.args.live c.in-Ok.live c.args.out.now c.answer.new.out c.args.err.now c.answer.new.err) c.line.ensures.value c.in-Ok.ensures.ok)
+    hears_whole _ g.S.TopStore _ _ c.args.line old new c.line.result.now takes
+    c.line.ensures.value c.in-Ok.ensures.ok
 
 pub returns-in-Err-answer-clause-err : goal.returns-in-Err-answer-clause-err
 returns-in-Err-answer-clause-err g c =
     let old = moment c.args.input.now c.args.lines.now c.args.live c.args.out.now c.args.err.now in
-    let takes = subst (λ t. Takes g.R.Source.gives g.R.Read.remaining c.args.input.now c.take_line.new.input c.args.lines.now c.take_line.new.self t)
+    let takes = subst (Takes _ c.args.input.now c.take_line.new.input c.args.lines.now c.take_line.new.self)
     c.in-Ok-Whole.field-0-is c.in-Ok-Whole.ensures.ok in
-    unheard g.R.Source.gives g.R.Read.remaining g.S.TopStore g.W.Write.contents g.W.Sink.takes g.W.Sink.flushes g.E.Write.contents g.E.Sink.takes
-    old c.take_line.new.input c.take_line.new.self c.answer.new.out c.in-Err-answer.fault takes
-    (subst (λ bytes. HasAnswerFault g.S.TopStore g.W.Write.contents g.W.Sink.takes g.W.Sink.flushes bytes c.args.live c.args.out.now c.answer.new.out c.in-Err-answer.fault)
-    c.line.ensures.value c.in-Err-answer.ensures.err)
+    unheard _ g.S.TopStore _ _
+    old c.take_line.new.input c.take_line.new.self c.answer.new.out
+    c.in-Err-answer.fault c.line.result.now takes c.line.ensures.value c.in-Err-answer.ensures.err
 
 pub returns-in-Ok-Long-clause-ok : goal.returns-in-Ok-Long-clause-ok
 returns-in-Ok-Long-clause-ok g c =
     let old = moment c.args.input.now c.args.lines.now c.args.live c.args.out.now c.args.err.now in
     let new = moment c.take_line.new.input c.take_line.new.self c.args.live c.args.out.now c.refuse.new.err in
-    let takes = subst (λ t. Takes g.R.Source.gives g.R.Read.remaining c.args.input.now c.take_line.new.input c.args.lines.now c.take_line.new.self t)
+    let takes = subst (Takes _ c.args.input.now c.take_line.new.input c.args.lines.now c.take_line.new.self)
     c.in-Ok-Long.field-0-is c.in-Ok-Long.ensures.ok in
-    hears_long g.R.Source.gives g.R.Read.remaining g.S.TopStore g.W.Write.contents g.W.Sink.takes g.W.Sink.flushes g.E.Write.contents g.E.Sink.takes
+    hears_long _ g.S.TopStore _ _
     c.args.line old new takes refl refl c.refuse.ensures

@@ -1,4 +1,4 @@
-use Rattle.std.proofs.Common.{subst, sym}
+use Rattle.std.proofs.Common.{ap, subst, sym}
 use Rattle.report_text.specs.Lines.{opening_text}
 use Rattle.live_runs.specs.Living.{HasBeginFault}
 use Rattle.live_runs.specs.Showing.{IsUnshown}
@@ -6,11 +6,12 @@ use Rattle.live_runs.proofs.run.begin.Goals as goal
 
 pub returns-in-Err-show_opening-clause-err : goal.returns-in-Err-show_opening-clause-err
 returns-in-Err-show_opening-clause-err g c =
-    subst (HasBeginFault g.S.TopStore g.W.Write.contents g.W.Sink.takes g.W.Sink.flushes c.args.store c.args.out.now c.show_opening.new.out) (sym c.end_by.ensures.fault)
+    subst (HasBeginFault g.S.TopStore _ c.args.store c.args.out.now c.show_opening.new.out)
+    (sym c.end_by.ensures.fault)
     (record {
       first = c.in-Ok.live;
       start = c.in-Ok.ensures.ok;
       stands = c.end_by.ensures.stands;
-      unshown = subst (λ r. IsUnshown g.W.Write.contents g.W.Sink.takes g.W.Sink.flushes c.args.out.now c.show_opening.new.out (opening_text r))
-          c.opening.ensures c.in-Err-show_opening.ensures.err;
+      unshown = subst (IsUnshown _ c.args.out.now c.show_opening.new.out)
+          (ap opening_text c.opening.ensures) c.in-Err-show_opening.ensures.err;
     })

@@ -13,11 +13,11 @@ show_rest-requires g c =
 pub returns-in-Ok-show_rest-clause-ok : goal.returns-in-Ok-show_rest-clause-ok
 returns-in-Ok-show_rest-clause-ok g c =
     let count = sym (length-reverse c.history-written.result.now) ∙ ap (λ (h : History). length h) c.history-written.ensures in
-    finishes g.S.TopStore g.W.Write.contents g.W.Sink.takes g.W.Sink.flushes c.args.live c.in-Ok.run'.0 c.in-Ok.run'.1 c.in-Ok.ensures.ok c.in-Ok-show_rest.ensures.report
+    finishes g.S.TopStore _ c.args.live c.in-Ok.run'.0 c.in-Ok.run'.1 c.in-Ok.ensures.ok c.in-Ok-show_rest.ensures.report
     c.args.out.now c.show_rest.new.out (length c.history-written.result.now) count c.in-Ok-show_rest.ensures.ok
 
 pub returns-clause-err : goal.returns-clause-err
 returns-clause-err g c =
     let count = sym (length-reverse c.history-written.result.now) ∙ ap (λ (h : History). length h) c.history-written.ensures in
-    unfinished g.S.TopStore g.W.Write.contents g.W.Sink.takes g.W.Sink.flushes c.args.live c.in-Ok.run'.0 c.in-Ok.run'.1 c.in-Ok.ensures.ok c.in-Err-show_rest.ensures.report
+    unfinished g.S.TopStore _ c.args.live c.in-Ok.run'.0 c.in-Ok.run'.1 c.in-Ok.ensures.ok c.in-Err-show_rest.ensures.report
     c.args.out.now c.show_rest.new.out (length c.history-written.result.now) count c.in-Err-show_rest.ensures.err

@@ -8,12 +8,12 @@ returns-in-Err-clause-err g c =
 
 pub returns-clause-ok : goal.returns-clause-ok
 returns-clause-ok g c =
-    lived g.R.Source.gives g.R.Read.remaining g.S.TopStore g.W.Write.contents g.W.Sink.takes g.W.Sink.flushes g.E.Write.contents g.E.Sink.takes
+    lived _ g.S.TopStore _ _
     c.args.store c.args.input.now c.hear_all.new.input c.args.out.now c.begin.new.out c.hear_all.new.out c.end.new.out c.args.err.now c.hear_all.new.err
     c.in_ok-live.live c.in-Ok.live c.in_ok-live.ensures.ok c.in-Ok.ensures.ok c.end.result c.end.ensures.ok
 
 pub returns-clause-err : goal.returns-clause-err
 returns-clause-err g c =
-    unlived g.R.Source.gives g.R.Read.remaining g.S.TopStore g.W.Write.contents g.W.Sink.takes g.W.Sink.flushes g.E.Write.contents g.E.Sink.takes
+    unlived _ g.S.TopStore _ _
     c.args.store c.args.input.now c.hear_all.new.input c.args.out.now c.begin.new.out c.hear_all.new.out c.end.new.out c.args.err.now c.hear_all.new.err
     c.in_ok-live.live c.in-Ok.live c.in_ok-live.ensures.ok c.in-Ok.ensures.ok c.end.result c.end.ensures.err

@@ -13,7 +13,7 @@ returns-in_err-write_entries-clause-err g c =
     let labels = c.args.labels.now in
     let h = c.args.history.now in
     let n = c.args.written in
-    cut g.W.Write.contents g.W.Sink.takes g.W.Sink.flushes c.from_residual.result c.args.out.now c.write_entries.new.out
+    cut _ c.from_residual.result c.args.out.now c.write_entries.new.out
     (spelled_history labels (entries_behind n (reverse h)))
     (subst (λ bs. AppendsFront (g.W.Write.contents c.args.out.now) (g.W.Write.contents c.write_entries.new.out) bs)
     (behind_told labels labels h (reverse h) n refl refl (omega (arith, length-reverse h, c.requires))) c.in_err-write_entries.ensures.err)
@@ -24,7 +24,7 @@ returns-clause-ok g c =
     let labels = c.args.labels.now in
     let h = c.args.history.now in
     let n = c.args.written in
-    passed g.W.Write.contents g.W.Sink.takes g.W.Sink.flushes c.args.out.now c.write_entries.new.out c.pass_on.new.self
+    passed _ c.args.out.now c.write_entries.new.out c.pass_on.new.self
     (spelled_history labels (entries_behind n (reverse h)))
     (subst (λ bs. Appends (g.W.Write.contents c.args.out.now) (g.W.Write.contents c.write_entries.new.out) bs)
     (behind_told labels labels h (reverse h) n refl refl (omega (arith, length-reverse h, c.requires))) c.in_ok-write_entries.ensures.ok)
@@ -35,7 +35,7 @@ returns-clause-err g c =
     let labels = c.args.labels.now in
     let h = c.args.history.now in
     let n = c.args.written in
-    unpassed g.W.Write.contents g.W.Sink.takes g.W.Sink.flushes c.args.out.now c.write_entries.new.out c.pass_on.new.self
+    unpassed _ c.args.out.now c.write_entries.new.out c.pass_on.new.self
     (spelled_history labels (entries_behind n (reverse h)))
     (subst (λ bs. Appends (g.W.Write.contents c.args.out.now) (g.W.Write.contents c.write_entries.new.out) bs)
     (behind_told labels labels h (reverse h) n refl refl (omega (arith, length-reverse h, c.requires))) c.in_ok-write_entries.ensures.ok)

@@ -15,7 +15,7 @@ returns-in_err-write_entries-clause-err g c =
     let n = c.args.written in
     let told = behind_told r.labels c.labels.result.now c.history.result.now r.history n c.labels.ensures c.history.ensures c.requires in
     let front = subst (λ bs. AppendsFront (g.W.Write.contents c.args.out.now) (g.W.Write.contents c.write_entries.new.out) bs) told c.in_err-write_entries.ensures.err in
-    cut g.W.Write.contents g.W.Sink.takes g.W.Sink.flushes c.from_residual.result c.args.out.now c.write_entries.new.out
+    cut _ c.from_residual.result c.args.out.now c.write_entries.new.out
     (spelled_history r.labels (entries_behind n r.history) ++ ending_text r.table) (front_of _ _ _ _ front) c.in_err-write_entries.ensures.asked
 
 pub returns-in_err-write_ending-clause-err : goal.returns-in_err-write_ending-clause-err
@@ -26,7 +26,7 @@ returns-in_err-write_ending-clause-err g c =
     let entries = subst (λ bs. Appends (g.W.Write.contents c.args.out.now) (g.W.Write.contents c.write_entries.new.out) bs) told c.in_ok-write_entries.ensures.ok in
     let front = subst (λ t. AppendsFront (g.W.Write.contents c.write_entries.new.out) (g.W.Write.contents c.write_ending.new.out) (ending_text t))
     c.table-table.ensures.table c.in_err-write_ending.ensures.err in
-    cut g.W.Write.contents g.W.Sink.takes g.W.Sink.flushes c.from_residual-in_err-write_ending.result c.args.out.now c.write_ending.new.out
+    cut _ c.from_residual-in_err-write_ending.result c.args.out.now c.write_ending.new.out
     (spelled_history r.labels (entries_behind n r.history) ++ ending_text r.table) (then_front _ _ _ _ _ entries front) c.in_err-write_ending.ensures.asked
 
 pub returns-clause-ok : goal.returns-clause-ok
@@ -37,7 +37,7 @@ returns-clause-ok g c =
     let entries = subst (λ bs. Appends (g.W.Write.contents c.args.out.now) (g.W.Write.contents c.write_entries.new.out) bs) told c.in_ok-write_entries.ensures.ok in
     let ending = subst (λ t. Appends (g.W.Write.contents c.write_entries.new.out) (g.W.Write.contents c.write_ending.new.out) (ending_text t))
     c.table-table.ensures.table c.in_ok-write_ending.ensures.ok in
-    passed g.W.Write.contents g.W.Sink.takes g.W.Sink.flushes c.args.out.now c.write_ending.new.out c.pass_on.new.self
+    passed _ c.args.out.now c.write_ending.new.out c.pass_on.new.self
     (spelled_history r.labels (entries_behind n r.history) ++ ending_text r.table) (then _ _ _ _ _ entries ending)
     c.pass_on.ensures.kept c.pass_on.result c.pass_on.ensures.asked
 
@@ -49,6 +49,6 @@ returns-clause-err g c =
     let entries = subst (λ bs. Appends (g.W.Write.contents c.args.out.now) (g.W.Write.contents c.write_entries.new.out) bs) told c.in_ok-write_entries.ensures.ok in
     let ending = subst (λ t. Appends (g.W.Write.contents c.write_entries.new.out) (g.W.Write.contents c.write_ending.new.out) (ending_text t))
     c.table-table.ensures.table c.in_ok-write_ending.ensures.ok in
-    unpassed g.W.Write.contents g.W.Sink.takes g.W.Sink.flushes c.args.out.now c.write_ending.new.out c.pass_on.new.self
+    unpassed _ c.args.out.now c.write_ending.new.out c.pass_on.new.self
     (spelled_history r.labels (entries_behind n r.history) ++ ending_text r.table) (then _ _ _ _ _ entries ending)
     c.pass_on.ensures.kept c.pass_on.result c.pass_on.ensures.asked
