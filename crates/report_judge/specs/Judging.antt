@@ -1,5 +1,5 @@
 -- What bytes come to that are read line by line.
-use Rattle.std.specs.Prelude.{◌≡◌, ℕ, ◌++◌, Bool, true, false, not, ◌&&◌, ◌==◌, nat_eq, length, List, Option, Result, Err}
+use Rattle.std.specs.Prelude.{◌≡◌, ℕ, ◌++◌, Bool, true, false, not, ◌&&◌, ◌==◌, nat_eq, length, List, Err}
 use Rattle.std.specs.List.{list_all}
 use Rattle.std.specs.Io.KnownBytes.{Consumes, IsAtEnd}
 use Rattle.serial_spec.specs.Rows.{IsRising, Rows, value_in}
@@ -9,10 +9,9 @@ use Rattle.report_check.specs.Verdicts.{HasVerdict, compared}
 use Rattle.report_check.specs.declared.verdict.Verdict.{Verdict}
 use Rattle.report_tables.specs.Valued.{Values, value_at}
 use Rattle.report_judge.specs.Kept.{IsSeen, line_of}
-use Rattle.report_judge.specs.Sources.{IsPartRead, IsReadWhole, IsUnread}
+use Rattle.report_judge.specs.Sources.{IsPartRead, IsReadWhole, IsUnread, Reader}
 use Rattle.report_judge.specs.declared.reading.CheckFault.{CheckFault}
 use Rattle.report_judge.specs.declared.reading.CheckFault.TheVariants as fault
-use Rattle.report_judge.specs.declared.source.ReadFault.{ReadFault}
 use Rattle.report_judge.specs.declared.lines.Judge.{Judge}
 use Rattle.report_judge.specs.declared.lines.Standing.{Standing}
 use Rattle.report_judge.specs.declared.seen.Seen.{Seen}
@@ -21,11 +20,12 @@ use Rattle.report_judge.specs.declared.seen.Seen.{Seen}
 abbrev pub IsLine : List ℕ → Type 0
 IsLine bs = list_all (λ b. not (nat_eq b 10)) bs ≡ true
 
--- after these bytes, of which p are the line with this number as far as it has come, it goes on from what is seen; or that line is the
--- first fault, whatever follows
+-- after these bytes, of which p are the line with this number as far as it has come, it goes on
+-- from what is seen; or that line is the first fault, whatever follows
 abbrev pub GoesFrom : List ℕ → List ℕ → ℕ → Seen → Bool → Type 0
 GoesFrom bs p line s false =
-    (r : Read) × IsSeen r s × (line ≡ line_of r) × ((rest : List ℕ) → read (bs ++ rest) ≡ read_from line r (cut_at 10 (p ++ rest)))
+    (r : Read) × IsSeen r s × (line ≡ line_of r)
+    × ((rest : List ℕ) → read (bs ++ rest) ≡ read_from line r (cut_at 10 (p ++ rest)))
 GoesFrom bs p line s true = (rest : List ℕ) → read (bs ++ rest) ≡ Err line
 
 abbrev pub IsDue : List ℕ → List ℕ → Standing → Type 0
@@ -37,17 +37,18 @@ pub record Stands (bs : List ℕ) (j : Judge) : Type 0 where
   pub due : IsDue bs j.kept j.standing
 
 -- the reader gave these bytes up to its end, and they have the verdict
-pub record IsVerdictOn {R : Type 0} (gives : R → R → Result (List ℕ) ReadFault → Type 0) (remaining : R → Option (List ℕ)) (old new : R) (v : Verdict) : Type 0 where
+pub record IsVerdictOn {R : Type 0} (r : Reader R) (old new : R) (v : Verdict) : Type 0 where
   pub bytes : List ℕ
-  pub whole : IsReadWhole gives old new bytes
-  pub taken : Consumes (remaining old) (remaining new) bytes
-  pub ended : IsAtEnd (remaining new)
+  pub whole : IsReadWhole r old new bytes
+  pub taken : Consumes (r.remaining old) (r.remaining new) bytes
+  pub ended : IsAtEnd (r.remaining new)
   pub verdict : HasVerdict bytes v
 
--- why there is no verdict: a growth was refused while the reader gave bytes, or the reader did not come to its end
-abbrev pub HasCheckCause : {R : Type 0} → (R → R → Result (List ℕ) ReadFault → Type 0) → (R → Option (List ℕ)) → R → R → CheckFault → Type 0
-HasCheckCause gives remaining old new fault.NoMemory = IsPartRead gives remaining old new
-HasCheckCause gives remaining old new fault.Read = IsUnread gives remaining old new
+-- why there is no verdict: a growth was refused while the reader gave bytes, or the reader did not
+-- come to its end
+abbrev pub HasCheckCause : {R : Type 0} → Reader R → R → R → CheckFault → Type 0
+HasCheckCause r old new fault.NoMemory = IsPartRead r old new
+HasCheckCause r old new fault.Read = IsUnread r old new
 
 -- the final rows beside those of the keys that have values, in byte order
 pub record IsComparedBy (es : Values) (table : Rows) (n : ℕ) (v : Verdict) : Type 0 where

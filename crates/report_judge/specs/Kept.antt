@@ -79,7 +79,8 @@ line_of r = lines_before r.part + length r.opening + length r.history + length r
 
 -- it is told whether the entry may follow, and if so it is kept
 abbrev pub Follows : Bool → Read → ReportEntry → Seen → Type 0
-Follows true r x s = (may_follow r.history (entry_in r.labels x) ≡ true) × IsKept (with_entry r x) s
+Follows true r x s =
+    (may_follow r.history (entry_in r.labels x) ≡ true) × IsKept (with_entry r x) s
 Follows false r x s = may_follow r.history (entry_in r.labels x) ≡ false
 
 -- it is told whether the line may stand where it stands, and if so what is read with it is seen

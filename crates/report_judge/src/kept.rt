@@ -3,8 +3,9 @@ ghost use Rattle.std.specs.Prelude.{◌≡◌, ◌≤◌, ◌<◌, ◌+◌, ◌=
 
 use std::marker::Model;
 
-/// How many bytes the longest line of a report has, without its line feed: a label, the number of a line, the longest line of
-/// a session, and the answer `orphan` with the longest name, with what stands between them.
+/// How many bytes the longest line of a report has, without its line feed: a label, the number of
+/// a line, the longest line of a session, and the answer `orphan` with the longest name, with what
+/// stands between them.
 pub const MOST_BYTES: usize = 633;
 
 /// The bytes of a line that has not ended yet, at most `MOST_BYTES`. It takes no memory.

@@ -54,7 +54,9 @@ impl Judge {
 // Takes a line that has ended.
 fn take_line(standing: &mut Standing, line: &[u8]) -> Result<(), NoMemory>
     requires { standing.old.line + 1 < 2 ^ 64 }
-    ensures due { OnOk result ((bs : List ℕ) → IsLine line.now → IsDue bs line.now standing.old → IsDue (bs ++ 10 ∷ []) [] standing.new) }
+    ensures due { OnOk result
+        ((bs : List ℕ) → IsLine line.now → IsDue bs line.now standing.old
+        → IsDue (bs ++ 10 ∷ []) [] standing.new) }
     ensures line { standing.new.line ≤ standing.old.line + 1 }
 {
     if standing.faulty {
@@ -68,9 +70,11 @@ fn take_line(standing: &mut Standing, line: &[u8]) -> Result<(), NoMemory>
     Ok(())
 }
 
-// Keeps bytes of a line that has not ended. Where they are more than a line may have, the line is a fault.
+// Keeps bytes of a line that has not ended. Where they are more than a line may have, the line is
+// a fault.
 fn keep(judge: &mut Judge, bytes: &[u8])
-    ensures stands { (bs : List ℕ) → IsLine bytes.now → Stands bs judge.old → Stands (bs ++ bytes.now) judge.new }
+    ensures stands { (bs : List ℕ) → IsLine bytes.now → Stands bs judge.old
+        → Stands (bs ++ bytes.now) judge.new }
     ensures line { judge.new.standing.line ≡ judge.old.standing.line }
 {
     if !judge.kept.add(bytes) {
@@ -81,7 +85,8 @@ fn keep(judge: &mut Judge, bytes: &[u8])
 // Takes the line that is kept, which has ended.
 fn take_kept(judge: &mut Judge) -> Result<(), NoMemory>
     requires { judge.old.standing.line + 1 < 2 ^ 64 }
-    ensures stands { OnOk result ((bs : List ℕ) → Stands bs judge.old → Stands (bs ++ 10 ∷ []) judge.new) }
+    ensures stands { OnOk result
+        ((bs : List ℕ) → Stands bs judge.old → Stands (bs ++ 10 ∷ []) judge.new) }
     ensures line { judge.new.standing.line ≤ judge.old.standing.line + 1 }
 {
     take_line(&mut judge.standing, judge.kept.as_bytes())?;
@@ -92,7 +97,9 @@ fn take_kept(judge: &mut Judge) -> Result<(), NoMemory>
 // Takes the end of a line, without its line feed.
 fn end_line(judge: &mut Judge, bytes: &[u8]) -> Result<(), NoMemory>
     requires { judge.old.standing.line + 1 < 2 ^ 64 }
-    ensures stands { OnOk result ((bs : List ℕ) → IsLine bytes.now → Stands bs judge.old → Stands (bs ++ (bytes.now ++ 10 ∷ [])) judge.new) }
+    ensures stands { OnOk result
+        ((bs : List ℕ) → IsLine bytes.now → Stands bs judge.old
+        → Stands (bs ++ (bytes.now ++ 10 ∷ [])) judge.new) }
     ensures line { judge.new.standing.line ≤ judge.old.standing.line + 1 }
 {
     if judge.kept.is_empty() {
@@ -105,8 +112,10 @@ fn end_line(judge: &mut Judge, bytes: &[u8]) -> Result<(), NoMemory>
 /// Takes the next bytes. The only error is that memory runs out.
 pub(crate) fn take_bytes(judge: &mut Judge, bytes: &[u8]) -> Result<(), NoMemory>
     requires { judge.old.standing.line + length bytes.now < 2 ^ 63 }
-    ensures stands { OnOk result ((bs : List ℕ) → Stands bs judge.old → Stands (bs ++ bytes.now) judge.new) }
-    ensures line { OnOk result (judge.new.standing.line ≤ judge.old.standing.line + length bytes.now) }
+    ensures stands { OnOk result
+        ((bs : List ℕ) → Stands bs judge.old → Stands (bs ++ bytes.now) judge.new) }
+    ensures line { OnOk result
+        (judge.new.standing.line ≤ judge.old.standing.line + length bytes.now) }
 {
     let mut rest = bytes;
     'lines: loop {
@@ -126,7 +135,8 @@ pub(crate) fn take_bytes(judge: &mut Judge, bytes: &[u8]) -> Result<(), NoMemory
 
 // The verdict of the third pass, on the final rows before the line with this number.
 fn last_pass(values: &mut Values, table: &[(Key, i64)], after: usize) -> Result<Verdict, NoMemory>
-    ensures { IfOk result (λ v. IsComparedBy values.old.entries table.now (after - (1 + length table.now)) v) }
+    ensures { IfOk result (λ v.
+        IsComparedBy values.old.entries table.now (after - (1 + length table.now)) v) }
 {
     values.sort_keys()?;
     let first = after.saturating_sub(1 + table.len());
@@ -145,7 +155,9 @@ fn first_access(transactions: &Transactions) -> Option<usize>
 
 // The verdict of the second and the third pass.
 fn passes(seen: &mut Seen, after: usize) -> Result<Verdict, NoMemory>
-    ensures { IfOk result (λ v. (r : Read) → IsSeen r seen.old → r.part ≡ Ended → after ≡ line_of r → IsRun r (first_wrong r) v) }
+    ensures { IfOk result (λ v.
+        (r : Read) → IsSeen r seen.old → r.part ≡ Ended → after ≡ line_of r
+        → IsRun r (first_wrong r) v) }
 {
     let first = first_access(&seen.transactions);
     match serve_all(
@@ -161,12 +173,14 @@ fn passes(seen: &mut Seen, after: usize) -> Result<Verdict, NoMemory>
 
 // Whether the report has ended with the bytes so far.
 fn is_over(judge: &Judge) -> bool
-    ensures { result ≡ is_over judge.now.standing.faulty judge.now.kept (part_of judge.now.standing.seen.part) }
+    ensures { result ≡ is_over judge.now.standing.faulty judge.now.kept
+        (part_of judge.now.standing.seen.part) }
 {
     !judge.standing.faulty && (judge.kept.is_empty() && judge.standing.seen.has_ended())
 }
 
-/// The verdict on the bytes. Afterwards what is seen has no meaning. The only error is that memory runs out.
+/// The verdict on the bytes. Afterwards what is seen has no meaning. The only error is that memory
+/// runs out.
 pub(crate) fn finish(judge: &mut Judge) -> Result<Verdict, NoMemory>
     ensures { IfOk result (λ v. (bs : List ℕ) → Stands bs judge.old → HasVerdict bs v) }
 {

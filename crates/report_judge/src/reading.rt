@@ -23,8 +23,8 @@ pub enum CheckFault {
 fn judge_all<R: Source>(judge: &mut Judge, report: &mut R) -> Result<Verdict, CheckFault>
     requires line { judge.old.standing.line ≡ 1 }
     requires stands { Stands [] judge.old }
-    ensures ok { IfOk result (λ v. IsVerdictOn R.gives R.remaining report.old report.new v) }
-    ensures err { IfErr result (HasCheckCause R.gives R.remaining report.old report.new) }
+    ensures ok { IfOk result (λ v. IsVerdictOn R.Source report.old report.new v) }
+    ensures err { IfErr result (HasCheckCause R.Source report.old report.new) }
 {
     let mut bytes = [0u8; PIECE];
     for _call in 0..MOST_READS {
@@ -45,10 +45,11 @@ fn judge_all<R: Source>(judge: &mut Judge, report: &mut R) -> Result<Verdict, Ch
     Err(CheckFault::Read)
 }
 
-/// The verdict on the bytes that the reader has left, which is read to its end. After an error some of them are taken.
+/// The verdict on the bytes that the reader has left, which is read to its end. After an error
+/// some of them are taken.
 pub fn check<R: Source>(alloc: Global, report: &mut R) -> Result<Verdict, CheckFault>
-    ensures ok { IfOk result (λ v. IsVerdictOn R.gives R.remaining report.old report.new v) }
-    ensures err { IfErr result (HasCheckCause R.gives R.remaining report.old report.new) }
+    ensures ok { IfOk result (λ v. IsVerdictOn R.Source report.old report.new v) }
+    ensures err { IfErr result (HasCheckCause R.Source report.old report.new) }
 {
     let Ok(mut judge) = Judge::new(alloc) else {
         return Err(CheckFault::NoMemory);

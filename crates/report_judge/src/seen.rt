@@ -83,7 +83,8 @@ fn is_below(one: &Key, other: &Key) -> bool
     *one < *other
 }
 
-// Whether a row with this key may come behind so many rows, of which this is the key of the last one.
+// Whether a row with this key may come behind so many rows, of which this is the key of the last
+// one.
 fn may_come(rows: usize, last: Option<Key>, key: &Key) -> bool
     ensures { result ≡ may_come rows last key.now }
 {
@@ -160,8 +161,10 @@ fn take_access(
     ensures effect { IfOk result (λ ok. (base : ℕ) (groups : List (List ℕ)) (h : History)
         → AreTransactionsOf base (known_by (keys values.old) groups) h transactions.old
         → line ≡ base + suc (length h) → Comes ok h (Accesses name.now (At key.now op) reply)
-        (λ e. AreTransactionsOf base (known_by (keys values.new) groups) (e ∷ h) transactions.new)) }
-    ensures same { OnOk result ((k : List ℕ) → value_at values.new.entries k ≡ value_at values.old.entries k) }
+        (λ e. AreTransactionsOf base (known_by (keys values.new) groups) (e ∷ h)
+        transactions.new)) }
+    ensures same { OnOk result
+        ((k : List ℕ) → value_at values.new.entries k ≡ value_at values.old.entries k) }
 {
     let key = number_of(values, key)?;
     let made = Access {
@@ -209,8 +212,10 @@ fn take_effect(
     ensures effect { IfOk result (λ ok. (base : ℕ) (h : History)
         → AreTransactionsOf base (known_by (keys values.old) (keys groups.old)) h transactions.old
         → line ≡ base + suc (length h) → Comes ok h (effect_of event.now answer.now)
-        (λ e. AreTransactionsOf base (known_by (keys values.new) (keys groups.new)) (e ∷ h) transactions.new)) }
-    ensures same { OnOk result ((k : List ℕ) → value_at values.new.entries k ≡ value_at values.old.entries k) }
+        (λ e. AreTransactionsOf base (known_by (keys values.new) (keys groups.new)) (e ∷ h)
+        transactions.new)) }
+    ensures same { OnOk result
+        ((k : List ℕ) → value_at values.new.entries k ≡ value_at values.old.entries k) }
 {
     match event {
         Event::Access(name, key, op) => match answer {
@@ -258,8 +263,10 @@ fn take_answer(
     event: &Event,
     answer: &Answer,
 ) -> Result<bool, NoMemory>
-    ensures kept { IfOk result (λ ok. (r : Read) → IsKept r seen.old → at ≡ 2 + length r.opening + length r.history
-        → IsEvent event.now → Follows ok r (ReportEntry.Line label.now line event.now answer.now) seen.new) }
+    ensures kept { IfOk result (λ ok.
+        (r : Read) → IsKept r seen.old → at ≡ 2 + length r.opening + length r.history
+        → IsEvent event.now
+        → Follows ok r (ReportEntry.Line label.now line event.now answer.now) seen.new) }
     ensures part { seen.new.part ≡ seen.old.part }
 {
     if seen.closing {
@@ -282,14 +289,16 @@ fn take_answer(
 }
 
 fn take_victim(seen: &mut Seen, name: &Name) -> bool
-    ensures kept { (r : Read) → IsKept r seen.old → Follows result r (ReportEntry.Victim name.now) seen.new }
+    ensures kept { (r : Read) → IsKept r seen.old
+        → Follows result r (ReportEntry.Victim name.now) seen.new }
     ensures part { seen.new.part ≡ seen.old.part }
 {
     !seen.closing && abort(&mut seen.transactions, name)
 }
 
 fn take_close(seen: &mut Seen, name: &Name) -> bool
-    ensures kept { (r : Read) → IsKept r seen.old → Follows result r (ReportEntry.Close name.now) seen.new }
+    ensures kept { (r : Read) → IsKept r seen.old
+        → Follows result r (ReportEntry.Close name.now) seen.new }
     ensures part { seen.new.part ≡ seen.old.part }
 {
     seen.closing = true;
@@ -297,7 +306,8 @@ fn take_close(seen: &mut Seen, name: &Name) -> bool
 }
 
 fn take_entry(seen: &mut Seen, at: usize, entry: &ReportEntry) -> Result<bool, NoMemory>
-    ensures kept { IfOk result (λ ok. (r : Read) → IsKept r seen.old → at ≡ 2 + length r.opening + length r.history
+    ensures kept { IfOk result (λ ok.
+        (r : Read) → IsKept r seen.old → at ≡ 2 + length r.opening + length r.history
         → IsReportEntry entry.now → Follows ok r entry.now seen.new) }
     ensures part { seen.new.part ≡ seen.old.part }
 {
@@ -357,7 +367,8 @@ fn is_start(bytes: &[u8]) -> bool
 
 // The first line.
 fn take_start(seen: &mut Seen, bytes: &[u8]) -> bool
-    ensures { (r : Read) → IsSeen r seen.old → r.part ≡ Start → Steps result (next_at Start r bytes.now) seen.new }
+    ensures { (r : Read) → IsSeen r seen.old → r.part ≡ Start
+        → Steps result (next_at Start r bytes.now) seen.new }
 {
     seen.part = Part::Opening;
     is_start(bytes)
@@ -366,7 +377,9 @@ fn take_start(seen: &mut Seen, bytes: &[u8]) -> bool
 // An opening row.
 fn take_row(seen: &mut Seen, key: &Key, value: i64) -> Result<bool, NoMemory>
     ensures { IfOk result (λ ok. (r : Read) → IsSeen r seen.old → r.part ≡ Opening
-        → Steps ok (if may_add_row r.opening key.now then Some (with_opening r (key.now, value)) else None) seen.new) }
+        → Steps ok
+        (if may_add_row r.opening key.now then Some (with_opening r (key.now, value)) else None)
+        seen.new) }
 {
     add_opening(&mut seen.values, key, value)
 }
@@ -393,7 +406,9 @@ fn take_last(seen: &mut Seen) -> bool
 // A final row.
 fn take_final_row(seen: &mut Seen, key: &Key, value: i64) -> Result<bool, NoMemory>
     ensures { IfOk result (λ ok. (r : Read) → IsSeen r seen.old → r.part ≡ Final
-        → Steps ok (if may_add_row r.table key.now then Some (with_row r (key.now, value)) else None) seen.new) }
+        → Steps ok
+        (if may_add_row r.table key.now then Some (with_row r (key.now, value)) else None)
+        seen.new) }
 {
     add_final(&mut seen.table, key, value)
 }
@@ -412,10 +427,12 @@ fn take_final(seen: &mut Seen, bytes: &[u8]) -> Result<bool, NoMemory>
     }
 }
 
-/// Takes the next line, which is the one with the number `at`, if it may stand where it stands. The only error is that memory
-/// runs out. Where it may not stand there, or after an error, what is seen has no meaning.
+/// Takes the next line, which is the one with the number `at`, if it may stand where it stands.
+/// The only error is that memory runs out. Where it may not stand there, or after an error, what
+/// is seen has no meaning.
 pub(crate) fn take(seen: &mut Seen, at: usize, bytes: &[u8]) -> Result<bool, NoMemory>
-    ensures { IfOk result (λ ok. (r : Read) → IsSeen r seen.old → at ≡ line_of r → Steps ok (next r bytes.now) seen.new) }
+    ensures { IfOk result (λ ok.
+        (r : Read) → IsSeen r seen.old → at ≡ line_of r → Steps ok (next r bytes.now) seen.new) }
 {
     match seen.part {
         Part::Start => Ok(take_start(seen, bytes)),

@@ -6,32 +6,36 @@ ghost use Rattle.report_judge.specs.Sources.{given};
 
 use std::io::Read;
 
-/// How many calls of a reader it may take until its end has come. The longest report that is written has fewer bytes.
+/// How many calls of a reader it may take until its end has come. The longest report that is
+/// written has fewer bytes.
 pub const MOST_READS: usize = 134_217_728;
 
 /// A reader answered an error.
 #[derive(Clone, Copy, Debug, PartialEq, Eq)]
 pub struct ReadFault;
 
-/// A reader, with a relation that says which call was made: in which state of the reader, what it gave or that it answered
-/// an error, and in which state it was left. Every type that is `Read` is one.
+/// A reader, with a relation that says which call was made: in which state of the reader, what it
+/// gave or that it answered an error, and in which state it was left. Every type that is `Read` is
+/// one.
 ///
-/// A caller that is generic over the source knows nothing of the relation, and so it can only have it from a call of the
-/// method. By it it can promise that the bytes of which it speaks are those that the reader gave, and that a fault which it
-/// tells is one that the reader answered.
+/// A caller that is generic over the source knows nothing of the relation, and so it can only have
+/// it from a call of the method. By it it can promise that the bytes of which it speaks are those
+/// that the reader gave, and that a fault which it tells is one that the reader answered.
 pub trait Source: Read {
     ghost use Rattle.std.specs.Prelude.{ℕ, List, Result};
     ghost use Rattle.report_judge.specs.declared.source.ReadFault.{ReadFault};
 
-    /// Asked in the first state for bytes, it gave these or answered an error, and was left in the second state. It gives
-    /// none where it is at its end.
+    /// Asked in the first state for bytes, it gave these or answered an error, and was left in the
+    /// second state. It gives none where it is at its end.
     ghost gives: { Self → Self → Result (List ℕ) ReadFault → Type 0 };
 
-    /// How many bytes it put into the front of the buffer, which has room. The error is that it answered one.
+    /// How many bytes it put into the front of the buffer, which has room. The error is that it
+    /// answered one.
     fn give(&mut self, buf: &mut [u8]) -> Result<usize, ReadFault>
         requires { 0 < length buf.old }
         ensures bound { ReadsAtMost result buf.new }
-        ensures bytes { ReadConsumes (Self.remaining self.old) (Self.remaining self.new) result buf.new }
+        ensures bytes { ReadConsumes (Self.remaining self.old) (Self.remaining self.new)
+            result buf.new }
         ensures asked { gives self.old self.new (given buf.new result) };
 }
 
@@ -39,7 +43,8 @@ impl<R: Read> Source for R {
     ghost use Rattle.std.specs.Prelude.{List, ℕ, OnErr, IfOk, [], ◌≡◌};
     ghost use Rattle.std.specs.Io.KnownBytes.{Consumes, IsAtEnd};
 
-    ghost gives = { λ old new answer. IfOk answer (λ bytes. Consumes (R.remaining old) (R.remaining new) bytes) };
+    ghost gives = { λ old new answer.
+        IfOk answer (λ bytes. Consumes (R.remaining old) (R.remaining new) bytes) };
 
     fn give(&mut self, buf: &mut [u8]) -> Result<usize, ReadFault> {
         match self.read(buf) {

@@ -6,12 +6,12 @@ use Rattle.report_judge.proofs.reading.judge_all.Goals as goal
 pub returns-in-Err-finish-clause-err : goal.returns-in-Err-finish-clause-err
 returns-in-Err-finish-clause-err g c =
     let i = c.loop-call.invariant in
-    part_read g.R.Source.gives g.R.Read.remaining c.loop-call._call _ _ _ i.2.0 _ i.2.3 i.2.1 c.in-Ok-eq0.ensures.asked c.in-Ok-eq0.ensures.bytes.0
+    part_read _ c.loop-call._call _ _ _ i.2.0 _ i.2.3 i.2.1 c.in-Ok-eq0.ensures.asked c.in-Ok-eq0.ensures.bytes.0
 
 pub returns-in-Err-take_bytes-clause-err : goal.returns-in-Err-take_bytes-clause-err
 returns-in-Err-take_bytes-clause-err g c =
     let i = c.loop-call.invariant in
-    part_read g.R.Source.gives g.R.Read.remaining c.loop-call._call _ _ _ i.2.0 _ i.2.3 i.2.1 c.in-Ok.ensures.asked c.in-Ok.ensures.bytes.0
+    part_read _ c.loop-call._call _ _ _ i.2.0 _ i.2.3 i.2.1 c.in-Ok.ensures.asked c.in-Ok.ensures.bytes.0
 
 pub loop-call-preserved : goal.loop-call-preserved
 loop-call-preserved g c =
@@ -27,6 +27,6 @@ loop-call-preserved g c =
         i.2.0 ++ take n buf,
         Consumes-trans _ _ _ _ _ i.2.1 c.in-Ok.ensures.bytes.0,
         c.in-Ok-take_bytes.ensures.stands i.2.0 i.2.2,
-        given_more g.R.Source.gives c.loop-call._call _ _ _ i.2.0 _ i.2.3 c.in-Ok.ensures.asked,
+        given_more _ c.loop-call._call _ _ _ i.2.0 _ i.2.3 c.in-Ok.ensures.asked,
       ),
     )
