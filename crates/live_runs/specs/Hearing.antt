@@ -100,7 +100,8 @@ Becomes g End bytes fault old new = ⊥
 
 -- a whole line was handled, and what came of it was told or shown
 pub record Answers {S W E : Type 0} (g : Ghosts S) (w : Writer W) (e : Writer E) (n : ℕ)
-    (bytes : List ℕ) (old new : Turning S) (out_old out_new : W) (err_old err_new : E) : Type 0 where
+    (bytes : List ℕ) (old new : Turning S) (out_old out_new : W)
+    (err_old err_new : E) : Type 0 where
   pub fault : Option LineKind
   pub handled : Handled g old bytes new fault
   pub told : IsToldOf e n fault err_old err_new
@@ -108,7 +109,8 @@ pub record Answers {S W E : Type 0} (g : Ghosts S) (w : Writer W) (e : Writer E)
 
 module _ {S W : Type 0} (g : Ghosts S) (w : Writer W) where
   -- it was taken, and what came of it was not shown
-  pub record IsUnshownAnswer (bytes : List ℕ) (old : Turning S) (out_old out_new : W) : Type 0 where
+  pub record IsUnshownAnswer (bytes : List ℕ) (old : Turning S)
+      (out_old out_new : W) : Type 0 where
     pub new : Turning S
     pub taken : IsTaken g old bytes new
     pub stands : Stands g new
@@ -125,7 +127,8 @@ module _ {S W : Type 0} (g : Ghosts S) (w : Writer W) where
 
 module _ {R S W E : Type 0} (r : Requests R) (g : Ghosts S) (w : Writer W) (e : Writer E) where
   -- line n was taken off the reader, and was told or answered
-  pub record HearsOne (n : ℕ) (old : Moment R S W E) (x : Heard) (new : Moment R S W E) : Type 0 where
+  pub record HearsOne (n : ℕ) (old : Moment R S W E) (x : Heard)
+      (new : Moment R S W E) : Type 0 where
     pub taken : Taken
     pub takes : Takes r old.reader new.reader old.holds new.holds taken
     pub bytes : x.bytes ≡ new.holds.kept

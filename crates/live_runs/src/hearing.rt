@@ -70,7 +70,8 @@ fn hear_next<R: Source, S: TopStore, W: Sink, E: Sink>(
     err: &mut E,
 ) -> Result<(Live<S>, bool), LiveFault>
     ensures ok { IfOk result (λ r. HearsNext R.Source S.TopStore W.Sink E.Sink line
-        (moment input.old lines.old live out.old err.old) (moment input.new lines.new r.0 out.new err.new) r.1) }
+        (moment input.old lines.old live out.old err.old)
+        (moment input.new lines.new r.0 out.new err.new) r.1) }
     ensures err { IfErr result (λ fault. HasHearingFault R.Source S.TopStore W.Sink E.Sink
         (moment input.old lines.old live out.old err.old) input.new out.new fault) }
     ensures untold { OnErr result (err.new ≡ err.old) }

@@ -48,9 +48,11 @@ pub(crate) fn show_rest<W: Sink>(
 ) -> Result<(), WriteFault>
     requires { written ≤ length report.now.history }
     ensures ok { OnOk result (IsShown W.Sink out.old out.new
-        (spelled_history report.now.labels (entries_behind written report.now.history) ++ ending_text report.now.table)) }
+        (spelled_history report.now.labels (entries_behind written report.now.history)
+        ++ ending_text report.now.table)) }
     ensures err { OnErr result (IsUnshown W.Sink out.old out.new
-        (spelled_history report.now.labels (entries_behind written report.now.history) ++ ending_text report.now.table)) }
+        (spelled_history report.now.labels (entries_behind written report.now.history)
+        ++ ending_text report.now.table)) }
     ensures report { IsReport report.now }
 {
     let table = report.table();

@@ -14,6 +14,7 @@ use Rattle.session_runs.specs.declared.replay.ReplayFault.TheVariants.{Text, Run
 use Rattle.session_runs.specs.declared.fault.Fault.{Fault}
 use Rattle.session_runs.specs.declared.fault.Fault.TheVariants.{CannotRead, Line, Schedule, CannotOpen, TooManyRows, NoMemory, CannotStart, CannotWrite}
 
+-- the fault of the program by which a fault of a run is told
 abbrev pub told : ReplayFault → Fault
 told (Text (read.Bad line kind)) = Line line kind
 told (Text read.NoMemory) = NoMemory
@@ -47,7 +48,8 @@ spelled_kind kinds.Long = codes "long"
 -- what a fault's line says, without its line feed
 abbrev pub spelled_cause : Fault → List ℕ
 spelled_cause (CannotRead file) = codes "tx: cannot read " ++ file.now
-spelled_cause (Line number kind) = codes "tx: line " ++ decimal number ++ codes ": " ++ spelled_kind kind
+spelled_cause (Line number kind) =
+    codes "tx: line " ++ decimal number ++ codes ": " ++ spelled_kind kind
 spelled_cause (Schedule place) = codes "tx: schedule: item " ++ decimal place
 spelled_cause CannotOpen = codes "tx: cannot open database"
 spelled_cause TooManyRows = codes "tx: too many rows"
@@ -55,6 +57,7 @@ spelled_cause NoMemory = codes "tx: no memory"
 spelled_cause CannotStart = codes "tx: cannot start worker"
 spelled_cause CannotWrite = codes "tx: cannot write"
 
+-- and with it
 abbrev pub spelled_fault : Fault → List ℕ
 spelled_fault fault = line (spelled_cause fault)
 

@@ -21,7 +21,8 @@ pub record HasLoaded {S : Type 0} (g : Ghosts S) (store_old store_new : S)
 
 module _ {S W E : Type 0} (g : Ghosts S) (w : Writer W) (e : Writer E) where
   -- it gave none, nothing was asked of the output, and the error writer got the line of that
-  pub record IsUnloaded (store_old store_new : S) (old new : W) (err_old err_new : E) : Type 0 where
+  pub record IsUnloaded (store_old store_new : S) (old new : W)
+      (err_old err_new : E) : Type 0 where
     pub fault : StoreFault
     pub refused : g.loads store_old store_new (Err fault)
     pub same : new ≡ old

@@ -5,16 +5,18 @@ use Rattle.durable_top.specs.declared.store.TopStore.{Ghosts}
 use Rattle.session_runs.specs.Ways.{Way}
 use Rattle.session_runs.specs.Replays.{IsReplayed, IsCutShort}
 
--- the output got the whole report of this text's run in this way over this store, and that run's
--- store is left
-abbrev pub IsPrinted : {S : Type 0} → Ghosts S → Option (List ℕ) → Option (List ℕ) → List ℕ → Way → S → Option S → Type 0
-IsPrinted g old new text way store left = IsSomeAnd left (λ back. IsReplayed g old new text way store back)
+module _ {S : Type 0} (g : Ghosts S) (old new : Option (List ℕ)) (text : List ℕ) (way : Way)
+    (store : S) where
+  -- the output got the whole report of this text's run in this way over this store, and that run's
+  -- store is left
+  abbrev pub IsPrinted : Option S → Type 0
+  IsPrinted left = IsSomeAnd left (λ back. IsReplayed g old new text way store back)
 
--- the output got nothing, or a beginning of that report
-abbrev pub IsUnprinted : {S : Type 0} → Ghosts S → Option (List ℕ) → Option (List ℕ) → List ℕ → Way → S → Type 0
-IsUnprinted g old new text way store = Keeps old new ⊎ IsCutShort g old new text way store
+  -- the output got nothing, or a beginning of that report
+  abbrev pub IsUnprinted : Type 0
+  IsUnprinted = Keeps old new ⊎ IsCutShort g old new text way store
 
--- No store is left, and the output got no whole report; or the writer took all of it and then did
--- not pass it on
-abbrev pub IsMissed : {S : Type 0} → Ghosts S → Option (List ℕ) → Option (List ℕ) → List ℕ → Way → S → Option S → Type 0
-IsMissed g old new text way store left = (IsNone left × IsUnprinted g old new text way store) ⊎ IsPrinted g old new text way store left
+  -- No store is left, and the output got no whole report; or the writer took all of it and then did
+  -- not pass it on
+  abbrev pub IsMissed : Option S → Type 0
+  IsMissed left = (IsNone left × IsUnprinted) ⊎ IsPrinted left

@@ -24,7 +24,8 @@ spelled_report r = report r.opening r.labels r.history r.table
 
 -- The text spells sessions, and this is the report of their run in this way over the store, which
 -- comes back as `left`
-pub record IsTold {S : Type 0} (g : Ghosts S) (text : List ℕ) (way : Way) (store left : S) (r : Told) : Type 0 where
+pub record IsTold {S : Type 0} (g : Ghosts S) (text : List ℕ) (way : Way) (store left : S)
+    (r : Told) : Type 0 where
   pub sessions : List Session
   pub read : sessions_of text ≡ Ok sessions
   -- legal, serially correct, finished, with the table that is due
@@ -33,7 +34,8 @@ pub record IsTold {S : Type 0} (g : Ghosts S) (text : List ℕ) (way : Way) (sto
   pub run : IsRunBy g sessions way store r left
 
 -- the writer took the bytes of that report
-pub record IsReplayed {S : Type 0} (g : Ghosts S) (old new : Option (List ℕ)) (text : List ℕ) (way : Way) (store left : S) : Type 0 where
+pub record IsReplayed {S : Type 0} (g : Ghosts S) (old new : Option (List ℕ)) (text : List ℕ)
+    (way : Way) (store left : S) : Type 0 where
   pub told : Told
   pub holds : IsTold g text way store left told
   pub written : Appends old new (spelled_report told)
@@ -41,28 +43,33 @@ pub record IsReplayed {S : Type 0} (g : Ghosts S) (old new : Option (List ℕ)) 
   pub accepted : HasVerdict (spelled_report told) Yes
 
 -- the writer failed, after a beginning of that report
-pub record IsCutShort {S : Type 0} (g : Ghosts S) (old new : Option (List ℕ)) (text : List ℕ) (way : Way) (store : S) : Type 0 where
+pub record IsCutShort {S : Type 0} (g : Ghosts S) (old new : Option (List ℕ)) (text : List ℕ)
+    (way : Way) (store : S) : Type 0 where
   pub left : S
   pub told : Told
   pub holds : IsTold g text way store left told
   pub written : AppendsFront old new (spelled_report told)
 
 -- the text spells sessions, and their run by the schedule gave no report
-pub record IsUnrun {S : Type 0} (g : Ghosts S) (text schedule : List ℕ) (store : S) (fault : RunFault) : Type 0 where
+pub record IsUnrun {S : Type 0} (g : Ghosts S) (text schedule : List ℕ) (store : S)
+    (fault : RunFault) : Type 0 where
   pub sessions : List Session
   pub read : sessions_of text ≡ Ok sessions
   pub cause : HasRunCause g sessions schedule store fault
 
 -- the same by workers
-pub record IsUnserved {S : Type 0} (g : Ghosts S) (text : List ℕ) (store : S) (fault : ServeFault) : Type 0 where
+pub record IsUnserved {S : Type 0} (g : Ghosts S) (text : List ℕ) (store : S)
+    (fault : ServeFault) : Type 0 where
   pub sessions : List Session
   pub read : sessions_of text ≡ Ok sessions
   pub cause : HasServeCause g sessions store fault
 
 -- Why a text was not run. Which way it was to be run tells which kinds of fault there are
-abbrev pub HasReplayCause : {S : Type 0} → Ghosts S → Option (List ℕ) → Option (List ℕ) → List ℕ → Way → S → ReplayFault → Type 0
+abbrev pub HasReplayCause : {S : Type 0} → Ghosts S → Option (List ℕ) → Option (List ℕ)
+    → List ℕ → Way → S → ReplayFault → Type 0
 HasReplayCause g old new text way store (Text fault) = Tells fault (sessions_of text)
-HasReplayCause g old new text (Scheduled schedule) store (Run fault) = IsUnrun g text schedule store fault
+HasReplayCause g old new text (Scheduled schedule) store (Run fault) =
+    IsUnrun g text schedule store fault
 HasReplayCause g old new text ByWorkers store (Run fault) = ⊥
 HasReplayCause g old new text (Scheduled schedule) store (Serve fault) = ⊥
 HasReplayCause g old new text ByWorkers store (Serve fault) = IsUnserved g text store fault

@@ -30,9 +30,11 @@ pub(crate) fn read_sessions(alloc: Global, text: &[u8]) -> Result<Sessions, Repl
 /// Writes the report, which has the verdict yes. After the fault, which is one that the writer
 /// answered, `out` has taken a beginning of it.
 pub(crate) fn put_report<W: Sink>(report: &Report, out: &mut W) -> Result<(), ReplayFault>
-    ensures ok { OnOk result (Appends (W.contents out.old) (W.contents out.new) (spelled_report report.now)) }
+    ensures ok { OnOk result
+        (Appends (W.contents out.old) (W.contents out.new) (spelled_report report.now)) }
     ensures accepted { OnOk result (HasVerdict (spelled_report report.now) Yes) }
-    ensures err { IfErr result (λ fault. IsUnended (W.contents out.old) (W.contents out.new) report.now fault) }
+    ensures err { IfErr result (λ fault.
+        IsUnended (W.contents out.old) (W.contents out.new) report.now fault) }
     ensures asked { IfErr result (λ fault. IsAnswered W.Sink out.new fault) }
 {
     match write_report(report, out) {

@@ -35,8 +35,12 @@ pub fn replay_text<S: TopStore, W: Sink>(
     store: S,
     out: &mut W,
 ) -> Result<S, ReplayFault>
-    ensures ok { IfOk result (λ left. IsReplayed S.TopStore (W.contents out.old) (W.contents out.new) text.now (Scheduled schedule.now) store left) }
-    ensures err { IfErr result (λ fault. HasReplayCause S.TopStore (W.contents out.old) (W.contents out.new) text.now (Scheduled schedule.now) store fault) }
+    ensures ok { IfOk result (λ left.
+        IsReplayed S.TopStore (W.contents out.old) (W.contents out.new)
+        text.now (Scheduled schedule.now) store left) }
+    ensures err { IfErr result (λ fault.
+        HasReplayCause S.TopStore (W.contents out.old) (W.contents out.new)
+        text.now (Scheduled schedule.now) store fault) }
     ensures asked { IfErr result (λ fault. IsAnswered W.Sink out.new fault) }
     ensures unwritten { IfErr result (λ fault. IsUnwritten fault → out.new ≡ out.old) }
 {

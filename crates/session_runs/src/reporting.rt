@@ -49,10 +49,15 @@ pub fn report_over<R: Threads + Wait + Clock + Sync, S: TopStore + Send, W: Sink
     err: &mut E,
 ) -> Ended<S>
     requires { IsServable way.now }
-    ensures done { result.status ≡ DONE → IsPrinted S.TopStore (W.contents out.old) (W.contents out.new) text.now (way_of way.now) store result.left }
-    ensures undone { result.status ≢ DONE → IsMissed S.TopStore (W.contents out.old) (W.contents out.new) text.now (way_of way.now) store result.left }
+    ensures done { result.status ≡ DONE
+        → IsPrinted S.TopStore (W.contents out.old) (W.contents out.new)
+        text.now (way_of way.now) store result.left }
+    ensures undone { result.status ≢ DONE
+        → IsMissed S.TopStore (W.contents out.old) (W.contents out.new)
+        text.now (way_of way.now) store result.left }
     ensures told { result.status ≢ DONE → IsUnflushed W.Sink E.Sink out.new err.old err.new
-        ⊎ IsFaulted S.TopStore W.Sink E.Sink out.old out.new err.old err.new text.now (way_of way.now) store }
+        ⊎ IsFaulted S.TopStore W.Sink E.Sink out.old out.new err.old err.new
+        text.now (way_of way.now) store }
     ensures accounts { Accounts W.Sink E.Sink out.new err.old err.new result.status }
     ensures status { result.status ≤ FAILED }
 {
@@ -73,13 +78,22 @@ pub fn report_opened<R: Threads + Wait + Clock + Sync, S: TopStore + Send, W: Si
     err: &mut E,
 ) -> Ended<S>
     requires { IsServable way.now }
-    ensures done { IfOk opened (λ store. result.status ≡ DONE → IsPrinted S.TopStore (W.contents out.old) (W.contents out.new) text.now (way_of way.now) store result.left) }
-    ensures undone { IfOk opened (λ store. result.status ≢ DONE → IsMissed S.TopStore (W.contents out.old) (W.contents out.new) text.now (way_of way.now) store result.left) }
-    ensures told { IfOk opened (λ store. result.status ≢ DONE → IsUnflushed W.Sink E.Sink out.new err.old err.new
-        ⊎ IsFaulted S.TopStore W.Sink E.Sink out.old out.new err.old err.new text.now (way_of way.now) store) }
+    ensures done { IfOk opened (λ store.
+        result.status ≡ DONE
+        → IsPrinted S.TopStore (W.contents out.old) (W.contents out.new)
+        text.now (way_of way.now) store result.left) }
+    ensures undone { IfOk opened (λ store.
+        result.status ≢ DONE
+        → IsMissed S.TopStore (W.contents out.old) (W.contents out.new)
+        text.now (way_of way.now) store result.left) }
+    ensures told { IfOk opened (λ store.
+        result.status ≢ DONE → IsUnflushed W.Sink E.Sink out.new err.old err.new
+        ⊎ IsFaulted S.TopStore W.Sink E.Sink out.old out.new err.old err.new
+        text.now (way_of way.now) store) }
     ensures unopened { IfErr opened (λ fault. (result.status ≡ FAILED) × IsNone result.left) }
     ensures unwritten { OnErr opened (out.new ≡ out.old) }
-    ensures unopened_told { OnErr opened (IsSaid E.Sink err.old err.new (spelled_fault CannotOpen)) }
+    ensures unopened_told { OnErr opened
+        (IsSaid E.Sink err.old err.new (spelled_fault CannotOpen)) }
     ensures accounts { Accounts W.Sink E.Sink out.new err.old err.new result.status }
     ensures status { result.status ≤ FAILED }
 {
@@ -103,10 +117,15 @@ pub fn replay_over<S: TopStore, W: Sink, E: Sink>(
     out: &mut W,
     err: &mut E,
 ) -> Ended<S>
-    ensures done { result.status ≡ DONE → IsPrinted S.TopStore (W.contents out.old) (W.contents out.new) text.now (Scheduled schedule.now) store result.left }
-    ensures undone { result.status ≢ DONE → IsMissed S.TopStore (W.contents out.old) (W.contents out.new) text.now (Scheduled schedule.now) store result.left }
+    ensures done { result.status ≡ DONE
+        → IsPrinted S.TopStore (W.contents out.old) (W.contents out.new)
+        text.now (Scheduled schedule.now) store result.left }
+    ensures undone { result.status ≢ DONE
+        → IsMissed S.TopStore (W.contents out.old) (W.contents out.new)
+        text.now (Scheduled schedule.now) store result.left }
     ensures told { result.status ≢ DONE → IsUnflushed W.Sink E.Sink out.new err.old err.new
-        ⊎ IsFaulted S.TopStore W.Sink E.Sink out.old out.new err.old err.new text.now (Scheduled schedule.now) store }
+        ⊎ IsFaulted S.TopStore W.Sink E.Sink out.old out.new err.old err.new
+        text.now (Scheduled schedule.now) store }
     ensures accounts { Accounts W.Sink E.Sink out.new err.old err.new result.status }
     ensures status { result.status ≤ FAILED }
 {
@@ -125,10 +144,15 @@ fn serve_over<R: Threads + Wait + Clock + Sync, S: TopStore + Send, W: Sink, E: 
     err: &mut E,
 ) -> Ended<S>
     requires { AreFew workers }
-    ensures done { result.status ≡ DONE → IsPrinted S.TopStore (W.contents out.old) (W.contents out.new) text.now ByWorkers store result.left }
-    ensures undone { result.status ≢ DONE → IsMissed S.TopStore (W.contents out.old) (W.contents out.new) text.now ByWorkers store result.left }
+    ensures done { result.status ≡ DONE
+        → IsPrinted S.TopStore (W.contents out.old) (W.contents out.new)
+        text.now ByWorkers store result.left }
+    ensures undone { result.status ≢ DONE
+        → IsMissed S.TopStore (W.contents out.old) (W.contents out.new)
+        text.now ByWorkers store result.left }
     ensures told { result.status ≢ DONE → IsUnflushed W.Sink E.Sink out.new err.old err.new
-        ⊎ IsFaulted S.TopStore W.Sink E.Sink out.old out.new err.old err.new text.now ByWorkers store }
+        ⊎ IsFaulted S.TopStore W.Sink E.Sink out.old out.new err.old err.new
+        text.now ByWorkers store }
     ensures accounts { Accounts W.Sink E.Sink out.new err.old err.new result.status }
     ensures status { result.status ≤ FAILED }
 {
@@ -148,8 +172,10 @@ fn end_run<S: Drop, W: Sink, E: Sink>(
     ensures unwritten { IfErr ran (λ fault. out.new ≡ out.old) }
     ensures passed { result.status ≡ DONE → IsFlushed W.Sink out.new (Ok tt) }
     ensures silent { result.status ≡ DONE → err.new ≡ err.old }
-    ensures unflushed { IfOk ran (λ left. result.status ≢ DONE → IsUnflushed W.Sink E.Sink out.new err.old err.new) }
-    ensures told { IfErr ran (λ fault. IsSaid E.Sink err.old err.new (spelled_fault (told fault))) }
+    ensures unflushed { IfOk ran (λ left.
+        result.status ≢ DONE → IsUnflushed W.Sink E.Sink out.new err.old err.new) }
+    ensures told { IfErr ran (λ fault.
+        IsSaid E.Sink err.old err.new (spelled_fault (told fault))) }
     ensures status { result.status ≤ FAILED }
 {
     match ran {

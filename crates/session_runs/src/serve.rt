@@ -41,8 +41,12 @@ pub fn run_text<R: Threads + Wait + Clock + Sync, S: TopStore + Send, G: Gate + 
     out: &mut W,
 ) -> Result<S, ReplayFault>
     requires { AreFew workers }
-    ensures ok { IfOk result (λ left. IsReplayed S.TopStore (W.contents out.old) (W.contents out.new) text.now ByWorkers store left) }
-    ensures err { IfErr result (λ fault. HasReplayCause S.TopStore (W.contents out.old) (W.contents out.new) text.now ByWorkers store fault) }
+    ensures ok { IfOk result (λ left.
+        IsReplayed S.TopStore (W.contents out.old) (W.contents out.new)
+        text.now ByWorkers store left) }
+    ensures err { IfErr result (λ fault.
+        HasReplayCause S.TopStore (W.contents out.old) (W.contents out.new)
+        text.now ByWorkers store fault) }
     ensures asked { IfErr result (λ fault. IsAnswered W.Sink out.new fault) }
     ensures unwritten { IfErr result (λ fault. IsUnwritten fault → out.new ≡ out.old) }
 {

@@ -17,7 +17,8 @@ pub const MISUSED: u8 = 2;
 
 fn put_number<E: Sink>(err: &mut E, number: usize) -> Result<(), WriteFault>
     ensures ok { OnOk result (Appends (E.contents err.old) (E.contents err.new) (decimal number)) }
-    ensures err { OnErr result (AppendsFront (E.contents err.old) (E.contents err.new) (decimal number)) }
+    ensures err { OnErr result
+        (AppendsFront (E.contents err.old) (E.contents err.new) (decimal number)) }
     ensures asked { OnErr result (IsStopped E.Sink err.new) }
 {
     let mut buffer = Buffer::new();
@@ -25,8 +26,10 @@ fn put_number<E: Sink>(err: &mut E, number: usize) -> Result<(), WriteFault>
 }
 
 fn put_kind<E: Sink>(err: &mut E, kind: LineKind) -> Result<(), WriteFault>
-    ensures ok { OnOk result (Appends (E.contents err.old) (E.contents err.new) (spelled_kind kind)) }
-    ensures err { OnErr result (AppendsFront (E.contents err.old) (E.contents err.new) (spelled_kind kind)) }
+    ensures ok { OnOk result
+        (Appends (E.contents err.old) (E.contents err.new) (spelled_kind kind)) }
+    ensures err { OnErr result
+        (AppendsFront (E.contents err.old) (E.contents err.new) (spelled_kind kind)) }
     ensures asked { OnErr result (IsStopped E.Sink err.new) }
 {
     put(err, word_of(&kind).as_bytes())
@@ -34,8 +37,10 @@ fn put_kind<E: Sink>(err: &mut E, kind: LineKind) -> Result<(), WriteFault>
 
 // The first bytes, and then the second.
 fn put_behind<E: Sink>(err: &mut E, first: &[u8], second: &[u8]) -> Result<(), WriteFault>
-    ensures ok { OnOk result (Appends (E.contents err.old) (E.contents err.new) (first.now ++ second.now)) }
-    ensures err { OnErr result (AppendsFront (E.contents err.old) (E.contents err.new) (first.now ++ second.now)) }
+    ensures ok { OnOk result
+        (Appends (E.contents err.old) (E.contents err.new) (first.now ++ second.now)) }
+    ensures err { OnErr result
+        (AppendsFront (E.contents err.old) (E.contents err.new) (first.now ++ second.now)) }
     ensures asked { OnErr result (IsStopped E.Sink err.new) }
 {
     put(err, first)?;
@@ -44,8 +49,10 @@ fn put_behind<E: Sink>(err: &mut E, first: &[u8], second: &[u8]) -> Result<(), W
 
 // Words with their space, and a number.
 fn put_counted<E: Sink>(err: &mut E, words: &[u8], number: usize) -> Result<(), WriteFault>
-    ensures ok { OnOk result (Appends (E.contents err.old) (E.contents err.new) (words.now ++ decimal number)) }
-    ensures err { OnErr result (AppendsFront (E.contents err.old) (E.contents err.new) (words.now ++ decimal number)) }
+    ensures ok { OnOk result
+        (Appends (E.contents err.old) (E.contents err.new) (words.now ++ decimal number)) }
+    ensures err { OnErr result
+        (AppendsFront (E.contents err.old) (E.contents err.new) (words.now ++ decimal number)) }
     ensures asked { OnErr result (IsStopped E.Sink err.new) }
 {
     put(err, words)?;
@@ -54,8 +61,12 @@ fn put_counted<E: Sink>(err: &mut E, words: &[u8], number: usize) -> Result<(), 
 
 // A line of a text, and what is wrong with it.
 fn put_place<E: Sink>(err: &mut E, number: usize, kind: LineKind) -> Result<(), WriteFault>
-    ensures ok { OnOk result (Appends (E.contents err.old) (E.contents err.new) (codes "tx: line " ++ decimal number ++ codes ": " ++ spelled_kind kind)) }
-    ensures err { OnErr result (AppendsFront (E.contents err.old) (E.contents err.new) (codes "tx: line " ++ decimal number ++ codes ": " ++ spelled_kind kind)) }
+    ensures ok { OnOk result
+        (Appends (E.contents err.old) (E.contents err.new)
+        (codes "tx: line " ++ decimal number ++ codes ": " ++ spelled_kind kind)) }
+    ensures err { OnErr result
+        (AppendsFront (E.contents err.old) (E.contents err.new)
+        (codes "tx: line " ++ decimal number ++ codes ": " ++ spelled_kind kind)) }
     ensures asked { OnErr result (IsStopped E.Sink err.new) }
 {
     put_counted(err, b"tx: line ", number)?;
@@ -65,8 +76,10 @@ fn put_place<E: Sink>(err: &mut E, number: usize, kind: LineKind) -> Result<(), 
 
 // What the line says, without its line feed.
 fn put_cause<E: Sink>(err: &mut E, fault: Fault<'_>) -> Result<(), WriteFault>
-    ensures ok { OnOk result (Appends (E.contents err.old) (E.contents err.new) (spelled_cause fault.entry)) }
-    ensures err { OnErr result (AppendsFront (E.contents err.old) (E.contents err.new) (spelled_cause fault.entry)) }
+    ensures ok { OnOk result
+        (Appends (E.contents err.old) (E.contents err.new) (spelled_cause fault.entry)) }
+    ensures err { OnErr result
+        (AppendsFront (E.contents err.old) (E.contents err.new) (spelled_cause fault.entry)) }
     ensures asked { OnErr result (IsStopped E.Sink err.new) }
 {
     match fault {
@@ -82,8 +95,10 @@ fn put_cause<E: Sink>(err: &mut E, fault: Fault<'_>) -> Result<(), WriteFault>
 }
 
 fn put_fault<E: Sink>(err: &mut E, fault: Fault<'_>) -> Result<(), WriteFault>
-    ensures ok { OnOk result (Appends (E.contents err.old) (E.contents err.new) (spelled_fault fault.entry)) }
-    ensures err { OnErr result (AppendsFront (E.contents err.old) (E.contents err.new) (spelled_fault fault.entry)) }
+    ensures ok { OnOk result
+        (Appends (E.contents err.old) (E.contents err.new) (spelled_fault fault.entry)) }
+    ensures err { OnErr result
+        (AppendsFront (E.contents err.old) (E.contents err.new) (spelled_fault fault.entry)) }
     ensures asked { OnErr result (IsStopped E.Sink err.new) }
 {
     put_cause(err, fault)?;
