@@ -1,3 +1,4 @@
+pub mod Worlds
 pub mod Programs
 pub mod Texts
 pub mod Lives

@@ -4,22 +4,25 @@ ghost use Rattle.session_runs.specs.declared.reporting.TheConstants.{DONE, FAILE
 ghost use Rattle.report_text.specs.Verdicts.{spelled_verdict};
 ghost use Rattle.session_runs.specs.Tellings.{Accounts, IsGiven, IsUngiven};
 ghost use Rattle.tx_commands.specs.Programs.{IsCondemned, IsPassed, IsUnpassed};
+ghost use Rattle.tx_commands.specs.Worlds.{state, world};
 
 use crate::host::Surroundings;
+use durable_top::TopStore;
 use report_check::Verdict;
 use report_judge::{CheckFault, ReadFault, check};
 use report_text::write_verdict;
 use session_runs::{DONE, FAILED, Fault, finish, tell};
+use sql_store::MemoryStore;
 use std::alloc::Global;
 use txn_bytes::Sink;
 
-// The output is asked to take the verdict and to pass it on. The answer is whether it did both; where not, that is told.
+// The output is asked to take the verdict and to pass it on. The answer is whether it did both;
+// where not, that is told.
 fn is_given<W: Sink, E: Sink>(verdict: Verdict, out: &mut W, err: &mut E) -> bool
     ensures given { IsTrue result →
-        IsGiven W.contents W.flushes out.old out.new err.old err.new (spelled_verdict verdict) }
+        IsGiven W.Sink E.Sink out.old out.new err.old err.new (spelled_verdict verdict) }
     ensures ungiven { result ≡ false →
-        IsUngiven W.contents W.takes W.flushes E.contents E.takes
-        out.old out.new err.old err.new (spelled_verdict verdict) }
+        IsUngiven W.Sink E.Sink out.old out.new err.old err.new (spelled_verdict verdict) }
 {
     match write_verdict(verdict, out) {
         Ok(()) => finish(out, err) == DONE,
@@ -30,7 +33,8 @@ fn is_given<W: Sink, E: Sink>(verdict: Verdict, out: &mut W, err: &mut E) -> boo
     }
 }
 
-/// Judges the report at this path, gives the verdict to `out`, and answers the exit status. A fault goes to `err`, in one line.
+/// Judges the report at this path, gives the verdict to `out`, and answers the exit status. A
+/// fault goes to `err`, in one line.
 pub fn judge<H: Surroundings, W: Sink, E: Sink>(
     host: &mut H,
     alloc: Global,
@@ -39,15 +43,18 @@ pub fn judge<H: Surroundings, W: Sink, E: Sink>(
     err: &mut E,
 ) -> u8
     ensures done { result ≡ DONE →
-        IsPassed H.finds H.Text.gives H.Text.remaining W.contents W.flushes
-        host.old host.new file.now out.old out.new err.old err.new }
+        IsPassed (world H.Surroundings H.Text.Source H.Store.TopStore
+        ⟦<MemoryStore as TopStore>⟧ W.Sink E.Sink)
+        (state host.old out.old err.old) (state host.new out.new err.new) file.now }
     ensures failed { result ≡ FAILED →
-        IsUnpassed H.finds H.Text.gives W.contents W.takes W.flushes E.contents E.takes
-        H.Text.remaining host.old host.new file.now out.old out.new err.old err.new }
+        IsUnpassed (world H.Surroundings H.Text.Source H.Store.TopStore
+        ⟦<MemoryStore as TopStore>⟧ W.Sink E.Sink)
+        (state host.old out.old err.old) (state host.new out.new err.new) file.now }
     ensures accounts { (result ≡ FAILED) ×
-        IsCondemned H.finds H.Text.gives W.contents W.takes W.flushes E.contents E.takes
-        H.Text.remaining host.old host.new file.now out.old out.new err.old err.new
-        ⊎ Accounts W.flushes E.contents E.takes out.new err.old err.new result }
+        IsCondemned (world H.Surroundings H.Text.Source H.Store.TopStore
+        ⟦<MemoryStore as TopStore>⟧ W.Sink E.Sink)
+        (state host.old out.old err.old) (state host.new out.new err.new) file.now
+        ⊎ Accounts W.Sink E.Sink out.new err.old err.new result }
     ensures status { result ≤ FAILED }
 {
     let mut report = match host.find(file) {

@@ -9,6 +9,7 @@ ghost use Rattle.session_runs.specs.Schedules.{attempts_of};
 ghost use Rattle.session_runs.specs.Tellings.{Accounts};
 ghost use Rattle.session_runs.specs.Ways.{ByWorkers, Scheduled, workers_of};
 ghost use Rattle.tx_commands.specs.Programs.{Misses, Prints};
+ghost use Rattle.tx_commands.specs.Worlds.{state, world};
 
 use crate::host::Surroundings;
 use crate::running::report;
@@ -21,9 +22,10 @@ use std::thread::Threads;
 use std::time::Clock;
 use txn_bytes::Sink;
 
-/// Replays the text of this file by this list, and then in rounds, over the database at the path or else over a table in
-/// memory that is empty at the beginning. The exit status and the two writers are as `report_over` of session_runs has them.
-/// The list is read first: what of it is no session's number is told once the text is read.
+/// Replays the text of this file by this list, and then in rounds, over the database at the path
+/// or else over a table in memory that is empty at the beginning. The exit status and the two
+/// writers are as `report_over` of session_runs has them. The list is read first: what of it is no
+/// session's number is told once the text is read.
 pub fn replay<H: Surroundings, R: Threads + Wait + Clock + Sync, W: Sink, E: Sink>(
     host: &mut H,
     threads: &R,
@@ -35,15 +37,18 @@ pub fn replay<H: Surroundings, R: Threads + Wait + Clock + Sync, W: Sink, E: Sin
     err: &mut E,
 ) -> u8
     ensures done { result ≡ DONE →
-        Prints H.finds H.Text.gives H.opens H.closes ⟦<MemoryStore as TopStore>⟧ H.Store.TopStore
-        host.old host.new file.now (Scheduled (attempts_of (option_copied list.entry))) (option_copied database.entry)
-        (W.contents out.old) (W.contents out.new) }
+        Prints (world H.Surroundings H.Text.Source H.Store.TopStore
+        ⟦<MemoryStore as TopStore>⟧ W.Sink E.Sink)
+        (state host.old out.old err.old) (state host.new out.new err.new)
+        file.now (Scheduled (attempts_of (option_copied list.entry)))
+        (option_copied database.entry) }
     ensures failed { result ≡ FAILED →
-        Misses H.finds H.Text.gives W.contents W.takes W.flushes E.contents E.takes
-        H.Text.remaining H.opens H.closes ⟦<MemoryStore as TopStore>⟧ H.Store.TopStore
-        host.old host.new file.now (Scheduled (attempts_of (option_copied list.entry))) (option_copied database.entry)
-        out.old out.new err.old err.new }
-    ensures accounts { Accounts W.flushes E.contents E.takes out.new err.old err.new result }
+        Misses (world H.Surroundings H.Text.Source H.Store.TopStore
+        ⟦<MemoryStore as TopStore>⟧ W.Sink E.Sink)
+        (state host.old out.old err.old) (state host.new out.new err.new)
+        file.now (Scheduled (attempts_of (option_copied list.entry)))
+        (option_copied database.entry) }
+    ensures accounts { Accounts W.Sink E.Sink out.new err.old err.new result }
     ensures status { result ≤ FAILED }
 {
     match attempts_of(alloc, list) {
@@ -61,9 +66,10 @@ pub fn replay<H: Surroundings, R: Threads + Wait + Clock + Sync, W: Sink, E: Sin
     }
 }
 
-/// Runs the text of this file by as many workers as the word says, on `threads`, over the database at the path or else over a
-/// table in memory that is empty at the beginning. The exit status and the two writers are as `report_over` of session_runs has
-/// them. The number of workers is read first; where it is none, nothing else is done.
+/// Runs the text of this file by as many workers as the word says, on `threads`, over the database
+/// at the path or else over a table in memory that is empty at the beginning. The exit status and
+/// the two writers are as `report_over` of session_runs has them. The number of workers is read
+/// first; where it is none, nothing else is done.
 pub fn run<H: Surroundings, R: Threads + Wait + Clock + Sync, W: Sink, E: Sink>(
     host: &mut H,
     threads: &R,
@@ -75,19 +81,21 @@ pub fn run<H: Surroundings, R: Threads + Wait + Clock + Sync, W: Sink, E: Sink>(
     err: &mut E,
 ) -> u8
     ensures done { result ≡ DONE →
-        Prints H.finds H.Text.gives H.opens H.closes ⟦<MemoryStore as TopStore>⟧ H.Store.TopStore
-        host.old host.new file.now ByWorkers (option_copied database.entry)
-        (W.contents out.old) (W.contents out.new) }
+        Prints (world H.Surroundings H.Text.Source H.Store.TopStore
+        ⟦<MemoryStore as TopStore>⟧ W.Sink E.Sink)
+        (state host.old out.old err.old) (state host.new out.new err.new)
+        file.now ByWorkers (option_copied database.entry) }
     ensures failed { result ≡ FAILED →
-        Misses H.finds H.Text.gives W.contents W.takes W.flushes E.contents E.takes
-        H.Text.remaining H.opens H.closes ⟦<MemoryStore as TopStore>⟧ H.Store.TopStore
-        host.old host.new file.now ByWorkers (option_copied database.entry)
-        out.old out.new err.old err.new }
+        Misses (world H.Surroundings H.Text.Source H.Store.TopStore
+        ⟦<MemoryStore as TopStore>⟧ W.Sink E.Sink)
+        (state host.old out.old err.old) (state host.new out.new err.new)
+        file.now ByWorkers (option_copied database.entry) }
     ensures misused { (result ≡ MISUSED) ↔ IsNone (workers_of (option_copied workers.entry)) }
     ensures unasked { result ≡ MISUSED → (host.new ≡ host.old) × (out.new ≡ out.old) }
     ensures usage { result ≡ MISUSED →
-        IsSaid E.contents E.takes err.old err.new (line (codes "tx: --workers: a number from 1 to 16 is wanted")) }
-    ensures accounts { Accounts W.flushes E.contents E.takes out.new err.old err.new result }
+        IsSaid E.Sink err.old err.new
+        (line (codes "tx: --workers: a number from 1 to 16 is wanted")) }
+    ensures accounts { Accounts W.Sink E.Sink out.new err.old err.new result }
     ensures status { result ≤ MISUSED }
 {
     match workers_of(workers) {

@@ -7,13 +7,14 @@ use sql_store::DatabaseStore;
 use std::fs::{self, File};
 use std::rt::HostRuntime;
 
-/// Files and databases by their paths, with relations that say what was asked of them and what the answer was. Their state is
-/// what was asked so far.
+/// Files and databases by their paths, with relations that say what was asked of them and what the
+/// answer was. Their state is what was asked so far.
 ///
-/// A caller that is generic over the surroundings knows nothing of the relations, and so it can only have them from a call of the
-/// method. By them it can promise that the text which it ran is the one at the path that it names, that the store is the one at
-/// the other path, and that it was closed. It can promise too that nothing else was asked: from one state to another leads only what
-/// was asked.
+/// A caller that is generic over the surroundings knows nothing of the relations, and so it can
+/// only have them from a call of the method. By them it can promise that the text which it ran is
+/// the one at the path that it names, that the store is the one at the other path, and that it was
+/// closed. It can promise too that nothing else was asked: from one state to another leads only
+/// what was asked.
 pub trait Surroundings {
     ghost use Rattle.std.specs.Prelude.{ℕ, List, Option, Result};
     ghost use Rattle.report_judge.specs.declared.source.ReadFault.{ReadFault};
@@ -25,14 +26,16 @@ pub trait Surroundings {
     /// A store over a database.
     type Store: TopStore + Send;
 
-    /// Asked in the first state for the file at this path, they gave this answer and were left in the second state.
+    /// Asked in the first state for the file at this path, they gave this answer and were left in
+    /// the second state.
     ghost finds: { Self → Self → List ℕ → Result Self.Text ReadFault → Type 0 };
 
-    /// Asked in the first state for a store over the database at this path, they gave this answer and were left in the second.
+    /// Asked in the first state for a store over the database at this path, they gave this answer
+    /// and were left in the second.
     ghost opens: { Self → Self → List ℕ → Result Self.Store StoreFault → Type 0 };
 
-    /// Asked in the first state to close the database at this path, they got this store of it, or none, and were left in the
-    /// second.
+    /// Asked in the first state to close the database at this path, they got this store of it, or
+    /// none, and were left in the second.
     ghost closes: { Self → Self → List ℕ → Option Self.Store → Type 0 };
 
     /// The file at this path, from its beginning.
@@ -43,8 +46,9 @@ pub trait Surroundings {
     fn open(&mut self, path: &str) -> Result<Self::Store, StoreFault>
         ensures asked { opens self.old self.new path.now result };
 
-    /// Copies what the log beside the database holds into its file, by the store that is left. Where none is left the database is
-    /// opened once more for it. Where this fails the file and the log hold together what they held.
+    /// Copies what the log beside the database holds into its file, by the store that is left.
+    /// Where none is left the database is opened once more for it. Where this fails the file and
+    /// the log hold together what they held.
     fn close(&mut self, path: &str, left: Option<Self::Store>)
         ensures asked { closes self.old self.new path.now left };
 }

@@ -1,4 +1,5 @@
-//! The commands of the program, apart from the words that ask for them: over files and databases by their paths.
+//! The commands of the program, apart from the words that ask for them: over files and databases
+//! by their paths.
 #![tactic(auto)]
 
 mod checking;

@@ -3,15 +3,18 @@ ghost use Rattle.std.specs.Prelude.{◌≡◌, ◌≤◌};
 ghost use Rattle.session_runs.specs.declared.reporting.TheConstants.{DONE, FAILED};
 ghost use Rattle.session_runs.specs.Tellings.{Accounts};
 ghost use Rattle.tx_commands.specs.Programs.{Lists, ListsNot};
+ghost use Rattle.tx_commands.specs.Worlds.{state, world};
 
 use crate::host::Surroundings;
 use durable_top::TopStore;
 use session_runs::{Fault, list_rows, tell};
+use sql_store::MemoryStore;
 use std::alloc::Global;
 use txn_bytes::Sink;
 
-/// Prints the rows of the database at this path, which is made where there is none, and answers the exit status. The lines go to
-/// `out`, in byte order of the keys, each with the number of the commit that set the row; a fault goes to `err`, in one line.
+/// Prints the rows of the database at this path, which is made where there is none, and answers
+/// the exit status. The lines go to `out`, in byte order of the keys, each with the number of the
+/// commit that set the row; a fault goes to `err`, in one line.
 pub fn list<H: Surroundings, W: Sink, E: Sink>(
     host: &mut H,
     alloc: Global,
@@ -20,12 +23,14 @@ pub fn list<H: Surroundings, W: Sink, E: Sink>(
     err: &mut E,
 ) -> u8
     ensures done { result ≡ DONE →
-        Lists H.opens H.closes H.Store.TopStore W.contents W.flushes
-        host.old host.new path.now out.old out.new err.old err.new }
+        Lists (world H.Surroundings H.Text.Source H.Store.TopStore
+        ⟦<MemoryStore as TopStore>⟧ W.Sink E.Sink)
+        (state host.old out.old err.old) (state host.new out.new err.new) path.now }
     ensures failed { result ≡ FAILED →
-        ListsNot H.opens H.closes H.Store.TopStore W.contents W.takes W.flushes E.contents E.takes
-        host.old host.new path.now out.old out.new err.old err.new }
-    ensures accounts { Accounts W.flushes E.contents E.takes out.new err.old err.new result }
+        ListsNot (world H.Surroundings H.Text.Source H.Store.TopStore
+        ⟦<MemoryStore as TopStore>⟧ W.Sink E.Sink)
+        (state host.old out.old err.old) (state host.new out.new err.new) path.now }
+    ensures accounts { Accounts W.Sink E.Sink out.new err.old err.new result }
     ensures status { result ≤ FAILED }
 {
     let Ok(mut store) = host.open(path) else {

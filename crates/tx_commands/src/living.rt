@@ -3,6 +3,7 @@ ghost use Rattle.std.specs.Prelude.{◌≡◌, ◌≤◌, Some, None};
 ghost use Rattle.std.specs.Option.{option_copied};
 ghost use Rattle.session_runs.specs.declared.reporting.TheConstants.{DONE, FAILED};
 ghost use Rattle.tx_commands.specs.Lives.{Lives, LivesNot};
+ghost use Rattle.tx_commands.specs.Worlds.{state, world};
 
 use crate::host::Surroundings;
 use durable_top::TopStore;
@@ -22,13 +23,15 @@ fn live_none<H: Surroundings, I: Source, W: Sink, E: Sink>(
     err: &mut E,
 ) -> u8
     ensures done { result ≡ DONE →
-        Lives I.gives I.remaining W.contents W.flushes E.contents E.takes
-        H.opens H.closes ⟦<MemoryStore as TopStore>⟧ H.Store.TopStore
-        host.old host.new None input.old input.new out.old out.new err.old err.new }
+        Lives (world H.Surroundings H.Text.Source H.Store.TopStore
+        ⟦<MemoryStore as TopStore>⟧ W.Sink E.Sink) I.Source
+        (state host.old out.old err.old) (state host.new out.new err.new) input.old input.new
+        None }
     ensures failed { result ≡ FAILED →
-        LivesNot I.gives I.remaining W.contents W.takes W.flushes E.contents E.takes
-        H.opens H.closes ⟦<MemoryStore as TopStore>⟧ H.Store.TopStore
-        host.old host.new None input.old input.new out.old out.new err.old err.new }
+        LivesNot (world H.Surroundings H.Text.Source H.Store.TopStore
+        ⟦<MemoryStore as TopStore>⟧ W.Sink E.Sink) I.Source
+        (state host.old out.old err.old) (state host.new out.new err.new) input.old input.new
+        None }
     ensures status { result ≤ FAILED }
 {
     let Ok(store) = MemoryStore::new(alloc) else {
@@ -37,7 +40,8 @@ fn live_none<H: Surroundings, I: Source, W: Sink, E: Sink>(
     live_over(alloc, input, store, out, err).status
 }
 
-// Over the database at this path, which is made where there is none. Once it was opened it is closed, however the run ends.
+// Over the database at this path, which is made where there is none. Once it was opened it is
+// closed, however the run ends.
 fn live_opened<H: Surroundings, I: Source, W: Sink, E: Sink>(
     host: &mut H,
     alloc: Global,
@@ -47,13 +51,15 @@ fn live_opened<H: Surroundings, I: Source, W: Sink, E: Sink>(
     err: &mut E,
 ) -> u8
     ensures done { result ≡ DONE →
-        Lives I.gives I.remaining W.contents W.flushes E.contents E.takes
-        H.opens H.closes ⟦<MemoryStore as TopStore>⟧ H.Store.TopStore
-        host.old host.new (Some path.now) input.old input.new out.old out.new err.old err.new }
+        Lives (world H.Surroundings H.Text.Source H.Store.TopStore
+        ⟦<MemoryStore as TopStore>⟧ W.Sink E.Sink) I.Source
+        (state host.old out.old err.old) (state host.new out.new err.new) input.old input.new
+        (Some path.now) }
     ensures failed { result ≡ FAILED →
-        LivesNot I.gives I.remaining W.contents W.takes W.flushes E.contents E.takes
-        H.opens H.closes ⟦<MemoryStore as TopStore>⟧ H.Store.TopStore
-        host.old host.new (Some path.now) input.old input.new out.old out.new err.old err.new }
+        LivesNot (world H.Surroundings H.Text.Source H.Store.TopStore
+        ⟦<MemoryStore as TopStore>⟧ W.Sink E.Sink) I.Source
+        (state host.old out.old err.old) (state host.new out.new err.new) input.old input.new
+        (Some path.now) }
     ensures status { result ≤ FAILED }
 {
     let Ok(store) = host.open(path) else {
@@ -64,9 +70,10 @@ fn live_opened<H: Surroundings, I: Source, W: Sink, E: Sink>(
     ended.status
 }
 
-/// Runs sessions whose lines are read from `input` as they come, over the database at the path or else over a table in memory
-/// that is empty at the beginning, and answers the exit status. The two writers are as `live_over` of live_runs has them. A
-/// database that was opened is closed, however the run ends.
+/// Runs sessions whose lines are read from `input` as they come, over the database at the path or
+/// else over a table in memory that is empty at the beginning, and answers the exit status. The
+/// two writers are as `live_over` of live_runs has them. A database that was opened is closed,
+/// however the run ends.
 pub fn live<H: Surroundings, I: Source, W: Sink, E: Sink>(
     host: &mut H,
     alloc: Global,
@@ -76,13 +83,15 @@ pub fn live<H: Surroundings, I: Source, W: Sink, E: Sink>(
     err: &mut E,
 ) -> u8
     ensures done { result ≡ DONE →
-        Lives I.gives I.remaining W.contents W.flushes E.contents E.takes
-        H.opens H.closes ⟦<MemoryStore as TopStore>⟧ H.Store.TopStore
-        host.old host.new (option_copied database.entry) input.old input.new out.old out.new err.old err.new }
+        Lives (world H.Surroundings H.Text.Source H.Store.TopStore
+        ⟦<MemoryStore as TopStore>⟧ W.Sink E.Sink) I.Source
+        (state host.old out.old err.old) (state host.new out.new err.new) input.old input.new
+        (option_copied database.entry) }
     ensures failed { result ≡ FAILED →
-        LivesNot I.gives I.remaining W.contents W.takes W.flushes E.contents E.takes
-        H.opens H.closes ⟦<MemoryStore as TopStore>⟧ H.Store.TopStore
-        host.old host.new (option_copied database.entry) input.old input.new out.old out.new err.old err.new }
+        LivesNot (world H.Surroundings H.Text.Source H.Store.TopStore
+        ⟦<MemoryStore as TopStore>⟧ W.Sink E.Sink) I.Source
+        (state host.old out.old err.old) (state host.new out.new err.new) input.old input.new
+        (option_copied database.entry) }
     ensures status { result ≤ FAILED }
 {
     match database {

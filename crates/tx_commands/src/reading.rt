@@ -17,14 +17,15 @@ const PIECE: usize = 4096;
 pub enum TextFault {
     /// A growth was refused.
     NoMemory,
-    /// There is no such file, a read failed, the end did not come, or there are more bytes than a text may have.
+    /// There is no such file, a read failed, the end did not come, or there are more bytes than a
+    /// text may have.
     Unread,
 }
 
 // The bytes that the source has left.
 fn read_within<R: Source>(alloc: Global, from: &mut R) -> Result<Vec<u8>, TextFault>
-    ensures ok { IfOk result (λ text. IsWholeText R.gives from.old from.new text.items) }
-    ensures err { IfErr result (HasTextCause R.gives R.remaining from.old from.new) }
+    ensures ok { IfOk result (λ text. IsWholeText R.Source from.old from.new text.items) }
+    ensures err { IfErr result (HasTextCause R.Source from.old from.new) }
 {
     let mut text = Vec::new(alloc);
     let mut piece = [0u8; PIECE];
@@ -53,8 +54,10 @@ pub(crate) fn text_at<H: Surroundings>(
     path: &str,
 ) -> Result<Vec<u8>, TextFault>
     ensures ok { IfOk result (λ text.
-        HasFile H.finds host.old host.new path.now (λ old new. IsWholeText H.Text.gives old new text.items)) }
-    ensures err { IfErr result (HasUnfoundCause H.finds H.Text.gives H.Text.remaining host.old host.new path.now) }
+        HasFile H.Surroundings host.old host.new path.now
+        (λ old new. IsWholeText H.Text.Source old new text.items)) }
+    ensures err { IfErr result
+        (HasUnfoundCause H.Surroundings H.Text.Source host.old host.new path.now) }
 {
     match host.find(path) {
         Ok(mut file) => {

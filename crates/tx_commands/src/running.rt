@@ -5,6 +5,7 @@ ghost use Rattle.session_runs.specs.declared.reporting.TheConstants.{DONE, FAILE
 ghost use Rattle.session_runs.specs.Tellings.{Accounts};
 ghost use Rattle.session_runs.specs.Ways.{IsServable, way_of};
 ghost use Rattle.tx_commands.specs.Programs.{Misses, Prints};
+ghost use Rattle.tx_commands.specs.Worlds.{state, world};
 
 use crate::host::Surroundings;
 use crate::reading::{TextFault, text_at};
@@ -17,8 +18,8 @@ use std::thread::Threads;
 use std::time::Clock;
 use txn_bytes::Sink;
 
-// Over a table in memory that is empty at the beginning. The file is read first, then the store is made, and then come the text
-// and the run.
+// Over a table in memory that is empty at the beginning. The file is read first, then the store is
+// made, and then come the text and the run.
 #[tactic(auto, using(crate::proofs::Ran::read_in_part))]
 fn report_none<H: Surroundings, R: Threads + Wait + Clock + Sync, W: Sink, E: Sink>(
     host: &mut H,
@@ -31,15 +32,16 @@ fn report_none<H: Surroundings, R: Threads + Wait + Clock + Sync, W: Sink, E: Si
 ) -> u8
     requires { IsServable way.now }
     ensures done { result ≡ DONE →
-        Prints H.finds H.Text.gives H.opens H.closes ⟦<MemoryStore as TopStore>⟧ H.Store.TopStore
-        host.old host.new file.now (way_of way.now) None
-        (W.contents out.old) (W.contents out.new) }
+        Prints (world H.Surroundings H.Text.Source H.Store.TopStore
+        ⟦<MemoryStore as TopStore>⟧ W.Sink E.Sink)
+        (state host.old out.old err.old) (state host.new out.new err.new)
+        file.now (way_of way.now) None }
     ensures failed { result ≡ FAILED →
-        Misses H.finds H.Text.gives W.contents W.takes W.flushes E.contents E.takes
-        H.Text.remaining H.opens H.closes ⟦<MemoryStore as TopStore>⟧ H.Store.TopStore
-        host.old host.new file.now (way_of way.now) None
-        out.old out.new err.old err.new }
-    ensures accounts { Accounts W.flushes E.contents E.takes out.new err.old err.new result }
+        Misses (world H.Surroundings H.Text.Source H.Store.TopStore
+        ⟦<MemoryStore as TopStore>⟧ W.Sink E.Sink)
+        (state host.old out.old err.old) (state host.new out.new err.new)
+        file.now (way_of way.now) None }
+    ensures accounts { Accounts W.Sink E.Sink out.new err.old err.new result }
     ensures status { result ≤ FAILED }
 {
     let text = match text_at(host, alloc, file) {
@@ -54,7 +56,8 @@ fn report_none<H: Surroundings, R: Threads + Wait + Clock + Sync, W: Sink, E: Si
     ended.status
 }
 
-// Over the database at this path, which is made where there is none. Once it was opened it is closed, however the run ends.
+// Over the database at this path, which is made where there is none. Once it was opened it is
+// closed, however the run ends.
 #[tactic(auto, using(crate::proofs::Ran::read_in_part))]
 fn report_opened<H: Surroundings, R: Threads + Wait + Clock + Sync, W: Sink, E: Sink>(
     host: &mut H,
@@ -68,15 +71,16 @@ fn report_opened<H: Surroundings, R: Threads + Wait + Clock + Sync, W: Sink, E: 
 ) -> u8
     requires { IsServable way.now }
     ensures done { result ≡ DONE →
-        Prints H.finds H.Text.gives H.opens H.closes ⟦<MemoryStore as TopStore>⟧ H.Store.TopStore
-        host.old host.new file.now (way_of way.now) (Some path.now)
-        (W.contents out.old) (W.contents out.new) }
+        Prints (world H.Surroundings H.Text.Source H.Store.TopStore
+        ⟦<MemoryStore as TopStore>⟧ W.Sink E.Sink)
+        (state host.old out.old err.old) (state host.new out.new err.new)
+        file.now (way_of way.now) (Some path.now) }
     ensures failed { result ≡ FAILED →
-        Misses H.finds H.Text.gives W.contents W.takes W.flushes E.contents E.takes
-        H.Text.remaining H.opens H.closes ⟦<MemoryStore as TopStore>⟧ H.Store.TopStore
-        host.old host.new file.now (way_of way.now) (Some path.now)
-        out.old out.new err.old err.new }
-    ensures accounts { Accounts W.flushes E.contents E.takes out.new err.old err.new result }
+        Misses (world H.Surroundings H.Text.Source H.Store.TopStore
+        ⟦<MemoryStore as TopStore>⟧ W.Sink E.Sink)
+        (state host.old out.old err.old) (state host.new out.new err.new)
+        file.now (way_of way.now) (Some path.now) }
+    ensures accounts { Accounts W.Sink E.Sink out.new err.old err.new result }
     ensures status { result ≤ FAILED }
 {
     let text = match text_at(host, alloc, file) {
@@ -92,8 +96,9 @@ fn report_opened<H: Surroundings, R: Threads + Wait + Clock + Sync, W: Sink, E: 
     ended.status
 }
 
-/// Runs the text of this file in this way, over the database at the path or else over a table in memory, and answers the exit
-/// status. The report goes to `out`, and only where the whole run was done; a fault goes to `err`, in one line.
+/// Runs the text of this file in this way, over the database at the path or else over a table in
+/// memory, and answers the exit status. The report goes to `out`, and only where the whole run was
+/// done; a fault goes to `err`, in one line.
 pub(crate) fn report<H: Surroundings, R: Threads + Wait + Clock + Sync, W: Sink, E: Sink>(
     host: &mut H,
     threads: &R,
@@ -106,15 +111,16 @@ pub(crate) fn report<H: Surroundings, R: Threads + Wait + Clock + Sync, W: Sink,
 ) -> u8
     requires { IsServable way.now }
     ensures done { result ≡ DONE →
-        Prints H.finds H.Text.gives H.opens H.closes ⟦<MemoryStore as TopStore>⟧ H.Store.TopStore
-        host.old host.new file.now (way_of way.now) (option_copied database.entry)
-        (W.contents out.old) (W.contents out.new) }
+        Prints (world H.Surroundings H.Text.Source H.Store.TopStore
+        ⟦<MemoryStore as TopStore>⟧ W.Sink E.Sink)
+        (state host.old out.old err.old) (state host.new out.new err.new)
+        file.now (way_of way.now) (option_copied database.entry) }
     ensures failed { result ≡ FAILED →
-        Misses H.finds H.Text.gives W.contents W.takes W.flushes E.contents E.takes
-        H.Text.remaining H.opens H.closes ⟦<MemoryStore as TopStore>⟧ H.Store.TopStore
-        host.old host.new file.now (way_of way.now) (option_copied database.entry)
-        out.old out.new err.old err.new }
-    ensures accounts { Accounts W.flushes E.contents E.takes out.new err.old err.new result }
+        Misses (world H.Surroundings H.Text.Source H.Store.TopStore
+        ⟦<MemoryStore as TopStore>⟧ W.Sink E.Sink)
+        (state host.old out.old err.old) (state host.new out.new err.new)
+        file.now (way_of way.now) (option_copied database.entry) }
+    ensures accounts { Accounts W.Sink E.Sink out.new err.old err.new result }
     ensures status { result ≤ FAILED }
 {
     match database {

@@ -10,4 +10,5 @@ returns-in-Ok-clause-failed g c = λ is. rw (← c.in-Ok.ensures) (c.report.ensu
 
 pub returns-in-Err-clause-accounts : goal.returns-in-Err-clause-accounts
 returns-in-Err-clause-accounts g c =
-    fault_accounts g.W.Sink.flushes g.E.Write.contents g.E.Sink.takes c.args.out.now c.args.err.now c.tell.new.err NoMemory c.tell.result c.tell.ensures.told c.tell.ensures.status
+    fault_accounts _ _ c.args.out.now c.args.err.now c.tell.new.err
+    NoMemory c.tell.result c.tell.ensures.told c.tell.ensures.status

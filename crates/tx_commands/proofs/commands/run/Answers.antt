@@ -4,4 +4,4 @@ use Rattle.tx_commands.proofs.commands.run.Goals as goal
 
 pub returns-in-None-clause-accounts : goal.returns-in-None-clause-accounts
 returns-in-None-clause-accounts g c =
-    misuse_accounts g.W.Sink.flushes g.E.Write.contents g.E.Sink.takes c.args.out.now c.args.err.now c.misuse.new.err (codes "tx: --workers: a number from 1 to 16 is wanted") c.misuse.result c.misuse.ensures.told c.misuse.ensures.status
+    misuse_accounts _ _ c.args.out.now c.args.err.now c.misuse.new.err (codes "tx: --workers: a number from 1 to 16 is wanted") c.misuse.result c.misuse.ensures.told c.misuse.ensures.status

@@ -4,4 +4,5 @@ use Rattle.tx_commands.proofs.listing.list.Goals as goal
 
 pub returns-in_default-clause-accounts : goal.returns-in_default-clause-accounts
 returns-in_default-clause-accounts g c =
-    fault_accounts g.W.Sink.flushes g.E.Write.contents g.E.Sink.takes c.args.out.now c.args.err.now c.tell.new.err CannotOpen c.tell.result c.tell.ensures.told c.tell.ensures.status
+    fault_accounts _ _ c.args.out.now c.args.err.now c.tell.new.err
+    CannotOpen c.tell.result c.tell.ensures.told c.tell.ensures.status

@@ -15,14 +15,14 @@ returns-then-len-clause-err g c =
     inr (record {
       calls = c.loop-call._call + 1;
       bytes = bytes;
-      given = given_more g.R.Source.gives c.loop-call._call _ _ _ _ _ i.2.1 c.in-Ok.ensures.asked;
+      given = given_more _ c.loop-call._call _ _ _ _ _ i.2.1 c.in-Ok.ensures.asked;
       long = omega (arith, c.if-len.true, c.len.ensures, c.loop-call.text.ok.0, c.in-Ok.ensures.bound.1, length-append c.loop-call.text.items piece, i.1);
     })
 
 pub returns-in-Err-extend_from_slice-clause-err : goal.returns-in-Err-extend_from_slice-clause-err
 returns-in-Err-extend_from_slice-clause-err g c =
     let i = c.loop-call.invariant in
-    part_read g.R.Source.gives g.R.Read.remaining c.loop-call._call _ _ _ _ _ i.2.1 i.2.0 c.in-Ok.ensures.asked c.in-Ok.ensures.bytes.0
+    part_read _ c.loop-call._call _ _ _ _ _ i.2.1 i.2.0 c.in-Ok.ensures.asked c.in-Ok.ensures.bytes.0
 
 pub loop-call-preserved : goal.loop-call-preserved
 loop-call-preserved g c =
@@ -36,7 +36,7 @@ loop-call-preserved g c =
       omega (arith, c.if-len.false, c.len.ensures, c.loop-call.text.ok.0, c.in-Ok.ensures.bound.1, length-append c.loop-call.text.items piece, ap (λ (xs : List ℕ). length xs) same, i.1),
       subst
           (λ (xs : List ℕ). Consumes (g.R.Read.remaining c.args.from.now) (g.R.Read.remaining c.give.new.self) xs
-          × HasGiven g.R.Source.gives (c.loop-call._call + 1) c.args.from.now c.give.new.self xs)
+          × HasGiven (record { remaining = g.R.Read.remaining; gives = g.R.Source.gives }) (c.loop-call._call + 1) c.args.from.now c.give.new.self xs)
           (sym same)
-          (Consumes-trans _ _ _ _ _ i.2.0 c.in-Ok.ensures.bytes.0, given_more g.R.Source.gives c.loop-call._call _ _ _ _ _ i.2.1 c.in-Ok.ensures.asked),
+          (Consumes-trans _ _ _ _ _ i.2.0 c.in-Ok.ensures.bytes.0, given_more _ c.loop-call._call _ _ _ _ _ i.2.1 c.in-Ok.ensures.asked),
     )

@@ -7,4 +7,4 @@ abbrev pub invariant-loop-call : goal.invariant-loop-call
 invariant-loop-call g l =
     (length l.piece ≡ 4096) × (length l.text.items ≤ 134217728)
     × (Consumes (g.R.Read.remaining l.initial.from) (g.R.Read.remaining l.from) l.text.items
-    × HasGiven g.R.Source.gives l._call l.initial.from l.from l.text.items)
+    × HasGiven (record { remaining = g.R.Read.remaining; gives = g.R.Source.gives }) l._call l.initial.from l.from l.text.items)
