@@ -16,7 +16,7 @@ module _ {S : Type 0} (g : Ghosts S) (old new : Option (List ℕ)) (text : List 
   abbrev pub IsUnprinted : Type 0
   IsUnprinted = Keeps old new ⊎ IsCutShort g old new text way store
 
-  -- No store is left, and the output got no whole report; or the writer took all of it and then did
-  -- not pass it on
+  -- No store is left, and the output got no whole report; or the writer took all of it and then
+  -- did not pass it on
   abbrev pub IsMissed : Option S → Type 0
   IsMissed left = (IsNone left × IsUnprinted) ⊎ IsPrinted left

@@ -6,6 +6,7 @@ ghost use Rattle.session_runs.specs.declared.telling.TheConstants.{MISUSED};
 ghost use Rattle.session_runs.specs.Faults.{IsSaid, spelled_fault};
 ghost use Rattle.session_runs.specs.Tellings.{Accounts, HasUsageLine};
 ghost use Rattle.tx_commands.specs.Programs.{IsUntouched};
+ghost use Rattle.tx_commands.specs.Worlds.{state, world};
 ghost use Rattle.tx_program.specs.Programs.{ForSomeTask, IsDone, IsUndone, IsCondemnedBy, IsLiveBy};
 
 use crate::command::{Task, task_of};
@@ -22,10 +23,11 @@ use std::time::Clock;
 use tx_commands::{Surroundings, judge, list, live, replay, run};
 use txn_bytes::Sink;
 
-/// Does what the words after the program's name ask for, over the files and databases of `host`, and answers the exit status. A
-/// report, a verdict or rows go to `out`, and a report only where the whole run was done, unless it is a live run's, which grows;
-/// a fault goes to `err`, in one line. Words that are no command line are told there too. Workers run on `threads`, and the requests
-/// of a live run come from `input`, of which nothing else reads.
+/// Does what the words after the program's name ask for, over the files and databases of `host`,
+/// and answers the exit status. A report, a verdict or rows go to `out`, and a report only where
+/// the whole run was done, unless it is a live run's, which grows; a fault goes to `err`, in one
+/// line. Words that are no command line are told there too. Workers run on `threads`, and the
+/// requests of a live run come from `input`, of which nothing else reads.
 pub fn tx_main<
     H: Surroundings,
     R: Threads + Wait + Clock + Sync,
@@ -41,25 +43,28 @@ pub fn tx_main<
     out: &mut W,
     err: &mut E,
 ) -> u8
-    ensures done { result ≡ DONE → ForSomeTask (λ task.
-        IsDone H.finds H.Text.gives H.Text.remaining I.gives I.remaining H.opens H.closes
-        ⟦<MemoryStore as TopStore>⟧ H.Store.TopStore W.contents W.flushes E.contents E.takes
-        host.old host.new task input.old input.new out.old out.new err.old err.new) }
-    ensures failed { result ≡ FAILED → ForSomeTask (λ task.
-        IsUndone H.finds H.Text.gives H.Text.remaining I.gives I.remaining H.opens H.closes
-        ⟦<MemoryStore as TopStore>⟧ H.Store.TopStore W.contents W.takes W.flushes E.contents E.takes
-        host.old host.new task input.old input.new out.old out.new err.old err.new)
+    ensures done { result ≡ DONE → ForSomeTask
+        (IsDone (world H.Surroundings H.Text.Source H.Store.TopStore
+        ⟦<MemoryStore as TopStore>⟧ W.Sink E.Sink) I.Source
+        (state host.old out.old err.old) (state host.new out.new err.new) input.old input.new) }
+    ensures failed { result ≡ FAILED → ForSomeTask
+        (IsUndone (world H.Surroundings H.Text.Source H.Store.TopStore
+        ⟦<MemoryStore as TopStore>⟧ W.Sink E.Sink) I.Source
+        (state host.old out.old err.old) (state host.new out.new err.new) input.old input.new)
         ⊎ IsUntouched host.old host.new
-        (IsUntouched out.old out.new (IsSaid E.contents E.takes err.old err.new (spelled_fault NoMemory))) }
+        (IsUntouched out.old out.new (IsSaid E.Sink err.old err.new (spelled_fault NoMemory))) }
     ensures misused { result ≡ MISUSED →
         (host.new ≡ host.old) × (input.new ≡ input.old) × (out.new ≡ out.old) }
-    ensures accounts { (result ≡ FAILED) × ForSomeTask (λ task.
-        IsCondemnedBy H.finds H.Text.gives H.Text.remaining W.contents W.takes W.flushes E.contents E.takes
-        host.old host.new task out.old out.new err.old err.new)
-        ⊎ (Accounts W.flushes E.contents E.takes out.new err.old err.new result
-        ⊎ ForSomeTask (λ task. IsLiveBy I.gives I.remaining H.opens H.closes
-        ⟦<MemoryStore as TopStore>⟧ H.Store.TopStore W.contents W.takes W.flushes E.contents E.takes
-        host.old host.new task input.old input.new out.old out.new err.old err.new result)) }
+    ensures accounts { (result ≡ FAILED) × ForSomeTask
+        (IsCondemnedBy (world H.Surroundings H.Text.Source H.Store.TopStore
+        ⟦<MemoryStore as TopStore>⟧ W.Sink E.Sink)
+        (state host.old out.old err.old) (state host.new out.new err.new))
+        ⊎ (Accounts W.Sink E.Sink out.new err.old err.new result
+        ⊎ ForSomeTask
+        (IsLiveBy (world H.Surroundings H.Text.Source H.Store.TopStore
+        ⟦<MemoryStore as TopStore>⟧ W.Sink E.Sink) I.Source
+        (state host.old out.old err.old) (state host.new out.new err.new) input.old input.new
+        result)) }
     ensures status { result ≤ MISUSED }
 {
     let Ok(all) = command_line(alloc, words) else {
@@ -86,22 +91,26 @@ fn perform<H: Surroundings, R: Threads + Wait + Clock + Sync, I: RequestSource, 
     err: &mut E,
 ) -> u8
     ensures done { result ≡ DONE →
-        IsDone H.finds H.Text.gives H.Text.remaining I.gives I.remaining H.opens H.closes
-        ⟦<MemoryStore as TopStore>⟧ H.Store.TopStore W.contents W.flushes E.contents E.takes
-        host.old host.new task.entry input.old input.new out.old out.new err.old err.new }
+        IsDone (world H.Surroundings H.Text.Source H.Store.TopStore
+        ⟦<MemoryStore as TopStore>⟧ W.Sink E.Sink) I.Source
+        (state host.old out.old err.old) (state host.new out.new err.new) input.old input.new
+        task.entry }
     ensures failed { result ≡ FAILED →
-        IsUndone H.finds H.Text.gives H.Text.remaining I.gives I.remaining H.opens H.closes
-        ⟦<MemoryStore as TopStore>⟧ H.Store.TopStore W.contents W.takes W.flushes E.contents E.takes
-        host.old host.new task.entry input.old input.new out.old out.new err.old err.new }
+        IsUndone (world H.Surroundings H.Text.Source H.Store.TopStore
+        ⟦<MemoryStore as TopStore>⟧ W.Sink E.Sink) I.Source
+        (state host.old out.old err.old) (state host.new out.new err.new) input.old input.new
+        task.entry }
     ensures misused { result ≡ MISUSED →
         (host.new ≡ host.old) × (input.new ≡ input.old) × (out.new ≡ out.old) }
     ensures accounts { (result ≡ FAILED) ×
-        IsCondemnedBy H.finds H.Text.gives H.Text.remaining W.contents W.takes W.flushes E.contents E.takes
-        host.old host.new task.entry out.old out.new err.old err.new
-        ⊎ (Accounts W.flushes E.contents E.takes out.new err.old err.new result
-        ⊎ IsLiveBy I.gives I.remaining H.opens H.closes
-        ⟦<MemoryStore as TopStore>⟧ H.Store.TopStore W.contents W.takes W.flushes E.contents E.takes
-        host.old host.new task.entry input.old input.new out.old out.new err.old err.new result) }
+        IsCondemnedBy (world H.Surroundings H.Text.Source H.Store.TopStore
+        ⟦<MemoryStore as TopStore>⟧ W.Sink E.Sink)
+        (state host.old out.old err.old) (state host.new out.new err.new) task.entry
+        ⊎ (Accounts W.Sink E.Sink out.new err.old err.new result
+        ⊎ IsLiveBy (world H.Surroundings H.Text.Source H.Store.TopStore
+        ⟦<MemoryStore as TopStore>⟧ W.Sink E.Sink) I.Source
+        (state host.old out.old err.old) (state host.new out.new err.new) input.old input.new
+        result task.entry) }
     ensures status { result ≤ MISUSED }
 {
     match task {
@@ -131,10 +140,11 @@ fn command_line<'a>(alloc: Global, words: &'a [String]) -> Result<Vec<&'a str>, 
     Ok(all)
 }
 
-// What the library of command lines says of the words: what is wrong with them, or the help that they ask for.
+// What the library of command lines says of the words: what is wrong with them, or the help that
+// they ask for.
 fn refuse<E: Sink>(alloc: Global, err: &mut E, text: &Error) -> u8
-    ensures failed { result ≡ FAILED → IsSaid E.contents E.takes err.old err.new (spelled_fault NoMemory) }
-    ensures misused { result ≢ FAILED → HasUsageLine E.contents E.takes err.old err.new }
+    ensures failed { result ≡ FAILED → IsSaid E.Sink err.old err.new (spelled_fault NoMemory) }
+    ensures misused { result ≢ FAILED → HasUsageLine E.Sink err.old err.new }
     ensures status { (result ≡ FAILED) ⊎ (result ≡ MISUSED) }
 {
     match format!(in alloc; "{text}") {

@@ -8,15 +8,15 @@ use Rattle.tx_program.proofs.program.tx_main.Goals as goal
 
 pub returns-in_default-clause-accounts : goal.returns-in_default-clause-accounts
 returns-in_default-clause-accounts g c =
-    inr (inl (fault_accounts g.W.Sink.flushes g.E.Write.contents g.E.Sink.takes c.args.out.now c.args.err.now c.tell.new.err NoMemory c.tell.result c.tell.ensures.told c.tell.ensures.status))
+    inr (inl (fault_accounts _ _ c.args.out.now c.args.err.now c.tell.new.err NoMemory c.tell.result c.tell.ensures.told c.tell.ensures.status))
 
 pub returns-in-Ok-None-clause-accounts : goal.returns-in-Ok-None-clause-accounts
 returns-in-Ok-None-clause-accounts g c =
-    inr (inl (misuse_accounts g.W.Sink.flushes g.E.Write.contents g.E.Sink.takes c.args.out.now c.args.err.now c.misuse.new.err (codes "usage: tx replay FILE [--schedule LIST] [--db PATH], or tx run FILE [--workers N] [--db PATH], or tx live [--db PATH], or tx check REPORT, or tx rows PATH, or tx --help") c.misuse.result c.misuse.ensures.told c.misuse.ensures.status))
+    inr (inl (misuse_accounts _ _ c.args.out.now c.args.err.now c.misuse.new.err (codes "usage: tx replay FILE [--schedule LIST] [--db PATH], or tx run FILE [--workers N] [--db PATH], or tx live [--db PATH], or tx check REPORT, or tx rows PATH, or tx --help") c.misuse.result c.misuse.ensures.told c.misuse.ensures.status))
 
 pub returns-clause-accounts : goal.returns-clause-accounts
 returns-clause-accounts g c =
-    inr (inl (refused_accounts g.W.Sink.flushes g.E.Write.contents g.E.Sink.takes c.args.out.now c.args.err.now c.refuse.new.err c.refuse.result c.refuse.ensures.failed c.refuse.ensures.misused c.refuse.ensures.status))
+    inr (inl (refused_accounts _ _ c.args.out.now c.args.err.now c.refuse.new.err c.refuse.result c.refuse.ensures.failed c.refuse.ensures.misused c.refuse.ensures.status))
 
 pub returns-in-Ok-Some-clause-accounts : goal.returns-in-Ok-Some-clause-accounts
 returns-in-Ok-Some-clause-accounts g c = for_some _ _ c.in-Ok-Some.task c.perform.ensures.accounts
