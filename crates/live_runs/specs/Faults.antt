@@ -7,6 +7,7 @@ use Rattle.session_runs.specs.declared.fault.Fault.TheVariants as fault
 use Rattle.live_runs.specs.declared.fault.LiveFault.{LiveFault}
 use Rattle.live_runs.specs.declared.fault.LiveFault.TheVariants.{Open, Read, NoMemory, Write}
 
+-- what the line says of each fault, with its line feed
 abbrev pub spelled_end : LiveFault → List ℕ
 spelled_end (Open opening.NoMemory) = spelled_fault fault.NoMemory
 spelled_end (Open (opening.Store cause)) = spelled_fault fault.CannotOpen

@@ -34,10 +34,12 @@ abbrev pub with_read : Result (List ℕ × Event) LineKind → List Session → 
 with_read (Err k) ss = ss
 with_read (Ok r) ss = with_request ss r.0 r.1
 
+-- with a line, which counts where it was taken
 abbrev pub with_heard : Option LineKind → List ℕ → List Session → List Session
 with_heard None bs ss = with_read (request_of bs) ss
 with_heard (Some k) bs ss = ss
 
+-- the sessions that these lines make
 abbrev pub sessions_heard : List Heard → List Session
 sessions_heard [] = []
 sessions_heard (x ∷ list) = with_heard x.fault x.bytes (sessions_heard list)
@@ -52,6 +54,7 @@ pub record Moment (R S W E : Type 0) : Type 0 where
   pub out : W
   pub err : E
 
+-- a moment of its parts
 abbrev pub moment : {R S W E : Type 0} → R → Holds → Turning S → W → E → Moment R S W E
 moment reader holds live out err =
     record { reader = reader; holds = holds; live = live; out = out; err = err }

@@ -28,6 +28,7 @@ GoesFrom bs p line s false =
     × ((rest : List ℕ) → read (bs ++ rest) ≡ read_from line r (cut_at 10 (p ++ rest)))
 GoesFrom bs p line s true = (rest : List ℕ) → read (bs ++ rest) ≡ Err line
 
+-- the same by what stands of a judge: the line, what is seen, and whether a fault was met
 abbrev pub IsDue : List ℕ → List ℕ → Standing → Type 0
 IsDue bs p x = GoesFrom bs p x.line x.seen x.faulty
 

@@ -20,15 +20,18 @@ use Rattle.report_judge.specs.declared.seen.Part.{Part as KeptPart}
 use Rattle.report_judge.specs.declared.seen.Part.TheVariants as kept
 use Rattle.report_judge.specs.declared.seen.Seen.{Seen}
 
+-- the answer is that it was done, with the reply ok
 abbrev pub is_done_ok : Answer → Bool
 is_done_ok (Done Ok) = true
 is_done_ok a = false
 
+-- the event is an access, of a key or of a group
 abbrev pub is_access : Event → Bool
 is_access (Access t k o) = true
 is_access (Sum t g) = true
 is_access e = false
 
+-- the part of a report that is meant
 abbrev pub part_of : KeptPart → Part
 part_of kept.Start = Start
 part_of kept.Opening = Opening
@@ -61,12 +64,13 @@ IsEarly Entries r es = r.table ≡ []
 IsEarly Final r es = Unit {0}
 IsEarly Ended r es = Unit {0}
 
+-- what is kept, with its part, says what was read
 pub record IsSeen (r : Read) (s : Seen) : Type 0 where
   pub part : part_of s.part ≡ r.part
   pub early : IsEarly r.part r s.values.entries
   pub kept : IsKept r s
 
--- the number of the line that comes next
+-- what the number of the next line is without the rows and entries that were read
 abbrev pub lines_before : Part → ℕ
 lines_before Start = 1
 lines_before Opening = 2
@@ -74,6 +78,7 @@ lines_before Entries = 2
 lines_before Final = 3
 lines_before Ended = 4
 
+-- the number of the next line
 abbrev pub line_of : Read → ℕ
 line_of r = lines_before r.part + length r.opening + length r.history + length r.table
 
@@ -97,10 +102,12 @@ IsMiddle p = ⊥
 
 -- ---- rows
 
+-- the key comes behind the last one, if there was one
 abbrev pub is_past_key : Option (List ℕ) → List ℕ → Bool
 is_past_key None k = true
 is_past_key (Some q) k = is_below q k
 
+-- a row with this key may come behind so many rows: there is room for one more
 abbrev pub may_come : ℕ → Option (List ℕ) → List ℕ → Bool
 may_come rows last k = nat_lt rows MOST_ROWS && is_past_key last k
 
@@ -109,6 +116,7 @@ abbrev pub AddsRow : Bool → Rows → List ℕ → ℤ → Rows → Type 0
 AddsRow true old k v new = (may_add_row old k ≡ true) × (new ≡ old ++ (k, v) ∷ [])
 AddsRow false old k v new = may_add_row old k ≡ false
 
+-- the same of a row of the opening, of which the values of the keys are kept
 abbrev pub Opens : Bool → Rows → List ℕ → ℤ → Values → Type 0
 Opens true rows k v es = (may_add_row rows k ≡ true) × (es ≡ opened (rows ++ (k, v) ∷ []))
 Opens false rows k v es = may_add_row rows k ≡ false

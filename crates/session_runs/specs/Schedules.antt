@@ -8,11 +8,13 @@ use Rattle.session_text.specs.Numbers.{number_of}
 abbrev pub no_session : ℕ
 no_session = 4294967295
 
+-- the number, if it is one of 32 bits
 abbrev pub within_32_bits : Option ℤ → ℕ
 within_32_bits None = no_session
 within_32_bits (Some (pos n)) = if nat_lt n (2 ^ 32) then n else no_session
 within_32_bits (Some (negsuc n)) = no_session
 
+-- the session that an item names
 abbrev pub session_in : List ℕ → ℕ
 session_in item = within_32_bits (number_of item)
 

@@ -29,16 +29,18 @@ way_of (choose.Workers count) = ByWorkers
 abbrev pub AreFew : ℕ → Type 0
 AreFew count = (0 < count) × (count ≤ MOST_WORKERS)
 
+-- a way by workers has few of them
 abbrev pub IsServable : chosen.Way → Type 0
 IsServable (choose.Schedule list) = Unit {0}
 IsServable (choose.Workers count) = AreFew count
 
--- how many workers a word asks for, and 4 where there is no word
+-- the number of a word, where it is one of few workers
 abbrev pub when_few : Option ℤ → Option ℕ
 when_few None = None
 when_few (Some (pos n)) = if nat_lt 0 n && nat_le n MOST_WORKERS then Some n else None
 when_few (Some (negsuc n)) = None
 
+-- how many workers there are by the word, or with none
 abbrev pub workers_of : Option (List ℕ) → Option ℕ
 workers_of None = Some 4
 workers_of (Some word) = when_few (number_of word)
