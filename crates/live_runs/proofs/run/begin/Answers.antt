@@ -13,5 +13,5 @@ returns-in-Err-show_opening-clause-err g c =
       start = c.in-Ok.ensures.ok;
       stands = c.end_by.ensures.stands;
       unshown = subst (IsUnshown _ c.args.out.now c.show_opening.new.out)
-          (ap opening_text c.opening.ensures) c.in-Err-show_opening.ensures.err;
+          (ap opening_text c.opening.ensures.rows) c.in-Err-show_opening.ensures.err;
     })
