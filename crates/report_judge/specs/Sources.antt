@@ -1,5 +1,5 @@
 -- What the calls of a reader gave.
-use Rattle.std.specs.Prelude.{◌≡◌, ◌<◌, ◌⊎◌, ℕ, zero, suc, List, [], ◌++◌, take, Option, Result, Ok, Err}
+use Rattle.std.specs.Prelude.{◌≡◌, ◌≢◌, ◌<◌, ◌⊎◌, ℕ, zero, suc, List, [], ◌++◌, take, Option, Result, Ok, Err}
 use Rattle.std.specs.Io.KnownBytes.{Consumes}
 use Rattle.report_judge.specs.declared.source.TheConstants.{MOST_READS}
 use Rattle.report_judge.specs.declared.source.ReadFault.{ReadFault}
@@ -17,7 +17,7 @@ abbrev pub given : List ℕ → Result ℕ ReadFault → Result (List ℕ) ReadF
 given buf (Ok n) = Ok (take n buf)
 given buf (Err fault) = Err fault
 
--- a last call gave some bytes more
+-- a last call gave some bytes more, and so the end had not come
 pub record HasGivenMore {R : Type 0} (r : Reader R) (Before : R → List ℕ → Type 0) (new : R)
     (bytes : List ℕ) : Type 0 where
   pub before : R
@@ -25,6 +25,7 @@ pub record HasGivenMore {R : Type 0} (r : Reader R) (Before : R → List ℕ →
   pub piece : List ℕ
   pub earlier : Before before front
   pub last : r.gives before new (Ok piece)
+  pub some : piece ≢ []
   pub parts : bytes ≡ front ++ piece
 
 -- so many calls, one behind the other, gave these bytes
@@ -41,11 +42,13 @@ module _ {R : Type 0} (r : Reader R) (old new : R) where
     pub given : HasGiven r calls old before bytes
     pub ended : r.gives before new (Ok [])
 
-  -- it gave some bytes
+  -- it gave some bytes, and may then have said that it was at its end
   pub record IsPartRead : Type 0 where
+    pub before : R
     pub calls : ℕ
     pub bytes : List ℕ
-    pub given : HasGiven r calls old new bytes
+    pub given : HasGiven r calls old before bytes
+    pub last : (new ≡ before) ⊎ r.gives before new (Ok [])
     pub taken : Consumes (r.remaining old) (r.remaining new) bytes
 
   -- it gave some bytes, and then it answered an error, or had not come to its end after so many

@@ -1,17 +1,21 @@
-use Rattle.std.proofs.Common.{◌≡◌, ◌≤◌, ◌++◌, take, length, sym, arith}
+use Rattle.std.proofs.Common.{◌≡◌, ◌≤◌, ◌++◌, take, length, ap, sym, arith}
 use Rattle.std.proofs.KnownBytes.{Consumes-trans}
-use Rattle.report_judge.proofs.Sourcing.{given_more, part_read}
+use Rattle.report_judge.proofs.Sourcing.{given_more, is_some, part_read, whole_read}
 use Rattle.report_judge.proofs.reading.judge_all.Goals as goal
 
 pub returns-in-Err-finish-clause-err : goal.returns-in-Err-finish-clause-err
 returns-in-Err-finish-clause-err g c =
     let i = c.loop-call.invariant in
-    part_read _ c.loop-call._call _ _ _ i.2.0 _ i.2.3 i.2.1 c.in-Ok-eq0.ensures.asked c.in-Ok-eq0.ensures.bytes.0
+    whole_read _ c.loop-call._call _ _ _ i.2.0 _ i.2.3 i.2.1 c.in-Ok-eq0.ensures.asked
+    (ap (λ n. take n c.give.new.buf) c.in-Ok-eq0.field-0-test)
+    c.in-Ok-eq0.ensures.bytes.0
 
 pub returns-in-Err-take_bytes-clause-err : goal.returns-in-Err-take_bytes-clause-err
 returns-in-Err-take_bytes-clause-err g c =
     let i = c.loop-call.invariant in
-    part_read _ c.loop-call._call _ _ _ i.2.0 _ i.2.3 i.2.1 c.in-Ok.ensures.asked c.in-Ok.ensures.bytes.0
+    part_read _ c.loop-call._call _ _ _ i.2.0 _ i.2.3 i.2.1 c.in-Ok.ensures.asked
+    (is_some c.in-Ok.len (take c.in-Ok.len c.give.new.buf) c.in-Ok.ensures.bound.1 c.in-Ok.len-test.1)
+    c.in-Ok.ensures.bytes.0
 
 pub loop-call-preserved : goal.loop-call-preserved
 loop-call-preserved g c =
@@ -27,6 +31,7 @@ loop-call-preserved g c =
         i.2.0 ++ take n buf,
         Consumes-trans _ _ _ _ _ i.2.1 c.in-Ok.ensures.bytes.0,
         c.in-Ok-take_bytes.ensures.stands i.2.0 i.2.2,
-        given_more _ c.loop-call._call _ _ _ i.2.0 _ i.2.3 c.in-Ok.ensures.asked,
+        given_more _ c.loop-call._call _ _ _ i.2.0 _ i.2.3 c.in-Ok.ensures.asked
+            (is_some n (take n buf) c.in-Ok.ensures.bound.1 c.in-Ok.len-test.1),
       ),
     )
