@@ -75,11 +75,9 @@ module _ {H T P N W E : Type 0} (o : World H T P N W E) (before after : State H 
 
   -- ---- nothing was run
 
-  -- there is no text, or no report, from this file
+  -- there is no text from this file
   pub record IsUnreadFile (file : List ℕ) : Type 0 where
     pub cause : HasUnfoundCause o.host o.file before.host after.host file Unread
-        ⊎ HasFile o.host before.host after.host file
-        (λ old new. HasCheckCause o.file old new judging.Read)
     pub said : IsSaid o.err before.err after.err (line (codes "tx: cannot read " ++ file))
 
   -- the text of this file was read, and there is no store from the database that is named
@@ -176,8 +174,22 @@ module _ {H T P N W E : Type 0} (o : World H T P N W E) (before after : State H 
     pub ungiven : IsUngiven o.out o.err before.out after.out before.err after.err
         (spelled_verdict verdict)
 
+  -- there is no report from this file: it was not found, or it was not read to its end. A report
+  -- may have any number of bytes
+  pub record IsUnreadReport (file : List ℕ) : Type 0 where
+    pub cause : o.host.finds before.host after.host file (Err (record {}))
+        ⊎ HasFile o.host before.host after.host file
+        (λ old new. HasCheckCause o.file old new judging.Read)
+    pub said : IsSaid o.err before.err after.err (line (codes "tx: cannot read " ++ file))
+
+  -- memory ran out while this file was read
+  pub record IsUnjudged (file : List ℕ) : Type 0 where
+    pub asked : HasFile o.host before.host after.host file
+        (λ old new. HasCheckCause o.file old new judging.NoMemory)
+    pub said : IsSaid o.err before.err after.err (spelled_fault NoMemory)
+
   -- a verdict no; one that was not given; a file that is not there to be judged; or no memory
   abbrev pub IsUnpassed : List ℕ → Type 0
   IsUnpassed file = IsCondemned file
       ⊎ (IsUnsaid file
-      ⊎ IsUntouched before.out after.out (IsUnreadFile file ⊎ IsStarved file))
+      ⊎ IsUntouched before.out after.out (IsUnreadReport file ⊎ IsUnjudged file))
