@@ -1,8 +1,10 @@
 -- What the words of the command line asked for, and whether it was done.
-use Rattle.std.specs.Prelude.{◌≡◌, ◌≤◌, ℕ, Result, Ok}
+use Rattle.std.specs.Prelude.{◌≡◌, ◌≤◌, ℕ}
 use Rattle.std.specs.Option.{option_copied}
 use Rattle.request_lines.specs.Sources.{Requests}
 use Rattle.session_runs.specs.declared.reporting.TheConstants.{DONE, FAILED}
+use Rattle.session_runs.specs.Faults.{IsSaid, spelled_fault}
+use Rattle.session_runs.specs.declared.fault.Fault.TheVariants.{NoMemory}
 use Rattle.session_runs.specs.Schedules.{attempts_of}
 use Rattle.session_runs.specs.Ways.{ByWorkers, Scheduled}
 use Rattle.tx_commands.specs.Programs.{IsCondemned, IsPassed, IsUnpassed, Lists, ListsNot, Misses, Prints}
@@ -15,13 +17,6 @@ use Rattle.tx_program.specs.declared.command.Task.TheVariants.{Check, Live, Repl
 pub record ForSomeTask (Holds : Task → Type 0) : Type 0 where
   pub task : Task
   pub so : Holds task
-
--- there is an output, and this holds of it as it was and as it became
-pub record ForOutput {W F : Type 0} (out : Result W F) (Holds : W → W → Type 0) : Type 0 where
-  pub old : W
-  pub there : out ≡ Ok old
-  pub new : W
-  pub so : Holds old new
 
 module _ {H T P N W E : Type 0} (o : World H T P N W E) (before after : State H W E) where
   -- a report was to be judged, and the output got the verdict no
@@ -58,6 +53,14 @@ module _ {H T P N I W E : Type 0} (o : World H T P N W E) (r : Requests I)
   IsUndone (Live database) = LivesNot o r before after in_old in_new (option_copied database)
   IsUndone (Check file) = IsUnpassed o before after file.now × (in_new ≡ in_old)
   IsUndone (Rows path) = ListsNot o before after path.now × (in_new ≡ in_old)
+
+  -- memory ran out before the words were read: nothing was asked of the surroundings, of the
+  -- output or of the input, and the error writer got the line of that
+  pub record IsUnstarted : Type 0 where
+    pub unasked : after.host ≡ before.host
+    pub unwritten : after.out ≡ before.out
+    pub unread : in_new ≡ in_old
+    pub said : IsSaid o.err before.err after.err (spelled_fault NoMemory)
 
   -- sessions were to be run as their lines come. What such a run tells of the two writers is said
   -- of it as a whole

@@ -5,9 +5,8 @@ ghost use Rattle.session_runs.specs.declared.fault.Fault.TheVariants.{NoMemory};
 ghost use Rattle.session_runs.specs.declared.telling.TheConstants.{MISUSED};
 ghost use Rattle.session_runs.specs.Faults.{IsSaid, spelled_fault};
 ghost use Rattle.session_runs.specs.Tellings.{Accounts, HasUsageLine};
-ghost use Rattle.tx_commands.specs.Programs.{IsUntouched};
 ghost use Rattle.tx_commands.specs.Worlds.{state, world};
-ghost use Rattle.tx_program.specs.Programs.{ForSomeTask, IsDone, IsUndone, IsCondemnedBy, IsLiveBy};
+ghost use Rattle.tx_program.specs.Programs.{ForSomeTask, IsDone, IsUndone, IsUnstarted, IsCondemnedBy, IsLiveBy};
 
 use crate::command::{Task, task_of};
 use clap::Error;
@@ -51,8 +50,9 @@ pub fn tx_main<
         (IsUndone (world H.Surroundings H.Text.Source H.Store.TopStore
         ⟦<MemoryStore as TopStore>⟧ W.Sink E.Sink) I.Source
         (state host.old out.old err.old) (state host.new out.new err.new) input.old input.new)
-        ⊎ IsUntouched host.old host.new
-        (IsUntouched out.old out.new (IsSaid E.Sink err.old err.new (spelled_fault NoMemory))) }
+        ⊎ IsUnstarted (world H.Surroundings H.Text.Source H.Store.TopStore
+        ⟦<MemoryStore as TopStore>⟧ W.Sink E.Sink) I.Source
+        (state host.old out.old err.old) (state host.new out.new err.new) input.old input.new }
     ensures misused { result ≡ MISUSED →
         (host.new ≡ host.old) × (input.new ≡ input.old) × (out.new ≡ out.old) }
     ensures accounts { (result ≡ FAILED) × ForSomeTask
