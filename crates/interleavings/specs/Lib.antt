@@ -6,3 +6,4 @@ pub mod Turning
 pub mod Scheduled
 pub mod Runs
 pub mod Progressing
+pub mod Served

@@ -11,10 +11,12 @@ mod progress;
 mod report;
 mod run;
 mod schedule;
+mod served;
 mod turns;
 
 pub use progress::Progress;
 pub use report::Report;
 pub use run::{RunFault, run_opened, run_schedule};
 pub use schedule::settle;
+pub use served::ServeFault;
 pub use turns::{Turn, Turns};

@@ -8,7 +8,7 @@ use Rattle.interleavings.specs.Scheduled.{RunsOut}
 use Rattle.interleavings.specs.Told.{Told}
 use Rattle.interleavings.specs.Turning.{Turning}
 use Rattle.report_text.specs.Lines.{ending_text}
-use Rattle.session_runs.specs.Replays.{spelled_report}
+use Rattle.report_text.specs.Lines.{spelled_report}
 use Rattle.live_runs.specs.Hearing.{begun_of}
 use Rattle.live_runs.specs.Living.{Finishes, IsUnshownEnd}
 use Rattle.live_runs.specs.Showing.{IsShown, IsUnshown, entries_behind}

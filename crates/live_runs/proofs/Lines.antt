@@ -8,8 +8,8 @@ use Rattle.interleavings.specs.Turning.{Turning}
 use Rattle.request_lines.specs.Sources.{Requests}
 use Rattle.request_lines.specs.declared.lines.Taken.TheVariants.{Whole, Long}
 use Rattle.request_lines.specs.Taking.{Holds, Takes}
-use Rattle.session_runs.specs.Faults.{IsSaid, spelled_fault}
-use Rattle.session_runs.specs.declared.fault.Fault.TheVariants.{Line}
+use Rattle.program_words.specs.Faults.{IsSaid, spelled_fault}
+use Rattle.program_words.specs.declared.fault.Fault.TheVariants.{Line}
 use Rattle.live_runs.specs.declared.fault.LiveFault.{LiveFault}
 use Rattle.live_runs.specs.declared.fault.LiveFault.TheVariants.{Open, Read, NoMemory, Write}
 use Rattle.live_runs.specs.Hearing.{Answers, BreaksHearing, EndsAt, HasAnswerFault, HasHearingFault, Heard, Hears, HearsAll, HearsNext, HearsOne, HearsSome, Moment, holds_nothing, moment}

@@ -18,7 +18,7 @@ use Rattle.interleavings.specs.Turning.{Turning}
 use Rattle.interleavings.proofs.Schedules.{goes_still}
 use Rattle.interleavings.proofs.Trails.{trail_more}
 use Rattle.report_text.specs.Lines.{ending_text, opening_text}
-use Rattle.session_runs.specs.Replays.{spelled_report}
+use Rattle.report_text.specs.Lines.{spelled_report}
 use Rattle.live_runs.specs.Hearing.{begun_of}
 use Rattle.live_runs.specs.Showing.{entries_behind}
 

@@ -2,8 +2,8 @@
 use Rattle.std.specs.Prelude.{ℕ, List, codes}
 use Rattle.serial_spec.specs.Report.{line}
 use Rattle.manager_core.specs.declared.outcome.OpenFault.TheVariants as opening
-use Rattle.session_runs.specs.Faults.{spelled_fault}
-use Rattle.session_runs.specs.declared.fault.Fault.TheVariants as fault
+use Rattle.program_words.specs.Faults.{spelled_fault}
+use Rattle.program_words.specs.declared.fault.Fault.TheVariants as fault
 use Rattle.live_runs.specs.declared.fault.LiveFault.{LiveFault}
 use Rattle.live_runs.specs.declared.fault.LiveFault.TheVariants.{Open, Read, NoMemory, Write}
 

@@ -16,8 +16,8 @@ use Rattle.request_lines.specs.Sources.{Requests}
 use Rattle.request_lines.specs.Taking.{Holds, Stops, Takes}
 use Rattle.live_sessions.specs.Requested.{with_request}
 use Rattle.live_sessions.specs.Handling.{Breaks, Handled, IsTaken}
-use Rattle.session_runs.specs.Faults.{IsSaid, spelled_fault}
-use Rattle.session_runs.specs.declared.fault.Fault.TheVariants.{Line}
+use Rattle.program_words.specs.Faults.{IsSaid, spelled_fault}
+use Rattle.program_words.specs.declared.fault.Fault.TheVariants.{Line}
 use Rattle.live_runs.specs.declared.fault.LiveFault.{LiveFault}
 use Rattle.live_runs.specs.declared.fault.LiveFault.TheVariants.{Open, Read, NoMemory, Write}
 use Rattle.live_runs.specs.Showing.{IsShown, IsUnshown}

@@ -19,8 +19,8 @@ use Rattle.report_check.specs.Verdicts.{HasVerdict}
 use Rattle.report_check.specs.declared.verdict.Verdict.TheVariants.{Yes}
 use Rattle.report_text.specs.Lines.{opening_text}
 use Rattle.request_lines.specs.Sources.{Requests}
-use Rattle.session_runs.specs.Faults.{IsSaid}
-use Rattle.session_runs.specs.Replays.{spelled_report}
+use Rattle.program_words.specs.Faults.{IsSaid}
+use Rattle.report_text.specs.Lines.{spelled_report}
 use Rattle.live_runs.specs.declared.fault.LiveFault.{LiveFault}
 use Rattle.live_runs.specs.declared.fault.LiveFault.TheVariants.{Open, Read, NoMemory, Write}
 use Rattle.live_runs.specs.Faults.{spelled_end}

@@ -3,8 +3,8 @@ use Rattle.std.specs.Prelude.{◌⊎◌, ◌-◌, ℕ, List, length, take, Ok, E
 use Rattle.std.specs.Io.KnownBytes.{Appends}
 use Rattle.txn_bytes.specs.Written.{Writer}
 use Rattle.serial_spec.specs.History.{History}
-use Rattle.session_runs.specs.Faults.{IsCut}
-use Rattle.session_runs.specs.Tellings.{IsFlushed}
+use Rattle.program_words.specs.Faults.{IsCut}
+use Rattle.program_words.specs.Tellings.{IsFlushed}
 
 -- the entries behind the oldest so many
 abbrev pub entries_behind : ℕ → History → History

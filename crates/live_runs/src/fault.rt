@@ -1,11 +1,11 @@
 //! Why a live run gave no whole report.
 ghost use Rattle.std.specs.Prelude.{◌≡◌};
-ghost use Rattle.session_runs.specs.declared.reporting.TheConstants.{FAILED};
-ghost use Rattle.session_runs.specs.Faults.{IsSaid};
+ghost use Rattle.program_words.specs.declared.status.TheConstants.{FAILED};
+ghost use Rattle.program_words.specs.Faults.{IsSaid};
 ghost use Rattle.live_runs.specs.Faults.{spelled_end};
 
 use manager_core::OpenFault;
-use session_runs::{Fault, tell};
+use program_words::{Fault, tell};
 use txn_bytes::Sink;
 
 /// Why a live run gave no whole report.

@@ -1,7 +1,7 @@
 //! The lines of the input, one after another.
 ghost use Rattle.std.specs.Prelude.{◌≡◌, IfErr, IfOk, OnErr};
-ghost use Rattle.session_runs.specs.Faults.{IsSaid, spelled_fault};
-ghost use Rattle.session_runs.specs.declared.fault.Fault.TheVariants.{Line};
+ghost use Rattle.program_words.specs.Faults.{IsSaid, spelled_fault};
+ghost use Rattle.program_words.specs.declared.fault.Fault.TheVariants.{Line};
 ghost use Rattle.interleavings.specs.Scheduled.{Stands};
 ghost use Rattle.live_runs.specs.Hearing.{Answers, BreaksHearing, HasAnswerFault, HasHearingFault, HearsAll, HearsNext, holds_nothing, moment};
 
@@ -10,7 +10,7 @@ use crate::showing::show_entries;
 use durable_top::TopStore;
 use live_sessions::Live;
 use request_lines::{RequestLines, Source, Taken};
-use session_runs::{Fault, tell};
+use program_words::{Fault, tell};
 use session_text::LineKind;
 use txn_bytes::Sink;
 

@@ -1,6 +1,6 @@
 //! A live run, from the store to the report and the exit status.
 ghost use Rattle.std.specs.Prelude.{◌≡◌, ◌≤◌, IsNone, IsSomeAnd, IfErr, IfOk};
-ghost use Rattle.session_runs.specs.declared.reporting.TheConstants.{DONE, FAILED};
+ghost use Rattle.program_words.specs.declared.status.TheConstants.{DONE, FAILED};
 ghost use Rattle.live_runs.specs.Living.{Begins, Finishes, HasBeginFault, HasEndFault, HasLiveCause, IsLived, IsUnlived};
 
 use crate::fault::{LiveFault, tell_end};
@@ -9,7 +9,7 @@ use crate::showing::{show_opening, show_rest};
 use durable_top::TopStore;
 use live_sessions::Live;
 use request_lines::Source;
-use session_runs::{DONE, Ended};
+use program_words::{DONE, Ended};
 use std::alloc::Global;
 use txn_bytes::Sink;
 

@@ -2,8 +2,9 @@
 use Rattle.std.specs.Prelude.{ℕ, ℤ, List, [], ◌++◌, codes, Option, Some, None}
 use Rattle.serial_spec.specs.declared.entry.Entry.{Entry}
 use Rattle.serial_spec.specs.Printing.{spelled_number}
-use Rattle.serial_spec.specs.Report.{line, spelled_entry, spelled_rows}
+use Rattle.serial_spec.specs.Report.{line, report, spelled_entry, spelled_rows}
 use Rattle.serial_spec.specs.Rows.{Rows}
+use Rattle.interleavings.specs.Told.{Told}
 
 abbrev pub row_line : List ℕ × ℤ → List ℕ
 row_line r = line (r.0 ++ codes "=" ++ spelled_number r.1)
@@ -22,3 +23,7 @@ ending_text rows = line (codes "table") ++ spelled_rows rows ++ line (codes "end
 
 abbrev pub entry_line : List (List ℕ) → Entry → List ℕ
 entry_line labels e = line (spelled_entry labels e.by e.event e.answer)
+
+-- the bytes of a whole report
+abbrev pub spelled_report : Told → List ℕ
+spelled_report r = report r.opening r.labels r.history r.table

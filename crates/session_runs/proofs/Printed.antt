@@ -5,7 +5,8 @@ use Rattle.std.specs.Io.KnownBytes.{Keeps}
 use Rattle.txn_bytes.proofs.Appending.{kept}
 use Rattle.durable_top.specs.declared.store.TopStore.{Ghosts}
 use Rattle.session_runs.specs.Ways.{Way}
-use Rattle.session_runs.specs.Replays.{HasReplayCause, IsReplayed, IsUnwritten, spelled_report}
+use Rattle.report_text.specs.Lines.{spelled_report}
+use Rattle.session_runs.specs.Replays.{HasReplayCause, IsReplayed, IsUnwritten}
 use Rattle.session_runs.specs.Printing.{IsMissed, IsPrinted, IsUnprinted}
 use Rattle.session_runs.specs.declared.replay.ReplayFault.{ReplayFault}
 use Rattle.session_runs.specs.declared.replay.ReplayFault.TheVariants.{Text, Run, Serve, Write}

@@ -1,15 +1,15 @@
--- Which line the error writer got, at the end of a run and by the exit status.
+-- Which line the error writer got, at the end of a run.
 use Rattle.std.proofs.Common.{◌≡◌, ◌⊎◌, ◌≤◌, ℕ, List, subst, sym, inl, inr, arith}
 use Rattle.std.specs.Prelude.{◌≢◌, Result, Ok, Err, IfErr, IfOk}
 use Rattle.txn_bytes.specs.Written.{Writer}
-use Rattle.serial_spec.specs.Report.{line}
 use Rattle.durable_top.specs.declared.store.TopStore.{Ghosts}
-use Rattle.session_runs.specs.Faults.{IsSaid, spelled_fault, told}
+use Rattle.program_words.specs.Faults.{IsSaid, spelled_fault}
+use Rattle.program_words.specs.Tellings.{Accounts, HasFaultLine, IsFlushed, IsUnflushed}
+use Rattle.program_words.specs.declared.fault.Fault.TheVariants.{CannotWrite}
+use Rattle.session_runs.specs.Faults.{told}
 use Rattle.session_runs.specs.Replays.{HasReplayCause, IsUnwritten}
-use Rattle.session_runs.specs.Tellings.{Accounts, HasFaultLine, IsAnswered, IsFaulted, IsFlushed, IsUnflushed}
+use Rattle.session_runs.specs.Tellings.{IsAnswered, IsFaulted}
 use Rattle.session_runs.specs.Ways.{Way}
-use Rattle.session_runs.specs.declared.fault.Fault.{Fault}
-use Rattle.session_runs.specs.declared.fault.Fault.TheVariants.{CannotWrite}
 use Rattle.session_runs.specs.declared.replay.ReplayFault.{ReplayFault}
 
 module _ {S W E : Type 0} (g : Ghosts S) (w : Writer W) (e : Writer E) where
@@ -48,38 +48,3 @@ module _ {S W E : Type 0} (g : Ghosts S) (w : Writer W) (e : Writer E) where
     failed = λ is. fault_line old new err_old err_new text way store (undone (λ zero_is. absurd (omega (arith, is, zero_is))));
     misused = λ is. absurd (omega (arith, is, bound));
   }
-
-module _ {W E : Type 0} (w : Writer W) (e : Writer E) (new : W) (err_old err_new : E) where
-  -- so does that of a fault which was told
-  pub fault_accounts : (fault : Fault) (status : ℕ) → IsSaid e err_old err_new (spelled_fault fault) → status ≡ 1 → Accounts w e new err_old err_new status
-  fault_accounts fault status said is = record {
-    passed = λ done. absurd (omega (arith, is, done));
-    silent = λ done. absurd (omega (arith, is, done));
-    failed = λ _. record { fault = fault; said = said };
-    misused = λ misused. absurd (omega (arith, is, misused));
-  }
-
-  -- and that of an output which was asked to pass on what it held
-  pub finish_accounts : (old : W) (status : ℕ) → (status ≡ 0 → w.flushes old new (Ok tt)) → (status ≡ 0 → err_new ≡ err_old)
-      → (status ≢ 0 → IsSaid e err_old err_new (spelled_fault CannotWrite)) → status ≤ 1
-      → Accounts w e new err_old err_new status
-  finish_accounts old status passed silent told bound = record {
-    passed = λ is. record { before = old; asked = passed is };
-    silent = silent;
-    failed = λ is. record { fault = CannotWrite; said = told (λ done. absurd (omega (arith, is, done))) };
-    misused = λ is. absurd (omega (arith, is, bound));
-  }
-
-  -- and that of words that are no command line
-  pub misuse_accounts : (text : List ℕ) (status : ℕ) → IsSaid e err_old err_new (line text) → status ≡ 2 → Accounts w e new err_old err_new status
-  misuse_accounts text status said is = record {
-    passed = λ done. absurd (omega (arith, is, done));
-    silent = λ done. absurd (omega (arith, is, done));
-    failed = λ failed. absurd (omega (arith, is, failed));
-    misused = λ _. record { text = text; said = said };
-  }
-
--- what holds anyway holds at an Ok
-pub if_ok : {T F Q : Type 0} (r : Result T F) → Q → IfOk r (λ x. Q)
-if_ok (Ok x) q = q
-if_ok (Err e) q = tt

@@ -1,6 +1,5 @@
 pub mod Ways
 pub mod Replays
-pub mod Schedules
 pub mod Printing
 pub mod Faults
 pub mod Tellings

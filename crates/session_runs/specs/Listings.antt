@@ -7,9 +7,9 @@ use Rattle.durable_top.specs.declared.store.Row.{Row}
 use Rattle.durable_top.specs.declared.store.StoreFault.{StoreFault}
 use Rattle.durable_top.specs.declared.store.TopStore.{Ghosts}
 use Rattle.report_text.specs.Rows.{numbered_rows}
-use Rattle.session_runs.specs.Faults.{IsSaid, spelled_fault}
-use Rattle.session_runs.specs.Tellings.{IsGiven, IsUngiven}
-use Rattle.session_runs.specs.declared.fault.Fault.TheVariants.{CannotOpen}
+use Rattle.program_words.specs.Faults.{IsSaid, spelled_fault}
+use Rattle.program_words.specs.Tellings.{IsGiven, IsUngiven}
+use Rattle.program_words.specs.declared.fault.Fault.TheVariants.{CannotOpen}
 
 -- asked once, the store gave these rows, in byte order of their keys
 pub record HasLoaded {S : Type 0} (g : Ghosts S) (store_old store_new : S)

@@ -3,24 +3,20 @@ use Rattle.std.specs.Prelude.{◌≡◌, ℕ, List, Option, Ok}
 use Rattle.std.specs.Io.KnownBytes.{Appends}
 use Rattle.txn_bytes.specs.Written.{AppendsFront}
 use Rattle.serial_spec.specs.Interleaving.{Session}
-use Rattle.serial_spec.specs.Report.{report}
 use Rattle.session_text.specs.Texts.{sessions_of, Tells}
 use Rattle.durable_top.specs.declared.store.TopStore.{Ghosts}
 use Rattle.interleavings.specs.Told.{Told}
 use Rattle.interleavings.specs.Reports.{IsReport}
 use Rattle.interleavings.specs.Runs.{HasRunCause}
 use Rattle.interleavings.specs.declared.run.RunFault.{RunFault}
+use Rattle.report_text.specs.Lines.{spelled_report}
 use Rattle.report_check.specs.Verdicts.{HasVerdict}
 use Rattle.report_check.specs.declared.verdict.Verdict.TheVariants.{Yes}
-use Rattle.worker_pool.specs.Served.{HasServeCause}
-use Rattle.worker_pool.specs.declared.serving.ServeFault.{ServeFault}
+use Rattle.interleavings.specs.Served.{HasServeCause}
+use Rattle.interleavings.specs.declared.served.ServeFault.{ServeFault}
 use Rattle.session_runs.specs.Ways.{Way, Scheduled, ByWorkers, IsRunBy}
 use Rattle.session_runs.specs.declared.replay.ReplayFault.{ReplayFault}
 use Rattle.session_runs.specs.declared.replay.ReplayFault.TheVariants.{Text, Run, Serve, Write}
-
--- the bytes of a report
-abbrev pub spelled_report : Told → List ℕ
-spelled_report r = report r.opening r.labels r.history r.table
 
 -- The text spells sessions, and this is the report of their run in this way over the store, which
 -- comes back as `left`

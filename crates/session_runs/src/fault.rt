@@ -1,54 +1,12 @@
-//! The lines by which the program says why it gave no report.
+//! By which line a fault of a run is told.
 ghost use Rattle.std.specs.Prelude.{◌≡◌};
-ghost use Rattle.session_runs.specs.Faults.{spelled_kind, told};
+ghost use Rattle.session_runs.specs.Faults.{told};
 
 use crate::replay::ReplayFault;
-use interleavings::RunFault;
+use interleavings::{RunFault, ServeFault};
 use manager_core::OpenFault;
-use session_text::{LineKind, TextFault};
-use thiserror::Error;
-use worker_pool::ServeFault;
-
-/// Why the program gave no report. It is shown as `tell` writes it, without the line feed.
-#[derive(Debug, Drop, Error)]
-pub enum Fault<'a> {
-    #[error("tx: cannot read {0}")]
-    CannotRead(&'a str),
-    #[error("tx: line {line}: {}", word_of(.kind))]
-    Line { line: usize, kind: LineKind },
-    #[error("tx: schedule: item {0}")]
-    Schedule(usize),
-    #[error("tx: cannot open database")]
-    CannotOpen,
-    #[error("tx: too many rows")]
-    TooManyRows,
-    #[error("tx: no memory")]
-    NoMemory,
-    #[error("tx: cannot start worker")]
-    CannotStart,
-    #[error("tx: cannot write")]
-    CannotWrite,
-}
-
-/// The word for what is wrong with a line.
-pub(crate) fn word_of(kind: &LineKind) -> &'static str
-    ensures { result.now ≡ spelled_kind kind.now }
-{
-    match kind {
-        LineKind::End => "end",
-        LineKind::Empty => "empty",
-        LineKind::Word => "word",
-        LineKind::Shape => "shape",
-        LineKind::Label => "label",
-        LineKind::Name => "name",
-        LineKind::Key => "key",
-        LineKind::Number => "number",
-        LineKind::Header => "header",
-        LineKind::Limit => "limit",
-        LineKind::Turn => "turn",
-        LineKind::Long => "long",
-    }
-}
+use program_words::Fault;
+use session_text::TextFault;
 
 /// What the program says where there is no report of a text.
 pub fn fault_of<'a>(fault: ReplayFault) -> Fault<'a>

@@ -1,13 +1,12 @@
 //! The rows of a store, on standard output.
 ghost use Rattle.std.specs.Prelude.{◌≡◌, ◌≤◌};
 ghost use Rattle.report_text.specs.Rows.{numbered_rows};
-ghost use Rattle.session_runs.specs.declared.reporting.TheConstants.{DONE, FAILED};
+ghost use Rattle.program_words.specs.declared.status.TheConstants.{DONE, FAILED};
+ghost use Rattle.program_words.specs.Tellings.{Accounts, IsGiven, IsUngiven};
 ghost use Rattle.session_runs.specs.Listings.{IsListed, IsUnlisted};
-ghost use Rattle.session_runs.specs.Tellings.{Accounts, IsGiven, IsUngiven};
 
-use crate::fault::Fault;
-use crate::telling::{finish, tell};
 use durable_top::{Row, TopStore};
+use program_words::{Fault, finish, tell};
 use report_text::write_rows;
 use std::alloc::Global;
 use txn_bytes::Sink;

@@ -6,12 +6,11 @@ ghost use Rattle.session_runs.specs.Ways.{Scheduled};
 
 use crate::ends::{put_report, read_sessions};
 use durable_top::TopStore;
-use interleavings::{RunFault, run_schedule};
+use interleavings::{RunFault, ServeFault, run_schedule};
 use report_text::WriteFault;
 use session_text::TextFault;
 use std::alloc::Global;
 use txn_bytes::Sink;
-use worker_pool::ServeFault;
 
 /// Why there is no report of a text.
 #[derive(Clone, Copy, Debug, PartialEq, Eq)]

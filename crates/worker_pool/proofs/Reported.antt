@@ -13,10 +13,11 @@ use Rattle.interleavings.specs.Scheduled.{BreaksOff, Goes, Stands}
 use Rattle.interleavings.proofs.Closed.{broken_off, numbered_from, was_asked}
 use Rattle.interleavings.proofs.Opened.{given_few}
 use Rattle.manager_core.specs.declared.outcome.OpenFault.{OpenFault}
-use Rattle.worker_pool.specs.declared.serving.ServeFault.{ServeFault}
-use Rattle.worker_pool.specs.declared.serving.ServeFault.TheVariants.{NoMemory, Open, Thread}
+use Rattle.interleavings.specs.declared.served.ServeFault.{ServeFault}
+use Rattle.interleavings.specs.declared.served.ServeFault.TheVariants.{NoMemory, Open, Thread}
 use Rattle.worker_pool.specs.Openings.{HasGoneOn}
-use Rattle.worker_pool.specs.Served.{HasServeCause, IsAfterOpening, IsOfWork, IsServed, IsServedFrom}
+use Rattle.interleavings.specs.Served.{HasServeCause, IsServed, IsServedFrom}
+use Rattle.worker_pool.specs.Working.{IsAfterOpening, IsOfWork}
 
 module _ {S : Type 0} (g : Ghosts S) where
   -- ---- from the lock's value

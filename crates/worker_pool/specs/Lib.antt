@@ -1,4 +1,4 @@
 pub mod Jobs
 pub mod Openings
 pub mod Trying
-pub mod Served
+pub mod Working

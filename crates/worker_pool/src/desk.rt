@@ -2,16 +2,16 @@
 ghost use Rattle.std.specs.Prelude.{◌≡◌, ◌↔◌, IfErr, IfOk, IfSome, IsTrue, OnErr};
 ghost use Rattle.serial_spec.specs.Interleaving.{AllAnswered};
 ghost use Rattle.interleavings.specs.Scheduled.{BreaksOff, Stands};
+ghost use Rattle.interleavings.specs.Served.{IsServedFrom};
 ghost use Rattle.interleavings.specs.Turning.{IsClosed, Unstuck, next_number};
 ghost use Rattle.shared_book.specs.Attempting.{Attempted};
 ghost use Rattle.worker_pool.specs.Jobs.{IsNextJob};
 ghost use Rattle.worker_pool.specs.Openings.{HasGoneOn};
-ghost use Rattle.worker_pool.specs.Served.{IsOfWork, IsServedFrom};
 ghost use Rattle.worker_pool.specs.Trying.{LooksForStuck, Tries};
+ghost use Rattle.worker_pool.specs.Working.{IsOfWork};
 
-use crate::serving::ServeFault;
 use durable_top::TopStore;
-use interleavings::{Report, Turn};
+use interleavings::{Report, ServeFault, Turn};
 use serial_spec::NoMemory;
 use session_text::Line;
 use shared_book::Book;

@@ -9,5 +9,5 @@ mod jobs;
 mod serving;
 mod workers;
 
-pub use serving::{ServeFault, serve};
+pub use serving::serve;
 pub use workers::{Gate, MOST_WORKERS};

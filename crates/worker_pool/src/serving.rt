@@ -2,13 +2,13 @@
 ghost use Rattle.std.specs.Prelude.{◌≡◌, ◌<◌, ◌≤◌, IfErr, IfOk, IfSome, IsErrOf, OnErr};
 ghost use Rattle.interleavings.specs.Scheduled.{BreaksOff};
 ghost use Rattle.worker_pool.specs.Openings.{HasGoneOn};
-ghost use Rattle.worker_pool.specs.Served.{HasServeCause, IsAfterOpening, IsServed, IsServedFrom};
+ghost use Rattle.interleavings.specs.Served.{HasServeCause, IsServed, IsServedFrom};
+ghost use Rattle.worker_pool.specs.Working.{IsAfterOpening};
 
 use crate::desk::{Desk, Opening};
 use crate::workers::{Gate, MOST_WORKERS, count_of, work_through};
 use durable_top::TopStore;
-use interleavings::Report;
-use manager_core::OpenFault;
+use interleavings::{Report, ServeFault};
 use session_text::Sessions;
 use shared_book::Book;
 use std::alloc::Global;
@@ -16,18 +16,6 @@ use std::marker::Brand;
 use std::sync::{Mutex, Wait};
 use std::thread::Threads;
 use std::time::Clock;
-
-/// Why there is no report. The store is dropped.
-#[derive(Clone, Copy, Debug, PartialEq, Eq)]
-pub enum ServeFault {
-    /// Memory ran out behind the opening. The store was asked what a legal history of these
-    /// sessions asks, and has the table that this history leaves.
-    NoMemory,
-    /// The store was not opened.
-    Open(OpenFault),
-    /// A worker could not be started. No line was attempted.
-    Thread,
-}
 
 // Serves the sessions of a book on which nothing was done yet.
 fn serve_book<

@@ -4,11 +4,10 @@ ghost use Rattle.crossbeam_channel.specs.Claims.{IsSeatAt};
 ghost use Rattle.crossbeam_channel.specs.Ends.{sends_on};
 ghost use Rattle.serial_spec.specs.declared.limits.TheConstants.{MOST_SESSIONS};
 ghost use Rattle.worker_pool.specs.Jobs.{IsJob, IsNextJob};
-ghost use Rattle.worker_pool.specs.Served.{IsAfterOpening};
+ghost use Rattle.worker_pool.specs.Working.{IsAfterOpening};
 
 use crate::desk::{Desk, Opening, Tried};
 use crate::jobs::{Channel, Job, Lanes};
-use crate::serving::ServeFault;
 use crossbeam_channel::Pass;
 use durable_top::TopStore;
 use interleavings::Turn;

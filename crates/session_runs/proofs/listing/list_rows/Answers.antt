@@ -1,5 +1,5 @@
-use Rattle.session_runs.specs.declared.fault.Fault.TheVariants.{CannotOpen}
-use Rattle.session_runs.proofs.Told.{fault_accounts}
+use Rattle.program_words.specs.declared.fault.Fault.TheVariants.{CannotOpen}
+use Rattle.program_words.proofs.Told.{fault_accounts}
 use Rattle.session_runs.proofs.listing.list_rows.Goals as goal
 
 pub returns-in-Err-clause-accounts : goal.returns-in-Err-clause-accounts
