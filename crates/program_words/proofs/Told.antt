@@ -4,19 +4,24 @@ use Rattle.std.specs.Prelude.{◌≢◌, Result, Ok, Err, IfOk}
 use Rattle.txn_bytes.specs.Written.{Writer}
 use Rattle.serial_spec.specs.Report.{line}
 use Rattle.program_words.specs.Faults.{IsSaid, spelled_fault}
-use Rattle.program_words.specs.Tellings.{Accounts}
+use Rattle.program_words.specs.Tellings.{Accounts, HasFaultLine}
 use Rattle.program_words.specs.declared.fault.Fault.{Fault}
 use Rattle.program_words.specs.declared.fault.Fault.TheVariants.{CannotWrite}
 
 module _ {W E : Type 0} (w : Writer W) (e : Writer E) (new : W) (err_old err_new : E) where
   -- the status of a fault which was told accounts for the two writers
-  pub fault_accounts : (fault : Fault) (status : ℕ) → IsSaid e err_old err_new (spelled_fault fault) → status ≡ 1 → Accounts w e new err_old err_new status
-  fault_accounts fault status said is = record {
+  pub line_accounts : (status : ℕ) → HasFaultLine e err_old err_new → status ≡ 1
+      → Accounts w e new err_old err_new status
+  line_accounts status told is = record {
     passed = λ done. absurd (omega (arith, is, done));
     silent = λ done. absurd (omega (arith, is, done));
-    failed = λ _. record { fault = fault; said = said };
+    failed = λ _. told;
     misused = λ misused. absurd (omega (arith, is, misused));
   }
+
+  pub fault_accounts : (fault : Fault) (status : ℕ) → IsSaid e err_old err_new (spelled_fault fault)
+      → status ≡ 1 → Accounts w e new err_old err_new status
+  fault_accounts fault status said is = line_accounts status (record { fault = fault; said = said }) is
 
   -- so does that of an output which was asked to pass on what it held
   pub finish_accounts : (old : W) (status : ℕ) → (status ≡ 0 → w.flushes old new (Ok tt)) → (status ≡ 0 → err_new ≡ err_old)

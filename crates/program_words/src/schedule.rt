@@ -1,5 +1,5 @@
 //! The list by which a run is scheduled, as the command line gives it.
-ghost use Rattle.std.specs.Prelude.{◌≡◌, IfOk};
+ghost use Rattle.std.specs.Prelude.{◌≡◌, IfOk, IsNone, OnErr};
 ghost use Rattle.std.specs.Option.{option_copied};
 ghost use Rattle.program_words.specs.Schedules.{attempts_of, schedule_of, session_in};
 
@@ -29,9 +29,11 @@ pub fn schedule_of(alloc: Global, list: &[u8]) -> Result<Vec<u32>, AllocError>
         .collect(alloc)
 }
 
-/// The attempts that a list asks for, and none where there is no list.
+/// The attempts that a list asks for, and none where there is no list, which takes no memory.
 pub fn attempts_of(alloc: Global, list: Option<&str>) -> Result<Vec<u32>, AllocError>
-    ensures { IfOk result (λ schedule. schedule.items ≡ attempts_of (option_copied list.entry)) }
+    ensures ok { IfOk result (λ schedule.
+        schedule.items ≡ attempts_of (option_copied list.entry)) }
+    ensures listed { OnErr result (IsNone (option_copied list.entry) → ⊥) }
 {
     match list {
         Some(list) => schedule_of(alloc, list.as_bytes()),

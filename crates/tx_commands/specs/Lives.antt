@@ -4,8 +4,8 @@ use Rattle.std.specs.Prelude.{◌≡◌, ◌⊎◌, ℕ, List, Option, Some, Non
 use Rattle.durable_top.specs.declared.store.TopStore.{Ghosts}
 use Rattle.request_lines.specs.Sources.{Requests}
 use Rattle.live_runs.specs.Living.{IsLived, IsUnlived}
-use Rattle.session_runs.specs.Faults.{IsSaid, spelled_fault}
-use Rattle.session_runs.specs.declared.fault.Fault.TheVariants.{NoMemory}
+use Rattle.program_words.specs.Faults.{IsSaid, spelled_fault}
+use Rattle.program_words.specs.declared.fault.Fault.TheVariants.{NoMemory}
 use Rattle.tx_commands.specs.Programs.{IsOverNone, IsOverOpened, IsRefused}
 use Rattle.tx_commands.specs.Worlds.{State, World}
 

@@ -1,8 +1,8 @@
 //! The verdict on a report that stands in a file, on standard output.
 ghost use Rattle.std.specs.Prelude.{◌≡◌, ◌≤◌, ◌⊎◌, false, IsTrue};
-ghost use Rattle.session_runs.specs.declared.reporting.TheConstants.{DONE, FAILED};
+ghost use Rattle.program_words.specs.declared.status.TheConstants.{DONE, FAILED};
 ghost use Rattle.report_text.specs.Verdicts.{spelled_verdict};
-ghost use Rattle.session_runs.specs.Tellings.{Accounts, IsGiven, IsUngiven};
+ghost use Rattle.program_words.specs.Tellings.{Accounts, IsGiven, IsUngiven};
 ghost use Rattle.tx_commands.specs.Programs.{IsCondemned, IsPassed, IsUnpassed};
 ghost use Rattle.tx_commands.specs.Worlds.{state, world};
 
@@ -11,7 +11,7 @@ use durable_top::TopStore;
 use report_check::Verdict;
 use report_judge::{CheckFault, ReadFault, check};
 use report_text::write_verdict;
-use session_runs::{DONE, FAILED, Fault, finish, tell};
+use program_words::{DONE, FAILED, Fault, finish, tell};
 use sql_store::MemoryStore;
 use std::alloc::Global;
 use txn_bytes::Sink;

@@ -1,7 +1,8 @@
-//! The commands of the program, apart from the words that ask for them: over files and databases
-//! by their paths.
+//! The commands of the program that wait for nobody, apart from the words that ask for them: over
+//! files and databases by their paths.
 #![tactic(auto)]
 
+mod beginning;
 mod checking;
 mod commands;
 mod host;
@@ -10,8 +11,9 @@ mod living;
 mod reading;
 mod running;
 
+pub use beginning::{begin_empty, begin_over};
 pub use checking::judge;
-pub use commands::{replay, run};
+pub use commands::replay;
 pub use host::{Machine, Surroundings};
 pub use listing::list;
 pub use living::live;

@@ -1,13 +1,14 @@
 //! The rows of a database, on standard output.
 ghost use Rattle.std.specs.Prelude.{◌≡◌, ◌≤◌};
-ghost use Rattle.session_runs.specs.declared.reporting.TheConstants.{DONE, FAILED};
-ghost use Rattle.session_runs.specs.Tellings.{Accounts};
+ghost use Rattle.program_words.specs.declared.status.TheConstants.{DONE, FAILED};
+ghost use Rattle.program_words.specs.Tellings.{Accounts};
 ghost use Rattle.tx_commands.specs.Programs.{Lists, ListsNot};
 ghost use Rattle.tx_commands.specs.Worlds.{state, world};
 
 use crate::host::Surroundings;
 use durable_top::TopStore;
-use session_runs::{Fault, list_rows, tell};
+use program_words::{Fault, tell};
+use session_runs::list_rows;
 use sql_store::MemoryStore;
 use std::alloc::Global;
 use txn_bytes::Sink;

@@ -1,7 +1,7 @@
 //! Live runs over a table in memory or over a database.
 ghost use Rattle.std.specs.Prelude.{◌≡◌, ◌≤◌, Some, None};
 ghost use Rattle.std.specs.Option.{option_copied};
-ghost use Rattle.session_runs.specs.declared.reporting.TheConstants.{DONE, FAILED};
+ghost use Rattle.program_words.specs.declared.status.TheConstants.{DONE, FAILED};
 ghost use Rattle.tx_commands.specs.Lives.{Lives, LivesNot};
 ghost use Rattle.tx_commands.specs.Worlds.{state, world};
 
@@ -9,7 +9,7 @@ use crate::host::Surroundings;
 use durable_top::TopStore;
 use live_runs::live_over;
 use request_lines::Source;
-use session_runs::{Fault, tell};
+use program_words::{Fault, tell};
 use sql_store::MemoryStore;
 use std::alloc::Global;
 use txn_bytes::Sink;

@@ -2,10 +2,10 @@
 use Rattle.std.proofs.Common.{◌≡◌, ◌⊎◌, ℕ, inl, inr, arith}
 use Rattle.std.specs.Prelude.{◌≢◌}
 use Rattle.txn_bytes.specs.Written.{Writer}
-use Rattle.session_runs.specs.Faults.{IsSaid, spelled_fault}
-use Rattle.session_runs.specs.Tellings.{Accounts, HasUsageLine}
-use Rattle.session_runs.specs.declared.fault.Fault.TheVariants.{NoMemory}
-use Rattle.session_runs.proofs.Told.{fault_accounts, misuse_accounts}
+use Rattle.program_words.specs.Faults.{IsSaid, spelled_fault}
+use Rattle.program_words.specs.Tellings.{Accounts, HasUsageLine}
+use Rattle.program_words.specs.declared.fault.Fault.TheVariants.{NoMemory}
+use Rattle.program_words.proofs.Told.{fault_accounts, misuse_accounts}
 
 -- the status of words that are no command line, or that memory did not suffice for
 pub refused_accounts : {W E : Type 0} (w : Writer W) (e : Writer E) (new : W) (err_old err_new : E)

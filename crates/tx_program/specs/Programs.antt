@@ -2,16 +2,18 @@
 use Rattle.std.specs.Prelude.{◌≡◌, ◌≤◌, ℕ}
 use Rattle.std.specs.Option.{option_copied}
 use Rattle.request_lines.specs.Sources.{Requests}
-use Rattle.session_runs.specs.declared.reporting.TheConstants.{DONE, FAILED}
-use Rattle.session_runs.specs.Faults.{IsSaid, spelled_fault}
-use Rattle.session_runs.specs.declared.fault.Fault.TheVariants.{NoMemory}
-use Rattle.session_runs.specs.Schedules.{attempts_of}
+use Rattle.program_words.specs.declared.status.TheConstants.{DONE, FAILED}
+use Rattle.program_words.specs.Faults.{IsSaid, spelled_fault}
+use Rattle.program_words.specs.declared.fault.Fault.TheVariants.{NoMemory}
+use Rattle.program_words.specs.Schedules.{attempts_of}
 use Rattle.session_runs.specs.Ways.{ByWorkers, Scheduled}
-use Rattle.tx_commands.specs.Programs.{IsCondemned, IsPassed, IsUnpassed, Lists, ListsNot, Misses, Prints}
+use Rattle.tx_commands.specs.Programs.{IsCondemned, IsPassed, IsUnpassed, Lists, ListsNot, Misses, MissesReplay, Prints}
 use Rattle.tx_commands.specs.Lives.{Lives, LivesNot}
 use Rattle.tx_commands.specs.Worlds.{State, World}
-use Rattle.tx_program.specs.declared.command.Task.{Task}
-use Rattle.tx_program.specs.declared.command.Task.TheVariants.{Check, Live, Replay, Rows, Run}
+use Rattle.command_line.specs.declared.task.Task.{Task}
+use Rattle.command_line.specs.declared.task.Task.TheVariants.{Alone, Run}
+use Rattle.command_line.specs.declared.task.Solo.{Solo}
+use Rattle.command_line.specs.declared.task.Solo.TheVariants.{Check, Live, Replay, Rows}
 
 -- some task that words may ask for
 pub record ForSomeTask (Holds : Task → Type 0) : Type 0 where
@@ -20,39 +22,48 @@ pub record ForSomeTask (Holds : Task → Type 0) : Type 0 where
 
 module _ {H T P N W E : Type 0} (o : World H T P N W E) (before after : State H W E) where
   -- a report was to be judged, and the output got the verdict no
+  abbrev pub IsCondemnedAlone : Solo → Type 0
+  IsCondemnedAlone (Replay file list database) = ⊥
+  IsCondemnedAlone (Live database) = ⊥
+  IsCondemnedAlone (Check file) = IsCondemned o before after file.now
+  IsCondemnedAlone (Rows path) = ⊥
+
   abbrev pub IsCondemnedBy : Task → Type 0
-  IsCondemnedBy (Replay file list database) = ⊥
   IsCondemnedBy (Run file workers database) = ⊥
-  IsCondemnedBy (Live database) = ⊥
-  IsCondemnedBy (Check file) = IsCondemned o before after file.now
-  IsCondemnedBy (Rows path) = ⊥
+  IsCondemnedBy (Alone solo) = IsCondemnedAlone solo
 
 module _ {H T P N I W E : Type 0} (o : World H T P N W E) (r : Requests I)
     (before after : State H W E) (in_old in_new : I) where
   -- it was done: the output got the report, or the verdict yes, or the rows. Only a live run reads
   -- the input
-  abbrev pub IsDone : Task → Type 0
-  IsDone (Replay file list database) =
+  abbrev pub IsDoneAlone : Solo → Type 0
+  IsDoneAlone (Replay file list database) =
       Prints o before after file.now (Scheduled (attempts_of (option_copied list)))
       (option_copied database)
       × (in_new ≡ in_old)
+  IsDoneAlone (Live database) = Lives o r before after in_old in_new (option_copied database)
+  IsDoneAlone (Check file) = IsPassed o before after file.now × (in_new ≡ in_old)
+  IsDoneAlone (Rows path) = Lists o before after path.now × (in_new ≡ in_old)
+
+  abbrev pub IsDone : Task → Type 0
   IsDone (Run file workers database) =
       Prints o before after file.now ByWorkers (option_copied database) × (in_new ≡ in_old)
-  IsDone (Live database) = Lives o r before after in_old in_new (option_copied database)
-  IsDone (Check file) = IsPassed o before after file.now × (in_new ≡ in_old)
-  IsDone (Rows path) = Lists o before after path.now × (in_new ≡ in_old)
+  IsDone (Alone solo) = IsDoneAlone solo
 
   -- it was not: there is no whole report, or no verdict yes, or not all rows
-  abbrev pub IsUndone : Task → Type 0
-  IsUndone (Replay file list database) =
-      Misses o before after file.now (Scheduled (attempts_of (option_copied list)))
-      (option_copied database)
+  abbrev pub IsUndoneAlone : Solo → Type 0
+  IsUndoneAlone (Replay file list database) =
+      MissesReplay o before after file.now (option_copied list) (option_copied database)
       × (in_new ≡ in_old)
+  IsUndoneAlone (Live database) =
+      LivesNot o r before after in_old in_new (option_copied database)
+  IsUndoneAlone (Check file) = IsUnpassed o before after file.now × (in_new ≡ in_old)
+  IsUndoneAlone (Rows path) = ListsNot o before after path.now × (in_new ≡ in_old)
+
+  abbrev pub IsUndone : Task → Type 0
   IsUndone (Run file workers database) =
       Misses o before after file.now ByWorkers (option_copied database) × (in_new ≡ in_old)
-  IsUndone (Live database) = LivesNot o r before after in_old in_new (option_copied database)
-  IsUndone (Check file) = IsUnpassed o before after file.now × (in_new ≡ in_old)
-  IsUndone (Rows path) = ListsNot o before after path.now × (in_new ≡ in_old)
+  IsUndone (Alone solo) = IsUndoneAlone solo
 
   -- memory ran out before the words were read: nothing was asked of the surroundings, of the
   -- output or of the input, and the error writer got the line of that
@@ -64,12 +75,15 @@ module _ {H T P N I W E : Type 0} (o : World H T P N W E) (r : Requests I)
 
   -- sessions were to be run as their lines come. What such a run tells of the two writers is said
   -- of it as a whole
-  abbrev pub IsLiveBy : ℕ → Task → Type 0
-  IsLiveBy status (Replay file list database) = ⊥
-  IsLiveBy status (Run file workers database) = ⊥
-  IsLiveBy status (Live database) =
+  abbrev pub IsLiveAlone : ℕ → Solo → Type 0
+  IsLiveAlone status (Replay file list database) = ⊥
+  IsLiveAlone status (Live database) =
       (status ≤ FAILED)
       × (status ≡ DONE → Lives o r before after in_old in_new (option_copied database))
       × (status ≡ FAILED → LivesNot o r before after in_old in_new (option_copied database))
-  IsLiveBy status (Check file) = ⊥
-  IsLiveBy status (Rows path) = ⊥
+  IsLiveAlone status (Check file) = ⊥
+  IsLiveAlone status (Rows path) = ⊥
+
+  abbrev pub IsLiveBy : ℕ → Task → Type 0
+  IsLiveBy status (Run file workers database) = ⊥
+  IsLiveBy status (Alone solo) = IsLiveAlone status solo

@@ -1,8 +1,9 @@
 //! What the program does with the words of its command line.
 #![tactic(auto)]
 
-mod command;
 mod program;
+mod starting;
 
 pub use program::tx_main;
-pub use session_runs::MISUSED;
+pub use program_words::MISUSED;
+pub use starting::start;

@@ -1,32 +1,33 @@
 //! The program, apart from where its words come from and where its bytes go.
 ghost use Rattle.std.specs.Prelude.{◌≡◌, ◌≢◌, ◌≤◌, ◌⊎◌};
-ghost use Rattle.session_runs.specs.declared.reporting.TheConstants.{DONE, FAILED};
-ghost use Rattle.session_runs.specs.declared.fault.Fault.TheVariants.{NoMemory};
-ghost use Rattle.session_runs.specs.declared.telling.TheConstants.{MISUSED};
-ghost use Rattle.session_runs.specs.Faults.{IsSaid, spelled_fault};
-ghost use Rattle.session_runs.specs.Tellings.{Accounts, HasUsageLine};
+ghost use Rattle.program_words.specs.declared.status.TheConstants.{DONE, FAILED, MISUSED};
+ghost use Rattle.program_words.specs.declared.fault.Fault.TheVariants.{NoMemory};
+ghost use Rattle.program_words.specs.Faults.{IsSaid, spelled_fault};
+ghost use Rattle.program_words.specs.Tellings.{Accounts, HasUsageLine};
 ghost use Rattle.tx_commands.specs.Worlds.{state, world};
-ghost use Rattle.tx_program.specs.Programs.{ForSomeTask, IsDone, IsUndone, IsUnstarted, IsCondemnedBy, IsLiveBy};
+ghost use Rattle.tx_program.specs.Programs.{ForSomeTask, IsCondemnedAlone, IsCondemnedBy, IsDone, IsDoneAlone, IsLiveAlone, IsLiveBy, IsUndone, IsUndoneAlone, IsUnstarted};
 
-use crate::command::{Task, task_of};
 use clap::Error;
+use command_line::{Solo, Task, task_of};
 use durable_top::TopStore;
 use report_judge::Source;
 use request_lines::Source as RequestSource;
-use session_runs::{Fault, MISUSED, misuse, tell};
+use program_words::{Fault, misuse, tell};
 use sql_store::MemoryStore;
 use std::alloc::{AllocError, Global};
 use std::sync::Wait;
 use std::thread::Threads;
 use std::time::Clock;
-use tx_commands::{Surroundings, judge, list, live, replay, run};
+use tx_commands::{Surroundings, judge, list, live, replay};
 use txn_bytes::Sink;
+use worker_commands::run;
 
 /// Does what the words after the program's name ask for, over the files and databases of `host`,
 /// and answers the exit status. A report, a verdict or rows go to `out`, and a report only where
 /// the whole run was done, unless it is a live run's, which grows; a fault goes to `err`, in one
-/// line. Words that are no command line are told there too. Workers run on `threads`, and the
-/// requests of a live run come from `input`, of which nothing else reads.
+/// line. Words that are no command line are told there too. Workers run on `threads`, by which
+/// nothing else is done, and the requests of a live run come from `input`, of which nothing else
+/// reads.
 pub fn tx_main<
     H: Surroundings,
     R: Threads + Wait + Clock + Sync,
@@ -71,7 +72,12 @@ pub fn tx_main<
         return tell(err, Fault::NoMemory);
     };
     match task_of(alloc, all.as_slice()) {
-        Ok(Some(task)) => perform(host, threads, alloc, task, input, out, err),
+        Ok(Some(Task::Run {
+            file,
+            workers,
+            database,
+        })) => run(host, threads, alloc, file, workers, database, out, err),
+        Ok(Some(Task::Alone(solo))) => perform(host, alloc, solo, input, out, err),
         Ok(None) => misuse(
             err,
             b"usage: tx replay FILE [--schedule LIST] [--db PATH], or tx run FILE [--workers N] [--db PATH], or tx live [--db PATH], or tx check REPORT, or tx rows PATH, or tx --help",
@@ -80,53 +86,45 @@ pub fn tx_main<
     }
 }
 
-// What is asked for is done by its command.
-fn perform<H: Surroundings, R: Threads + Wait + Clock + Sync, I: RequestSource, W: Sink, E: Sink>(
+// What one thread does, by its command.
+fn perform<H: Surroundings, I: RequestSource, W: Sink, E: Sink>(
     host: &mut H,
-    threads: &R,
     alloc: Global,
-    task: Task,
+    solo: Solo,
     input: &mut I,
     out: &mut W,
     err: &mut E,
 ) -> u8
     ensures done { result ≡ DONE →
-        IsDone (world H.Surroundings H.Text.Source H.Store.TopStore
+        IsDoneAlone (world H.Surroundings H.Text.Source H.Store.TopStore
         ⟦<MemoryStore as TopStore>⟧ W.Sink E.Sink) I.Source
         (state host.old out.old err.old) (state host.new out.new err.new) input.old input.new
-        task.entry }
+        solo.entry }
     ensures failed { result ≡ FAILED →
-        IsUndone (world H.Surroundings H.Text.Source H.Store.TopStore
+        IsUndoneAlone (world H.Surroundings H.Text.Source H.Store.TopStore
         ⟦<MemoryStore as TopStore>⟧ W.Sink E.Sink) I.Source
         (state host.old out.old err.old) (state host.new out.new err.new) input.old input.new
-        task.entry }
-    ensures misused { result ≡ MISUSED →
-        (host.new ≡ host.old) × (input.new ≡ input.old) × (out.new ≡ out.old) }
+        solo.entry }
     ensures accounts { (result ≡ FAILED) ×
-        IsCondemnedBy (world H.Surroundings H.Text.Source H.Store.TopStore
+        IsCondemnedAlone (world H.Surroundings H.Text.Source H.Store.TopStore
         ⟦<MemoryStore as TopStore>⟧ W.Sink E.Sink)
-        (state host.old out.old err.old) (state host.new out.new err.new) task.entry
+        (state host.old out.old err.old) (state host.new out.new err.new) solo.entry
         ⊎ (Accounts W.Sink E.Sink out.new err.old err.new result
-        ⊎ IsLiveBy (world H.Surroundings H.Text.Source H.Store.TopStore
+        ⊎ IsLiveAlone (world H.Surroundings H.Text.Source H.Store.TopStore
         ⟦<MemoryStore as TopStore>⟧ W.Sink E.Sink) I.Source
         (state host.old out.old err.old) (state host.new out.new err.new) input.old input.new
-        result task.entry) }
-    ensures status { result ≤ MISUSED }
+        result solo.entry) }
+    ensures status { result ≤ FAILED }
 {
-    match task {
-        Task::Replay {
+    match solo {
+        Solo::Replay {
             file,
             schedule,
             database,
-        } => replay(host, threads, alloc, file, schedule, database, out, err),
-        Task::Run {
-            file,
-            workers,
-            database,
-        } => run(host, threads, alloc, file, workers, database, out, err),
-        Task::Live { database } => live(host, alloc, input, database, out, err),
-        Task::Check { file } => judge(host, alloc, file, out, err),
-        Task::Rows { path } => list(host, alloc, path, out, err),
+        } => replay(host, alloc, file, schedule, database, out, err),
+        Solo::Live { database } => live(host, alloc, input, database, out, err),
+        Solo::Check { file } => judge(host, alloc, file, out, err),
+        Solo::Rows { path } => list(host, alloc, path, out, err),
     }
 }
 

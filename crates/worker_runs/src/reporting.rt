@@ -1,10 +1,9 @@
 //! A run of a text by workers over a store that is there, from the text's bytes to a report or a
 //! fault line, and an exit status.
-ghost use Rattle.std.specs.Prelude.{◌≡◌, ◌≢◌, ◌≤◌, ◌⊎◌};
+ghost use Rattle.std.specs.Prelude.{◌≡◌, ◌≢◌, ◌≤◌};
 ghost use Rattle.program_words.specs.declared.status.TheConstants.{DONE, FAILED};
-ghost use Rattle.program_words.specs.Tellings.{Accounts, IsUnflushed};
+ghost use Rattle.program_words.specs.Tellings.{Accounts};
 ghost use Rattle.session_runs.specs.Printing.{IsMissed, IsPrinted};
-ghost use Rattle.session_runs.specs.Tellings.{IsFaulted};
 ghost use Rattle.session_runs.specs.Ways.{ByWorkers};
 ghost use Rattle.worker_runs.specs.Workers.{AreFew};
 
@@ -35,11 +34,8 @@ pub fn serve_over<R: Threads + Wait + Clock + Sync, S: TopStore + Send, W: Sink,
         → IsPrinted S.TopStore (W.contents out.old) (W.contents out.new)
         text.now ByWorkers store result.left }
     ensures undone { result.status ≢ DONE
-        → IsMissed S.TopStore (W.contents out.old) (W.contents out.new)
+        → IsMissed S.TopStore W.Sink E.Sink out.old out.new err.old err.new
         text.now ByWorkers store result.left }
-    ensures told { result.status ≢ DONE → IsUnflushed W.Sink E.Sink out.new err.old err.new
-        ⊎ IsFaulted S.TopStore W.Sink E.Sink out.old out.new err.old err.new
-        text.now ByWorkers store }
     ensures accounts { Accounts W.Sink E.Sink out.new err.old err.new result.status }
     ensures status { result.status ≤ FAILED }
 {

@@ -3,7 +3,7 @@ ghost use Rattle.std.specs.Prelude.{ℕ, None, if◌then◌else◌};
 
 use crate::session_runs_tests::{Told, empty, replayed};
 use durable_top::{MemStore, Row, StoreFault, TopStore, are_numbered, are_rising};
-use session_runs::{Fault, Way, report_over, tell};
+use program_words::{Fault, tell};
 use session_text::LineKind;
 use std::alloc::Global;
 use std::process::Abort;
@@ -11,6 +11,7 @@ use std::sync::Wait;
 use std::thread::Threads;
 use std::time::Clock;
 use txn_names::{Change, Key};
+use worker_runs::serve_over;
 
 // Whether this fault is shown as this line without its line feed, and told by it with exit status
 // 1.
@@ -241,7 +242,7 @@ fn served_over<R: Abort + Threads + Wait + Clock + Sync>(
     let store = MemStore::new(alloc, rows).expect(rt, "memory");
     let mut out = Vec::new(alloc);
     let mut err = Vec::new(alloc);
-    let ended = report_over(rt, alloc, b"", &Way::Workers(2), store, &mut out, &mut err);
+    let ended = serve_over(rt, alloc, b"", 2, store, &mut out, &mut err);
     let status = ended.status;
     drop(ended);
     Told { status, out, err }

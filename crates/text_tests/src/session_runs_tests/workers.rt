@@ -2,7 +2,6 @@
 //! is the same.
 use crate::session_runs_tests::serial::is_serial;
 use crate::session_runs_tests::{FIRST, empty};
-use session_runs::{OpenGate, run_text};
 use session_text::Sessions;
 use std::alloc::Global;
 use std::process::Abort;
@@ -11,6 +10,7 @@ use std::sync::Wait;
 use std::thread::Threads;
 use std::time::Clock;
 use worker_pool::serve;
+use worker_runs::{OpenGate, run_text};
 
 /// Siblings side by side, the sums of one on what the other committed.
 const SIBLINGS: &[u8] =

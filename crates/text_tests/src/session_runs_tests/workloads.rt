@@ -3,7 +3,6 @@
 use crate::session_runs_tests::empty;
 use crate::session_runs_tests::serial::{is_serial, is_serial_spoiled};
 use interleavings::Report;
-use session_runs::OpenGate;
 use session_text::Sessions;
 use std::alloc::Global;
 use std::process::Abort;
@@ -12,6 +11,7 @@ use std::sync::Wait;
 use std::thread::Threads;
 use std::time::Clock;
 use worker_pool::serve;
+use worker_runs::OpenGate;
 
 /// How many sessions a text has.
 const SESSIONS: u32 = 64;

@@ -2,5 +2,5 @@ use denote.Param.Send.{sendable}
 use Rattle.sql_store.proofs.Crossing.{database_send}
 use Rattle.tx_server.proofs.main.Goals as goal
 
-pub run-requires-send-H-Store : goal.run-requires-send-H-Store
-run-requires-send-H-Store c κs = search (sendable, database_send)
+pub start-requires-send-H-Store : goal.start-requires-send-H-Store
+start-requires-send-H-Store c κs = search (sendable, database_send)

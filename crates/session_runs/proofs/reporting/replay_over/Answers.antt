@@ -1,22 +1,19 @@
-use Rattle.session_runs.proofs.Printed.{done, ended}
-use Rattle.session_runs.proofs.Told.{end_told, run_accounts}
-use Rattle.session_runs.specs.Ways.{Scheduled}
+use Rattle.session_runs.proofs.Printed.{done, missed, run_accounts}
 use Rattle.session_runs.proofs.reporting.replay_over.Goals as goal
 
 pub returns-clause-done : goal.returns-clause-done
 returns-clause-done g c =
-    done _ g.W.Write.contents _ _ _ _ _ _ _ _ c.replay_text-ran.result c.replay_text-ran.ensures.ok c.end_run.ensures.left c.end_run.ensures.kept c.end_run.ensures.dropped
+    let r = c.replay_text-ran in let e = c.end_run.ensures in
+    done g.S.TopStore g.W.Sink g.E.Sink _ _ _ _ _ _ _ _ _ _ r.result r.ensures.ok e.left e.kept e.dropped
 
 pub returns-clause-undone : goal.returns-clause-undone
-returns-clause-undone g c = λ undone.
-    ended _ g.W.Write.contents _ _ _ _ _ _ _ _ c.replay_text-ran.result c.replay_text-ran.ensures.ok c.replay_text-ran.ensures.err c.replay_text-ran.ensures.unwritten c.end_run.ensures.left c.end_run.ensures.kept c.end_run.ensures.dropped c.end_run.ensures.unwritten
-
-pub returns-clause-told : goal.returns-clause-told
-returns-clause-told g c =
-    end_told _ _ _ _ _ _ _ _ _ _ _ _ c.replay_text-ran.result c.replay_text-ran.ensures.err c.replay_text-ran.ensures.asked c.replay_text-ran.ensures.unwritten c.end_run.ensures.unwritten c.end_run.ensures.unflushed c.end_run.ensures.told
+returns-clause-undone g c =
+    let r = c.replay_text-ran in let e = c.end_run.ensures in
+    missed g.S.TopStore g.W.Sink g.E.Sink _ _ _ _ _ _ _ _ _ _ r.result r.ensures.ok r.ensures.err r.ensures.asked r.ensures.unwritten e.left e.kept e.dropped e.unwritten e.unflushed e.told
 
 pub returns-clause-accounts : goal.returns-clause-accounts
 returns-clause-accounts g c =
-    run_accounts g.S.TopStore _ _ _ _ _ _ c.args.text.now (Scheduled c.args.schedule.now) c.args.store _ c.end_run.ensures.passed c.end_run.ensures.silent
-    (end_told g.S.TopStore _ _ _ _ _ _ _ _ _ _ _ c.replay_text-ran.result c.replay_text-ran.ensures.err c.replay_text-ran.ensures.asked c.replay_text-ran.ensures.unwritten c.end_run.ensures.unwritten c.end_run.ensures.unflushed c.end_run.ensures.told)
-    c.end_run.ensures.status
+    let r = c.replay_text-ran in let e = c.end_run.ensures in
+    run_accounts g.S.TopStore g.W.Sink g.E.Sink _ _ _ _ _ _ _ _ _ e.passed e.silent
+    (missed g.S.TopStore g.W.Sink g.E.Sink _ _ _ _ _ _ _ _ _ _ r.result r.ensures.ok r.ensures.err r.ensures.asked r.ensures.unwritten e.left e.kept e.dropped e.unwritten e.unflushed e.told)
+    e.status

@@ -1,5 +1,5 @@
-use Rattle.session_runs.specs.declared.fault.Fault.TheVariants.{NoMemory}
-use Rattle.session_runs.proofs.Told.{fault_accounts}
+use Rattle.program_words.specs.declared.fault.Fault.TheVariants.{NoMemory}
+use Rattle.program_words.proofs.Told.{fault_accounts}
 use Rattle.tx_commands.proofs.commands.replay.Goals as goal
 
 pub returns-in-Ok-clause-done : goal.returns-in-Ok-clause-done

@@ -1,5 +1,5 @@
-use Rattle.session_runs.specs.declared.fault.Fault.TheVariants.{CannotOpen}
-use Rattle.session_runs.proofs.Told.{fault_accounts}
+use Rattle.program_words.specs.declared.fault.Fault.TheVariants.{CannotOpen}
+use Rattle.program_words.proofs.Told.{fault_accounts}
 use Rattle.tx_commands.proofs.listing.list.Goals as goal
 
 pub returns-in_default-clause-accounts : goal.returns-in_default-clause-accounts

@@ -1,7 +1,7 @@
 use Rattle.std.proofs.Common.{◌≡◌, Result, Err, OnErr, inl, inr, subst, sym}
 use Rattle.std.specs.Prelude.{codes}
-use Rattle.session_runs.proofs.Told.{misuse_accounts}
-use Rattle.tx_server.proofs.run.Goals as goal
+use Rattle.program_words.proofs.Told.{misuse_accounts}
+use Rattle.tx_program.proofs.starting.start.Goals as goal
 
 on_err : {T F Q : Type 0} (r : Result T F) (f : F) → r ≡ Err f → Q → OnErr r Q
 on_err {T} {F} {Q} r f is q = subst (λ (x : Result T F). OnErr x Q) (sym is) q

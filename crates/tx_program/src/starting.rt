@@ -1,0 +1,67 @@
+//! The program from what the system says of its words: these, or that they are no text.
+ghost use Rattle.std.specs.Prelude.{◌≡◌, ◌≤◌, ◌⊎◌, codes, OnErr};
+ghost use Rattle.serial_spec.specs.Report.{line};
+ghost use Rattle.program_words.specs.declared.status.TheConstants.{DONE, FAILED, MISUSED};
+ghost use Rattle.program_words.specs.Faults.{IsSaid};
+ghost use Rattle.program_words.specs.Tellings.{Accounts};
+ghost use Rattle.tx_commands.specs.Worlds.{state, world};
+ghost use Rattle.tx_program.specs.Programs.{ForSomeTask, IsCondemnedBy, IsDone, IsLiveBy, IsUndone, IsUnstarted};
+
+use crate::program::tx_main;
+use durable_top::TopStore;
+use program_words::misuse;
+use report_judge::Source;
+use request_lines::Source as RequestSource;
+use sql_store::MemoryStore;
+use std::alloc::Global;
+use std::io;
+use std::sync::Wait;
+use std::thread::Threads;
+use std::time::Clock;
+use tx_commands::Surroundings;
+use txn_bytes::Sink;
+
+/// The exit status: that of `tx_main` with these words, or that the words are no text, which is told
+/// in a line on `err`.
+pub fn start<H: Surroundings, R: Threads + Wait + Clock + Sync, I: RequestSource, W: Sink, E: Sink>(
+    host: &mut H,
+    threads: &R,
+    alloc: Global,
+    words: io::Result<Vec<String>>,
+    input: &mut I,
+    out: &mut W,
+    err: &mut E,
+) -> u8
+    ensures unread { OnErr words
+        (IsSaid E.Sink err.old err.new (line (codes "tx: the command line is not text"))) }
+    ensures unread_status { OnErr words (result ≡ MISUSED) }
+    ensures done { result ≡ DONE → ForSomeTask
+        (IsDone (world H.Surroundings H.Text.Source H.Store.TopStore
+        ⟦<MemoryStore as TopStore>⟧ W.Sink E.Sink) I.Source
+        (state host.old out.old err.old) (state host.new out.new err.new) input.old input.new) }
+    ensures failed { result ≡ FAILED → ForSomeTask
+        (IsUndone (world H.Surroundings H.Text.Source H.Store.TopStore
+        ⟦<MemoryStore as TopStore>⟧ W.Sink E.Sink) I.Source
+        (state host.old out.old err.old) (state host.new out.new err.new) input.old input.new)
+        ⊎ IsUnstarted (world H.Surroundings H.Text.Source H.Store.TopStore
+        ⟦<MemoryStore as TopStore>⟧ W.Sink E.Sink) I.Source
+        (state host.old out.old err.old) (state host.new out.new err.new) input.old input.new }
+    ensures misused { result ≡ MISUSED →
+        (host.new ≡ host.old) × (input.new ≡ input.old) × (out.new ≡ out.old) }
+    ensures accounts { (result ≡ FAILED) × ForSomeTask
+        (IsCondemnedBy (world H.Surroundings H.Text.Source H.Store.TopStore
+        ⟦<MemoryStore as TopStore>⟧ W.Sink E.Sink)
+        (state host.old out.old err.old) (state host.new out.new err.new))
+        ⊎ (Accounts W.Sink E.Sink out.new err.old err.new result
+        ⊎ ForSomeTask
+        (IsLiveBy (world H.Surroundings H.Text.Source H.Store.TopStore
+        ⟦<MemoryStore as TopStore>⟧ W.Sink E.Sink) I.Source
+        (state host.old out.old err.old) (state host.new out.new err.new) input.old input.new
+        result)) }
+    ensures status { result ≤ MISUSED }
+{
+    let Ok(words) = words else {
+        return misuse(err, b"tx: the command line is not text");
+    };
+    tx_main(host, threads, alloc, words.as_slice(), input, out, err)
+}
