@@ -1,7 +1,8 @@
--- A store over a database file may go to another thread: each of its parts may, down to the file of the machine.
+-- A store over a database file may go to another thread: each of its parts may, from the heap down to the file of the machine.
 use denote.RattleType.{RattleType}
 use denote.Param.Send.{IsSend, owning_send, sendable}
 use denote.Param.SendFields.{declared_send}
+use Rattle.std.proofs.Crossing.{Box-send}
 use Rattle.std.proofs.fs.File.TheSendSync as opened
 use Rattle.sqlite.specs.contracts.FileStore as file_store
 use Rattle.sqlite.specs.contracts.Unknown as unknown
@@ -15,6 +16,7 @@ use Rattle.sqlite_disk.proofs.modelled.Modelled.TheSendSync as modelled_crosses
 use Rattle.sqlite_store.specs.contracts.store.FileStoreStore.TheImpl as pages
 use Rattle.sqlite_store.proofs.store.FileStore.TheSendSync as file_store_crosses
 use Rattle.sql_store.specs.contracts.file.DatabaseStore as database
+use Rattle.sql_store.specs.contracts.file.OnFile as on_file
 use Rattle.sql_store.proofs.store.SqlStore.TheSendSync as store_crosses
 
 -- the machine's file, with the record of what was written to it
@@ -27,8 +29,11 @@ file = modelled.the_row host.the_row unknown.the_row host_calls.ghosts start.gho
 file_send : IsSend file
 file_send = modelled_crosses.the_send host.the_row unknown.the_row host_calls.ghosts start.ghosts host_send
 
-pub database_send : IsSend database.the_row
-database_send =
+on_file_send : IsSend on_file.the_row
+on_file_send =
     let g = disk.ghosts host.the_row unknown.the_row host_calls.ghosts disk.no_dict start.ghosts disk.no_dict disk.no_dict in
     let p : IsSend (file_store.the_row file g) = file_store_crosses.the_send file g file_send in
-    declared_send database.the_type (store_crosses.the_send _ (pages.ghosts file g pages.no_dict) p, tt)
+    declared_send on_file.the_type (store_crosses.the_send _ (pages.ghosts file g pages.no_dict) p, tt)
+
+pub database_send : IsSend database.the_row
+database_send = declared_send database.the_type (Box-send on_file.the_row on_file_send, tt)
