@@ -1,5 +1,6 @@
 -- A query shows rows of its own, and no rows that a write returned, whatever the database has.
-use Rattle.std.proofs.Common.{◌≡◌, ◌+◌, ℕ, Bool, true, false, cond, List, [], Option, None, Result, Ok, Err, refl, sym, subst}
+use Rattle.std.proofs.Common.{◌≡◌, ◌+◌, ℕ, Bool, true, false, cond, List, [], Option, Some, None, Result, Ok, Err, refl, sym, subst}
+use Rattle.std.specs.Prelude.{IsSome}
 use Rattle.sqlite_syntax.specs.declared.statement.Parsed.{Parsed}
 use Rattle.sqlite_schema.specs.declared.command.Command.{Command}
 use Rattle.sqlite_schema.specs.declared.command.Returning.{Returning}
@@ -12,7 +13,8 @@ use Rattle.sqlite_tied.specs.Compute.{everything}
 use Rattle.sqlite.specs.Order.{Row}
 use Rattle.sqlite.specs.Clock as clock
 use Rattle.sqlite.specs.Listing.{understood, reads_listing, if_select, is_select, listing_schema}
-use Rattle.sqlite.specs.State.{State, Shown, ShowsRows, IsUnchanged}
+use Rattle.sqlite.specs.State.{State, CommitsShowing, Shown, ShowsRows, IsUnchanged}
+use Rattle.sqlite.specs.Tree.{Trees}
 use Rattle.sql_store.specs.Load.{load_text, old_text, ids_text, old_ids_text}
 
 abbrev IsBare : Result Compiled CompileError → Type 0
@@ -73,7 +75,16 @@ bare : (schema : Schema) (text : List ℕ) → IsMute (first text) → IsBare (u
 unfolding understood
 bare schema text mute = bare_if (reads_listing schema text) _ _ (bare_select _ (bare_compiled listing_schema text mute)) (bare_compiled schema text mute)
 
--- a query leaves all as it was
+shows_none : (o : Option Returning) → o ≡ None → IsSome o → ⊥
+shows_none None none some = absurd cc
+shows_none (Some x) none some = absurd cc
+
+-- a query commits nothing
+pub commits_none : (text : List ℕ) → IsMute (first text) → (s : State) (db : Trees) → CommitsShowing text [] s db → ⊥
+unfolding CommitsShowing
+commits_none text mute s db h = shows_none h.0.returning (subst IsBare h.1.is (bare s.now.schema text mute)) h.2
+
+-- and leaves all as it was
 pub shown_same : (text : List ℕ) → IsMute (first text) → (old new : State) (rows : List Row) → Shown text [] old new rows → IsUnchanged old new
 unfolding Shown
 shown_same text mute old new rows h =

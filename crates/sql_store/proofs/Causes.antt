@@ -16,7 +16,7 @@ use Rattle.sqlite.specs.Held.{Held, state}
 use Rattle.sql_store.proofs.Texts.{probe_text, Fits, probe_fits}
 use Rattle.durable_top.specs.declared.store.StoreFault.TheVariants.{Refused, Failed}
 use Rattle.durable_top.specs.declared.store.StoreFault.{StoreFault}
-use Rattle.sql_store.specs.Faults.{fault_of, IsDown, IsCaused, IsMeant, Lasts, HasFailed}
+use Rattle.sql_store.specs.Faults.{fault_of, IsDown, IsCaused, IsMeant, HasFailed}
 use Rattle.sql_store.proofs.Calm.{IsCalm, apart, calm_as, does_calm, read_calm}
 
 calm_caused : (old new : State) (e : Error) → IsCalm e → IsCaused old new e
@@ -80,9 +80,6 @@ query_caused sql params old new e (inr h) = show_caused old new sql h.0 _ e h.0.
 pub query_caused_inside : (sql : List ℕ) (params : Row) (old new : State) (e : Error) → FailsToQuery sql params old new e ⊎ IsTooLate sql params old new e → IsCaused old new e
 query_caused_inside sql params old new e (inl h) = query_caused sql params old new e h
 query_caused_inside sql params old new e (inr h) = calm_caused old new e (calm_as _ e h.4 apart)
-
-pub lasts_by : (old new : State) (P : Trees → Type 0) → Survives old new P → Lasts old new
-lasts_by old new P s = record { counts = s.counts; closes = s.closes }
 
 -- ---- what is down later
 

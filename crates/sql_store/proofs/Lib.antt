@@ -22,6 +22,7 @@ pub mod Composed
 pub mod Pieces
 pub mod Params
 pub mod Counted
+pub mod Commits
 pub mod Forgotten
 pub mod Moving
 pub mod Opens

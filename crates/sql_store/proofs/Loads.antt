@@ -12,13 +12,13 @@ use Rattle.sqlite.specs.Program.{overlay}
 use Rattle.sqlite.specs.State.{State, HasCleanDisk, Shown, ShowsRows, IsUnchanged, KeepsCommit, IsNotRun, FailsToQuery, FailsToShow, Fails, IsTooLate, Survives, CommitsShowing}
 use Rattle.sqlite.specs.Clock.{timed}
 use Rattle.sqlite.specs.Listing.{understood}
-use Rattle.sqlite.proofs.Callers.{IsPlain, reads_as, never_commits}
+use Rattle.sqlite.proofs.Callers.{reads_as}
 use Rattle.sqlite.proofs.StateLemmas.{survives_weaker}
 use Rattle.sqlite_resolve.specs.Compile.{first}
 use Rattle.sql_store.specs.Inside.{Selects}
 use Rattle.sql_store.specs.Results.{both_schema}
 use Rattle.sql_store.specs.Load.{load_text, load_query, old_text, old_query, ids_text, ids_query, old_ids_text, old_ids_query}
-use Rattle.sql_store.proofs.Bare.{IsMute, shown_same}
+use Rattle.sql_store.proofs.Bare.{IsMute, commits_none, load_mute, shown_same}
 use Rattle.sql_store.proofs.Causes.{query_caused_inside}
 use Rattle.sql_store.proofs.Steps.{at_both, goes_on, ok_from}
 use Rattle.sql_store.proofs.Texts.{load_is, load_plain, old_is, old_plain, ids_is, ids_plain, old_ids_is, old_ids_plain}
@@ -34,18 +34,6 @@ shows_ids old new rows has h = (reads_as ids_text [] old new both_schema has (Se
 
 pub shows_old_ids : (old new : State) (rows : List Row) → old.now.schema ≡ both_schema → Shown old_ids_text [] old new rows → IsAnswer old_ids_query (overlay old.now.trees []) [] rows
 shows_old_ids old new rows has h = (reads_as old_ids_text [] old new both_schema has (Select (record { lets = []; body = old_ids_query }) (codes "rowid" ∷ [])) old_ids_is old_ids_plain.0 old_ids_plain.1 rows h).answer Null
-
--- a query without RETURNING changes nothing
-only_shows : (text : List ℕ) → IsPlain (understood both_schema text) → (old new : State) (rows : List Row) → old.now.schema ≡ both_schema → Shown text [] old new rows → IsUnchanged old new
-unfolding Shown
-only_shows text plain old new rows has h =
-    let known = sym h.1.is ∙ ap (λ s. understood s text) has in
-    let bare = subst IsPlain (sym known) plain in
-    let it = subst (ShowsRows old new text h.0 (timed [] h.0.formats h.1.now) rows) bare.0 h.2 in
-    it.3
-
-pub stays : (old new : State) (rows : List Row) → old.now.schema ≡ both_schema → Shown load_text [] old new rows → IsUnchanged old new
-stays = only_shows load_text load_plain.0
 
 pub same_commit : (old new : State) → IsUnchanged old new → KeepsCommit old new
 same_commit old new same = record { was_open = λ _. same.0.was_open; committed = λ _. same.0.committed_is }
@@ -68,8 +56,8 @@ query_keeps old new sql params e (inr (c, it, h)) = go c.returning h
     go (Some what) (inl f) = same_commit old new f.1
     go (Some what) (inr f) = fails_keep old new _ e f
 
-pub reads_only : (old new : State) → old.now.schema ≡ both_schema → Survives old new (CommitsShowing load_text [] old) → Survives old new (λ _. ⊥)
-reads_only old new has h = survives_weaker old new (CommitsShowing load_text [] old) (λ _. ⊥) (λ _ db shows. never_commits load_text [] old db (subst (λ s. IsPlain (understood s load_text)) (sym has) load_plain.0) shows) h
+pub reads_only : (old new : State) → Survives old new (CommitsShowing load_text [] old) → Survives old new (λ _. ⊥)
+reads_only old new h = survives_weaker old new (CommitsShowing load_text [] old) (λ _. ⊥) (λ _ db shows. commits_none load_text load_mute old db shows) h
 
 -- ---- a query inside a transaction
 

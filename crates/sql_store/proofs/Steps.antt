@@ -85,10 +85,19 @@ pub on_ok_both : {T E P Q R : Type 0} (r : Result T E) → (P → Q → R) → O
 on_ok_both (Ok x) f h k = f h k
 on_ok_both (Err e) f h k = tt
 
+-- what holds of the value and what holds anyway
+pub if_ok_on : {T E Q : Type 0} (r : Result T E) (P R : T → Type 0) → ((x : T) → P x → Q → R x) → IfOk r P → OnOk r Q → IfOk r R
+if_ok_on (Ok x) P R f h q = f x h q
+if_ok_on (Err e) P R f h q = tt
+
 -- what holds of the rows holds of the answer that is told
 pub told_if : (r : Result (Vec Row) StoreFault) (P : List Row → Type 0) → IfOk r (λ rows. P rows.items) → IfOk (told r) P
 told_if (Ok rows) P h = h
 told_if (Err fault) P h = tt
+
+pub told_err_if : (r : Result (Vec Row) StoreFault) (P : StoreFault → Type 0) → IfErr r P → IfErr (told r) P
+told_err_if (Ok rows) P h = h
+told_err_if (Err fault) P h = h
 
 pub told_err : (r : Result (Vec Row) StoreFault) (fault : StoreFault) → IsErrOf (told r) fault → IsErrOf r fault
 told_err (Ok rows) fault h = absurd cc

@@ -12,7 +12,7 @@ use Rattle.serial_spec.specs.Serial.{Map}
 use Rattle.durable_top.specs.declared.store.Row.{Row}
 use Rattle.sql_store.specs.Calls.{IfInside, ChangesNothing}
 use Rattle.sql_store.specs.Faults.{breaks_rule, IsCaused}
-use Rattle.sql_store.specs.Inside.{Steps}
+use Rattle.sql_store.specs.Inside.{AreNumbersOf, Steps}
 use Rattle.sql_store.specs.Load.{load_text, old_text}
 use Rattle.sql_store.specs.Reading.{told, seen, seen_old}
 
@@ -327,21 +327,23 @@ module _ {S : Type 0} (g : Ghosts S) where
   Finds old new old_rows new_rows =
       (read : Held S) × ReadsBoth old read old_rows new_rows × ChangesNothing g read new
 
-  -- the same, and the rows of the old one were moved
-  pub record SettlesInside (old new : Held S) : Type 0 where
+  -- the same, the rows of the old one were moved, and these are the numbers of what was read
+  pub record SettlesInside (numbers : Map) (old new : Held S) : Type 0 where
     pub found : Held S
     pub old_rows : List Row
     pub new_rows : List Row
     pub finds : Finds old found old_rows new_rows
     pub moves : MovesRows old_rows new_rows found new
+    pub numbered : AreNumbersOf old_rows new_rows numbers
 
   -- the tables were made before
-  abbrev pub OpensInside : Held S → Held S → Type 0
-  OpensInside old new = (made : Held S) × MakesTables old made × SettlesInside made new
+  abbrev pub OpensInside : Map → Held S → Held S → Type 0
+  OpensInside numbers old new =
+      (made : Held S) × MakesTables old made × SettlesInside numbers made new
 
   -- that was done in one transaction, which was committed
-  pub record Made (old new : Held S) : Type 0 where
+  pub record Made (numbers : Map) (old new : Held S) : Type 0 where
     pub outside : old.in_transaction ≡ false
     pub last : Held S
-    pub inside : OpensInside (begun old) last
+    pub inside : OpensInside numbers (begun old) last
     pub committed : CommitsAll last new

@@ -13,3 +13,4 @@ pub mod Inside
 pub mod Writes
 pub mod Opening
 pub mod Stored
+pub mod Commit

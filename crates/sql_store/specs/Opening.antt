@@ -5,6 +5,7 @@ use Rattle.sqlite.specs.Held.{Held, state}
 use Rattle.sqlite.specs.State.{State, Survives}
 use Rattle.sqlite.specs.Store.{Ghosts}
 use Rattle.sqlite.specs.Tree.{Trees}
+use Rattle.serial_spec.specs.Serial.{Map}
 use Rattle.sql_store.specs.Asked.{Made}
 use Rattle.sql_store.specs.Ids.{IsDecided, IsDecidedFirst}
 use Rattle.sql_store.specs.Inside.{IsOpened}
@@ -37,6 +38,7 @@ module _ {S : Type 0} (g : Ghosts S) where
   SurvivesOpening old new = Survives (state g old) (state g new) (MayOpen (state g old))
 
   -- The tables were made in the database that was found, which is unknown only if the rowids that
-  -- queries show of them do not rise.
-  abbrev pub IsFound : Held S → Bool → Type 0
-  IsFound new known = (found : Held S) × Made g found new × IsDoubted (state g found).now known
+  -- queries show of them do not rise. These are the numbers of what was read.
+  abbrev pub IsFound : Map → Held S → Bool → Type 0
+  IsFound numbers new known =
+      (found : Held S) × Made g numbers found new × IsDoubted (state g found).now known

@@ -1,44 +1,52 @@
 -- A store over a connection, as contracts see it.
 use Rattle.std.specs.Prelude.{◌≡◌, ◌⊎◌, ℕ, ℤ, pos, ◌+◌, ◌+ℤ◌, Bool, true, false, if◌then◌else◌, List, Result, Err, IsTrue, IsErrOf, IfOk, IfErr, OnOk, OnErr, is_err, refl}
-use Rattle.std.specs.Coded.{Coded, code_by, coded×, coded_ℕ, coded_ℤ, coded_bool}
+use Rattle.std.specs.Coded.{Coded, code_by, coded×, coded_ℕ, coded_ℤ, coded_bool, coded_list}
 use Rattle.sqlite.specs.Store.{Ghosts}
 use Rattle.sqlite.specs.Tree.{Trees}
 use Rattle.sqlite.specs.Held.{Held, held_code, state}
 use Rattle.sqlite.specs.State.{HasCleanDisk}
 use Rattle.sqlite_trees.specs.View.{doubt}
 use Rattle.txn_names.specs.declared.change.Change.{Change}
+use Rattle.serial_spec.specs.Rows.{Rows, value_in}
 use Rattle.serial_spec.specs.Serial.{Map}
 use Rattle.durable_top.specs.declared.store.Row.{Row}
 use Rattle.durable_top.specs.declared.store.StoreFault.{StoreFault}
 use Rattle.durable_top.specs.declared.store.StoreFault.TheVariants.{Failed}
 use Rattle.durable_top.specs.Numbered.{Numbered, values_of, numbers_of}
+use Rattle.durable_top.specs.Numbers.{IsTopIn, renumbered}
 use Rattle.durable_top.specs.Store.{faults_after}
 use Rattle.sql_store.specs.Asked.{Loaded, Committed}
-use Rattle.sql_store.specs.Calls.{IfClean, IfRefused, CommitsNothing, KeepsLimit, KeepsOpen, SparesAtFault, SparesDatabase}
+use Rattle.sql_store.specs.Calls.{IfClean, IfRefused, CommitsNothing, KeepsLimit, KeepsOpen, LeavesNoOtherTrees, SparesAtFault, SparesDatabase}
 use Rattle.sql_store.specs.Faults.{HasFailed}
 use Rattle.sql_store.specs.Refusals.{CannotLoad, CannotCommit}
 use Rattle.sql_store.specs.Table.{map_of, table_of, IsMoved}
 
 pub record Stored (S : Type 0) : Type 0 where
   pub connection : Held S
-  -- the greatest number of the table, 0 where there is none
+  -- the numbers that are kept in memory, and the greatest of them, 0 where there is none
+  pub numbers : Rows
   pub top : ℤ
   pub faults : ℕ
   pub has_failed : Bool
   -- the tables of results stand alone in the database
   pub is_known : Bool
 
+abbrev pub numbers_code : Coded Rows
+numbers_code = coded_list (coded× (coded_list coded_ℕ) coded_ℤ)
+
 abbrev pub stored_code : {S : Type 0} → Coded S → Coded (Stored S)
 stored_code {S} store =
-    code_by (Held S × (ℤ × (ℕ × (Bool × Bool))))
-    (coded× (held_code store) (coded× coded_ℤ (coded× coded_ℕ (coded× coded_bool coded_bool))))
-    (λ s. (s.connection, (s.top, (s.faults, (s.has_failed, s.is_known)))))
+    code_by (Held S × (Rows × (ℤ × (ℕ × (Bool × Bool)))))
+    (coded× (held_code store) (coded× numbers_code
+    (coded× coded_ℤ (coded× coded_ℕ (coded× coded_bool coded_bool)))))
+    (λ s. (s.connection, (s.numbers, (s.top, (s.faults, (s.has_failed, s.is_known))))))
     (λ p. record {
       connection = p.0;
-      top = p.1.0;
-      faults = p.1.1.0;
-      has_failed = p.1.1.1.0;
-      is_known = p.1.1.1.1;
+      numbers = p.1.0;
+      top = p.1.1.0;
+      faults = p.1.1.1.0;
+      has_failed = p.1.1.1.1.0;
+      is_known = p.1.1.1.1.1;
     })
     (λ _. refl)
 
@@ -129,12 +137,18 @@ module _ {S : Type 0} (g : Ghosts S) where
     pub failed : old.has_failed ≡ true → (result ≡ Err Failed) × (new ≡ old)
     pub faults : new.faults ≡ old.faults
     pub known : new.is_known ≡ old.is_known
+    pub numbers : new.numbers ≡ old.numbers
     pub top : new.top ≡ old.top
     pub cause : IfSound old new (IsErrOf result Failed → HasFailed g old.connection new.connection)
     -- what was read, of a database that is not known too
     pub asked : IfClean g new.connection (IfOk result (Loaded g old.connection new.connection))
     -- whatever was answered, nothing was written
     pub kept : IfClean g new.connection (SparesDatabase g old.connection new.connection)
+    -- and a crash leaves nothing that it could not leave before
+    pub crash : IfClean g new.connection (LeavesNoOtherTrees g old.connection new.connection)
+    -- whichever the fault is but Failed, more statements can be run, of as many steps as before
+    pub stays_open : KeepsOpen g old.connection new.connection result
+    pub limit : KeepsLimit g old.connection new.connection
     pub refused : IfRefused g new.connection result (CannotLoad g old.connection new.connection)
 
   pub record SqlCommits (old new : Stored S) (changes : List Change)
@@ -143,6 +157,12 @@ module _ {S : Type 0} (g : Ghosts S) where
     pub faults : new.faults ≡ faults_after (is_err result) old.faults
     pub known : new.is_known ≡ old.is_known
     pub cause : IfSound old new (IsErrOf result Failed → HasFailed g old.connection new.connection)
+    -- the changes were made under the number above the greatest in memory, and the numbers there
+    -- are what they make of them; at a fault they are as before
+    pub numbers : OnOk result
+        (value_in new.numbers ≡ renumbered (old.top +ℤ pos 1) changes (value_in old.numbers))
+    pub stays : OnErr result ((new.numbers ≡ old.numbers) × (new.top ≡ old.top))
+    pub greatest : IsTopIn (value_in new.numbers) new.top
     -- what was committed, to a database that is not known too
     pub asked : IfClean g new.connection
         (OnOk result (Committed g (old.top +ℤ pos 1) changes old.connection new.connection))

@@ -1,12 +1,11 @@
 //! A commit under the number above the greatest.
-ghost use Rattle.std.specs.Prelude.{true, false, ◌≡◌, ◌≤◌, ◌<◌, ◌≤ℤ◌, ◌+ℤ◌, pos, length, ◌⊎◌, IfErr, OnOk, OnErr, IsTrue, IsErrOf};
+ghost use Rattle.std.specs.Prelude.{true, false, ◌≡◌, ◌<◌, ◌≤ℤ◌, ◌+ℤ◌, pos, length, OnOk, IsTrue, IsErrOf};
 ghost use Rattle.serial_spec.specs.Changes.{AreRising};
-ghost use Rattle.serial_spec.specs.Rows.{value_in};
 ghost use Rattle.durable_top.specs.Numbered.{last_number, Follows, Commits};
-ghost use Rattle.sql_store.specs.Stored.{numbered, IsKept, IsCounted, IfCounted, IfKept, KeepsTable, KeepsTableAt, LeavesItself, LeavesNoOther, LeavesOnly};
+ghost use Rattle.sql_store.specs.Commit.{TriesCommit};
+ghost use Rattle.sql_store.specs.Stored.{IsKept, IfKept, KeepsTable, LeavesItself, LeavesNoOther};
 ghost use Rattle.sql_store.specs.Faults.{HasFailed};
 ghost use Rattle.sql_store.specs.Refusals.{CannotWrite, CannotCommit};
-ghost use Rattle.sql_store.specs.Asked.{Committed};
 ghost use Rattle.sql_store.specs.Calls.{CommitsNothing, FailedHasCause, IfClean, IfRefused, KeepsDoubt, KeepsLimit, KeepsOpen, OnlyReads, SparesAtFault, UnlessFailed};
 
 use crate::faults::{fault_of, settle};
@@ -51,29 +50,11 @@ fn commit_under<S: Alter>(
     requires rising { AreRising changes.now }
     requires next { number ≡ numbers.old.top +ℤ pos 1 }
     requires fits { number ≤ℤ last_number }
-    ensures ok { IfCounted S.Store (value_in numbers.old.rows) conn.old conn.new
-        (OnOk result
-        (Follows changes.now (numbered S.Store conn.old) (numbered S.Store conn.new))) }
-    ensures counted { IfCounted S.Store (value_in numbers.old.rows) conn.old conn.new
-        (IsCounted S.Store true (value_in numbers.new.rows) conn.new) }
-    ensures refused { IfClean S.Store conn.new
-        (IfErr result (KeepsTableAt S.Store conn.old conn.new)) }
-    ensures still { IsKept S.Store true conn.old → IsKept S.Store true conn.new }
-    ensures clean { KeepsDoubt S.Store conn.old conn.new }
-    ensures crash { IfCounted S.Store (value_in numbers.old.rows) conn.old conn.new
-        (LeavesOnly S.Store (Follows changes.now (numbered S.Store conn.old)) conn.old conn.new) }
-    ensures settled { IfKept S.Store conn.old conn.new
-        (OnOk result (LeavesItself S.Store conn.new)) }
-    ensures kept { IfClean S.Store conn.new
-        (OnErr result (CommitsNothing S.Store conn.old conn.new)) }
-    ensures spared { SparesAtFault S.Store conn.old conn.new result }
-    ensures open { KeepsOpen S.Store conn.old conn.new result }
-    ensures limit { KeepsLimit S.Store conn.old conn.new }
+    ensures tried { TriesCommit S.Store (Follows changes.now) (number) changes.now
+        numbers.old numbers.new conn.old conn.new result }
     ensures cause { FailedHasCause S.Store conn.old conn.new result }
     ensures reason { IfRefused S.Store conn.new result
         (CannotWrite S.Store number changes.now conn.old conn.new) }
-    ensures asked { IfClean S.Store conn.new
-        (OnOk result (Committed S.Store (number) changes.now conn.old conn.new)) }
 {
     numbers.has_none_below_0();
     if numbers.reserve(changes.len()).is_err() {
@@ -95,29 +76,11 @@ fn commit_counted<S: Alter>(
     changes: &[Change],
 ) -> Result<(), StoreFault>
     requires rising { AreRising changes.now }
-    ensures ok { IfCounted S.Store (value_in numbers.old.rows) conn.old conn.new
-        (OnOk result
-        (Commits changes.now (numbered S.Store conn.old) (numbered S.Store conn.new))) }
-    ensures counted { IfCounted S.Store (value_in numbers.old.rows) conn.old conn.new
-        (IsCounted S.Store true (value_in numbers.new.rows) conn.new) }
-    ensures refused { IfClean S.Store conn.new
-        (IfErr result (KeepsTableAt S.Store conn.old conn.new)) }
-    ensures still { IsKept S.Store true conn.old → IsKept S.Store true conn.new }
-    ensures clean { KeepsDoubt S.Store conn.old conn.new }
-    ensures crash { IfCounted S.Store (value_in numbers.old.rows) conn.old conn.new
-        (LeavesOnly S.Store (Commits changes.now (numbered S.Store conn.old)) conn.old conn.new) }
-    ensures settled { IfKept S.Store conn.old conn.new
-        (OnOk result (LeavesItself S.Store conn.new)) }
-    ensures kept { IfClean S.Store conn.new
-        (OnErr result (CommitsNothing S.Store conn.old conn.new)) }
-    ensures spared { SparesAtFault S.Store conn.old conn.new result }
-    ensures open { KeepsOpen S.Store conn.old conn.new result }
-    ensures limit { KeepsLimit S.Store conn.old conn.new }
+    ensures tried { TriesCommit S.Store (Commits changes.now) (numbers.old.top +ℤ pos 1) changes.now
+        numbers.old numbers.new conn.old conn.new result }
     ensures cause { FailedHasCause S.Store conn.old conn.new result }
     ensures reason { IfRefused S.Store conn.new result
         (CannotCommit S.Store numbers.old.top changes.now conn.old conn.new) }
-    ensures asked { IfClean S.Store conn.new
-        (OnOk result (Committed S.Store (numbers.old.top +ℤ pos 1) changes.now conn.old conn.new)) }
 {
     if changes.is_empty() {
         return commit_none(conn);
@@ -138,31 +101,13 @@ pub(crate) fn commit_unless<S: Alter>(
 ) -> Result<(), StoreFault>
     requires rising { AreRising changes.now }
     ensures failed { IsTrue has_failed → IsErrOf result StoreFault.Failed × (conn.new ≡ conn.old) }
-    ensures ok { IfCounted S.Store (value_in numbers.old.rows) conn.old conn.new
-        (OnOk result
-        (Commits changes.now (numbered S.Store conn.old) (numbered S.Store conn.new))) }
-    ensures counted { IfCounted S.Store (value_in numbers.old.rows) conn.old conn.new
-        (IsCounted S.Store true (value_in numbers.new.rows) conn.new) }
-    ensures refused { IfClean S.Store conn.new
-        (IfErr result (KeepsTableAt S.Store conn.old conn.new)) }
-    ensures still { IsKept S.Store true conn.old → IsKept S.Store true conn.new }
-    ensures clean { KeepsDoubt S.Store conn.old conn.new }
-    ensures crash { IfCounted S.Store (value_in numbers.old.rows) conn.old conn.new
-        (LeavesOnly S.Store (Commits changes.now (numbered S.Store conn.old)) conn.old conn.new) }
-    ensures settled { IfKept S.Store conn.old conn.new
-        (OnOk result (LeavesItself S.Store conn.new)) }
-    ensures kept { IfClean S.Store conn.new
-        (OnErr result (CommitsNothing S.Store conn.old conn.new)) }
-    ensures spared { SparesAtFault S.Store conn.old conn.new result }
-    ensures open { KeepsOpen S.Store conn.old conn.new result }
-    ensures limit { KeepsLimit S.Store conn.old conn.new }
+    ensures tried { TriesCommit S.Store (Commits changes.now) (numbers.old.top +ℤ pos 1) changes.now
+        numbers.old numbers.new conn.old conn.new result }
     ensures cause { IfClean S.Store conn.new
         (has_failed ≡ false → IsErrOf result StoreFault.Failed
         → HasFailed S.Store conn.old conn.new) }
     ensures reason { IfRefused S.Store conn.new result
         (CannotCommit S.Store numbers.old.top changes.now conn.old conn.new) }
-    ensures asked { IfClean S.Store conn.new
-        (OnOk result (Committed S.Store (numbers.old.top +ℤ pos 1) changes.now conn.old conn.new)) }
 {
     if has_failed {
         return Err(StoreFault::Failed);

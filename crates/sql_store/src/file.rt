@@ -1,5 +1,7 @@
 //! A store of results over a database file of the machine.
-ghost use Rattle.std.specs.Prelude.{◌≡◌, false, IfOk, IfErr, codes, Err};
+ghost use Rattle.std.specs.Prelude.{◌≡◌, false, IfOk, IfErr, None, codes, Err};
+ghost use Rattle.serial_spec.specs.Rows.{value_in};
+ghost use Rattle.durable_top.specs.Numbers.{IsTopIn};
 ghost use Rattle.sqlite.specs.Files.{file_state, over_files};
 ghost use Rattle.sqlite.specs.State.{HasCleanDisk};
 ghost use Rattle.sql_store.specs.Opening.{IsFound};
@@ -44,7 +46,11 @@ impl DatabaseStore {
         ensures sound { IfOk result (λ opened. opened.held.value.store.has_failed ≡ false) }
         ensures doubted { IfOk result (λ opened. let store = opened.held.value.store in
             HasCleanDisk (file_state store.connection)
-            → IsFound over_files store.connection store.is_known) }
+            → IsFound over_files (value_in store.numbers) store.connection store.is_known) }
+        ensures greatest { IfOk result (λ opened. let store = opened.held.value.store in
+            IsTopIn (value_in store.numbers) store.top) }
+        ensures limit { IfOk result (λ opened.
+            opened.held.value.store.connection.step_limit ≡ None) }
     {
         match SqlStore::open(rt, path) {
             Ok(store) => match on_the_heap(rt.alloc(), OnFile { store }) {

@@ -380,7 +380,8 @@ fn find_and_settle<S: Alter>(
     ensures refused { IfInside S.Store tx.old.conn.now tx.new.conn.now
         (IsErrOf result StoreFault.Refused → CannotSettle S.Store tx.old.conn.now) }
     ensures asked { IfInside S.Store tx.old.conn.now tx.new.conn.now
-        (OnOk result (SettlesInside S.Store tx.old.conn.now tx.new.conn.now)) }
+        (IfOk result (λ opened.
+        SettlesInside S.Store (value_in opened.numbers.rows) tx.old.conn.now tx.new.conn.now)) }
 {
     let found = find(tx, alloc)?;
     settle_found(tx, alloc, &found)
@@ -408,7 +409,8 @@ pub(crate) fn open_inside<S: Alter>(
     ensures refused { IfInside S.Store tx.old.conn.now tx.new.conn.now
         (IsErrOf result StoreFault.Refused → CannotOpenInside S.Store tx.old.conn.now) }
     ensures asked { IfInside S.Store tx.old.conn.now tx.new.conn.now
-        (OnOk result (OpensInside S.Store tx.old.conn.now tx.new.conn.now)) }
+        (IfOk result (λ opened.
+        OpensInside S.Store (value_in opened.numbers.rows) tx.old.conn.now tx.new.conn.now)) }
 {
     match make_tables(tx) {
         Ok(()) => find_and_settle(tx, alloc),

@@ -1,15 +1,15 @@
 //! The table, read by one query.
-ghost use Rattle.std.specs.Prelude.{◌≡◌, ◌≤◌, [], OnOk, IfOk, IfErr, IsTrue, IsErrOf};
+ghost use Rattle.std.specs.Prelude.{◌≡◌, IfOk, IfErr, IsTrue};
 ghost use Rattle.sqlite.specs.Held.{state};
 ghost use Rattle.serial_spec.specs.Rows.{IsRising};
 ghost use Rattle.durable_top.specs.Numbered.{AreNumbered, entries_in};
 ghost use Rattle.durable_top.specs.Store.{plain};
 ghost use Rattle.sql_store.specs.Load.{load_query, load_text, IsAnswerOn};
 ghost use Rattle.sql_store.specs.Table.{table_of};
-ghost use Rattle.sql_store.specs.Faults.{fault_of, Lasts};
+ghost use Rattle.sql_store.specs.Faults.{fault_of};
 ghost use Rattle.sql_store.specs.Refusals.{QueryGives, CannotLoad};
 ghost use Rattle.sql_store.specs.Asked.{Fetched, Loaded};
-ghost use Rattle.sql_store.specs.Calls.{ChangesNothing, CommitsNothing, ErrorHasCause, FailedHasCause, IfClean, IfKnown, IfRefused, KeepsDoubt, LeavesNoOtherTrees, SparesSettled, UnlessFailed, database};
+ghost use Rattle.sql_store.specs.Calls.{CommitsNothing, ErrorHasCause, FailedHasCause, IfClean, IfKnown, IfRefused, OnlyReads, SparesSettled, SurvivesAsBefore, UnlessFailed, database};
 
 use crate::faults::{fault_of, settle};
 use crate::reading::sorted;
@@ -22,14 +22,10 @@ use std::alloc::Global;
 fn fetch<S: Alter>(conn: &mut Connection<S>) -> Result<Vec<sqlite::Row>, Error>
     ensures rows { IfKnown S.Store conn.old conn.new
         (IfOk result (λ rows. IsAnswerOn load_query (database S.Store conn.old) rows.items)) }
-    ensures open { IfKnown S.Store conn.old conn.new
-        (OnOk result (ChangesNothing S.Store conn.old conn.new)) }
-    ensures kept { IfKnown S.Store conn.old conn.new (CommitsNothing S.Store conn.old conn.new) }
-    ensures clean { KeepsDoubt S.Store conn.old conn.new }
-    ensures crash { IfKnown S.Store conn.old conn.new
-        (LeavesNoOtherTrees S.Store conn.old conn.new) }
+    ensures open { OnlyReads S.Store conn.old conn.new result }
+    ensures kept { IfClean S.Store conn.new (CommitsNothing S.Store conn.old conn.new) }
+    ensures survives { SurvivesAsBefore S.Store conn.old conn.new }
     ensures cause { ErrorHasCause S.Store conn.old conn.new result }
-    ensures lasts { Lasts (state S.Store conn.old) (state S.Store conn.new) }
     ensures asked { IfClean S.Store conn.new
         (IfOk result (λ rows. Fetched S.Store conn.old conn.new rows.items)) }
     ensures refused { IfClean S.Store conn.new
@@ -50,12 +46,10 @@ pub(crate) fn load_rows<S: Alter>(
         (IfOk result (λ rows. entries_in rows.items ≡ table_of (database S.Store conn.old))) }
     ensures rising { IfOk result (λ rows. IsRising (plain rows.items)) }
     ensures numbers { IfOk result (λ rows. AreNumbered rows.items) }
-    ensures open { IfKnown S.Store conn.old conn.new
+    ensures open { IfClean S.Store conn.new
         (UnlessFailed result (IsTrue (state S.Store conn.new).is_open)) }
-    ensures kept { IfKnown S.Store conn.old conn.new (CommitsNothing S.Store conn.old conn.new) }
-    ensures clean { KeepsDoubt S.Store conn.old conn.new }
-    ensures crash { IfKnown S.Store conn.old conn.new
-        (LeavesNoOtherTrees S.Store conn.old conn.new) }
+    ensures kept { IfClean S.Store conn.new (CommitsNothing S.Store conn.old conn.new) }
+    ensures survives { SurvivesAsBefore S.Store conn.old conn.new }
     ensures cause { FailedHasCause S.Store conn.old conn.new result }
     ensures asked { IfClean S.Store conn.new
         (IfOk result (λ rows. Loaded S.Store conn.old conn.new rows.items)) }

@@ -1,6 +1,10 @@
 //! A store of results over a database in memory.
 ghost use Rattle.std.specs.Prelude.{◌≡◌, ℕ, List, None, false, IfOk, if◌then◌else◌};
-ghost use Rattle.sqlite.specs.Steps.{over_memory};
+ghost use Rattle.serial_spec.specs.Rows.{value_in};
+ghost use Rattle.durable_top.specs.Numbers.{IsTopIn};
+ghost use Rattle.sqlite.specs.Held.{Held, state};
+ghost use Rattle.sqlite.specs.Steps.{over_memory, IsEmpty};
+ghost use Rattle.sql_store.specs.Asked.{Made};
 ghost use Rattle.sql_store.specs.Stored.{numbered, table, may_leave, may_leave_numbered, SqlLoads, SqlCommits};
 
 use crate::store::SqlStore;
@@ -39,6 +43,11 @@ impl MemoryStore {
     pub fn new(alloc: Global) -> Result<MemoryStore, NoMemory>
         ensures empty { IfOk result (λ store. (k : List ℕ)
             → numbered over_memory store.connection k ≡ None) }
+        ensures made { IfOk result (λ store.
+            (found : Held MemStore) × IsEmpty (state over_memory found)
+            × Made over_memory (value_in store.numbers) found store.connection) }
+        ensures greatest { IfOk result (λ store. IsTopIn (value_in store.numbers) store.top) }
+        ensures limit { IfOk result (λ store. store.connection.step_limit ≡ None) }
         ensures faults { IfOk result (λ store. store.faults ≡ 0) }
         ensures sound { IfOk result (λ store. store.has_failed ≡ false) }
     {

@@ -40,7 +40,9 @@ fn open_tables<S: Alter>(conn: &mut Connection<S>, alloc: Global) -> Result<Open
         (IfErr result (IsMeant (state S.Store conn.old) (state S.Store conn.new))) }
     ensures refused { IfRefused S.Store conn.new result
         (CannotOpenInside S.Store (begun conn.old)) }
-    ensures made { IfClean S.Store conn.new (OnOk result (Made S.Store conn.old conn.new)) }
+    ensures made { IfClean S.Store conn.new
+        (IfOk result (λ opened.
+        Made S.Store (value_in opened.numbers.rows) conn.old conn.new)) }
 {
     let mut tx = conn.transaction();
     let opened = open_inside(&mut tx, alloc)?;
@@ -104,7 +106,8 @@ pub(crate) fn prepare<S: Alter>(
         (OnErr result (SparesDatabase S.Store conn.old conn.new)) }
     ensures cause { FailedHasCause S.Store conn.old conn.new result }
     ensures refused { IfRefused S.Store conn.new result (CannotOpen S.Store conn.old) }
-    ensures made { IfClean S.Store conn.new (OnOk result (Made S.Store conn.old conn.new)) }
+    ensures made { IfClean S.Store conn.new
+        (IfOk result (λ ready. Made S.Store (value_in ready.numbers.rows) conn.old conn.new)) }
     ensures empty { IfClean S.Store conn.new
         ((database S.Store conn.old).schema ≡ no_schema
         → OnOk result (numbered S.Store conn.new ≡ map_of [])) }

@@ -1,5 +1,5 @@
 //! The statements, one a function.
-ghost use Rattle.std.specs.Prelude.{◌≡◌, ◌≤◌, [], ◌∷◌, Some, None, Err, OnOk, IfOk, IfErr, IsTrue, IsErr};
+ghost use Rattle.std.specs.Prelude.{◌≡◌, [], ◌∷◌, Some, None, Err, OnOk, IfOk, IfErr, IsTrue, IsErr};
 ghost use Rattle.sqlite.specs.Values.{bound};
 ghost use Rattle.sqlite.specs.declared.types.Value.TheVariants.{Text, Int};
 ghost use Rattle.sqlite.specs.Held.{state};
@@ -7,9 +7,9 @@ ghost use Rattle.sql_store.specs.Results.{both_schema, old_schema, no_schema};
 ghost use Rattle.sql_store.specs.Load.{load_text, load_query, old_text, old_query, ids_text, ids_query, old_ids_text, old_ids_query, IsAnswerOn};
 ghost use Rattle.sql_store.specs.Table.{Makes, AreApart};
 ghost use Rattle.sql_store.specs.Inside.{Selects};
-ghost use Rattle.sql_store.specs.Faults.{fault_of, Lasts, HasFailed};
+ghost use Rattle.sql_store.specs.Faults.{fault_of, HasFailed};
 ghost use Rattle.sql_store.specs.Asked.{RunsStatement, create_old_text, create_text, upsert_text, delete_text, empty_text, params_of, IsAnswered, QueryFails};
-ghost use Rattle.sql_store.specs.Calls.{ChangesNothing, CommitsNothing, Continues, ErrorHasCause, IfBoth, IfClean, IfInside, KeepsDoubt, OnlyReads, SparesSettled, SurvivesAsBefore, database, new_tree, old_tree};
+ghost use Rattle.sql_store.specs.Calls.{CommitsNothing, Continues, ErrorHasCause, IfBoth, IfClean, IfInside, OnlyReads, SparesSettled, SurvivesAsBefore, database, new_tree, old_tree};
 
 use durable_top::{Row, StoreFault};
 use sqlite::types::ValueRef;
@@ -179,14 +179,10 @@ pub(crate) fn select_ids<S: Alter>(tx: &mut Transaction<'_, S>) -> Result<Vec<sq
 pub(crate) fn select<S: Alter>(conn: &mut Connection<S>) -> Result<Vec<sqlite::Row>, Error>
     ensures rows { IfBoth S.Store conn.old conn.new
         (IfOk result (λ rows. IsAnswerOn load_query (database S.Store conn.old) rows.items)) }
-    ensures open { IfBoth S.Store conn.old conn.new
-        (OnOk result (ChangesNothing S.Store conn.old conn.new)) }
-    ensures kept { IfBoth S.Store conn.old conn.new (CommitsNothing S.Store conn.old conn.new) }
-    ensures clean { KeepsDoubt S.Store conn.old conn.new }
-    ensures survives { (database S.Store conn.old).schema ≡ both_schema
-        → SurvivesAsBefore S.Store conn.old conn.new }
+    ensures open { OnlyReads S.Store conn.old conn.new result }
+    ensures kept { IfClean S.Store conn.new (CommitsNothing S.Store conn.old conn.new) }
+    ensures survives { SurvivesAsBefore S.Store conn.old conn.new }
     ensures cause { ErrorHasCause S.Store conn.old conn.new result }
-    ensures lasts { Lasts (state S.Store conn.old) (state S.Store conn.new) }
     ensures asked { IfClean S.Store conn.new
         (IfOk result (λ rows. IsAnswered S.Store load_text conn.old conn.new rows.items)) }
     ensures refused { IfClean S.Store conn.new

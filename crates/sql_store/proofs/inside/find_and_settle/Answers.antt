@@ -2,7 +2,7 @@ use Rattle.std.proofs.Common.{◌≡◌, Err, inl, inr, ap, ◌∙◌, rules}
 use Rattle.sqlite.specs.Held.{state}
 use Rattle.sqlite.specs.State.{HasCleanDisk}
 use Rattle.durable_top.specs.declared.store.StoreFault.TheVariants.{Refused}
-use Rattle.sql_store.proofs.Steps.{clean_before, on_ok_then}
+use Rattle.sql_store.proofs.Steps.{clean_before, if_ok_on, on_ok_then}
 use Rattle.sql_store.proofs.Moving.{moves_none}
 use Rattle.sql_store.proofs.Opens.{none_old}
 use Rattle.sql_store.proofs.inside.find_and_settle.Goals as goal
@@ -31,13 +31,14 @@ pub returns-clause-asked : goal.returns-clause-asked
 returns-clause-asked g c clean inside =
     let was : HasCleanDisk (state g.S.Store c.find.new.tx.conn.now) = clean_before (state g.S.Store c.find.new.tx.conn.now) (state g.S.Store c.settle_found.new.tx.conn.now) c.settle_found.ensures.steps.survives clean in
     let found = c.in_ok-found.found in
-    on_ok_then c.settle_found.result (λ moves. record {
+    if_ok_on c.settle_found.result _ _ (λ opened are moves. record {
       found = c.find.new.tx.conn.now;
       old_rows = found.old.items;
       new_rows = found.new.items;
       finds = c.in_ok-found.ensures.asked was;
       moves = moves;
-    }) (c.settle_found.ensures.asked clean (c.in_ok-found.ensures.on was inside).0)
+      numbered = are;
+    }) c.settle_found.ensures.numbered (c.settle_found.ensures.asked clean (c.in_ok-found.ensures.on was inside).0)
 
 pub returns-clause-stays : goal.returns-clause-stays
 returns-clause-stays g c clean inside =

@@ -4,7 +4,7 @@ use Rattle.sqlite.specs.Held.{state}
 use Rattle.serial_spec.specs.Rows.{value_in}
 use Rattle.sqlite.specs.State.{HasCleanDisk}
 use Rattle.sql_store.specs.Inside.{AreMade}
-use Rattle.sql_store.proofs.Steps.{on_both, on_ok_then, clean_before}
+use Rattle.sql_store.proofs.Steps.{on_both, clean_before}
 use Rattle.sql_store.proofs.Opens.{opened_by, found_out}
 use Rattle.sql_store.proofs.inside.open_inside.Goals as goal
 
@@ -35,5 +35,5 @@ returns-in-Ok-clause-refused g c clean inside is =
 pub returns-in-Ok-clause-asked : goal.returns-in-Ok-clause-asked
 returns-in-Ok-clause-asked g c clean inside =
     let was : HasCleanDisk (state g.S.Store c.make_tables.new.tx.conn.now) = clean_before (state g.S.Store c.make_tables.new.tx.conn.now) (state g.S.Store c.find_and_settle.new.tx.conn.now) c.find_and_settle.ensures.steps.survives clean in
-    on_ok_then c.find_and_settle.result (λ settles. (c.make_tables.new.tx.conn.now, c.in-Ok.ensures.answers.asked was inside, settles))
+    IfOk-weaker c.find_and_settle.result _ _ (λ opened settles. (c.make_tables.new.tx.conn.now, c.in-Ok.ensures.answers.asked was inside, settles))
     (c.find_and_settle.ensures.asked clean (c.in-Ok.ensures.on was inside).0)

@@ -10,3 +10,7 @@ pub returns-in-Ok-clause-refused : goal.returns-in-Ok-clause-refused
 returns-in-Ok-clause-refused c is =
     let h = c.adopted.ensures.refused is in
     (c.in-Ok.connection, c.in-Ok.ensures.empty, h.1 (memory_is_clean h.0))
+
+pub returns-in-Ok-clause-made : goal.returns-in-Ok-clause-made
+returns-in-Ok-clause-made c =
+    IfOk-weaker c.adopted.result _ _ (λ store h. (c.in-Ok.connection, c.in-Ok.ensures.empty, h (memory_is_clean store.connection))) c.adopted.ensures.made
