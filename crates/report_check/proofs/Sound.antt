@@ -14,7 +14,6 @@ use Rattle.std.proofs.lemmas.Bool.Decides.{Decides-int_eq, nat_tests}
 use Rattle.txn_names.specs.Path.{label_eq, parent}
 use Rattle.txn_names.proofs.Names.{on_test, same_label}
 use Rattle.serial_spec.specs.declared.limits.TheConstants.{MOST_ROWS, MOST_SESSIONS}
-use Rattle.serial_spec.specs.declared.entry.By.{By}
 use Rattle.serial_spec.specs.declared.entry.By.TheVariants as by
 use Rattle.serial_spec.specs.declared.entry.Answer.{Answer}
 use Rattle.serial_spec.specs.declared.entry.Answer.TheVariants.{Done, Waits, Stuck, Refused}
@@ -42,10 +41,11 @@ use Rattle.report_lines.specs.declared.entry.ReportEntry.{ReportEntry}
 use Rattle.report_lines.specs.declared.entry.ReportEntry.TheVariants as told
 use Rattle.report_lines.proofs.Entries.{entries_read_back}
 use Rattle.report_check.specs.Laws.{AreInOrder, IsInOrder, IsServed, YesIsSound}
-use Rattle.report_check.specs.Passing.{Part, Start, Opening, Entries, Final, Ended, Read, at_part, entry_in, entry_next, final_next, goes_on, has_ended, is_close, is_in_time, is_next, is_past, may_add_row, may_close, may_do, may_end, may_follow, middle_next, next, next_at, none_waits, opening_next, read, read_from, unread, waiting, with_entry, with_opening, with_row}
+use Rattle.report_check.specs.Passing.{Part, Start, Opening, Entries, Final, Ended, Read, at_part, entry_in, entry_next, final_next, goes_on, has_ended, is_close, is_in_time, is_next, is_past, may_add_row, may_close, may_do, may_end, may_follow, middle_next, next, next_at, none_waits, opening_next, read, read_from, session_of, unread, waiting, with_entry, with_opening, with_row}
 use Rattle.report_check.specs.Serving.{map_behind}
 use Rattle.report_check.specs.Verdicts.{IsJudged, IsRun, compared, first_wrong, same_row, served}
 use Rattle.report_check.specs.declared.verdict.Verdict.TheVariants.{Yes, No}
+use Rattle.report_check.proofs.Few.{IsFew, few_at, few_begins, few_entry, few_opening, few_row, few_unread}
 use Rattle.report_check.proofs.Grown.{IsGrown, IsNamed, grown_more, grown_none}
 use Rattle.report_check.proofs.Served.{accesses_are_items}
 use Rattle.report_check.proofs.Spelled.{no_read, read_is_report, same_ok, some_read, was_some}
@@ -74,6 +74,7 @@ pub record IsKept (r : Read) : Type 0 where
   pub order : AreInOrder r.history
   pub rows : IsRising r.opening
   pub last : IsRising r.table
+  pub few : IsFew r
 
 -- behind the line `table` no top-level transaction is live, and no line waits
 abbrev IsOver : Part → Read → Type 0
@@ -88,8 +89,8 @@ record IsHeld (r : Read) : Type 0 where
   over : IsOver r.part r
 
 -- an entry that may follow is in order
-order_by : (h : History) (b : By) (e : Event) (a : Answer) → is_in_time h b ≡ true → is_next h b e a ≡ true → IsInOrder h b e a
-order_by h (by.Line s n) e a time next =
+order_line : (h : History) (s n : ℕ) (e : Event) (a : Answer) → is_in_time h (by.Line s n) ≡ true → is_next h (by.Line s n) e a ≡ true → IsInOrder h (by.Line s n) e a
+order_line h s n e a time next =
     let p = and_parts (nat_lt s MOST_SESSIONS && nat_eq n (suc (answered h s))) (goes_on (waiting h s) e a) next in
     let q = and_parts (nat_lt s MOST_SESSIONS) (nat_eq n (suc (answered h s))) p.0 in
     (eqb-true n (suc (answered h s)) q.1, answers p.1, not-true (list_any (λ x. is_close x.by) h) time)
@@ -98,8 +99,11 @@ order_by h (by.Line s n) e a time next =
     answers goes w is =
         let t = and_parts (bytes_eq (spelled_event w) (spelled_event e)) (not (is_waits a)) (ap (λ o. goes_on o e a) (sym is) ∙ goes) in
         (is_word (spelled_event w) (spelled_event e) t.0, not-true (is_waits a) t.1)
-order_by h by.Victim e a time next = not-true (list_any (λ x. is_close x.by) h) time
-order_by h by.Close e a time next = tt
+
+order_by : (h : History) (labels : List (List ℕ)) (x : ReportEntry) → let f = entry_in labels x in is_in_time h f.by ≡ true → is_next h f.by f.event f.answer ≡ true → may_close f.by f.event ≡ true → IsInOrder h f.by f.event f.answer
+order_by h labels (told.Line l n e a) time next close = order_line h (session_of labels l) n e a time next
+order_by h labels (told.Victim t) time next close = not-true (list_any (λ x. is_close x.by) h) time
+order_by h labels (told.Close t) time next close = close
 
 named_event : (e : Event) (a : Answer) → IsEvent e → IsNamed (effect_of e a)
 named_event (Begin t) (Done reply.Ok) h = h.some
@@ -159,20 +163,21 @@ entry_held r s p (Some x) k e h =
     (record {
       kept = record {
         grown = grown_more r.history f k.grown done.1 (named_entry r.labels x ((entries_read_back p x).0 e).0);
-        order = (k.order, order_by r.history f.by f.event f.answer turn.0 turn.1);
+        order = (k.order, order_by r.history r.labels x turn.0 turn.1 front.1);
         rows = k.rows;
         last = k.last;
+        few = few_entry r x turn.1 (few_begins r.history (effect f) done.1 k.few.begins) k.few;
       };
       over = tt;
     }))
     (λ _ none. no_read s none)
 
 moved_on : (q : Part) (r : Read) → IsKept r → IsOver q r → IsHeld (at_part q r)
-moved_on Start r k over = record { kept = record { grown = k.grown; order = k.order; rows = k.rows; last = k.last }; over = tt }
-moved_on Opening r k over = record { kept = record { grown = k.grown; order = k.order; rows = k.rows; last = k.last }; over = tt }
-moved_on Entries r k over = record { kept = record { grown = k.grown; order = k.order; rows = k.rows; last = k.last }; over = tt }
-moved_on Final r k over = record { kept = record { grown = k.grown; order = k.order; rows = k.rows; last = k.last }; over = over }
-moved_on Ended r k over = record { kept = record { grown = k.grown; order = k.order; rows = k.rows; last = k.last }; over = over }
+moved_on Start r k over = record { kept = record { grown = k.grown; order = k.order; rows = k.rows; last = k.last; few = few_at Start r k.few }; over = tt }
+moved_on Opening r k over = record { kept = record { grown = k.grown; order = k.order; rows = k.rows; last = k.last; few = few_at Opening r k.few }; over = tt }
+moved_on Entries r k over = record { kept = record { grown = k.grown; order = k.order; rows = k.rows; last = k.last; few = few_at Entries r k.few }; over = tt }
+moved_on Final r k over = record { kept = record { grown = k.grown; order = k.order; rows = k.rows; last = k.last; few = few_at Final r k.few }; over = over }
+moved_on Ended r k over = record { kept = record { grown = k.grown; order = k.order; rows = k.rows; last = k.last; few = few_at Ended r k.few }; over = over }
 
 middle_held : (r s : Read) (p : List ℕ) → IsKept r → middle_next r p ≡ Some s → IsHeld s
 middle_held r s p k h =
@@ -193,6 +198,7 @@ opening_held r s p (Some row) k h =
         order = k.order;
         rows = rising_more r.opening row k.rows (and_parts (nat_lt (length r.opening) MOST_ROWS) (is_past r.opening row.0) may).1;
         last = k.last;
+        few = few_opening r row may k.few;
       };
       over = tt;
     }))
@@ -202,7 +208,7 @@ final_held : (r s : Read) (o : Option (List ℕ × ℤ)) → IsKept r → may_en
 final_held r s None k over h = no_read s h
 final_held r s (Some row) k over h =
     pick (may_add_row r.table row.0) (Some (with_row r row)) None (Some s) h
-    (λ may same. subst IsHeld (some_read (with_row r row) s same) (record { kept = record { grown = k.grown; order = k.order; rows = k.rows; last = rising_more r.table row k.last (and_parts (nat_lt (length r.table) MOST_ROWS) (is_past r.table row.0) may).1 }; over = over }))
+    (λ may same. subst IsHeld (some_read (with_row r row) s same) (record { kept = record { grown = k.grown; order = k.order; rows = k.rows; last = rising_more r.table row k.last (and_parts (nat_lt (length r.table) MOST_ROWS) (is_past r.table row.0) may).1; few = few_row r row may k.few }; over = over }))
     (λ _ none. no_read s none)
 
 held_at : (q : Part) (r s : Read) (p : List ℕ) → IsKept r → IsOver q r → next_at q r p ≡ Some s → IsHeld s
@@ -240,7 +246,7 @@ done_from n r s (p ∷ q ∷ ps) held h =
     done_from (n + 1) m.0 s (q ∷ ps) (held_at r.part r m.0 p held.kept held.over (was_some (next r p) n m.0 m.1)) m.2
 
 pub read_done : (bs : List ℕ) (s : Read) → read bs ≡ Ok s → IsDone s
-read_done bs s h = done_from 1 unread s (cut_at 10 bs) (record { kept = record { grown = grown_none; order = tt; rows = tt; last = tt }; over = tt }) h
+read_done bs s h = done_from 1 unread s (cut_at 10 bs) (record { kept = record { grown = grown_none; order = tt; rows = tt; last = tt; few = few_unread }; over = tt }) h
 
 was_none : {X : Type 0} (o : Option X) → is_none o ≡ true → o ≡ None
 was_none None h = refl
@@ -314,6 +320,11 @@ all_committed h g over (suc n) (l ∷ m ∷ ls) le b o =
 
 -- ---- the table
 
+pub same_row_is : (a b : List ℕ × ℤ) → same_row a b ≡ true → a ≡ b
+same_row_is a b e =
+    let p = and_parts (label_eq a.0 b.0) (int_eq a.1 b.1) e in
+    ap₂ (λ k v. (k, v)) (same_label a.0 b.0 p.0) ((Decides-int_eq a.1 b.1).0 p.1)
+
 same_rows : (n : ℕ) (xs ys : Rows) → Yes ≡ compared n xs ys → xs ≡ ys
 same_rows n [] [] h = refl
 same_rows n [] (y ∷ ys) h = cc
@@ -321,8 +332,7 @@ same_rows n (x ∷ xs) [] h = cc
 same_rows n (x ∷ xs) (y ∷ ys) h =
     pick (same_row x y) (compared (suc n) xs ys) (No n) Yes (sym h)
     (λ e more.
-    let p = and_parts (label_eq x.0 y.0) (int_eq x.1 y.1) e in
-    ap₂ (λ (r : List ℕ × ℤ) rs. r ∷ rs) (ap₂ (λ k v. (k, v)) (same_label x.0 y.0 p.0) ((Decides-int_eq x.1 y.1).0 p.1)) (same_rows (suc n) xs ys (sym more)))
+    ap₂ (λ (r : List ℕ × ℤ) rs. r ∷ rs) (same_row_is x y e) (same_rows (suc n) xs ys (sym more)))
     (λ _ no2. cc)
 
 -- ---- all together
@@ -342,6 +352,10 @@ sound_run bs r None e w v =
       history = r.history;
       table = r.table;
       bytes = read_is_report bs r e;
+      few_rows = done.kept.few.opening;
+      few_left = done.kept.few.table;
+      few_sessions = done.kept.few.labels;
+      few_begun = done.kept.few.begins;
       rising = done.kept.rows;
       rising_left = subst IsRising (sym same) v.rising;
       in_order = done.kept.order;

@@ -6,10 +6,11 @@ use Rattle.serial_spec.specs.declared.entry.By.{By}
 use Rattle.serial_spec.specs.declared.entry.By.TheVariants as by
 use Rattle.serial_spec.specs.declared.entry.Answer.{Answer}
 use Rattle.serial_spec.specs.declared.event.Event.{Event}
+use Rattle.serial_spec.specs.declared.event.Event.TheVariants.{Abort}
 use Rattle.serial_spec.specs.History.{History, Name, begun, has_begun, is_committed, is_orphan, status}
 use Rattle.serial_spec.specs.Interleaving.{answered}
 use Rattle.serial_spec.specs.Items.{items}
-use Rattle.serial_spec.specs.Legal.{first_live}
+use Rattle.serial_spec.specs.Legal.{first_live, is_top_level}
 use Rattle.serial_spec.specs.Printing.{spelled_event}
 use Rattle.serial_spec.specs.Report.{line, report}
 use Rattle.serial_spec.specs.Rows.{IsRising, Rows, value_in}
@@ -37,8 +38,13 @@ AccessesAreItems =
 abbrev pub IsEarly : History → Type 0
 IsEarly h = IsFalse (list_any (λ x. is_close x.by) h)
 
+-- the abort of a top-level transaction
+abbrev pub IsTopAbort : Event → Type 0
+IsTopAbort (Abort t) = IsTrue (is_top_level t)
+IsTopAbort e = ⊥
+
 -- The entry of a session is of its next line, and where that line waits it is the answer to the
--- same text. Entries of the close stand last
+-- same text. Entries of the close stand last, and each aborts a top-level transaction
 abbrev pub IsInOrder : History → By → Event → Answer → Type 0
 IsInOrder h (by.Line s n) e a =
     (n ≡ suc (answered h s))
@@ -46,7 +52,7 @@ IsInOrder h (by.Line s n) e a =
     × IsFalse (is_waits a))
     × IsEarly h
 IsInOrder h by.Victim e a = IsEarly h
-IsInOrder h by.Close e a = Unit {0}
+IsInOrder h by.Close e a = IsTopAbort e
 
 abbrev pub AreInOrder : History → Type 0
 AreInOrder [] = Unit {0}
@@ -61,6 +67,11 @@ pub record IsServed (bs : List ℕ) : Type 0 where
   pub history : History
   pub table : Rows
   pub bytes : bs ≡ report opening labels history table
+  -- so many rows, sessions and transactions may a report have
+  pub few_rows : length opening ≤ 4096
+  pub few_left : length table ≤ 4096
+  pub few_sessions : length labels ≤ 64
+  pub few_begun : length (begun history) ≤ 16384
   -- both tables stand in byte order
   pub rising : IsRising opening
   pub rising_left : IsRising table

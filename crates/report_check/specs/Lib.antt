@@ -2,3 +2,4 @@ pub mod Passing
 pub mod Serving
 pub mod Verdicts
 pub mod Laws
+pub mod Naming

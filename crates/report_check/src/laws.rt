@@ -1,6 +1,7 @@
 //! The laws of verdicts, each as the contract of a function that does nothing.
 
 ghost use Rattle.report_check.specs.Laws.{AccessesAreItems, FaultsStay, ServedIsAccepted, VerdictsAgree, YesIsSound};
+ghost use Rattle.report_check.specs.Naming.{AccessesAreTold, NamesTheReply, NamesTheRow};
 
 /// Bytes have one verdict.
 pub fn verdicts_agree()
@@ -34,4 +35,21 @@ pub fn faults_stay()
 /// they are not.
 pub fn served_is_accepted()
     ensures { ServedIsAccepted }
+{}
+
+/// Each access that the second pass runs stands in the line of the entry that tells of it.
+pub fn accesses_are_told()
+    ensures { AccessesAreTold }
+{}
+
+/// Where the replies are not those of a serial run, the line that is named has a wrong reply, and
+/// no line before it has one.
+pub fn names_the_reply()
+    ensures { NamesTheReply }
+{}
+
+/// Where the replies are those of a serial run, the line that is named is that of the first of the
+/// final rows that is not the one that the run leaves there.
+pub fn names_the_row()
+    ensures { NamesTheRow }
 {}

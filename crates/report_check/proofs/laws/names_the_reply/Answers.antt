@@ -1,0 +1,5 @@
+use Rattle.report_check.proofs.Naming.{names_the_reply}
+use Rattle.report_check.proofs.laws.names_the_reply.Goals as goal
+
+pub returns : goal.returns
+returns c = names_the_reply
