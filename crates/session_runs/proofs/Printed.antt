@@ -1,5 +1,5 @@
 -- A report that was written, a writer that then keeps it, and the end of a run.
-use Rattle.std.proofs.Common.{◌≡◌, ◌≤◌, ℕ, List, Option, sym, subst, inl, inr, arith}
+use Rattle.std.proofs.Common.{◌≡◌, ◌≤◌, ℕ, List, Option, Some, sym, subst, inl, inr, arith}
 use Rattle.std.specs.Prelude.{◌≢◌, Result, Ok, Err, IfErr, IfOk, IsNone}
 use Rattle.std.specs.Io.KnownBytes.{Keeps}
 use Rattle.txn_bytes.specs.Written.{Writer}
@@ -26,18 +26,18 @@ pub printed : {S : Type 0} (g : Ghosts S) (old mid new : Option (List ℕ)) (tex
 printed {S} g old mid new text way store back left h k is =
     subst (λ (l : Option S). IsPrinted g old new text way store l) (sym is) (replayed_kept g old mid new text way store back h k)
 
-module _ {S W E : Type 0} (g : Ghosts S) (w : Writer W) (e : Writer E) (old mid new : W) (err_old err_new : E) (text : List ℕ) (way : Way) (store : S) (status : ℕ) (left : Option S) where
-  -- the end of a run that was done
-  pub done : (ran : Result S ReplayFault)
-      → IfOk ran (λ back. IsReplayed g (w.contents old) (w.contents mid) text way store back)
-      → IfOk ran (λ back. left ≡ Some back)
-      → IfOk ran (λ back. Keeps (w.contents mid) (w.contents new))
-      → IfErr ran (λ fault. (status ≡ 1) × IsNone left)
-      → status ≡ 0 → IsPrinted g (w.contents old) (w.contents new) text way store left
-  done (Ok back) replayed is kept dropped status_is = printed g (w.contents old) (w.contents mid) (w.contents new) text way store back left replayed kept is
-  done (Err fault) replayed is kept dropped status_is = absurd (omega (arith, dropped.0, status_is))
+-- the end of a run that was done
+pub done : {S W : Type 0} (g : Ghosts S) (contents : W → Option (List ℕ)) (old mid new : W) (text : List ℕ) (way : Way) (store : S) (status : ℕ) (left : Option S) (ran : Result S ReplayFault)
+    → IfOk ran (λ back. IsReplayed g (contents old) (contents mid) text way store back)
+    → IfOk ran (λ back. left ≡ Some back)
+    → IfOk ran (λ back. Keeps (contents mid) (contents new))
+    → IfErr ran (λ fault. (status ≡ 1) × IsNone left)
+    → status ≡ 0 → IsPrinted g (contents old) (contents new) text way store left
+done g contents old mid new text way store status left (Ok back) replayed is kept dropped status_is = printed g (contents old) (contents mid) (contents new) text way store back left replayed kept is
+done g contents old mid new text way store status left (Err fault) replayed is kept dropped status_is = absurd (omega (arith, dropped.0, status_is))
 
-  -- the end of one that was not
+module _ {S W E : Type 0} (g : Ghosts S) (w : Writer W) (e : Writer E) (old mid new : W) (err_old err_new : E) (text : List ℕ) (way : Way) (store : S) (status : ℕ) (left : Option S) where
+  -- the end of a run that was not done
   pub missed : (ran : Result S ReplayFault)
       → IfOk ran (λ back. IsReplayed g (w.contents old) (w.contents mid) text way store back)
       → IfErr ran (λ fault. HasReplayCause g (w.contents old) (w.contents mid) text way store fault)
