@@ -1,19 +1,17 @@
 -- A commit that changes nothing, and one under the number above the greatest.
-use Rattle.std.proofs.Common.{◌≡◌, ◌⊎◌, inl, inr, ℤ, pos, ◌+ℤ◌, List, [], Result, Ok, Err, true, refl, sym, ap, subst, ◌∙◌, arith}
+use Rattle.std.proofs.Common.{◌≡◌, inl, inr, ℤ, pos, ◌+ℤ◌, List, Result, Err, true, refl, sym, subst, arith}
 use Rattle.std.specs.Prelude.{OnOk}
 use Rattle.sqlite.specs.Store.{Ghosts}
-use Rattle.sqlite.specs.Held.{Held, state}
-use Rattle.sqlite.specs.State.{HasCleanDisk}
+use Rattle.sqlite.specs.Held.{Held}
 use Rattle.txn_names.specs.declared.change.Change.{Change}
 use Rattle.serial_spec.specs.Rows.{value_in}
 use Rattle.durable_top.specs.declared.store.StoreFault.{StoreFault}
-use Rattle.durable_top.specs.Numbered.{Numbered, Commits, Follows, numbers_of}
+use Rattle.durable_top.specs.Numbered.{Numbered, Commits, Follows}
 use Rattle.durable_top.specs.Numbers.{Numbers, renumbered}
 use Rattle.sql_store.specs.Asked.{Committed}
-use Rattle.sql_store.specs.Calls.{CommitsNothing, IfClean, KeepsDoubt, KeepsLimit, KeepsOpen, OnlyReads, SparesAtFault, UnlessFailed}
+use Rattle.sql_store.specs.Calls.{IfClean}
 use Rattle.sql_store.specs.Commit.{TriesCommit}
-use Rattle.sql_store.specs.Stored.{numbered, IfKept, IsCounted, IsKept, KeepsTable, LeavesItself, LeavesNoOther}
-use Rattle.sql_store.specs.Table.{table_of}
+use Rattle.sql_store.specs.Stored.{IsCounted}
 use Rattle.sql_store.proofs.Steps.{on_ok_then}
 
 module _ {S : Type 0} (g : Ghosts S) (changes : List Change) where

@@ -1,5 +1,5 @@
 -- What the query answers, and what it leaves.
-use Rattle.std.proofs.Common.{◌⊎◌, cond, ◌≡◌, ℕ, List, [], ◌∷◌, codes, Option, Some, None, Result, IfOk, IfErr, inl, inr, true≢false, sym, ap, subst, ◌∙◌}
+use Rattle.std.proofs.Common.{◌⊎◌, cond, ◌≡◌, ℕ, List, [], ◌∷◌, codes, Option, Some, None, Result, IfOk, IfErr, inl, inr, true≢false, sym, ap, ◌∙◌}
 use Rattle.std.specs.Prelude.{IsTrue}
 use Rattle.std.specs.Global.{Vec}
 use Rattle.std.proofs.lemmas.Result.{IfOk-weaker, IfErr-weaker}
@@ -11,7 +11,6 @@ use Rattle.sqlite.specs.Query.{Query, IsAnswer}
 use Rattle.sqlite.specs.Program.{overlay}
 use Rattle.sqlite.specs.State.{State, HasCleanDisk, Shown, ShowsRows, IsUnchanged, KeepsCommit, IsNotRun, FailsToQuery, FailsToShow, Fails, IsTooLate, Survives, CommitsShowing}
 use Rattle.sqlite.specs.Clock.{timed}
-use Rattle.sqlite.specs.Listing.{understood}
 use Rattle.sqlite.proofs.Callers.{reads_as}
 use Rattle.sqlite.proofs.StateLemmas.{survives_weaker}
 use Rattle.sqlite_resolve.specs.Compile.{first}

@@ -1,12 +1,10 @@
-use Rattle.std.proofs.Common.{SFits, w64, ◌≡◌, OnOk, refl, sym, ap, ◌∙◌, arith, rules}
+use Rattle.std.proofs.Common.{SFits, w64, ap, ◌∙◌, arith, rules}
 use Rattle.std.proofs.lemmas.Int.{to_z-of_z}
 use Rattle.sqlite.specs.Held.{state}
 use Rattle.sqlite.specs.State.{HasCleanDisk}
 use Rattle.sqlite.specs.Tree.{Trees}
 use Rattle.serial_spec.specs.Rows.{value_in}
-use Rattle.durable_top.specs.Numbers.{renumbered}
 use Rattle.sql_store.specs.Table.{map_of}
-use Rattle.sql_store.proofs.Commits.{tried_nothing}
 use Rattle.sql_store.proofs.Counted.{follows_stored, counted_stored, follows_left}
 use Rattle.sql_store.proofs.commit.commit_under.Goals as goal
 
