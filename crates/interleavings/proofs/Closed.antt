@@ -1,5 +1,5 @@
 -- The close, and what a whole run comes to.
-use Rattle.std.proofs.Common.{◌≡◌, ℕ, ◌+◌, ◌≤◌, List, [], ◌∷◌, ◌++◌, length, map, None, Result, Ok, Err, OnOk, OnErr, IfErr, sym, ap, subst, ◌∙◌, arith}
+use Rattle.std.proofs.Common.{◌≡◌, ℕ, ◌+◌, ◌≤◌, List, [], ◌∷◌, ◌++◌, length, map, None, Result, Ok, Err, OnOk, IfErr, sym, ap, subst, ◌∙◌, arith}
 use Rattle.serial_spec.specs.History.{Name, History, begun}
 use Rattle.serial_spec.specs.Legal.{first_live, Legal}
 use Rattle.serial_spec.specs.Rows.{Rows, value_in}
@@ -22,11 +22,9 @@ use Rattle.interleavings.specs.Told.{Told}
 use Rattle.interleavings.specs.Trails.{Trail}
 use Rattle.interleavings.proofs.Trails.{trail_closings, trail_more}
 use Rattle.interleavings.specs.Turning.{Turning, AreTurns, IsStart, IsClosed}
-use Rattle.interleavings.specs.Scheduled.{BreaksOff, Goes, Stands, RunsList, RunsAll, RunsWhole}
+use Rattle.interleavings.specs.Scheduled.{BreaksOff, Goes, LetsGo, RunsList, RunsAll, RunsWhole}
 use Rattle.interleavings.proofs.Schedules.{goes_still}
-use Rattle.interleavings.specs.Runs.{AllThere, HasRunCause, IsBrokenOff, IsRun, WasAsked}
-use Rattle.interleavings.specs.declared.run.RunFault.{RunFault}
-use Rattle.interleavings.specs.declared.run.RunFault.TheVariants.{NoMemory}
+use Rattle.interleavings.specs.Runs.{AllThere, IsBrokenOff, IsRun, WasAsked}
 
 -- ---- the close
 
@@ -175,28 +173,28 @@ module _ {S : Type 0} (g : Ghosts S) where
 
   -- ---- a run that was broken off
 
-  pub closed_off : {T E : Type 0} (schedule : List ℕ) (first last : Turning S) (r : Result T E) → RunsWhole g schedule first last → OnErr r (Stands g last) → OnErr r (BreaksOff g first)
-  closed_off schedule first last (Ok x) whole stands = tt
-  closed_off schedule first last (Err x) whole stands =
-      record { last = last; goes = goes_still g first whole.between last whole.list.goes whole.all.goes; stands = stands }
+  pub closed_off : {T : Type 0} (schedule : List ℕ) (first last : Turning S) (r : Result T S) → RunsWhole g schedule first last → IfErr r (LetsGo g last) → IfErr r (BreaksOff g first)
+  closed_off schedule first last (Ok x) whole go = tt
+  closed_off schedule first last (Err x) whole go =
+      record { last = last; goes = goes_still g first whole.between last whole.list.goes whole.all.goes; go = go }
 
-  pub broken_off : (ss : List Session) (store : S) (first : Turning S) → IsStart g ss store first → BreaksOff g first → IsBrokenOff g ss store
-  broken_off ss store first start off = record {
+  pub broken_off : (ss : List Session) (store : S) (first : Turning S) (left : S) → IsStart g ss store first → BreaksOff g first left → IsBrokenOff g ss store
+  broken_off ss store first left start off = record {
     opening = first.core.rows;
     history = last.core.history;
     left = last.core.store;
     asked = from_start ss store first last.core.history last.core.store start off.goes.on.trail;
     few = start.opened.few;
     way = subst (λ x. IsUnderWay x ss last.core.history) off.goes.on.rows
-        (subst (λ x. IsUnderWay last.core.rows x last.core.history) (off.goes.sessions ∙ start.sessions) off.stands.way);
+        (subst (λ x. IsUnderWay last.core.rows x last.core.history) (off.goes.sessions ∙ start.sessions) off.go.stands.way);
     table = last.core.table;
-    stored = subst (λ x. (k : List ℕ) → value_in last.core.table k ≡ stored (value_in x) last.core.history k) off.goes.on.rows off.stands.sound.stored;
-    has = off.stands.sound.backed.same;
+    stored = subst (λ x. (k : List ℕ) → value_in last.core.table k ≡ stored (value_in x) last.core.history k) off.goes.on.rows off.go.stands.sound.stored;
+    has = off.go.stands.sound.backed.same;
     numbered = λ trusted.
         numbered_from store first.core last.core.opened last.core.history (g.numbered last.core.store) start.opened off.goes.on.opened (undoubted trusted.doubt)
-        (off.stands.sound.backed.numbered trusted);
+        (off.go.stands.sound.backed.numbered trusted);
     refusals =
-        off.stands.sound.backed.refusals
+        off.go.stands.sound.backed.refusals
         ∙ ap (λ n. counted (n + store_refusals last.core.history)) (ap (λ (o : AtOpening). o.faults) off.goes.on.opened ∙ start.opened.faults);
   }
     where
@@ -205,8 +203,3 @@ module _ {S : Type 0} (g : Ghosts S) where
 
       undoubted : g.doubt last.core.store ≡ 0 → g.doubt first.core.store ≡ 0
       undoubted none = omega (arith, off.goes.on.later.doubt, none)
-
-  pub run_off : {T : Type 0} (ss : List Session) (schedule : List ℕ) (store : S) (first : Turning S) (r : Result T RunFault) → AllThere (length ss) schedule → IsStart g ss store first
-      → IfErr r (λ fault. fault ≡ NoMemory) → OnErr r (BreaksOff g first) → IfErr r (HasRunCause g ss schedule store)
-  run_off ss schedule store first (Ok x) there start is off = tt
-  run_off ss schedule store first (Err x) there start is off = subst (HasRunCause g ss schedule store) (sym is) (there, broken_off ss store first start off)

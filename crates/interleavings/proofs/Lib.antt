@@ -1,3 +1,4 @@
+pub mod Sessionless
 pub mod Trails
 pub mod Attempts
 pub mod Numbers

@@ -23,11 +23,16 @@ pub record Stands {S : Type 0} (g : Ghosts S) (t : Turning S) : Type 0 where
   pub way : IsUnderWay t.core.rows t.sessions t.core.history
   pub sound : IsSound g t.core
 
--- they went on for a while
-pub record BreaksOff {S : Type 0} (g : Ghosts S) (old : Turning S) : Type 0 where
+-- the store comes back from them, and was asked nothing more
+pub record LetsGo {S : Type 0} (g : Ghosts S) (t : Turning S) (left : S) : Type 0 where
+  pub stands : Stands g t
+  pub store : left ≡ t.core.store
+
+-- they went on for a while, and the store comes back as it was left then
+pub record BreaksOff {S : Type 0} (g : Ghosts S) (old : Turning S) (left : S) : Type 0 where
   pub last : Turning S
   pub goes : Goes g old last
-  pub stands : Stands g last
+  pub go : LetsGo g last left
 
 -- the attempts of this list
 pub record RunsList {S : Type 0} (g : Ghosts S) (list : List ℕ) (old new : Turning S) : Type 0 where

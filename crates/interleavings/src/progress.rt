@@ -60,8 +60,13 @@ impl<S: TopStore> Progress<S> {
         self.manager.table();
     }
 
-    /// Lets it go, with the manager and its store, as a run does that ends without a report.
-    pub fn give_up(self) {}
+    /// Gives the store up, as a run does that ends without a report. The store is asked nothing.
+    pub fn give_up(self) -> S
+        ensures { result ≡ self.core.store }
+    {
+        let Progress { manager, .. } = self;
+        Box::into_inner(manager).into_store()
+    }
 
     /// One session more, none of whose lines is answered. If memory runs out, the only error,
     /// nothing has changed.

@@ -1,5 +1,5 @@
 //! The report of a finished run.
-ghost use Rattle.std.specs.Prelude.{◌≡◌, ◌≤◌, ℕ, length, List, [], ◌∷◌, map, reverse, IfOk, IsFalse};
+ghost use Rattle.std.specs.Prelude.{◌≡◌, ◌≤◌, ℕ, length, List, [], ◌∷◌, map, reverse, IfOk, IsFalse, IsOk};
 ghost use Rattle.std.specs.List.{AllByRecursion};
 ghost use Rattle.serial_spec.specs.History.{is_live};
 ghost use Rattle.serial_spec.specs.Interleaving.{IsFinished, IsInterleaving};
@@ -83,9 +83,10 @@ impl Report {
     }
 }
 
-/// The labels of the sessions.
+/// The labels of the sessions. Where there are none it takes no memory.
 pub(crate) fn labels_of(alloc: Global, sessions: &Sessions) -> Result<Vec<Label>, NoMemory>
-    ensures { IfOk result (λ labels. labels.items ≡ map (λ s. s.label) sessions.now) }
+    ensures ok { IfOk result (λ labels. labels.items ≡ map (λ s. s.label) sessions.now) }
+    ensures none { sessions.now ≡ [] → IsOk result }
 {
     let mut labels = Vec::new(alloc);
     // What is known of a text comes with its length: here that it has few sessions.

@@ -1,7 +1,7 @@
 //! Sessions by a schedule, from a store to the report.
-ghost use Rattle.std.specs.Prelude.{◌≡◌, length, IfErr, IfOk, OnErr};
+ghost use Rattle.std.specs.Prelude.{◌≡◌, length, IfErr, IfOk};
 ghost use Rattle.interleavings.specs.Runs.{HasRunCause, IsRun, TellsStray};
-ghost use Rattle.interleavings.specs.Scheduled.{BreaksOff, RunsOut, Stands};
+ghost use Rattle.interleavings.specs.Scheduled.{BreaksOff, LetsGo, RunsOut};
 ghost use Rattle.interleavings.specs.Turning.{IsClosed};
 
 use crate::report::Report;
@@ -44,21 +44,18 @@ fn stray(count: u32, schedule: &[u32]) -> Option<usize>
     None
 }
 
-// Drops what was under way.
-fn give_up<S: TopStore>(turns: Turns<'_, S>) -> RunFault
-    ensures fault { result ≡ RunFault.NoMemory }
-    ensures stands { Stands S.TopStore turns.entry }
+// The store of what was under way.
+fn give_up<S: TopStore>(turns: Turns<'_, S>) -> S
+    ensures { LetsGo S.TopStore turns.entry result }
 {
     turns.has_legal_history();
-    drop(turns);
-    RunFault::NoMemory
+    turns.into_progress().give_up()
 }
 
 // The report of sessions all of whose lines are answered.
-fn close<S: TopStore>(turns: Turns<'_, S>) -> Result<(Report, S), RunFault>
+fn close<S: TopStore>(turns: Turns<'_, S>) -> Result<(Report, S), S>
     ensures ok { IfOk result (λ run. IsClosed S.TopStore turns.entry run.0 run.1) }
-    ensures err { IfErr result (λ fault. fault ≡ RunFault.NoMemory) }
-    ensures stands { OnErr result (Stands S.TopStore turns.entry) }
+    ensures err { IfErr result (LetsGo S.TopStore turns.entry) }
 {
     match turns.into_report() {
         Ok(run) => Ok(run),
@@ -67,20 +64,25 @@ fn close<S: TopStore>(turns: Turns<'_, S>) -> Result<(Report, S), RunFault>
 }
 
 /// Runs sessions under way to their end: the schedule's attempts, the rounds and the close, as in
-/// `run_schedule`. The only error is that memory runs out; the store is dropped then.
-pub fn run_opened<S: TopStore>(
-    turns: Turns<'_, S>,
-    schedule: &[u32],
-) -> Result<(Report, S), RunFault>
+/// `run_schedule`. The only error is that memory runs out; the store comes back then as what was
+/// run left it.
+pub fn run_opened<S: TopStore>(turns: Turns<'_, S>, schedule: &[u32]) -> Result<(Report, S), S>
     ensures ok { IfOk result (λ run. RunsOut S.TopStore schedule.now turns.entry run.0 run.1) }
-    ensures err { IfErr result (λ fault. fault ≡ RunFault.NoMemory) }
-    ensures off { OnErr result (BreaksOff S.TopStore turns.entry) }
+    ensures err { IfErr result (BreaksOff S.TopStore turns.entry) }
 {
     let mut turns = turns;
     match run_all(&mut turns, schedule) {
         Ok(()) => close(turns),
         Err(_) => Err(give_up(turns)),
     }
+}
+
+// Drops the store, where memory ran out.
+fn let_go<S: TopStore>(left: S) -> RunFault
+    ensures { result ≡ RunFault.NoMemory }
+{
+    drop(left);
+    RunFault::NoMemory
 }
 
 /// Runs the sessions over the store by the schedule, and gives the store back with the report. A
@@ -104,7 +106,10 @@ pub fn run_schedule<S: TopStore>(
         return Err(RunFault::Schedule(place));
     }
     match Turns::open(alloc, sessions, store) {
-        Ok(turns) => run_opened(turns, schedule),
+        Ok(turns) => match run_opened(turns, schedule) {
+            Ok(done) => Ok(done),
+            Err(left) => Err(let_go(left)),
+        },
         Err(fault) => Err(RunFault::Open(fault)),
     }
 }

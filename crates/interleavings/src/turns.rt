@@ -1,10 +1,12 @@
 //! Sessions under way, a line at a time.
-ghost use Rattle.std.specs.Prelude.{◌≡◌, ◌↔◌, length, replicate, IfErr, IfNone, IfOk, IfSome, IsOk, IsTrue, MatchBool, None, OnErr, OnOk};
+ghost use Rattle.std.specs.Prelude.{[], ◌≡◌, ◌↔◌, length, replicate, IfErr, IfNone, IfOk, IfSome, IsOk, IsTrue, MatchBool, None, OnErr, OnOk};
 ghost use Rattle.serial_spec.specs.Interleaving.{AllAnswered, next_event};
 ghost use Rattle.serial_spec.specs.Follows.{NoneGivesUp};
 ghost use Rattle.txn_history.specs.Turns.{IsUnderWay};
 ghost use Rattle.durable_top.specs.Store.{plain};
+ghost use Rattle.manager_core.specs.Calls.{Closed};
 ghost use Rattle.manager_core.specs.Opening.{HasCause};
+ghost use Rattle.manager_core.specs.Sound.{IsSound};
 ghost use Rattle.interleavings.specs.Progressing.{AreUnderWay, turning};
 ghost use Rattle.interleavings.specs.Scheduled.{Stands};
 ghost use Rattle.interleavings.specs.Turning.{IsClosed, IsDue, IsFirstOpen, IsStart, NoneGoesOn, SomeGoesOn, Stepped, TellsStuck, Unstuck, can_go_on, next_number};
@@ -45,6 +47,22 @@ fn let_go<S: TopStore>(manager: Manager<S>) -> OpenFault
 {
     drop(manager);
     OpenFault::NoMemory
+}
+
+// Ends what is live. Where there are no sessions that is nothing, and takes no memory.
+fn close<S: TopStore>(manager: &mut Manager<S>, sessions: &Sessions) -> Result<(), NoMemory>
+    requires { IsUnderWay manager.old.rows sessions.now manager.old.history }
+    ensures ok { OnOk result (Closed manager.old manager.new) }
+    ensures err { OnErr result (manager.new ≡ manager.old) }
+    ensures sound { OnOk result (IsSound S.TopStore manager.new) }
+    ensures none { sessions.now ≡ [] → IsOk result }
+{
+    if sessions.len() == 0 {
+        // It tells the prover that the manager is sound.
+        manager.table();
+        return Ok(());
+    }
+    manager.close()
 }
 
 /// What came of an attempt.
@@ -327,10 +345,12 @@ impl<'a, S: TopStore> Turns<'a, S> {
 
     /// Aborts the live top-level transactions in the order in which they began, and gives the
     /// report of the run, and the store. It gives the value back unchanged where lines are left, or
-    /// memory runs out.
+    /// memory runs out: the labels are copied, and there is an entry for each transaction that is
+    /// aborted. Where there are no sessions it takes no memory.
     pub fn into_report(self) -> Result<(Report, S), Turns<'a, S>>
         ensures ok { IfOk result (λ run. IsClosed S.TopStore self.entry run.0 run.1) }
         ensures err { IfErr result (λ turns. turns ≡ self.entry) }
+        ensures none { self.entry.sessions ≡ [] → IsOk result }
     {
         let mut turns = self;
         if !turns.finished() {
@@ -339,13 +359,10 @@ impl<'a, S: TopStore> Turns<'a, S> {
         let Ok(labels) = labels_of(turns.alloc, turns.sessions) else {
             return Err(turns);
         };
-        match turns.manager.close() {
+        let sessions = turns.sessions;
+        match close(&mut turns.manager, sessions) {
             Ok(()) => {
-                let Turns {
-                    manager,
-                    sessions,
-                    ..
-                } = turns;
+                let Turns { manager, .. } = turns;
                 Ok(report_of(Box::into_inner(manager), sessions, labels))
             }
             Err(_) => Err(turns),

@@ -13,5 +13,5 @@ loop-label-preserved c =
       labels = pushed ∙ ap (λ (ls : List (List ℕ)). ls ++ c.in-Some.label.now ∷ []) c.loop-label.invariant.labels ∙ labels_more ss n c.in-Some.label.now c.in-Some.ensures;
     }
 
-pub returns : goal.returns
-returns c = c.loop-label.invariant.labels ∙ labels_all c.args.sessions.now c.loop-label.session c.in_default.ensures
+pub returns-clause-ok : goal.returns-clause-ok
+returns-clause-ok c = c.loop-label.invariant.labels ∙ labels_all c.args.sessions.now c.loop-label.session c.in_default.ensures
