@@ -1,12 +1,12 @@
 //! Sessions under way, which many threads take turns with.
-ghost use Rattle.std.specs.Prelude.{◌≡◌, ◌<◌, ◌≤◌, ◌↔◌, IfErr, IfOk, IfSome, IsOk, IsTrue, OnErr, OnOk};
+ghost use Rattle.std.specs.Prelude.{[], ◌≡◌, ◌<◌, ◌≤◌, ◌↔◌, IfErr, IfOk, IfSome, IsOk, IsTrue, OnErr, OnOk};
 ghost use Rattle.serial_spec.specs.declared.limits.TheConstants.{MOST_LINES, MOST_SESSIONS};
 ghost use Rattle.serial_spec.specs.Follows.{NoneGivesUp};
 ghost use Rattle.serial_spec.specs.Interleaving.{AllAnswered};
 ghost use Rattle.txn_history.specs.Turns.{IsUnderWay};
 ghost use Rattle.durable_top.specs.Store.{plain};
 ghost use Rattle.manager_core.specs.Opening.{HasCause};
-ghost use Rattle.interleavings.specs.Scheduled.{Stands};
+ghost use Rattle.interleavings.specs.Scheduled.{LetsGo, Stands};
 ghost use Rattle.interleavings.specs.Turning.{IsClosed, IsStart, Unstuck, next_number};
 ghost use Rattle.shared_book.specs.Attempting.{Attempted, IsNext};
 
@@ -152,10 +152,11 @@ impl<'a, S: TopStore> Book<'a, S> {
 
     /// Aborts the live top-level transactions in the order in which they began, and gives the
     /// report of the run, and the store. It gives the value back unchanged where lines are left, or
-    /// memory runs out.
+    /// memory runs out. Where there are no sessions it takes no memory.
     pub fn into_report(self) -> Result<(Report, S), Book<'a, S>>
         ensures ok { IfOk result (λ run. IsClosed S.TopStore self.entry run.0 run.1) }
         ensures err { IfErr result (λ book. book ≡ self.entry) }
+        ensures none { self.entry.sessions ≡ [] → IsOk result }
     {
         let Book {
             turns,
@@ -170,5 +171,14 @@ impl<'a, S: TopStore> Book<'a, S> {
                 faults,
             }),
         }
+    }
+
+    /// Gives the store up, without a report. It is asked nothing.
+    pub fn give_up(self) -> S
+        ensures { LetsGo S.TopStore self.entry result }
+    {
+        let Book { turns, .. } = self;
+        turns.has_legal_history();
+        turns.into_progress().give_up()
     }
 }
