@@ -1,0 +1,72 @@
+"""Jobs in parts over a database, by the program `tx live`.
+
+A job is a top-level transaction, and its parts are subtransactions: a part commits into the job, or it is undone alone.
+
+    import bogrunsi
+
+    with bogrunsi.open("jobs.db") as jobs:
+        with jobs.begin("night") as night:
+            for attempt in night.tries("orders"):       # until one commits
+                with attempt as part:
+                    part.add("orders.count", load())
+            total = night.sum("orders")
+
+A transaction commits at the end of its `with` block, and is undone where an exception leaves the block. Any thread may use
+any transaction. `connect` gives the same calls over a server (`python3 -m bogrunsi serve`), which several processes share.
+
+It needs Python 3.11 and nothing else.
+"""
+
+from __future__ import annotations
+
+from collections.abc import Sequence
+
+from .errors import Closed, Error, Failed, Forked, Full, NotTaken, Overflow, Refused, Stuck, TimedOut, Undone
+from .jobs import Jobs
+from .opening import ReportTo
+from .transactions import Manager, Transaction
+from .tries import Attempt, Pauses
+
+__version__ = "0.2.0"
+
+__all__ = [
+    "Attempt",
+    "Closed",
+    "Error",
+    "Failed",
+    "Forked",
+    "Full",
+    "Jobs",
+    "Manager",
+    "NotTaken",
+    "Overflow",
+    "Pauses",
+    "Refused",
+    "Stuck",
+    "TimedOut",
+    "Transaction",
+    "Undone",
+    "__version__",
+    "open",
+]
+
+
+def open(
+    path: str | None = None,
+    *,
+    program: str | Sequence[str] = "tx",
+    timeout: float | None = None,
+    report: ReportTo | None = None,
+    wait: float = 2.0,
+) -> Jobs:
+    """Starts the program over the database at the path, or over an empty table in memory.
+
+    `program` is the program's path, or the words of a command that leads to it. A call waits `timeout` seconds for another
+    transaction's lock, or with none as long as it takes; then its own transaction is undone, and it raises `TimedOut`.
+
+    `report` is where the report is written as it grows: a path for that of the first run, and those of later runs have `.2`, `.3`
+    and so on behind it; or a function that is given the number of a run and returns a path. A database that another program holds
+    is waited for `wait` seconds.
+    """
+    words = [program] if isinstance(program, str) else list(program)
+    return Jobs(words, path, timeout, report, wait)
