@@ -24,6 +24,7 @@ from collections.abc import Sequence
 from .errors import Closed, Error, Failed, Forked, Full, NotTaken, Overflow, Refused, Stuck, TimedOut, Undone
 from .jobs import Jobs
 from .opening import ReportTo
+from .remote import Connected
 from .transactions import Manager, Transaction
 from .tries import Attempt, Pauses
 
@@ -32,6 +33,7 @@ __version__ = "0.2.0"
 __all__ = [
     "Attempt",
     "Closed",
+    "Connected",
     "Error",
     "Failed",
     "Forked",
@@ -47,6 +49,7 @@ __all__ = [
     "Transaction",
     "Undone",
     "__version__",
+    "connect",
     "open",
 ]
 
@@ -70,3 +73,12 @@ def open(
     """
     words = [program] if isinstance(program, str) else list(program)
     return Jobs(words, path, timeout, report, wait)
+
+
+def connect(path: str, *, timeout: float | None = None) -> Connected:
+    """Connects to the server at a socket, which gives the same calls as `open`.
+
+    What this client has begun is undone when the connection ends, however it does. A call waits `timeout` seconds for a lock, or as long
+    as the server says.
+    """
+    return Connected(path, timeout)

@@ -87,6 +87,13 @@ class Jobs(Manager):
     def keys(self, group: str) -> list[str]:
         return keys_of(self.table, group)
 
+    def transaction(self, name: str) -> Transaction:
+        with self._lock:
+            node = self._ready(None).tree.live.get(name)
+        if node is None:
+            raise Refused("unknown")
+        return Transaction(self, node, self.timeout, None, own=False)
+
     def __repr__(self) -> str:
         run = self._run
         state = "serves" if run.fault is None else str(run.fault())
@@ -207,6 +214,7 @@ class Jobs(Manager):
     # ---- accesses
 
     def _accesses(self, node: Node) -> Access:
+        assert node.run is not None
         return node.run.access
 
     def _go_on(self, call: Call, timeout: float | None) -> int | None:
@@ -284,7 +292,7 @@ class Jobs(Manager):
         """What a call returns that was not answered at once. Behind its time-out its transaction is undone."""
         if call.gate is None:
             return self._result(call)
-        assert call.node is not None
+        assert call.node is not None and call.node.run is not None
         run = call.node.run
         until = None if timeout is None else time.monotonic() + timeout
         late = False

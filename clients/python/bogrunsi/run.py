@@ -75,8 +75,8 @@ class Run(Intake):
             self._chunks.extend(map(_READ, self._output, _SIZE))
             chunk = self._chunks[-1]
             reply = chunk.removeprefix(head)
-            if not reply:
-                # A set or a delete was done.
+            if not reply and chunk:
+                # A set or a delete was done. Without any bytes the program has ended.
                 node.writes[key] = value
                 value = None
             elif reply is not chunk and reply[-1] == _LINE_FEED and reply[:-1].removeprefix(b"-").isdigit():

@@ -68,6 +68,16 @@ class Manager(ABC):
     def keys(self, group: str) -> list[str]:
         """The keys of a group that have a value in `table`."""
 
+    @property
+    @abstractmethod
+    def remaining(self) -> dict[str, int]:
+        """How many calls, transactions and new keys the present run has left."""
+
+    @abstractmethod
+    def transaction(self, name: str) -> Transaction:
+        """A live transaction that was begun elsewhere, by its whole name: in another thread, or by another client of the server.
+        Who has begun it keeps it: it is not undone where this is dropped."""
+
     @abstractmethod
     def close(self) -> None:
         """Ends it. What is still live is undone."""

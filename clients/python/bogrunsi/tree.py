@@ -25,10 +25,10 @@ class Node:
 
     __slots__ = ("name", "parent", "run", "state", "used", "who", "writes")
 
-    def __init__(self, name: str, parent: Node | None, run: Run, who: object) -> None:
+    def __init__(self, name: str, parent: Node | None, run: Run | None, who: object) -> None:
         self.name = name
         self.parent = parent
-        #: The run that it is of.
+        #: The run that it is of. With a server there is none to be seen.
         self.run = run
         self.state = ASKED
         #: Whether it, or a part that committed into it, has asked for a key: it may hold locks.

@@ -84,7 +84,7 @@ class OverDatabase(unittest.TestCase):
     """A test that has a database of its own."""
 
     def setUp(self) -> None:
-        folder = tempfile.TemporaryDirectory()
+        folder = tempfile.TemporaryDirectory(ignore_cleanup_errors=True)
         self.addCleanup(folder.cleanup)
         self.folder = folder.name
         self.path = str(Path(folder.name, "jobs.db"))

@@ -232,6 +232,15 @@ class Runs(unittest.TestCase):
         self.assertEqual(len(raised), 1)
         self.assertRaises(bogrunsi.Failed, jobs.close)
 
+    def test_a_program_that_dies_at_a_request(self) -> None:
+        for verb in ("get", "set", "del", "add"):
+            text = f"{verb} a x 1" if verb in ("set", "add") else f"{verb} a x"
+            jobs = stand_in({text: ["exit"]})
+            job = jobs.begin("a")
+            calls = {"get": lambda: job.get("x"), "set": lambda: job.set("x", 1), "del": lambda: job.delete("x"), "add": lambda: job.add("x", 1)}
+            self.assertRaises(bogrunsi.Failed, calls[verb])
+            self.assertRaises(bogrunsi.Failed, jobs.close)
+
     def test_a_report_that_could_not_be_written_whole(self) -> None:
         jobs = stand_in({}, closing=("table", "tx: cannot write"), status=1)
         self.assertRaisesRegex(bogrunsi.Failed, "cannot write", jobs.close)
