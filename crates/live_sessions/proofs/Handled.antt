@@ -77,20 +77,25 @@ module _ {S : Type 0} (g : Ghosts S) where
 -- ---- from the sessions before they grew
 
 module _ {S : Type 0} (g : Ghosts S) (ss : List Session) (p : Going S) (l : List ℕ) (e : Event) where
-  pub breaks_here : IsUnderWay p.core.rows ss p.core.history → IsSound g p.core → BreaksAt g (turning ss p) l e
-  breaks_here way sound = record { last = turning ss p; sessions = inl refl; on = on_same g p.core; stands = record { way = way; sound = sound } }
+  pub breaks_here : (q : Going S) (left : S) → IsUnderWay p.core.rows ss p.core.history → IsSound g p.core → q.core ≡ p.core → left ≡ q.core.store → BreaksAt g (turning ss p) l e left
+  breaks_here q left way sound same store = record {
+    last = turning ss p;
+    sessions = inl refl;
+    on = on_same g p.core;
+    go = record { stands = record { way = way; sound = sound }; store = store ∙ ap (λ (m : State S). m.store) same };
+  }
 
   module _ (more : List Session) (grown : Going S) (old new : Turning S) (more_is : more ≡ with_request ss l e) (same : grown.core ≡ p.core)
       (begun : old ≡ turning more grown) where
     begun_so : old ≡ record { sessions = more; core = p.core }
     begun_so = begun ∙ ap (λ (m : State S). record { sessions = more; core = m }) same
 
-    pub breaks_behind : Goes g old new → Stands g new → BreaksAt g (turning ss p) l e
-    breaks_behind goes stands = record {
+    pub breaks_behind : (q : Going S) (left : S) → Goes g old new → Stands g new → q.core ≡ new.core → left ≡ q.core.store → BreaksAt g (turning ss p) l e left
+    breaks_behind q left goes stands core store = record {
       last = new;
       sessions = inr (goes.sessions ∙ ap (λ (t : Turning S). t.sessions) begun ∙ more_is);
       on = subst (λ (t : Turning S). GoesOn g t.core new.core) begun_so goes.on;
-      stands = stands;
+      go = record { stands = stands; store = store ∙ ap (λ (m : State S). m.store) core };
     }
 
     pub grows_of : (s : ℕ) (q : Going S) → s ≡ number_of l ss → Attempted g s old new → q.core ≡ new.core → Grows g (turning ss p) l e (turning more q)

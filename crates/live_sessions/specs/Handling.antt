@@ -9,7 +9,7 @@ use Rattle.growing_sessions.specs.Growing.{IsOpenEnded, labels_in}
 use Rattle.durable_top.specs.declared.store.TopStore.{Ghosts}
 use Rattle.interleavings.specs.Attempts.{GoesOn}
 use Rattle.interleavings.specs.Progressing.{Going, AreUnderWay}
-use Rattle.interleavings.specs.Scheduled.{Goes, Stands, StepsOfAll}
+use Rattle.interleavings.specs.Scheduled.{Goes, LetsGo, StepsOfAll}
 use Rattle.interleavings.specs.Turning.{Turning, NoneGoesOn}
 use Rattle.live_sessions.specs.Requested.{number_of, request_fault, with_request}
 
@@ -55,18 +55,19 @@ Handled g old bs new (Some kind) = (request_fault old.sessions old.core.history 
     × (new ≡ old)
 
 -- Memory ran out where the session with this label had got the line, or not yet; what was attempted
--- until then stands
-pub record BreaksAt {S : Type 0} (g : Ghosts S) (old : Turning S) (l : List ℕ)
-    (e : Event) : Type 0 where
+-- until then stands, and the store comes back as that left it
+pub record BreaksAt {S : Type 0} (g : Ghosts S) (old : Turning S) (l : List ℕ) (e : Event)
+    (left : S) : Type 0 where
   pub last : Turning S
   pub sessions : (last.sessions ≡ old.sessions) ⊎ (last.sessions ≡ with_request old.sessions l e)
   pub on : GoesOn g old.core last.core
-  pub stands : Stands g last
+  pub go : LetsGo g last left
 
 -- it ran out at a request that was to be taken
-pub record Breaks {S : Type 0} (g : Ghosts S) (old : Turning S) (bs : List ℕ) : Type 0 where
+pub record Breaks {S : Type 0} (g : Ghosts S) (old : Turning S) (bs : List ℕ)
+    (left : S) : Type 0 where
   pub label : List ℕ
   pub event : Event
   pub read : request_of bs ≡ Ok (label, event)
   pub welcome : request_fault old.sessions old.core.history bs ≡ None
-  pub breaks : BreaksAt g old label event
+  pub breaks : BreaksAt g old label event left

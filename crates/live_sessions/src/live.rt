@@ -4,7 +4,7 @@ ghost use Rattle.session_text.specs.Growing.{place_of};
 ghost use Rattle.growing_sessions.specs.Growing.{labels_in};
 ghost use Rattle.durable_top.specs.Store.{plain};
 ghost use Rattle.manager_core.specs.Opening.{HasCause};
-ghost use Rattle.interleavings.specs.Scheduled.{BreaksOff, Goes, RunsOut, Stands};
+ghost use Rattle.interleavings.specs.Scheduled.{BreaksOff, Goes, LetsGo, RunsOut, Stands};
 ghost use Rattle.interleavings.specs.Turning.{IsStart};
 ghost use Rattle.live_sessions.specs.Requested.{fault_at};
 ghost use Rattle.live_sessions.specs.Handling.{Attempted, BreaksAt, Breaks, Grows, Handled};
@@ -15,7 +15,7 @@ use interleavings::{Progress, Report, Turns, run_opened, settle};
 use manager_core::OpenFault;
 use serial_spec::{Entry, NoMemory};
 use session_text::{Line, LineKind, Sessions, parse_request};
-use std::alloc::{AllocError, Global};
+use std::alloc::Global;
 use std::marker::Model;
 use txn_names::Label;
 
@@ -98,11 +98,11 @@ impl<S: TopStore> Live<S> {
     }
 
     // Adds the line to its session and attempts it.
-    fn take(self, label: Label, line: Line) -> Result<Live<S>, NoMemory>
+    fn take(self, label: Label, line: Line) -> Result<Live<S>, S>
         requires welcome { fault_at self.sessions self.core.history (place_of label self.sessions) ≡
             None }
         ensures ok { IfOk result (λ live. Grows S.TopStore self label line live) }
-        ensures err { OnErr result (BreaksAt S.TopStore self label line) }
+        ensures err { IfErr result (BreaksAt S.TopStore self label line) }
     {
         let Live {
             alloc,
@@ -120,10 +120,7 @@ impl<S: TopStore> Live<S> {
             line,
         ) {
             Ok(session) => session,
-            Err(fault) => {
-                progress.give_up();
-                return Err(fault);
-            }
+            Err(_) => return Err(progress.give_up()),
         };
         let mut turns = Turns::from_progress(progress, &sessions);
         let attempted = attempt_all(&mut turns, session);
@@ -136,10 +133,7 @@ impl<S: TopStore> Live<S> {
                 labels,
                 progress,
             }),
-            Err(fault) => {
-                progress.give_up();
-                Err(fault)
-            }
+            Err(_) => Err(progress.give_up()),
         }
     }
 
@@ -149,10 +143,10 @@ impl<S: TopStore> Live<S> {
     /// none of them goes on. What was not taken changes nothing, and is told by a kind: what
     /// `parse_request` tells; `Turn`, where the session has a line that is not answered; `Limit`,
     /// where it has 1,024 lines or there are 64 sessions and a new one is named. The only error is
-    /// that memory runs out, and the store is dropped then.
-    pub fn request(self, bytes: &[u8]) -> Result<(Live<S>, Option<LineKind>), NoMemory>
+    /// that memory runs out, and the store comes back then, as it was left.
+    pub fn request(self, bytes: &[u8]) -> Result<(Live<S>, Option<LineKind>), S>
         ensures ok { IfOk result (λ r. Handled S.TopStore self bytes.now r.0 r.1) }
-        ensures err { OnErr result (Breaks S.TopStore self bytes.now) }
+        ensures err { IfErr result (Breaks S.TopStore self bytes.now) }
     {
         let (label, line) = match parse_request(bytes) {
             Ok(request) => request,
@@ -163,16 +157,16 @@ impl<S: TopStore> Live<S> {
         }
         match self.take(label, line) {
             Ok(live) => Ok((live, None)),
-            Err(fault) => Err(fault),
+            Err(left) => Err(left),
         }
     }
 
     /// Runs the sessions to their end, which take no line any more: rounds with the stuck rule
     /// until no line is left, and the close. It gives the report and the store. The only error is
-    /// that memory runs out, and the store is dropped then.
-    pub fn finish(self) -> Result<(Report, S), NoMemory>
+    /// that memory runs out, and the store comes back then, as it was left.
+    pub fn finish(self) -> Result<(Report, S), S>
         ensures ok { IfOk result (λ run. RunsOut S.TopStore [] self run.0 run.1) }
-        ensures err { OnErr result (BreaksOff S.TopStore self) }
+        ensures err { IfErr result (BreaksOff S.TopStore self) }
     {
         let Live {
             alloc: _alloc,
@@ -180,17 +174,13 @@ impl<S: TopStore> Live<S> {
             labels: _labels,
             progress,
         } = self;
-        let turns = Turns::from_progress(progress, &sessions);
-        match run_opened(turns, &[]) {
-            Ok(run) => Ok(run),
-            Err(_) => Err(AllocError),
-        }
+        run_opened(Turns::from_progress(progress, &sessions), &[])
     }
 
-    /// Lets the sessions go, and the store, without a report. What was committed stands in the
-    /// store.
-    pub fn give_up(self)
-        ensures { Stands S.TopStore self }
+    /// Lets the sessions go without a report, and gives the store back, which is asked nothing.
+    /// What was committed stands in it.
+    pub fn give_up(self) -> S
+        ensures { LetsGo S.TopStore self result }
     {
         let Live {
             alloc: _alloc,
@@ -199,6 +189,6 @@ impl<S: TopStore> Live<S> {
             progress,
         } = self;
         progress.has_sound_manager();
-        progress.give_up();
+        progress.give_up()
     }
 }

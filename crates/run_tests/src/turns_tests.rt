@@ -79,7 +79,10 @@ fn turns_taken_apart(rt: HostRuntime) {
     let turns = Turns::from_progress(progress, &sessions);
     match run_opened(turns, &[]) {
         Ok(run) => drop(report_alone(run)),
-        Err(_) => rt.panic("memory"),
+        Err(left) => {
+            drop(left);
+            rt.panic("memory")
+        }
     }
     drop(sessions);
 }

@@ -6,7 +6,8 @@ pub returns-in-Err-clause-err : goal.returns-in-Err-clause-err
 returns-in-Err-clause-err g c =
     let p = c.self.inside.progress in
     rw (← c.self.view_is)
-    (breaks_here g.S.TopStore c.self.inside.sessions p c.args.label c.args.line c.self.invariant.way.way c.has_sound_manager.ensures)
+    (breaks_here g.S.TopStore c.self.inside.sessions p c.args.label c.args.line c.grow.new.progress c.give_up.result c.self.invariant.way.way c.has_sound_manager.ensures
+    c.in-Err.ensures.core c.give_up.ensures)
 
 pub invariant_of-result : goal.invariant_of-result
 invariant_of-result g c =
@@ -28,4 +29,4 @@ returns-in-Err-attempted-clause-err g c =
     rw (← c.self.view_is)
     (breaks_behind g.S.TopStore c.self.inside.sessions c.self.inside.progress c.args.label c.args.line c.grow.new.sessions c.grow.new.progress
     c.from_progress-turns.result c.attempt_all-attempted.new.turns c.in-Ok.ensures.sessions c.in-Ok.ensures.core c.from_progress-turns.ensures
-    c.in-Err-attempted.ensures.err c.has_legal_history.ensures)
+    c.into_progress-progress.result c.give_up-in-Err-attempted.result c.in-Err-attempted.ensures.err c.has_legal_history.ensures c.into_progress-progress.ensures.core c.give_up-in-Err-attempted.ensures)
