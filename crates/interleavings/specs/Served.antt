@@ -9,7 +9,7 @@ use Rattle.manager_core.specs.Opening.{HasCause, HasGivenFew}
 use Rattle.manager_core.specs.StoredNumbers.{IsNumberedAfter}
 use Rattle.interleavings.specs.Told.{Told}
 use Rattle.interleavings.specs.Turning.{Turning, IsClosed}
-use Rattle.interleavings.specs.Scheduled.{Goes}
+use Rattle.interleavings.specs.Scheduled.{BreaksOff, Goes}
 use Rattle.interleavings.specs.Runs.{IsBrokenOff, WasAsked}
 use Rattle.interleavings.specs.declared.served.ServeFault.{ServeFault}
 use Rattle.interleavings.specs.declared.served.ServeFault.TheVariants.{NoMemory, Open, Thread}
@@ -38,6 +38,13 @@ pub record IsServedFrom {S : Type 0} (g : Ghosts S) (first : Turning S) (r : Tol
   pub last : Turning S
   pub goes : Goes g first last
   pub closed : IsClosed g last r left
+
+-- These sessions went on until the fault, and the store comes back as they left it. Where a worker
+-- was missing no line was attempted: the store is as it was left by the opening
+pub record IsUnservedFrom {S : Type 0} (g : Ghosts S) (first : Turning S) (fault : ServeFault)
+    (left : S) : Type 0 where
+  pub off : BreaksOff g first left
+  pub untried : fault ≡ Thread → left ≡ first.core.store
 
 -- Why there is no report. Memory runs out only behind the opening, and so does the start of a
 -- worker fail

@@ -1,5 +1,6 @@
 -- What each holder of the lock keeps of the opening.
-use Rattle.std.proofs.Common.{◌≡◌, ℕ, Option, Some, None, Result, Ok, Err, IfOk, OnErr, sym, subst}
+use Rattle.std.proofs.Common.{◌≡◌, ℕ, true, false, Option, Some, None, Result, Ok, Err, IfOk, OnErr, refl, sym, subst}
+use Rattle.std.proofs.lemmas.Bool.{true≢false}
 use Rattle.serial_spec.specs.declared.event.Event.{Event}
 use Rattle.durable_top.specs.declared.store.TopStore.{Ghosts}
 use Rattle.interleavings.specs.declared.turns.Turn.{Turn}
@@ -8,7 +9,7 @@ use Rattle.interleavings.specs.Turning.{Turning, Unstuck}
 use Rattle.interleavings.specs.Scheduled.{Goes}
 use Rattle.interleavings.proofs.Schedules.{goes_same, goes_still}
 use Rattle.shared_book.specs.Attempting.{Attempted}
-use Rattle.worker_pool.specs.Openings.{HasGoneOn}
+use Rattle.worker_pool.specs.Openings.{HasGoneOn, IsAsOpened, IsKept}
 
 module _ {S : Type 0} (g : Ghosts S) where
   goes_on : (opened : Option (Turning S)) (old new : Turning S) → HasGoneOn g opened old → Goes g old new → HasGoneOn g opened new
@@ -34,6 +35,14 @@ module _ {S : Type 0} (g : Ghosts S) where
   if_unstuck opened old new (Ok line) so_far did same = goes_on opened old new so_far (record { sessions = did.sessions; on = did.on })
   if_unstuck opened old new (Err fault) so_far did same = same_keeps opened old new so_far same
 
+  -- a line was tried
+  pub behind_try : (opened : Option (Turning S)) (t : Turning S) → HasGoneOn g opened t → IsKept g opened t true
+  behind_try opened t so_far = record { gone_on = so_far; untried = λ e. absurd (true≢false e) }
+
   -- the book as it was opened
-  pub as_opened : (t : Turning S) → HasGoneOn g (Some t) t
-  as_opened t = goes_same g t
+  pub kept_first : (opened : Option (Turning S)) (t : Turning S) → IsAsOpened opened t → IsKept g opened t false
+  kept_first None t is = record { gone_on = tt; untried = λ e. tt }
+  kept_first (Some first) t is = record { gone_on = subst (λ (u : Turning S). Goes g first u) (sym is) (goes_same g first); untried = λ e. is }
+
+pub as_opened : {S : Type 0} (t : Turning S) → IsAsOpened (Some t) t
+as_opened t = refl

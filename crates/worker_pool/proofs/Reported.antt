@@ -9,15 +9,18 @@ use Rattle.manager_core.specs.declared.manager.AtOpening.{AtOpening}
 use Rattle.manager_core.specs.Sound.{store_refusals}
 use Rattle.interleavings.specs.Told.{Told}
 use Rattle.interleavings.specs.Turning.{Turning, IsClosed, IsStart}
-use Rattle.interleavings.specs.Scheduled.{BreaksOff, Goes, Stands}
+use Rattle.interleavings.specs.Scheduled.{Goes, LetsGo}
 use Rattle.interleavings.proofs.Closed.{broken_off, numbered_from, was_asked}
 use Rattle.interleavings.proofs.Opened.{given_few}
 use Rattle.manager_core.specs.declared.outcome.OpenFault.{OpenFault}
 use Rattle.interleavings.specs.declared.served.ServeFault.{ServeFault}
 use Rattle.interleavings.specs.declared.served.ServeFault.TheVariants.{NoMemory, Open, Thread}
-use Rattle.worker_pool.specs.Openings.{HasGoneOn}
-use Rattle.interleavings.specs.Served.{HasServeCause, IsServed, IsServedFrom}
+use Rattle.interleavings.specs.Served.{HasServeCause, IsServed, IsServedFrom, IsUnservedFrom}
+use Rattle.worker_pool.specs.Openings.{HasGoneOn, IsKept}
 use Rattle.worker_pool.specs.Working.{IsAfterOpening, IsOfWork}
+
+no_thread : {P : Type 0} → NoMemory ≡ Thread → P
+no_thread h = cc
 
 module _ {S : Type 0} (g : Ghosts S) where
   -- ---- from the lock's value
@@ -32,18 +35,22 @@ module _ {S : Type 0} (g : Ghosts S) where
   closed_from opened t (Ok run) so_far closed = closed_one opened t run.0 run.1 so_far closed
   closed_from opened t (Err fault) so_far closed = tt
 
-  pub breaks_off : (opened : Option (Turning S)) (t : Turning S) → HasGoneOn g opened t → Stands g t → IfSome opened (BreaksOff g)
-  breaks_off None t so_far stands = tt
-  breaks_off (Some first) t so_far stands = record { last = t; goes = so_far; stands = stands }
+  pub unserved : (opened : Option (Turning S)) (t : Turning S) (tried : Bool) (fault : ServeFault) (left : S) → IsKept g opened t tried → LetsGo g t left
+      → (fault ≡ Thread → tried ≡ false) → IfSome opened (λ first. IsUnservedFrom g first fault left)
+  unserved None t tried fault left kept go thread = tt
+  unserved (Some first) t tried fault left kept go thread = record {
+    off = record { last = t; goes = kept.gone_on; go = go };
+    untried = λ is. go.store ∙ ap (λ (u : Turning S). u.core.store) (kept.untried (thread is));
+  }
 
-  pub unclosed_from : {E : Type 0} (opened : Option (Turning S)) (t : Turning S) (result : Result (Told × S) E) → HasGoneOn g opened t → OnErr result (Stands g t)
-      → OnErr result (IfSome opened (BreaksOff g))
-  unclosed_from opened t (Ok run) so_far stands = tt
-  unclosed_from opened t (Err fault) so_far stands = breaks_off opened t so_far stands
+  pub unserved_close : (opened : Option (Turning S)) (t : Turning S) (tried : Bool) (result : Result (Told × S) (ServeFault × S)) → IsKept g opened t tried
+      → IfErr result (λ u. u.0 ≡ NoMemory) → IfErr result (λ u. LetsGo g t u.1) → IfErr result (λ u. IfSome opened (λ first. IsUnservedFrom g first u.0 u.1))
+  unserved_close opened t tried (Ok run) kept is go = tt
+  unserved_close opened t tried (Err u) kept is go = unserved opened t tried u.0 u.1 kept go (λ thread. no_thread (sym is ∙ thread))
 
   -- ---- from the opening
 
-  is_served : (ss : List Session) (store : S) (first : Turning S) (r : Told) (left : S) → IsStart g ss store first → IsServedFrom g first r left → IsServed g ss store r left
+  pub is_served : (ss : List Session) (store : S) (first : Turning S) (r : Told) (left : S) → IsStart g ss store first → IsServedFrom g first r left → IsServed g ss store r left
   is_served ss store first r left start from = record {
     asked = was_asked g ss store first last r left start goes closed;
     opening = λ none. ap value_in rows ∙ start.opened.rows (undoubted none);
@@ -76,21 +83,15 @@ module _ {S : Type 0} (g : Ghosts S) where
           let last_none : g.doubt last.core.store ≡ 0 = sym (ap g.doubt closed.store) ∙ none in
           omega (arith, goes.on.later.doubt, last_none)
 
-  pub if_served : (ss : List Session) (store : S) (first : Turning S) (result : Result (Told × S) ServeFault) → IsStart g ss store first
-      → IfOk result (λ run. IsServedFrom g first run.0 run.1) → IfOk result (λ run. IsServed g ss store run.0 run.1)
-  if_served ss store first (Ok run) start from = is_served ss store first run.0 run.1 start from
-  if_served ss store first (Err fault) start from = tt
-
-  has_cause : (ss : List Session) (store : S) (first : Turning S) (workers : ℕ) (fault : ServeFault) → IsStart g ss store first → BreaksOff g first → IsAfterOpening workers fault
-      → HasServeCause g ss store fault
-  has_cause ss store first workers NoMemory start off after = broken_off g ss store first start off
-  has_cause ss store first workers (Open fault) start off after = absurd after
-  has_cause ss store first workers Thread start off after = given_few g store first.core start.opened
-
-  pub if_cause : (ss : List Session) (store : S) (first : Turning S) (workers : ℕ) (result : Result (Told × S) ServeFault) → IsStart g ss store first → OnErr result (BreaksOff g first)
-      → IfErr result (IsAfterOpening workers) → IfErr result (HasServeCause g ss store)
-  if_cause ss store first workers (Ok run) start off after = tt
-  if_cause ss store first workers (Err fault) start off after = has_cause ss store first workers fault start off after
+  -- why there is none
+  pub has_cause : (ss : List Session) (store : S) (first : Turning S) (workers : ℕ) (fault told : ServeFault) (left : S) → IsStart g ss store first → IsUnservedFrom g first fault left
+      → IsAfterOpening workers fault → told ≡ fault → HasServeCause g ss store told
+  has_cause ss store first workers fault told left start un after is = subst (HasServeCause g ss store) (sym is) (by fault un after)
+    where
+      by : (fault : ServeFault) → IsUnservedFrom g first fault left → IsAfterOpening workers fault → HasServeCause g ss store fault
+      by NoMemory un after = broken_off g ss store first left start un.off
+      by (Open fault) un after = absurd after
+      by Thread un after = given_few g store first.core start.opened
 
 -- ---- the fault of the work
 
@@ -99,18 +100,18 @@ of_work : (workers : ℕ) (worked : Result (Unit {0}) ServeFault) (fault : Serve
 of_work workers worked fault after (inl is) = subst (λ w. IfErr w (IsAfterOpening workers)) is after
 of_work workers worked fault after (inr is) = subst (IsAfterOpening workers) (sym is) tt
 
-pub if_of_work : {T : Type 0} (workers : ℕ) (worked : Result (Unit {0}) ServeFault) (result : Result T ServeFault) → IfErr worked (IsAfterOpening workers)
-    → IfErr result (IsOfWork worked) → IfErr result (IsAfterOpening workers)
+pub if_of_work : {T S : Type 0} (workers : ℕ) (worked : Result (Unit {0}) ServeFault) (result : Result T (ServeFault × S)) → IfErr worked (IsAfterOpening workers)
+    → IfErr result (λ u. IsOfWork worked u.0) → IfErr result (λ u. IsAfterOpening workers u.0)
 if_of_work workers worked (Ok x) after is = tt
-if_of_work workers worked (Err fault) after is = of_work workers worked fault after is
+if_of_work workers worked (Err u) after is = of_work workers worked u.0 after is
 
-pub if_thread : {T : Type 0} (workers : ℕ) (result : Result T ServeFault) → IfErr result (IsAfterOpening workers) → IsErrOf result Thread → 0 < workers
-if_thread workers result after is = subst (λ r. IfErr r (IsAfterOpening workers)) is after
+pub thread_behind : {T : Type 0} (workers : ℕ) (fault told : ServeFault) → IsAfterOpening workers fault → told ≡ fault → IsErrOf {T = T} (Err told) Thread → 0 < workers
+thread_behind workers fault told after same is = subst (λ r. IfErr r (IsAfterOpening workers)) is (subst (IsAfterOpening workers) (sym same) after)
 
 -- memory that ran out behind the work
-pub if_behind : {T : Type 0} (worked : Result (Unit {0}) ServeFault) (result : Result T ServeFault) → IfErr result (λ fault. fault ≡ NoMemory) → IfErr result (IsOfWork worked)
+pub if_behind : {T S : Type 0} (worked : Result (Unit {0}) ServeFault) (result : Result T (ServeFault × S)) → IfErr result (λ u. u.0 ≡ NoMemory) → IfErr result (λ u. IsOfWork worked u.0)
 if_behind worked (Ok x) is = tt
-if_behind worked (Err fault) is = inr is
+if_behind worked (Err u) is = inr is
 
 -- an opening that failed is no thread that did
 abbrev is_thread : {T : Type 0} → Result T ServeFault → Bool
@@ -121,3 +122,6 @@ is_thread (Err Thread) = true
 
 pub open_is_no_thread : {T : Type 0} (workers : ℕ) (fault : OpenFault) → IsErrOf {T = T} (Err (Open fault)) Thread → 0 < workers
 open_is_no_thread {T} workers fault is = absurd (false≢true (ap (is_thread {T = T}) is))
+
+pub run_is_no_thread : {T : Type 0} (workers : ℕ) (x : T) → IsErrOf {T = T} (Ok x) Thread → 0 < workers
+run_is_no_thread {T} workers x is = absurd (false≢true (ap (is_thread {T = T}) is))

@@ -1,12 +1,12 @@
 //! What lies under the lock of a run.
-ghost use Rattle.std.specs.Prelude.{◌≡◌, ◌↔◌, IfErr, IfOk, IfSome, IsTrue, OnErr};
+ghost use Rattle.std.specs.Prelude.{◌≡◌, ◌↔◌, IfErr, IfOk, IfSome, IsFalse, IsTrue, Some};
 ghost use Rattle.serial_spec.specs.Interleaving.{AllAnswered};
-ghost use Rattle.interleavings.specs.Scheduled.{BreaksOff, Stands};
-ghost use Rattle.interleavings.specs.Served.{IsServedFrom};
+ghost use Rattle.interleavings.specs.Scheduled.{LetsGo};
+ghost use Rattle.interleavings.specs.Served.{IsServedFrom, IsUnservedFrom};
 ghost use Rattle.interleavings.specs.Turning.{IsClosed, Unstuck, next_number};
 ghost use Rattle.shared_book.specs.Attempting.{Attempted};
 ghost use Rattle.worker_pool.specs.Jobs.{IsNextJob};
-ghost use Rattle.worker_pool.specs.Openings.{HasGoneOn};
+ghost use Rattle.worker_pool.specs.Openings.{IsAsOpened};
 ghost use Rattle.worker_pool.specs.Trying.{LooksForStuck, Tries};
 ghost use Rattle.worker_pool.specs.Working.{IsOfWork};
 
@@ -56,6 +56,8 @@ pub(crate) struct Desk<'a, S: TopStore, J: Opening<S>> {
     parked: u32,
     // How many sessions had a line left when stuck lines were last looked for.
     open: u32,
+    // Whether a line was tried.
+    is_tried: bool,
     // Whether memory ran out while someone had the lock.
     refused: bool,
     of: PhantomData<J>,
@@ -63,18 +65,18 @@ pub(crate) struct Desk<'a, S: TopStore, J: Opening<S>> {
 
 impl<'a, S: TopStore, J: Opening<S>> Model for Desk<'a, S, J> {
     ghost use Rattle.interleavings.specs.Turning.{Turning};
-    ghost use Rattle.worker_pool.specs.Openings.{HasGoneOn};
+    ghost use Rattle.worker_pool.specs.Openings.{IsKept};
 
     ghost Value = { Turning S };
 
     ghost view = { λ d. d.book };
 
-    ghost invariant = { λ d. HasGoneOn S.TopStore J.first d.book };
+    ghost invariant = { λ d. IsKept S.TopStore J.first d.book d.is_tried };
 }
 
 impl<'a, S: TopStore, J: Opening<S>> Desk<'a, S, J> {
     pub(crate) fn new(book: Book<'a, S>, sessions: u32) -> Desk<'a, S, J>
-        requires { HasGoneOn S.TopStore J.first book }
+        requires { IsAsOpened J.first book }
         ensures { result ≡ book.entry }
     {
         Desk {
@@ -82,6 +84,7 @@ impl<'a, S: TopStore, J: Opening<S>> Desk<'a, S, J> {
             sessions,
             parked: 0,
             open: 0,
+            is_tried: false,
             refused: false,
             of: PhantomData,
         }
@@ -91,12 +94,14 @@ impl<'a, S: TopStore, J: Opening<S>> Desk<'a, S, J> {
         ensures { IfOk result (λ turn.
             Attempted S.TopStore self.old self.new session line text.now turn) }
     {
+        self.is_tried = true;
         self.book.attempt(session, line, text)
     }
 
     fn stuck(&mut self) -> Result<Option<(u32, u32)>, NoMemory>
         ensures { IfOk result (λ line. Unstuck S.TopStore self.old self.new line) }
     {
+        self.is_tried = true;
         self.book.stuck()
     }
 
@@ -196,69 +201,63 @@ impl<'a, S: TopStore, J: Opening<S>> Desk<'a, S, J> {
         self.refused || self.finished()
     }
 
-    // Why there will be no report, once the work has ended so.
-    fn fault(&self, worked: Result<(), ServeFault>) -> Option<ServeFault>
-        ensures { IfSome result (IsOfWork worked) }
-    {
-        match worked {
-            Err(fault) => Some(fault),
-            Ok(()) => {
-                if self.refused {
-                    Some(ServeFault::NoMemory)
-                } else {
-                    None
-                }
-            }
-        }
-    }
-
-    // Drops what was under way.
-    #[tactic(auto, using(crate::proofs::Reported::breaks_off))]
-    fn give_up(self, fault: ServeFault) -> ServeFault
-        ensures fault { result ≡ fault }
-        ensures off { IfSome J.first (BreaksOff S.TopStore) }
-    {
-        self.book.has_legal_history();
-        drop(self);
-        fault
-    }
-
-    /// The report and the store, where the work has ended so and nothing went wrong.
-    #[tactic(auto, using(crate::proofs::Reported::unclosed_from, crate::proofs::Reported::if_behind))]
+    /// The report and the store, where the work has ended so and nothing went wrong. Otherwise the
+    /// store comes back beside the fault; where that is a worker that is missing, the store is as
+    /// the opening left it.
+    #[tactic(auto, using(crate::proofs::Reported::if_behind))]
     pub(crate) fn into_report(
         self,
         worked: Result<(), ServeFault>,
-    ) -> Result<(Report, S), ServeFault>
+    ) -> Result<(Report, S), (ServeFault, S)>
         ensures ok { IfOk result (λ run.
             IfSome J.first (λ first. IsServedFrom S.TopStore first run.0 run.1)) }
-        ensures err { IfErr result (IsOfWork worked) }
-        ensures off { OnErr result (IfSome J.first (BreaksOff S.TopStore)) }
+        ensures err { IfErr result (λ u. IsOfWork worked u.0) }
+        ensures off { IfErr result (λ u.
+            IfSome J.first (λ first. IsUnservedFrom S.TopStore first u.0 u.1)) }
     {
-        match self.fault(worked) {
-            Some(fault) => Err(self.give_up(fault)),
-            None => close(self.book),
+        let Desk {
+            book,
+            is_tried,
+            refused,
+            ..
+        } = self;
+        match fault_of(worked, is_tried, refused) {
+            Some(fault) => Err((fault, book.give_up())),
+            None => close(book),
         }
     }
 }
 
-// Drops what was under way.
-fn give_up<S: TopStore>(book: Book<'_, S>) -> ServeFault
-    ensures fault { result ≡ ServeFault.NoMemory }
-    ensures stands { Stands S.TopStore book.entry }
+// Why there will be no report, once the work has ended so. That a worker is missing is a fault only
+// where no line was tried.
+fn fault_of(worked: Result<(), ServeFault>, is_tried: bool, refused: bool) -> Option<ServeFault>
+    ensures work { IfSome result (IsOfWork worked) }
+    ensures thread { result ≡ Some ServeFault.Thread → IsFalse is_tried }
 {
-    book.has_legal_history();
-    drop(book);
-    ServeFault::NoMemory
+    match worked {
+        Err(ServeFault::Thread) => {
+            if !is_tried {
+                return Some(ServeFault::Thread);
+            }
+        }
+        Err(fault) => return Some(fault),
+        Ok(()) => {}
+    }
+    if refused {
+        Some(ServeFault::NoMemory)
+    } else {
+        None
+    }
 }
 
 // The report of sessions all of whose lines are answered.
-fn close<S: TopStore>(book: Book<'_, S>) -> Result<(Report, S), ServeFault>
+fn close<S: TopStore>(book: Book<'_, S>) -> Result<(Report, S), (ServeFault, S)>
     ensures ok { IfOk result (λ run. IsClosed S.TopStore book.entry run.0 run.1) }
-    ensures err { IfErr result (λ fault. fault ≡ ServeFault.NoMemory) }
-    ensures stands { OnErr result (Stands S.TopStore book.entry) }
+    ensures err { IfErr result (λ u. u.0 ≡ ServeFault.NoMemory) }
+    ensures go { IfErr result (λ u. LetsGo S.TopStore book.entry u.1) }
 {
     match book.into_report() {
         Ok(run) => Ok(run),
-        Err(book) => Err(give_up(book)),
+        Err(book) => Err((ServeFault::NoMemory, book.give_up())),
     }
 }
