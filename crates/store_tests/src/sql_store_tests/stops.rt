@@ -4,7 +4,7 @@
 use super::{are, commit};
 use durable_top::TopStore;
 use sql_store::SqlStore;
-use sqlite::{Connection, FileStore, Files, Options};
+use sqlite::{Alter, Connection, FileStore, Files, Options};
 use sqlite_disk::{Crash, Disk, Fuse, Memory};
 use std::alloc::Global;
 use std::process::Abort;
@@ -80,15 +80,27 @@ fn closed<D: Disk + Drop>(connection: Connection<FileStore<D>>) -> Files<D> {
     }
 }
 
+// What a store answers, and its connection. Each call at a store over files costs the prover much,
+// and one at a store over anything little, so that the calls stand here.
+fn served<S: Alter + Drop>(
+    rt: &impl Abort,
+    alloc: Global,
+    mut store: SqlStore<S>,
+    job: &Job,
+) -> (Option<usize>, Connection<S>) {
+    let done = done(rt, alloc, &mut store, job);
+    (done, store.into_connection())
+}
+
 // A store holds much: each more function that hands one on costs the prover half a minute.
 fn asked<D: Disk + Drop>(
     rt: &impl Abort,
     alloc: Global,
-    mut store: SqlStore<FileStore<D>>,
+    store: SqlStore<FileStore<D>>,
     job: &Job,
 ) -> (Option<usize>, Files<D>) {
-    let done = done(rt, alloc, &mut store, job);
-    (done, closed(store.into_connection()))
+    let (done, connection) = served(rt, alloc, store, job);
+    (done, closed(connection))
 }
 
 fn adopted<D: Disk + Drop>(
