@@ -1,5 +1,5 @@
 -- What a request brought about, as it is shown.
-use Rattle.std.proofs.Common.{◌≡◌, ◌≤◌, ℕ, List, length, reverse, Option, Some, None, Result, sym, ap, subst, ◌∙◌, arith}
+use Rattle.std.proofs.Common.{◌≡◌, ◌≤◌, ℕ, List, length, reverse, Option, Some, None, sym, ap, subst, ◌∙◌, arith}
 use Rattle.std.proofs.lemmas.List.{length-reverse}
 use Rattle.txn_bytes.specs.Written.{Writer}
 use Rattle.serial_spec.specs.declared.entry.Entry.{Entry}

@@ -1,5 +1,5 @@
 -- The end of a live run, of which something was shown before.
-use Rattle.std.proofs.Common.{◌≡◌, ℕ, List, [], ◌++◌, length, Option, Result, sym, ap, ◌∙◌}
+use Rattle.std.proofs.Common.{◌≡◌, ℕ, List, [], ◌++◌, length, sym, ap, ◌∙◌}
 use Rattle.txn_bytes.specs.Written.{Writer}
 use Rattle.serial_spec.specs.Report.{spelled_history}
 use Rattle.durable_top.specs.declared.store.TopStore.{Ghosts}
@@ -27,5 +27,5 @@ module _ {S W : Type 0} (g : Ghosts S) (w : Writer W) (old : Turning S) (told : 
   pub finishes : IsShown w out_old out_new rest → Finishes g w old left out_old out_new
   finishes shown = record { told = told; run = run; report = report; more = rest; grown = grown; shown = shown }
 
-  pub unfinished : IsUnshown w out_old out_new rest → IsUnshownEnd g w old out_old out_new
-  unfinished unshown = record { left = left; told = told; run = run; report = report; more = rest; grown = grown; unshown = unshown }
+  pub unfinished : IsUnshown w out_old out_new rest → IsUnshownEnd g w old out_old out_new left
+  unfinished unshown = record { told = told; run = run; report = report; more = rest; grown = grown; unshown = unshown }

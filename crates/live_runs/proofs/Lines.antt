@@ -1,9 +1,9 @@
 -- The lines of a live run, as far as they were heard.
-use Rattle.std.proofs.Common.{◌≡◌, ◌+◌, ℕ, suc, Bool, true, false, inl, inr, List, [], ◌∷◌, length, Option, Some, Result, refl, sym, ap, subst, ◌∙◌, arith}
+use Rattle.std.proofs.Common.{◌≡◌, ◌+◌, ℕ, suc, Bool, true, false, inl, inr, List, [], ◌∷◌, length, Some, refl, sym, ap, subst, ◌∙◌, arith}
 use Rattle.txn_bytes.specs.Written.{Writer}
 use Rattle.session_text.specs.declared.fault.LineKind.TheVariants as kind
 use Rattle.durable_top.specs.declared.store.TopStore.{Ghosts}
-use Rattle.interleavings.specs.Scheduled.{Stands}
+use Rattle.interleavings.specs.Scheduled.{LetsGo}
 use Rattle.interleavings.specs.Turning.{Turning}
 use Rattle.request_lines.specs.Sources.{Requests}
 use Rattle.request_lines.specs.declared.lines.Taken.TheVariants.{Whole, Long}
@@ -40,24 +40,24 @@ module _ {R S W E : Type 0} (r : Requests R) (g : Ghosts S) (w : Writer W) (e : 
     heard = record { taken = Long; takes = taken; bytes = refl; becomes = (refl, live); told = said; shown = out };
   }
 
-  unheard_line : (old : Moment R S W E) (reader : R) (holds : Holds) (out : W) (fault : LiveFault)
+  unheard_line : (old : Moment R S W E) (reader : R) (holds : Holds) (out : W) (left : S) (fault : LiveFault)
       → Takes r old.reader reader old.holds holds Whole
-      → HasAnswerFault g w holds.kept old.live old.out out fault
-      → HasHearingFault r g w e old reader out fault
-  unheard_line old reader holds out (Open cause) taken why = why
-  unheard_line old reader holds out Read taken why = absurd why
-  unheard_line old reader holds out NoMemory taken why =
+      → HasAnswerFault g w holds.kept old.live old.out out left fault
+      → HasHearingFault r g w e old reader out left fault
+  unheard_line old reader holds out left (Open cause) taken why = why
+  unheard_line old reader holds out left Read taken why = absurd why
+  unheard_line old reader holds out left NoMemory taken why =
       record { holds = holds; whole = taken; cause = why }
-  unheard_line old reader holds out Write taken why =
+  unheard_line old reader holds out left Write taken why =
       record { holds = holds; whole = taken; cause = why }
 
-  pub unheard : (old : Moment R S W E) (reader : R) (holds : Holds) (out : W) (fault : LiveFault)
+  pub unheard : (old : Moment R S W E) (reader : R) (holds : Holds) (out : W) (left : S) (fault : LiveFault)
       (bytes : List ℕ) → Takes r old.reader reader old.holds holds Whole → bytes ≡ holds.kept
-      → HasAnswerFault g w bytes old.live old.out out fault
-      → HasHearingFault r g w e old reader out fault
-  unheard old reader holds out fault bytes taken same why =
-      unheard_line old reader holds out fault taken
-      (subst (λ bs. HasAnswerFault g w bs old.live old.out out fault) same why)
+      → HasAnswerFault g w bytes old.live old.out out left fault
+      → HasHearingFault r g w e old reader out left fault
+  unheard old reader holds out left fault bytes taken same why =
+      unheard_line old reader holds out left fault taken
+      (subst (λ bs. HasAnswerFault g w bs old.live old.out out left fault) same why)
 
   -- ---- line after line
 
@@ -99,17 +99,17 @@ module _ {R S W E : Type 0} (r : Requests R) (g : Ghosts S) (w : Writer W) (e : 
     ends = subst (λ n. EndsAt r g w e n now (moment reader holds live out err)) (sym so_far.count) one;
   }
 
-  pub breaks_at : (first now : Moment R S W E) (line : ℕ) (reader : R) (out : W) (err : E) (fault : LiveFault) → HearsSoFar first line now → err ≡ now.err
-      → HasHearingFault r g w e now reader out fault
-      → BreaksHearing r g w e first reader out err fault
-  breaks_at first now line reader out err fault so_far untold cause = record { list = so_far.list; last = now; hears = so_far.hears; untold = untold; cause = inl cause }
+  pub breaks_at : (first now : Moment R S W E) (line : ℕ) (reader : R) (out : W) (err : E) (left : S) (fault : LiveFault) → HearsSoFar first line now → err ≡ now.err
+      → HasHearingFault r g w e now reader out left fault
+      → BreaksHearing r g w e first reader out err left fault
+  breaks_at first now line reader out err left fault so_far untold cause = record { list = so_far.list; last = now; hears = so_far.hears; untold = untold; cause = inl cause }
 
-  pub breaks_off : (first now : Moment R S W E) (line : ℕ) (fault : LiveFault) → HearsSoFar first line now → line ≡ 18446744073709551615 → fault ≡ Read → Stands g now.live
-      → BreaksHearing r g w e first now.reader now.out now.err fault
-  breaks_off first now line fault so_far last read stands = record {
+  pub breaks_off : (first now : Moment R S W E) (line : ℕ) (left : S) (fault : LiveFault) → HearsSoFar first line now → line ≡ 18446744073709551615 → fault ≡ Read → LetsGo g now.live left
+      → BreaksHearing r g w e first now.reader now.out now.err left fault
+  breaks_off first now line left fault so_far last read go = record {
     list = so_far.list;
     last = now;
     hears = so_far.hears;
     untold = refl;
-    cause = inr (record { many = omega (arith, so_far.count, last); told = read; read = refl; unwritten = refl; stands = stands });
+    cause = inr (record { many = omega (arith, so_far.count, last); told = read; read = refl; unwritten = refl; go = go });
   }

@@ -1,5 +1,5 @@
 -- What a whole live run comes to.
-use Rattle.std.proofs.Common.{◌≡◌, ℕ, ◌+◌, inr, List, Option, Result, Ok, Err, IfOk, IfErr, sym, ap, subst, ◌∙◌, arith}
+use Rattle.std.proofs.Common.{◌≡◌, ◌+◌, inr, Some, refl, sym, ap, subst, ◌∙◌, arith}
 use Rattle.std.specs.Io.KnownBytes.{Appends}
 use Rattle.txn_bytes.specs.Written.{Writer}
 use Rattle.txn_bytes.proofs.Appending.{then}
@@ -104,9 +104,8 @@ module _ {R S W E : Type 0} (r : Requests R) (g : Ghosts S) (w : Writer W) (e : 
     (store : S) (in_old in_new : R) (out_old opened between out_new : W) (err_old err_new : E) (first last : Turning S)
     (begins : Begins g w store first out_old opened)
     (heard : HearsAll r g w e (moment in_old holds_nothing first opened err_old) in_new last between err_new) where
-  pub lived : (ran : Result S LiveFault) → IfOk ran (λ left. Finishes g w last left between out_new)
-      → IfOk ran (λ left. IsLived r g w e store in_old in_new out_old out_new err_old err_new left)
-  lived (Ok left) ends = record {
+  pub lived : (left : S) → Finishes g w last left between out_new → IsLived r g w e store in_old in_new out_old out_new err_old err_new left
+  lived left ends = record {
     first = first;
     opened = opened;
     begins = begins;
@@ -116,10 +115,8 @@ module _ {R S W E : Type 0} (r : Requests R) (g : Ghosts S) (w : Writer W) (e : 
     finishes = ends;
     comes = comes_to r g w e store in_old in_new out_old opened between out_new err_old err_new first last left begins heard ends;
   }
-  lived (Err fault) ends = tt
 
-  pub unlived : (ran : Result S LiveFault) → IfErr ran (λ fault. HasEndFault g w last between out_new fault)
-      → IfErr ran (λ fault. HasLiveCause r g w e store in_old in_new out_old out_new err_old err_new fault)
-  unlived (Ok left) cause = tt
-  unlived (Err fault) cause =
-      inr (inr (record { first = first; opened = opened; begins = begins; last = last; between = between; heard = heard; cause = cause }))
+  pub unlived : (fault : LiveFault) (left : S) → HasEndFault g w last between out_new left fault
+      → HasLiveCause r g w e store in_old in_new out_old out_new err_old err_new (Some left) fault
+  unlived fault left cause =
+      inr (inr (record { given = left; is = refl; first = first; opened = opened; begins = begins; last = last; between = between; heard = heard; cause = cause }))

@@ -1,5 +1,5 @@
 -- Bytes that were written, and then passed on or not.
-use Rattle.std.proofs.Common.{ℕ, List, inl, inr, Option, Result, Ok, Err, OnOk, OnErr}
+use Rattle.std.proofs.Common.{ℕ, List, inl, inr, Result, Ok, Err, OnOk, OnErr}
 use Rattle.std.specs.Io.KnownBytes.{Appends, Keeps}
 use Rattle.txn_bytes.specs.Written.{AppendsFront, IsStopped, Writer}
 use Rattle.txn_bytes.specs.declared.sink.WriteFault.{WriteFault}

@@ -8,7 +8,7 @@ use Rattle.session_text.specs.declared.fault.LineKind.TheVariants as kind
 use Rattle.session_text.specs.Requests.{request_of}
 use Rattle.growing_sessions.specs.Growing.{begun_report, labels_in}
 use Rattle.durable_top.specs.declared.store.TopStore.{Ghosts}
-use Rattle.interleavings.specs.Scheduled.{Stands}
+use Rattle.interleavings.specs.Scheduled.{LetsGo}
 use Rattle.interleavings.specs.Turning.{Turning}
 use Rattle.request_lines.specs.declared.lines.Taken.{Taken}
 use Rattle.request_lines.specs.declared.lines.Taken.TheVariants.{Whole, Long, Cut, End}
@@ -111,20 +111,22 @@ pub record Answers {S W E : Type 0} (g : Ghosts S) (w : Writer W) (e : Writer E)
   pub shown : IsShownOf w fault old new out_old out_new
 
 module _ {S W : Type 0} (g : Ghosts S) (w : Writer W) where
-  -- it was taken, and what came of it was not shown
-  pub record IsUnshownAnswer (bytes : List ℕ) (old : Turning S)
-      (out_old out_new : W) : Type 0 where
+  -- it was taken, and what came of it was not shown; the store comes back
+  pub record IsUnshownAnswer (bytes : List ℕ) (old : Turning S) (out_old out_new : W)
+      (left : S) : Type 0 where
     pub new : Turning S
     pub taken : IsTaken g old bytes new
-    pub stands : Stands g new
+    pub go : LetsGo g new left
     pub unshown : IsUnshownSince w old new out_old out_new
 
-  -- why a whole line has no answer
-  abbrev pub HasAnswerFault : List ℕ → Turning S → W → W → LiveFault → Type 0
-  HasAnswerFault bytes old out_old out_new (Open cause) = ⊥
-  HasAnswerFault bytes old out_old out_new Read = ⊥
-  HasAnswerFault bytes old out_old out_new NoMemory = Breaks g old bytes × (out_new ≡ out_old)
-  HasAnswerFault bytes old out_old out_new Write = IsUnshownAnswer bytes old out_old out_new
+  -- why a whole line has no answer, and the store that comes back
+  abbrev pub HasAnswerFault : List ℕ → Turning S → W → W → S → LiveFault → Type 0
+  HasAnswerFault bytes old out_old out_new left (Open cause) = ⊥
+  HasAnswerFault bytes old out_old out_new left Read = ⊥
+  HasAnswerFault bytes old out_old out_new left NoMemory =
+      Breaks g old bytes left × (out_new ≡ out_old)
+  HasAnswerFault bytes old out_old out_new left Write =
+      IsUnshownAnswer bytes old out_old out_new left
 
 -- ---- line after line
 
@@ -183,41 +185,41 @@ module _ {R S W E : Type 0} (r : Requests R) (g : Ghosts S) (w : Writer W) (e : 
   -- ---- why a line was not heard
 
   -- the reader failed in the midst of it
-  pub record IsUnread (old : Moment R S W E) (reader : R) (out : W) : Type 0 where
+  pub record IsUnread (old : Moment R S W E) (reader : R) (out : W) (left : S) : Type 0 where
     pub holds : Holds
     pub stops : Stops r old.reader reader old.holds holds
     pub unwritten : out ≡ old.out
-    pub stands : Stands g old.live
+    pub go : LetsGo g old.live left
 
   -- it was whole, and has no answer
-  pub record IsUnanswered (old : Moment R S W E) (reader : R) (out : W)
+  pub record IsUnanswered (old : Moment R S W E) (reader : R) (out : W) (left : S)
       (fault : LiveFault) : Type 0 where
     pub holds : Holds
     pub whole : Takes r old.reader reader old.holds holds Whole
-    pub cause : HasAnswerFault g w holds.kept old.live old.out out fault
+    pub cause : HasAnswerFault g w holds.kept old.live old.out out left fault
 
-  -- why it was not heard
-  abbrev pub HasHearingFault : Moment R S W E → R → W → LiveFault → Type 0
-  HasHearingFault old reader out (Open cause) = ⊥
-  HasHearingFault old reader out Read = IsUnread old reader out
-  HasHearingFault old reader out NoMemory = IsUnanswered old reader out NoMemory
-  HasHearingFault old reader out Write = IsUnanswered old reader out Write
+  -- why it was not heard, and the store that comes back
+  abbrev pub HasHearingFault : Moment R S W E → R → W → S → LiveFault → Type 0
+  HasHearingFault old reader out left (Open cause) = ⊥
+  HasHearingFault old reader out left Read = IsUnread old reader out left
+  HasHearingFault old reader out left NoMemory = IsUnanswered old reader out left NoMemory
+  HasHearingFault old reader out left Write = IsUnanswered old reader out left Write
 
   -- so many lines that they cannot be counted
-  pub record IsUncounted (count : ℕ) (old : Moment R S W E) (reader : R) (out : W)
+  pub record IsUncounted (count : ℕ) (old : Moment R S W E) (reader : R) (out : W) (left : S)
       (fault : LiveFault) : Type 0 where
     pub many : suc (suc count) ≡ 2 ^ 64
     pub told : fault ≡ Read
     pub read : reader ≡ old.reader
     pub unwritten : out ≡ old.out
-    pub stands : Stands g old.live
+    pub go : LetsGo g old.live left
 
   -- behind these lines one was not heard; nothing was told of it yet
-  pub record BreaksHearing (first : Moment R S W E) (reader : R) (out : W) (err : E)
+  pub record BreaksHearing (first : Moment R S W E) (reader : R) (out : W) (err : E) (left : S)
       (fault : LiveFault) : Type 0 where
     pub list : List Heard
     pub last : Moment R S W E
     pub hears : Hears first list last
     pub untold : err ≡ last.err
-    pub cause : HasHearingFault last reader out fault
-        ⊎ IsUncounted (length list) last reader out fault
+    pub cause : HasHearingFault last reader out left fault
+        ⊎ IsUncounted (length list) last reader out left fault

@@ -1,5 +1,5 @@
 -- A live run, from its opening to its close.
-use Rattle.std.specs.Prelude.{◌≡◌, ◌⊎◌, ◌+◌, ℕ, List, [], ◌++◌}
+use Rattle.std.specs.Prelude.{◌≡◌, ◌⊎◌, ◌+◌, ℕ, List, [], ◌++◌, Option, None, Some}
 use Rattle.std.specs.Io.KnownBytes.{Appends}
 use Rattle.txn_bytes.specs.Written.{Writer}
 use Rattle.serial_spec.specs.Interleaving.{IsFinished, IsInterleaving}
@@ -12,7 +12,7 @@ use Rattle.manager_core.specs.Sound.{IsTrusted, store_refusals}
 use Rattle.manager_core.specs.StoredNumbers.{IsNumberedAfter}
 use Rattle.interleavings.specs.Reports.{IsReport}
 use Rattle.interleavings.specs.Runs.{WasAsked}
-use Rattle.interleavings.specs.Scheduled.{BreaksOff, RunsOut, Stands}
+use Rattle.interleavings.specs.Scheduled.{BreaksOff, LetsGo, RunsOut}
 use Rattle.interleavings.specs.Told.{Told}
 use Rattle.interleavings.specs.Turning.{IsStart, Turning}
 use Rattle.report_check.specs.Verdicts.{HasVerdict}
@@ -35,19 +35,22 @@ module _ {S W : Type 0} (g : Ghosts S) (w : Writer W) where
     pub start : IsStart g [] store first
     pub shown : IsShown w old new (begun_of first)
 
-  -- it was not shown
-  pub record IsUnshownOpening (store : S) (old new : W) : Type 0 where
+  -- it was not shown, and the store comes back as it was opened
+  pub record IsUnshownOpening (store : S) (old new : W) (left : Option S) : Type 0 where
     pub first : Turning S
     pub start : IsStart g [] store first
-    pub stands : Stands g first
+    pub given : S
+    pub is : left ≡ Some given
+    pub go : LetsGo g first given
     pub unshown : IsUnshown w old new (opening_text first.core.rows)
 
-  -- why a run was not begun
-  abbrev pub HasBeginFault : S → W → W → LiveFault → Type 0
-  HasBeginFault store old new (Open cause) = HasCause g store cause × (new ≡ old)
-  HasBeginFault store old new Read = ⊥
-  HasBeginFault store old new NoMemory = ⊥
-  HasBeginFault store old new Write = IsUnshownOpening store old new
+  -- why a run was not begun, and the store that comes back, unless it was not opened
+  abbrev pub HasBeginFault : S → W → W → Option S → LiveFault → Type 0
+  HasBeginFault store old new left (Open cause) = HasCause g store cause × (new ≡ old)
+      × (left ≡ None)
+  HasBeginFault store old new left Read = ⊥
+  HasBeginFault store old new left NoMemory = ⊥
+  HasBeginFault store old new left Write = IsUnshownOpening store old new left
 
   -- ---- the end
 
@@ -61,9 +64,8 @@ module _ {S W : Type 0} (g : Ghosts S) (w : Writer W) where
     pub grown : spelled_report told ≡ begun_of last ++ more
     pub shown : IsShown w old new more
 
-  -- it was not shown
-  pub record IsUnshownEnd (last : Turning S) (old new : W) : Type 0 where
-    pub left : S
+  -- it was not shown, and the store comes back as they left it
+  pub record IsUnshownEnd (last : Turning S) (old new : W) (left : S) : Type 0 where
     pub told : Told
     pub run : RunsOut g [] last told left
     pub report : IsReport told
@@ -71,12 +73,12 @@ module _ {S W : Type 0} (g : Ghosts S) (w : Writer W) where
     pub grown : spelled_report told ≡ begun_of last ++ more
     pub unshown : IsUnshown w old new more
 
-  -- why a run was not ended
-  abbrev pub HasEndFault : Turning S → W → W → LiveFault → Type 0
-  HasEndFault last old new (Open cause) = ⊥
-  HasEndFault last old new Read = ⊥
-  HasEndFault last old new NoMemory = BreaksOff g last × (new ≡ old)
-  HasEndFault last old new Write = IsUnshownEnd last old new
+  -- why a run was not ended, and the store that comes back
+  abbrev pub HasEndFault : Turning S → W → W → S → LiveFault → Type 0
+  HasEndFault last old new left (Open cause) = ⊥
+  HasEndFault last old new left Read = ⊥
+  HasEndFault last old new left NoMemory = BreaksOff g last left × (new ≡ old)
+  HasEndFault last old new left Write = IsUnshownEnd last old new left
 
   -- ---- the whole
 
@@ -117,21 +119,25 @@ module _ {R S W E : Type 0} (r : Requests R) (g : Ghosts S) (w : Writer W) (e : 
     pub comes : ComesTo g w store heard.list finishes.told left out_old out_new
 
   -- it failed at the opening, and nothing was read
-  pub record FailsAtOpening (fault : LiveFault) : Type 0 where
-    pub cause : HasBeginFault g w store out_old out_new fault
+  pub record FailsAtOpening (left : Option S) (fault : LiveFault) : Type 0 where
+    pub cause : HasBeginFault g w store out_old out_new left fault
     pub unread : in_new ≡ in_old
     pub untold : err_new ≡ err_old
 
   -- while lines were heard
-  pub record FailsAtLine (fault : LiveFault) : Type 0 where
+  pub record FailsAtLine (left : Option S) (fault : LiveFault) : Type 0 where
+    pub given : S
+    pub is : left ≡ Some given
     pub first : Turning S
     pub opened : W
     pub begins : Begins g w store first out_old opened
     pub breaks : BreaksHearing r g w e (moment in_old holds_nothing first opened err_old)
-        in_new out_new err_new fault
+        in_new out_new err_new given fault
 
   -- behind them
-  pub record FailsAtEnd (fault : LiveFault) : Type 0 where
+  pub record FailsAtEnd (left : Option S) (fault : LiveFault) : Type 0 where
+    pub given : S
+    pub is : left ≡ Some given
     pub first : Turning S
     pub opened : W
     pub begins : Begins g w store first out_old opened
@@ -139,18 +145,19 @@ module _ {R S W E : Type 0} (r : Requests R) (g : Ghosts S) (w : Writer W) (e : 
     pub between : W
     pub heard : HearsAll r g w e (moment in_old holds_nothing first opened err_old)
         in_new last between err_new
-    pub cause : HasEndFault g w last between out_new fault
+    pub cause : HasEndFault g w last between out_new given fault
 
-  -- why it failed
-  abbrev pub HasLiveCause : LiveFault → Type 0
-  HasLiveCause fault = FailsAtOpening fault ⊎ (FailsAtLine fault ⊎ FailsAtEnd fault)
+  -- why it failed. The store comes back as the run left it, unless it was not opened
+  abbrev pub HasLiveCause : Option S → LiveFault → Type 0
+  HasLiveCause left fault = FailsAtOpening left fault
+      ⊎ (FailsAtLine left fault ⊎ FailsAtEnd left fault)
 
 -- it failed for a cause, and the error writer got the line of that behind those of the lines that
 -- were not taken
 pub record IsUnlived {R S W E : Type 0} (r : Requests R) (g : Ghosts S) (w : Writer W)
     (e : Writer E) (store : S) (in_old in_new : R) (out_old out_new : W)
-    (err_old err_new : E) : Type 0 where
+    (err_old err_new : E) (left : Option S) : Type 0 where
   pub fault : LiveFault
   pub err : E
-  pub cause : HasLiveCause r g w e store in_old in_new out_old out_new err_old err fault
+  pub cause : HasLiveCause r g w e store in_old in_new out_old out_new err_old err left fault
   pub said : IsSaid e err err_new (spelled_end fault)

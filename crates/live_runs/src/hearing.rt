@@ -2,15 +2,14 @@
 ghost use Rattle.std.specs.Prelude.{◌≡◌, IfErr, IfOk, OnErr};
 ghost use Rattle.program_words.specs.Faults.{IsSaid, spelled_fault};
 ghost use Rattle.program_words.specs.declared.fault.Fault.TheVariants.{Line};
-ghost use Rattle.interleavings.specs.Scheduled.{Stands};
 ghost use Rattle.live_runs.specs.Hearing.{Answers, BreaksHearing, HasAnswerFault, HasHearingFault, HearsAll, HearsNext, holds_nothing, moment};
 
 use crate::fault::LiveFault;
 use crate::showing::show_entries;
 use durable_top::TopStore;
 use live_sessions::Live;
-use request_lines::{RequestLines, Source, Taken};
 use program_words::{Fault, tell};
+use request_lines::{RequestLines, Source, Taken};
 use session_text::LineKind;
 use txn_bytes::Sink;
 
@@ -21,15 +20,6 @@ fn refuse<E: Sink>(err: &mut E, line: usize, kind: LineKind)
     let _status = tell(err, Fault::Line { line, kind });
 }
 
-/// Lets the sessions go, and says why.
-pub(crate) fn end_by<S: TopStore>(live: Live<S>, fault: LiveFault) -> LiveFault
-    ensures fault { result ≡ fault }
-    ensures stands { Stands S.TopStore live }
-{
-    live.give_up();
-    fault
-}
-
 // Handles a whole line. What it brought about is shown; if it was not taken, that is told.
 fn answer<S: TopStore, W: Sink, E: Sink>(
     live: Live<S>,
@@ -37,18 +27,18 @@ fn answer<S: TopStore, W: Sink, E: Sink>(
     bytes: &[u8],
     out: &mut W,
     err: &mut E,
-) -> Result<Live<S>, LiveFault>
+) -> Result<Live<S>, (LiveFault, S)>
     ensures ok { IfOk result (λ new. Answers S.TopStore W.Sink E.Sink
         line bytes.now live new out.old out.new err.old err.new) }
-    ensures err { IfErr result (λ fault.
-        HasAnswerFault S.TopStore W.Sink bytes.now live out.old out.new fault) }
+    ensures err { IfErr result (λ end.
+        HasAnswerFault S.TopStore W.Sink bytes.now live out.old out.new end.1 end.0) }
     ensures untold { OnErr result (err.new ≡ err.old) }
 {
     live.has_legal_history();
     let written = live.history().len();
     let (live, fault) = match live.request(bytes) {
         Ok(handled) => handled,
-        Err(_) => return Err(LiveFault::NoMemory),
+        Err(left) => return Err((LiveFault::NoMemory, left)),
     };
     if let Some(kind) = fault {
         refuse(err, line, kind);
@@ -56,7 +46,7 @@ fn answer<S: TopStore, W: Sink, E: Sink>(
     }
     match show_entries(live.labels(), live.history(), written, out) {
         Ok(()) => Ok(live),
-        Err(_) => Err(end_by(live, LiveFault::Write)),
+        Err(_) => Err((LiveFault::Write, live.give_up())),
     }
 }
 
@@ -68,12 +58,12 @@ fn hear_next<R: Source, S: TopStore, W: Sink, E: Sink>(
     input: &mut R,
     out: &mut W,
     err: &mut E,
-) -> Result<(Live<S>, bool), LiveFault>
+) -> Result<(Live<S>, bool), (LiveFault, S)>
     ensures ok { IfOk result (λ r. HearsNext R.Source S.TopStore W.Sink E.Sink line
         (moment input.old lines.old live out.old err.old)
         (moment input.new lines.new r.0 out.new err.new) r.1) }
-    ensures err { IfErr result (λ fault. HasHearingFault R.Source S.TopStore W.Sink E.Sink
-        (moment input.old lines.old live out.old err.old) input.new out.new fault) }
+    ensures err { IfErr result (λ end. HasHearingFault R.Source S.TopStore W.Sink E.Sink
+        (moment input.old lines.old live out.old err.old) input.new out.new end.1 end.0) }
     ensures untold { OnErr result (err.new ≡ err.old) }
 {
     match lines.take_line(input) {
@@ -90,24 +80,26 @@ fn hear_next<R: Source, S: TopStore, W: Sink, E: Sink>(
             Ok((live, false))
         }
         Ok(Taken::End) => Ok((live, false)),
-        Err(_) => Err(end_by(live, LiveFault::Read)),
+        Err(_) => Err((LiveFault::Read, live.give_up())),
     }
 }
 
 /// Takes the lines of the input up to its end, one after another, and answers the sessions as they
 /// are then. What each request brought about is written and passed on before the next one is read.
 /// A line that was not taken is told on `err` by its number in the input, from 1, and so are bytes
-/// at the end with no line feed behind them. After a fault nothing more was told.
+/// at the end with no line feed behind them. After a fault nothing more was told, and the store
+/// comes back as it was left.
 pub(crate) fn hear_all<R: Source, S: TopStore, W: Sink, E: Sink>(
     live: Live<S>,
     input: &mut R,
     out: &mut W,
     err: &mut E,
-) -> Result<Live<S>, LiveFault>
+) -> Result<Live<S>, (LiveFault, S)>
     ensures ok { IfOk result (λ last. HearsAll R.Source S.TopStore W.Sink E.Sink
         (moment input.old holds_nothing live out.old err.old) input.new last out.new err.new) }
-    ensures err { IfErr result (λ fault. BreaksHearing R.Source S.TopStore W.Sink E.Sink
-        (moment input.old holds_nothing live out.old err.old) input.new out.new err.new fault) }
+    ensures err { IfErr result (λ end. BreaksHearing R.Source S.TopStore W.Sink E.Sink
+        (moment input.old holds_nothing live out.old err.old)
+        input.new out.new err.new end.1 end.0) }
 {
     let mut live = live;
     let mut lines = RequestLines::new();
@@ -121,5 +113,5 @@ pub(crate) fn hear_all<R: Source, S: TopStore, W: Sink, E: Sink>(
         }
         live = next;
     }
-    Err(end_by(live, LiveFault::Read))
+    Err((LiveFault::Read, live.give_up()))
 }

@@ -1,48 +1,52 @@
 //! A live run, from the store to the report and the exit status.
-ghost use Rattle.std.specs.Prelude.{◌≡◌, ◌≤◌, IsNone, IsSomeAnd, IfErr, IfOk};
+ghost use Rattle.std.specs.Prelude.{◌≡◌, ◌≤◌, IsSomeAnd, IfErr, IfOk};
 ghost use Rattle.program_words.specs.declared.status.TheConstants.{DONE, FAILED};
 ghost use Rattle.live_runs.specs.Living.{Begins, Finishes, HasBeginFault, HasEndFault, HasLiveCause, IsLived, IsUnlived};
 
 use crate::fault::{LiveFault, tell_end};
-use crate::hearing::{end_by, hear_all};
+use crate::hearing::hear_all;
 use crate::showing::{show_opening, show_rest};
 use durable_top::TopStore;
 use live_sessions::Live;
-use request_lines::Source;
 use program_words::{DONE, Ended};
+use request_lines::Source;
 use std::alloc::Global;
 use txn_bytes::Sink;
 
-// No sessions yet, and the opening is shown.
-fn begin<S: TopStore, W: Sink>(alloc: Global, store: S, out: &mut W) -> Result<Live<S>, LiveFault>
+// No sessions yet, and the opening is shown. The store comes back where that was not taken.
+fn begin<S: TopStore, W: Sink>(
+    alloc: Global,
+    store: S,
+    out: &mut W,
+) -> Result<Live<S>, (LiveFault, Option<S>)>
     ensures ok { IfOk result (λ live. Begins S.TopStore W.Sink store live out.old out.new) }
-    ensures err { IfErr result (λ fault.
-        HasBeginFault S.TopStore W.Sink store out.old out.new fault) }
+    ensures err { IfErr result (λ end.
+        HasBeginFault S.TopStore W.Sink store out.old out.new end.1 end.0) }
 {
     let live = match Live::open(alloc, store) {
         Ok(live) => live,
-        Err(fault) => return Err(LiveFault::Open(fault)),
+        Err(fault) => return Err((LiveFault::Open(fault), None)),
     };
     match show_opening(live.opening(), out) {
         Ok(()) => Ok(live),
-        Err(_) => Err(end_by(live, LiveFault::Write)),
+        Err(_) => Err((LiveFault::Write, Some(live.give_up()))),
     }
 }
 
 // Runs the sessions to their end, and shows what of the report was not shown before.
-fn end<S: TopStore, W: Sink>(live: Live<S>, out: &mut W) -> Result<S, LiveFault>
+fn end<S: TopStore, W: Sink>(live: Live<S>, out: &mut W) -> Result<S, (LiveFault, S)>
     ensures ok { IfOk result (λ left. Finishes S.TopStore W.Sink live left out.old out.new) }
-    ensures err { IfErr result (λ fault.
-        HasEndFault S.TopStore W.Sink live out.old out.new fault) }
+    ensures err { IfErr result (λ end.
+        HasEndFault S.TopStore W.Sink live out.old out.new end.1 end.0) }
 {
     let written = live.history().len();
     let (report, left) = match live.finish() {
         Ok(run) => run,
-        Err(_) => return Err(LiveFault::NoMemory),
+        Err(left) => return Err((LiveFault::NoMemory, left)),
     };
     match show_rest(&report, written, out) {
         Ok(()) => Ok(left),
-        Err(_) => Err(LiveFault::Write),
+        Err(_) => Err((LiveFault::Write, left)),
     }
 }
 
@@ -54,18 +58,21 @@ fn run_live<R: Source, S: TopStore, W: Sink, E: Sink>(
     store: S,
     out: &mut W,
     err: &mut E,
-) -> Result<S, LiveFault>
+) -> Result<S, (LiveFault, Option<S>)>
     ensures ok { IfOk result (λ left. IsLived R.Source S.TopStore W.Sink E.Sink
         store input.old input.new out.old out.new err.old err.new left) }
-    ensures err { IfErr result (λ fault. HasLiveCause R.Source S.TopStore W.Sink E.Sink
-        store input.old input.new out.old out.new err.old err.new fault) }
+    ensures err { IfErr result (λ end. HasLiveCause R.Source S.TopStore W.Sink E.Sink
+        store input.old input.new out.old out.new err.old err.new end.1 end.0) }
 {
     let live = begin(alloc, store, out)?;
     let live = match hear_all(live, input, out, err) {
         Ok(live) => live,
-        Err(fault) => return Err(fault),
+        Err((fault, left)) => return Err((fault, Some(left))),
     };
-    end(live, out)
+    match end(live, out) {
+        Ok(left) => Ok(left),
+        Err((fault, left)) => Err((fault, Some(left))),
+    }
 }
 
 /// Runs sessions whose lines are read as they come, over this store, and answers the exit status
@@ -75,9 +82,9 @@ fn run_live<R: Source, S: TopStore, W: Sink, E: Sink>(
 /// is attempted, and what it brings about is written to `out` and passed on, before the next one
 /// is read. What was written is always a beginning of the report, and at the end of the input the
 /// whole report. A line that is not taken costs nobody else anything: it changes nothing, and
-/// `err` gets one line with its number and why. A fault that ends the run goes to `err` too; then
-/// the store is dropped, and what had committed until then stands in it. Where `err` fails, the
-/// run goes on without it.
+/// `err` gets one line with its number and why. A fault that ends the run goes to `err` too; what
+/// had committed until then stands in the store, which comes back, unless it was not opened. Where
+/// `err` fails, the run goes on without it.
 pub fn live_over<R: Source, S: TopStore, W: Sink, E: Sink>(
     alloc: Global,
     input: &mut R,
@@ -90,8 +97,7 @@ pub fn live_over<R: Source, S: TopStore, W: Sink, E: Sink>(
         store input.old input.new out.old out.new err.old err.new left) }
     ensures failed { result.status ≡ FAILED →
         IsUnlived R.Source S.TopStore W.Sink E.Sink
-        store input.old input.new out.old out.new err.old err.new }
-    ensures dropped { result.status ≡ FAILED → IsNone result.left }
+        store input.old input.new out.old out.new err.old err.new result.left }
     ensures status { result.status ≤ FAILED }
 {
     match run_live(alloc, input, store, out, err) {
@@ -99,9 +105,9 @@ pub fn live_over<R: Source, S: TopStore, W: Sink, E: Sink>(
             status: DONE,
             left: Some(left),
         },
-        Err(fault) => Ended {
+        Err((fault, left)) => Ended {
             status: tell_end(err, fault),
-            left: None,
+            left,
         },
     }
 }

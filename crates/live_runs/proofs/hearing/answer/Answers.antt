@@ -2,7 +2,6 @@ use Rattle.std.proofs.Common.{length, None, refl, sym, ap, subst, ◌∙◌}
 use Rattle.std.proofs.lemmas.List.{length-reverse}
 use Rattle.serial_spec.specs.History.{History}
 use Rattle.live_sessions.specs.Handling.{Handled}
-use Rattle.live_runs.specs.Hearing.{HasAnswerFault}
 use Rattle.live_runs.proofs.Answered.{room_behind, shown_since, unshown_since}
 use Rattle.live_runs.proofs.hearing.answer.Goals as goal
 
@@ -35,13 +34,11 @@ returns-in-Err-show_entries-clause-err g c =
     let new = c.in-Ok.handled.0 in
     let taken = subst (λ f. Handled g.S.TopStore old c.args.bytes.now new f) c.in_default.is c.in-Ok.ensures.ok in
     let count = sym (length-reverse c.history-written.result.now) ∙ ap (λ (h : History). length h) c.history-written.ensures in
-    subst (HasAnswerFault g.S.TopStore _ c.args.bytes.now old c.args.out.now c.show_entries.new.out)
-    (sym c.end_by.ensures.fault)
-    (record {
+    record {
       new = new;
       taken = taken;
-      stands = c.end_by.ensures.stands;
+      go = c.give_up.ensures;
       unshown = unshown_since g.S.TopStore old new c.args.bytes.now taken (length c.history-written.result.now) count c.history.result.now c.history.ensures
           _ c.has_legal_history.ensures c.labels.result.now c.labels.ensures
           c.args.out.now c.show_entries.new.out c.in-Err-show_entries.ensures.err;
-    })
+    }

@@ -1,4 +1,5 @@
-use Rattle.std.proofs.Common.{arith}
+use Rattle.std.proofs.Common.{arith, refl}
+use Rattle.live_runs.specs.declared.fault.LiveFault.TheVariants.{Read}
 use Rattle.live_runs.specs.Hearing.{holds_nothing, moment}
 use Rattle.live_runs.proofs.Lines.{breaks_at, breaks_off, hears_all, hears_more, hears_none}
 use Rattle.live_runs.proofs.hearing.hear_all.Goals as goal
@@ -13,7 +14,7 @@ returns-in-Err-clause-err g c =
     let first = moment c.args.input.now holds_nothing c.args.live c.args.out.now c.args.err.now in
     let now = moment c.loop-line.input c.loop-line.lines c.loop-line.live c.loop-line.out c.loop-line.err in
     breaks_at _ g.S.TopStore _ _
-    first now c.loop-line.line c.hear_next.new.input c.hear_next.new.out c.hear_next.new.err c.in-Err.fault c.loop-line.invariant c.in-Err.ensures.untold
+    first now c.loop-line.line c.hear_next.new.input c.hear_next.new.out c.hear_next.new.err c.in-Err.fault.1 c.in-Err.fault.0 c.loop-line.invariant c.in-Err.ensures.untold
     c.in-Err.ensures.err
 
 pub returns-then-not-more-clause-ok : goal.returns-then-not-more-clause-ok
@@ -37,4 +38,4 @@ returns-clause-err g c =
     let first = moment c.args.input.now holds_nothing c.args.live c.args.out.now c.args.err.now in
     let now = moment c.loop-line.input c.loop-line.lines c.loop-line.live c.loop-line.out c.loop-line.err in
     breaks_off _ g.S.TopStore _ _
-    first now c.loop-line.line c.end_by.result c.loop-line.invariant (omega (arith, c.loop-line-test.false, c.loop-line.auto.line-end)) c.end_by.ensures.fault c.end_by.ensures.stands
+    first now c.loop-line.line c.give_up.result Read c.loop-line.invariant (omega (arith, c.loop-line-test.false, c.loop-line.auto.line-end)) refl c.give_up.ensures

@@ -20,7 +20,7 @@ returns-in-Err-answer-clause-err g c =
     c.in-Ok-Whole.field-0-is c.in-Ok-Whole.ensures.ok in
     unheard _ g.S.TopStore _ _
     old c.take_line.new.input c.take_line.new.self c.answer.new.out
-    c.in-Err-answer.fault c.line.result.now takes c.line.ensures.value c.in-Err-answer.ensures.err
+    c.in-Err-answer.fault.1 c.in-Err-answer.fault.0 c.line.result.now takes c.line.ensures.value c.in-Err-answer.ensures.err
 
 pub returns-in-Ok-Long-clause-ok : goal.returns-in-Ok-Long-clause-ok
 returns-in-Ok-Long-clause-ok g c =
