@@ -10,7 +10,7 @@ use crate::desk::{Desk, Opening, Tried};
 use crate::jobs::{Channel, Job, Lanes};
 use crossbeam_channel::Pass;
 use durable_top::TopStore;
-use interleavings::Turn;
+use interleavings::{ServeFault, Turn};
 use serial_spec::NoMemory;
 use session_text::{Line, Sessions};
 use std::alloc::Global;
