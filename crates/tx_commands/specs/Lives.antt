@@ -1,6 +1,6 @@
 -- What the exit status of a live run says of its input, of its output, of its store and of the
 -- error writer.
-use Rattle.std.specs.Prelude.{◌≡◌, ◌⊎◌, ℕ, List, Option, Some, None, IsNone, IsSomeAnd}
+use Rattle.std.specs.Prelude.{◌≡◌, ◌⊎◌, ℕ, List, Option, Some, None, IsSomeAnd}
 use Rattle.durable_top.specs.declared.store.TopStore.{Ghosts}
 use Rattle.request_lines.specs.Sources.{Requests}
 use Rattle.live_runs.specs.Living.{IsLived, IsUnlived}
@@ -36,11 +36,10 @@ module _ {H T P N I W E : Type 0} (o : World H T P N W E) (r : Requests I)
       (λ back. IsLived r g o.out o.err store in_old in_new before.out after.out
       before.err after.err back)
 
-  -- it ended by a fault, and no store is left
-  pub record IsBrokenLive {S : Type 0} (g : Ghosts S) (store : S) (left : Option S) : Type 0 where
-    pub dropped : IsNone left
-    pub unlived : IsUnlived r g o.out o.err store in_old in_new before.out after.out
-        before.err after.err
+  -- it ended by a fault. The store is left, unless the fault is that it was not opened
+  abbrev pub IsBrokenLive : {S : Type 0} → Ghosts S → S → Option S → Type 0
+  IsBrokenLive g store left = IsUnlived r g o.out o.err store in_old in_new before.out after.out
+      before.err after.err left
 
   -- a whole live run, over the database that is named, or else over a store without rows
   abbrev pub Lives : Option (List ℕ) → Type 0

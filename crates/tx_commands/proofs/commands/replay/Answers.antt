@@ -1,12 +1,13 @@
+use Rattle.std.proofs.Common.{◌∙◌, inl}
 use Rattle.program_words.specs.declared.fault.Fault.TheVariants.{NoMemory}
 use Rattle.program_words.proofs.Told.{fault_accounts}
 use Rattle.tx_commands.proofs.commands.replay.Goals as goal
 
 pub returns-in-Ok-clause-done : goal.returns-in-Ok-clause-done
-returns-in-Ok-clause-done g c = λ is. rw (← c.in-Ok.ensures) (c.report.ensures.done is)
+returns-in-Ok-clause-done g c = λ is. rw (← (c.as_slice.ensures.value ∙ c.in-Ok.ensures.ok)) (c.replay_text.ensures.done is)
 
 pub returns-in-Ok-clause-failed : goal.returns-in-Ok-clause-failed
-returns-in-Ok-clause-failed g c = λ is. rw (← c.in-Ok.ensures) (c.report.ensures.failed is)
+returns-in-Ok-clause-failed g c = λ is. rw (← (c.as_slice.ensures.value ∙ c.in-Ok.ensures.ok)) (inl (c.replay_text.ensures.failed is))
 
 pub returns-in-Err-clause-accounts : goal.returns-in-Err-clause-accounts
 returns-in-Err-clause-accounts g c =

@@ -15,5 +15,5 @@ returns-clause-failed g c = λ failed. inl (record {
   store = c.in-Ok.store;
   left = c.live_over.result.left;
   over = record { empty = λ k. no_value _ (c.in-Ok.ensures.empty k); unasked = refl };
-  ended = record { dropped = c.live_over.ensures.dropped failed; unlived = c.live_over.ensures.failed failed };
+  ended = c.live_over.ensures.failed failed;
 })

@@ -4,8 +4,5 @@ use Rattle.tx_program.proofs.program.perform.Goals as goal
 pub returns-in-Replay-clause-failed : goal.returns-in-Replay-clause-failed
 returns-in-Replay-clause-failed g c = λ is. rw c.in-Replay.is (c.replay.ensures.failed is, refl)
 
-pub returns-in-Run-clause-failed : goal.returns-in-Run-clause-failed
-returns-in-Run-clause-failed g c = λ is. rw c.in-Run.is (c.run.ensures.failed is, refl)
-
 pub returns-in-Check-clause-failed : goal.returns-in-Check-clause-failed
 returns-in-Check-clause-failed g c = λ is. rw c.in-Check.is (c.judge.ensures.failed is, refl)
