@@ -52,13 +52,16 @@ module _ {S W E : Type 0} (g : Ghosts S) (w : Writer W) (e : Writer E) (old mid 
       → status ≢ 0 → IsMissed g w e old new err_old err_new text way store left
   missed (Ok back) replayed cause answered before is kept dropped same unflushed said undone =
       inr (printed g (w.contents old) (w.contents mid) (w.contents new) text way store back left replayed kept is, unflushed undone)
-  missed (Err fault) replayed cause answered before is kept dropped same unflushed said undone = inl (dropped.1, record {
-    fault = fault;
-    cause = subst (λ x. HasReplayCause g (w.contents old) (w.contents x) text way store fault) (sym same) cause;
-    answered = subst (λ x. IsAnswered w x fault) (sym same) answered;
-    unwritten = λ none. subst (λ (x : W). x ≡ old) (sym same) (before none);
-    said = said;
-  })
+  missed (Err fault) replayed cause answered before is kept dropped same unflushed said undone = inl (
+    dropped.1,
+    record {
+      fault = fault;
+      cause = subst (λ x. HasReplayCause g (w.contents old) (w.contents x) text way store fault) (sym same) cause;
+      answered = subst (λ x. IsAnswered w x fault) (sym same) answered;
+      unwritten = λ none. subst (λ (x : W). x ≡ old) (sym same) (before none);
+      said = said;
+    },
+  )
 
 module _ {S W E : Type 0} (g : Ghosts S) (w : Writer W) (e : Writer E) (old new : W) (err_old err_new : E) (text : List ℕ) (way : Way) (store : S) (left : Option S) where
   fault_line : IsMissed g w e old new err_old err_new text way store left → HasFaultLine e err_old err_new

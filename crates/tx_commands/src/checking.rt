@@ -8,10 +8,10 @@ ghost use Rattle.tx_commands.specs.Worlds.{state, world};
 
 use crate::host::Surroundings;
 use durable_top::TopStore;
+use program_words::{DONE, FAILED, Fault, finish, tell};
 use report_check::Verdict;
 use report_judge::{CheckFault, ReadFault, check};
 use report_text::write_verdict;
-use program_words::{DONE, FAILED, Fault, finish, tell};
 use sql_store::MemoryStore;
 use std::alloc::Global;
 use txn_bytes::Sink;

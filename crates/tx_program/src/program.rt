@@ -10,9 +10,9 @@ ghost use Rattle.tx_program.specs.Programs.{ForSomeTask, IsCondemnedAlone, IsCon
 use clap::Error;
 use command_line::{Solo, Task, task_of};
 use durable_top::TopStore;
+use program_words::{Fault, misuse, tell};
 use report_judge::Source;
 use request_lines::Source as RequestSource;
-use program_words::{Fault, misuse, tell};
 use sql_store::MemoryStore;
 use std::alloc::{AllocError, Global};
 use std::sync::Wait;
@@ -71,18 +71,23 @@ pub fn tx_main<
     let Ok(all) = command_line(alloc, words) else {
         return tell(err, Fault::NoMemory);
     };
-    match task_of(alloc, all.as_slice()) {
-        Ok(Some(Task::Run {
+    let task = match task_of(alloc, all.as_slice()) {
+        Ok(Some(task)) => task,
+        Ok(None) => {
+            return misuse(
+                err,
+                b"usage: tx replay FILE [--schedule LIST] [--db PATH], or tx run FILE [--workers N] [--db PATH], or tx live [--db PATH], or tx check REPORT, or tx rows PATH, or tx --help",
+            );
+        }
+        Err(text) => return refuse(alloc, err, &text),
+    };
+    match task {
+        Task::Run {
             file,
             workers,
             database,
-        })) => run(host, threads, alloc, file, workers, database, out, err),
-        Ok(Some(Task::Alone(solo))) => perform(host, alloc, solo, input, out, err),
-        Ok(None) => misuse(
-            err,
-            b"usage: tx replay FILE [--schedule LIST] [--db PATH], or tx run FILE [--workers N] [--db PATH], or tx live [--db PATH], or tx check REPORT, or tx rows PATH, or tx --help",
-        ),
-        Err(text) => refuse(alloc, err, &text),
+        } => run(host, threads, alloc, file, workers, database, out, err),
+        Task::Alone(solo) => perform(host, alloc, solo, input, out, err),
     }
 }
 
