@@ -309,6 +309,18 @@ class Sockets(Served):
             r"^begun a\nok\nvalue 5\nwrong .*\nwrong .*\nok\nbegun job[a-z0-9]+\nrows 1\nx=5\nrefused unknown\n$",
         )
 
+    def test_a_connection_that_ends_while_its_call_waits(self) -> None:
+        # It is the client's only one, so nobody reads from it when it ends.
+        with self.connected() as jobs, jobs.begin("holder") as holder:
+            holder.set("x", 1)
+            found = self.raw()
+            found.sendall(b"begin - a\nset a y 1\nset a x 2\n")
+            self.until(lambda: "set a x 2 -> waits" in jobs.report)
+            found.close()
+            self.until(lambda: "set a x 2 -> orphan a" in jobs.report)
+            with jobs.begin("next", timeout=10) as job:
+                job.set("y", 2)
+
     def test_one_that_does_not_read(self) -> None:
         found = self.raw()
         found.setblocking(False)
