@@ -2,8 +2,8 @@
 
     python3 measure.py PROGRAM [ROUNDS]
 
-Each round asks for values by bare `os.write` and `os.read`, by the client in one thread, and by the client in eight threads that have a part each;
-all are in lock step. It prints the medians of the rounds, and the medians of the ratios, which a busy machine changes less.
+Each round asks for values by bare `os.write` and `os.read`, and by the client; then by the client in one thread and in eight, each with a
+part of its own. All are in lock step. It prints the medians of the rounds, and the medians of the ratios, which a busy machine changes less.
 """
 
 from __future__ import annotations
@@ -19,6 +19,7 @@ from collections.abc import Callable
 import bogrunsi
 
 CALLS = 4000
+THREADED_CALLS = 32000
 THREADS = 8
 
 
@@ -64,35 +65,35 @@ def client(program: str) -> float:
         return per_second(work)
 
 
-def threaded(program: str) -> float:
-    """The same by eight threads, each in a part of its own with a key of its own."""
+def threaded(program: str, threads: int) -> float:
+    """The same by so many threads, each in a part of its own with a key of its own."""
     with bogrunsi.open(program=program) as jobs, jobs.begin("t") as job:
-        parts = [job.begin(f"p{number}") for number in range(THREADS)]
+        parts = [job.begin(f"p{number}") for number in range(threads)]
 
         def ask(part: bogrunsi.Transaction, key: str) -> None:
             part.set(key, 5)
-            for _ in range(CALLS // THREADS):
+            for _ in range(THREADED_CALLS // threads):
                 part.get(key)
             part.commit()
 
-        def work() -> None:
-            threads = [threading.Thread(target=ask, args=(part, f"x{number}")) for number, part in enumerate(parts)]
-            for thread in threads:
-                thread.start()
-            for thread in threads:
-                thread.join()
-
-        return per_second(work)
+        workers = [threading.Thread(target=ask, args=(part, f"x{number}")) for number, part in enumerate(parts)]
+        began = time.perf_counter()
+        for worker in workers:
+            worker.start()
+        for worker in workers:
+            worker.join()
+        return THREADED_CALLS / (time.perf_counter() - began)
 
 
 def main() -> None:
     program = sys.argv[1]
-    rounds = int(sys.argv[2]) if len(sys.argv) > 2 else 30
-    made = [(bare(program), client(program), threaded(program)) for _ in range(rounds)]
-    for name, place in (("bare", 0), ("client", 1), ("eight threads", 2)):
-        print(f"{name}: {statistics.median(speeds[place] for speeds in made):,.0f} calls a second")
-    print(f"client to bare: {statistics.median(speeds[1] / speeds[0] for speeds in made):.2f}")
-    print(f"eight threads to one: {statistics.median(speeds[2] / speeds[1] for speeds in made):.2f}")
+    rounds = int(sys.argv[2]) if len(sys.argv) > 2 else 20
+    pairs = [(bare(program), client(program)) for _ in range(rounds)]
+    spread = [(threaded(program, 1), threaded(program, THREADS)) for _ in range(rounds)]
+    for names, made in ((("bare", "client"), pairs), (("one thread", f"{THREADS} threads"), spread)):
+        for name, speeds in zip(names, zip(*made, strict=True), strict=True):
+            print(f"{name}: {statistics.median(speeds):,.0f} calls a second")
+        print(f"{names[1]} to {names[0]}: {statistics.median(second / first for first, second in made):.2f}")
 
 
 if __name__ == "__main__":

@@ -19,6 +19,7 @@ from .run import Run
 from .sessions import MOST_LINES, kept
 from .transactions import Access, Manager, Transaction
 from .tree import COMMITTED, LIVE, MOST_KEYS, MOST_TRANSACTIONS, UNDONE, Node, keys_of
+from .turns import Turns
 from .words import Labels, value_of, word
 
 _LOG = logging.getLogger("bogrunsi")
@@ -42,6 +43,7 @@ class Jobs(Manager):
         self.timeout = timeout
         # Held from a request to the reply, so that one request is under way at a time.
         self._lock = threading.Lock()
+        self._turns = Turns()
         self._starter = Starter(program, path, report)
         self._door = Door()
         # Transactions that nobody holds any more.
@@ -127,6 +129,7 @@ class Jobs(Manager):
         """Has calls go to a run, whose program ends once nobody holds this manager."""
         run.ended = self._door.wake
         run.lock = self._lock
+        run.turns = self._turns
         self._run = run
         self._finalizer = weakref.finalize(self, pipe.drop)
 
@@ -203,9 +206,19 @@ class Jobs(Manager):
 
     def _finish(self, node: Node, verb: str) -> None:
         call = Call(node, verb, "", None, f"{verb} {node.name}")
-        with self._lock:
-            run = self._ready(node)
-            run.exchange(call)
+        turns = self._turns
+        if turns.busy is not None or turns.line:
+            turns.stand(node)
+        turns.busy = node
+        try:
+            with self._lock:
+                run = self._ready(node)
+                run.exchange(call)
+        finally:
+            if turns.busy is node:
+                turns.busy = None
+            if turns.line:
+                turns.hand_on(node, True)
         self._result(call)
 
     def _lose(self, node: Node) -> None:

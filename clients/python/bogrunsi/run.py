@@ -12,6 +12,7 @@ from __future__ import annotations
 
 import os
 import threading
+import time
 
 from .errors import Forked, Full
 from .intake import Call, Intake
@@ -19,10 +20,12 @@ from .pipe import Pipe
 from .report import Report
 from .sessions import MOST_LINES, Session
 from .tree import Node
+from .turns import AT_ONCE, Turns
 from .words import word
 
 _READ = os.read
 _WRITE = os.write
+_NOW = time.perf_counter
 # An answer that comes alone is shorter.
 _SIZE = (448,)
 _LINE_FEED = 10
@@ -50,6 +53,7 @@ class Run(Intake):
         self._written = 0
         self.known = self.tree.known
         self.lock = threading.Lock()
+        self.turns = Turns()
 
     def access(self, node: Node, verb: str, key: str, value: int | None, tail: str, usual: str) -> int | None | Call:
         """What an access returns, or the call where it is not over. It goes the short way where nothing is under way and nobody waits.
@@ -59,6 +63,23 @@ class Run(Intake):
         """
         if key not in self.known:
             meet(self, verb, key)
+        turns = self.turns
+        if (turns.busy is not None and turns.busy is not node) or (turns.line and turns.holder is not node):
+            turns.stand(node)
+        turns.busy = node
+        try:
+            return self._access(node, verb, key, value, tail, usual)
+        finally:
+            if turns.busy is node:
+                turns.busy = None
+            if turns.line:
+                now = _NOW()
+                if turns.holder is node and now < turns.until and now - turns.asked < AT_ONCE:
+                    turns.asked = now
+                else:
+                    turns.hand_on(node, turns.holder is node)
+
+    def _access(self, node: Node, verb: str, key: str, value: int | None, tail: str, usual: str) -> int | None | Call:
         with self.lock:
             if self.flight is not None or self.spare <= 0 or self.waiting:
                 return Call(node, verb, key, value, f"{verb} {node.name} {tail}")
