@@ -169,7 +169,7 @@ class Jobs(Manager):
         asking = Asking(parent, threading.get_ident() if who is None else who, alone, calls)
         try:
             while True:
-                with self._lock:
+                with self._turns, self._lock:
                     run = self._ready(parent)
                     if not self._is_held(asking, run):
                         transaction, call = self._send_begin(asking, label, timeout)
@@ -206,19 +206,9 @@ class Jobs(Manager):
 
     def _finish(self, node: Node, verb: str) -> None:
         call = Call(node, verb, "", None, f"{verb} {node.name}")
-        turns = self._turns
-        if turns.busy is not None or turns.line:
-            turns.stand(node)
-        turns.busy = node
-        try:
-            with self._lock:
-                run = self._ready(node)
-                run.exchange(call)
-        finally:
-            if turns.busy is node:
-                turns.busy = None
-            if turns.line:
-                turns.hand_on(node, True)
+        with self._turns, self._lock:
+            run = self._ready(node)
+            run.exchange(call)
         self._result(call)
 
     def _lose(self, node: Node) -> None:

@@ -12,7 +12,6 @@ from __future__ import annotations
 
 import os
 import threading
-import time
 
 from .errors import Forked, Full
 from .intake import Call, Intake
@@ -20,12 +19,12 @@ from .pipe import Pipe
 from .report import Report
 from .sessions import MOST_LINES, Session
 from .tree import Node
-from .turns import AT_ONCE, Turns
+from .turns import Turns
 from .words import word
 
 _READ = os.read
 _WRITE = os.write
-_NOW = time.perf_counter
+_ME = threading.get_ident
 # An answer that comes alone is shorter.
 _SIZE = (448,)
 _LINE_FEED = 10
@@ -64,20 +63,17 @@ class Run(Intake):
         if key not in self.known:
             meet(self, verb, key)
         turns = self.turns
-        if (turns.busy is not None and turns.busy is not node) or (turns.line and turns.holder is not node):
-            turns.stand(node)
-        turns.busy = node
+        me = _ME()
+        if (turns.busy and turns.busy != me) or (turns.line and turns.holder != me):
+            turns.stand(me)
+        turns.busy = me
         try:
             return self._access(node, verb, key, value, tail, usual)
         finally:
-            if turns.busy is node:
-                turns.busy = None
+            if turns.busy == me:
+                turns.busy = 0
             if turns.line:
-                now = _NOW()
-                if turns.holder is node and now < turns.until and now - turns.asked < AT_ONCE:
-                    turns.asked = now
-                else:
-                    turns.hand_on(node, turns.holder is node)
+                turns.hand_on(me)
 
     def _access(self, node: Node, verb: str, key: str, value: int | None, tail: str, usual: str) -> int | None | Call:
         with self.lock:

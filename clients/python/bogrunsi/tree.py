@@ -23,7 +23,7 @@ MOST_KEYS = 4096
 class Node:
     """A transaction, as far as it was seen."""
 
-    __slots__ = ("name", "parent", "run", "state", "used", "who", "writes", "asked")
+    __slots__ = ("name", "parent", "run", "state", "used", "who", "writes")
 
     def __init__(self, name: str, parent: Node | None, run: Run | None, who: object) -> None:
         self.name = name
@@ -35,8 +35,6 @@ class Node:
         self.used = False
         #: Who began it: a thread, or one of a connection.
         self.who = who
-        #: When it has last asked for a key while others stood in line.
-        self.asked = 0.0
         #: The values that it has given to keys, or none where it took them away.
         self.writes: dict[str, int | None] = {}
 
