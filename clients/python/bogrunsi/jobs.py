@@ -147,9 +147,11 @@ class Jobs(Manager):
     def _after_fork(self) -> None:
         """In a forked child: closes its copies of the streams, and refuses all calls."""
         self._forked = True
+        # Another thread may have held it, which is not here.
         self._lock = threading.Lock()
+        self._turns = Turns()
         self._finalizer.detach()
-        self._run.forked()
+        self._run.forked(self._lock, self._turns)
 
     # ---- begins and ends
 
@@ -164,6 +166,8 @@ class Jobs(Manager):
     ) -> Transaction:
         if label is not None and "/" in word(label):
             raise ValueError(f"{label!r} is more than one label")
+        if timeout is not None and not timeout >= 0.0:
+            raise ValueError(f"{timeout} is no number of seconds to wait")
         if calls is not None and calls > WHOLE_RUN:
             raise Full(f"{calls} calls do not fit a run, which has {WHOLE_RUN}")
         asking = Asking(parent, threading.get_ident() if who is None else who, alone, calls)

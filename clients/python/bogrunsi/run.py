@@ -234,8 +234,10 @@ class Run(Intake):
         if self._report is not None:
             self._report.close()
 
-    def forked(self) -> None:
+    def forked(self, lock: threading.Lock, turns: Turns) -> None:
         """In a forked child: lets go of the streams, and refuses all calls."""
+        self.lock = lock
+        self.turns = turns
         self._pipe.forked()
         self.flight = None
         self.fault = Forked

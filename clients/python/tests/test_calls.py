@@ -61,6 +61,8 @@ class Replies(unittest.TestCase):
                 self.assertRaises(ValueError, job.get, key)
             self.assertRaises(ValueError, job.set, "x", 2**63)
             self.assertRaises(ValueError, jobs.begin, "a b")
+            for timeout in (-1.0, float("nan")):
+                self.assertRaises(ValueError, jobs.begin, "b", timeout=timeout)
 
     def test_a_line_that_waits(self) -> None:
         replies = {"get a x": ["= waits"], "commit b": ["= ok", "* victim c", "= get a x: value 7"]}
