@@ -7,7 +7,6 @@ import os
 import threading
 import time
 import weakref
-from collections import deque
 from collections.abc import Sequence
 
 from .door import WHOLE_RUN, Asking, Door, has_room, is_roomy, waits_for_renewal
@@ -40,14 +39,13 @@ class Jobs(Manager):
     def __init__(
         self, program: Sequence[str], path: str | None, timeout: float | None, report: ReportTo | None, wait: float
     ) -> None:
+        super().__init__()
         self.timeout = timeout
         # Held from a request to the reply, so that one request is under way at a time.
         self._lock = threading.Lock()
         self._turns = Turns()
         self._starter = Starter(program, path, report)
         self._door = Door()
-        # Transactions that nobody holds any more.
-        self._lost: deque[Node] = deque()
         self._report_fault: OSError | None = None
         self._closed = False
         self._forked = False
@@ -215,9 +213,6 @@ class Jobs(Manager):
             run.exchange(call)
         self._result(call)
 
-    def _lose(self, node: Node) -> None:
-        self._lost.append(node)
-
     # ---- accesses
 
     def _accesses(self, node: Node) -> Access:
@@ -248,10 +243,11 @@ class Jobs(Manager):
         if run.fault is not None:
             raise run.fault()
         while self._lost:
-            lost = self._lost[0]
-            if run.tree.live.get(lost.name) is lost:
-                run.exchange(Call(lost, "abort", "", None, f"abort {lost.name}"))
-            if self._lost and self._lost[0] is lost:
+            held = self._lost[0]
+            if run.tree.live.get(held.node.name) is held.node:
+                run.exchange(Call(held.node, "abort", "", None, f"abort {held.node.name}"))
+            self._held.discard(held)
+            if self._lost and self._lost[0] is held:
                 self._lost.popleft()
         if node is not None and node.run is not run:
             raise Undone(node.name) if node.state == UNDONE else Refused("done")

@@ -6,7 +6,6 @@ import os
 import socket
 import threading
 import weakref
-from collections import deque
 from collections.abc import Callable
 from typing import TypeVar
 
@@ -14,7 +13,7 @@ from .errors import Closed, Error, Failed, Forked, Undone
 from .intake import Call
 from .protocol import GREETING, NOTHING, read
 from .transactions import Access, Manager, Transaction
-from .tree import COMMITTED, LIVE, UNDONE, Node, keys_of
+from .tree import ASKED, COMMITTED, LIVE, UNDONE, Node, keys_of
 from .words import Labels, word
 
 _LABELS = Labels()
@@ -87,10 +86,10 @@ class Connected(Manager):
     """
 
     def __init__(self, path: str, timeout: float | None) -> None:
+        super().__init__()
         self.timeout = timeout
         self._path = path
         self._fault: Callable[[], Failed] | None = None
-        self._lost: deque[str] = deque()
         # Connections without a request under way.
         self._idle: list[Link] = []
         self._first = Link(path)
@@ -147,9 +146,7 @@ class Connected(Manager):
             read(link.ask(f"join {self._first.token}"))
         whole = False
         try:
-            while self._lost:
-                link.ask(f"abort {self._lost[0]}")
-                self._lost.popleft()
+            self._undo_lost(link)
             found = work(link)
             whole = True
         except (Error, ValueError) as fault:
@@ -162,6 +159,17 @@ class Connected(Manager):
             else:
                 link.close()
         return found
+
+    def _undo_lost(self, link: Link) -> None:
+        """Undoes the transactions that nobody holds any more."""
+        while self._lost:
+            try:
+                held = self._lost.popleft()
+            except IndexError:
+                return
+            self._held.discard(held)
+            if held.node.state in (ASKED, LIVE):
+                link.ask(f"abort {held.node.name}")
 
     def _ask(self, request: str) -> str | int | None:
         return self._with_link(lambda link: read(link.ask(request)))
@@ -212,9 +220,6 @@ class Connected(Manager):
     def _finish(self, node: Node, verb: str) -> None:
         self._noting(node, f"{verb} {node.name}")
         node.state = COMMITTED if verb == "commit" else UNDONE
-
-    def _lose(self, node: Node) -> None:
-        self._lost.append(node.name)
 
     def _accesses(self, node: Node) -> Access:
         return self._access

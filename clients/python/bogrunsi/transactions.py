@@ -2,14 +2,16 @@
 
 from __future__ import annotations
 
+import weakref
 from abc import ABC, abstractmethod
+from collections import deque
 from collections.abc import Callable, Iterator
 from types import TracebackType
-from typing import Self
+from typing import Self, cast
 
 from .errors import Error, Failed
 from .intake import Call
-from .tree import ASKED, LIVE, UNDONE, Node
+from .tree import UNDONE, Node
 from .tries import MOST_TRIES, Again, Attempt, Pauses, attempts
 from .words import number
 
@@ -26,6 +28,11 @@ class Manager(ABC):
 
     #: How many seconds the calls of transactions wait for a lock, unless `begin` says so. With none they wait as long as it takes.
     timeout: float | None
+
+    def __init__(self) -> None:
+        # What the caller holds, and what nobody holds any more: that is to be undone, if it has not ended.
+        self._held: set[Held] = set()
+        self._lost: deque[Held] = deque()
 
     def begin(
         self, name: str | None = None, *, timeout: float | None = None, alone: bool = False, calls: int | None = None
@@ -108,8 +115,13 @@ class Manager(ABC):
     @abstractmethod
     def _finish(self, node: Node, verb: str) -> None: ...
 
-    @abstractmethod
-    def _lose(self, node: Node) -> None: ...
+
+class Held(weakref.ref["Transaction"]):
+    """Tells of a transaction that nobody holds any more. No function of Python is called for that, in which the exception of a signal
+    handler would be lost."""
+
+    #: What is known of it.
+    node: Node
 
 
 class Transaction:
@@ -125,7 +137,11 @@ class Transaction:
         self._access = manager._accesses(node)
         # It lives as long as a part of it is held.
         self._parent = parent
-        self._own = own
+        if own:
+            # What is called is the list's own, and gets this very object.
+            held = Held(self, cast(Callable[["weakref.ref[Transaction]"], object], manager._lost.append))
+            held.node = node
+            manager._held.add(held)
         #: The whole name, from the top-level transaction on.
         self.name = node.name
         #: How many seconds a call waits for a lock. With none it waits as long as it takes.
@@ -235,8 +251,3 @@ class Transaction:
             self.undo()
         except Error:
             pass
-
-    def __del__(self) -> None:
-        node = getattr(self, "_node", None)
-        if node is not None and self._own and node.state in (ASKED, LIVE):
-            self._manager._lose(node)

@@ -86,6 +86,31 @@ class Processes(OverDatabase):
                 thread.join(20)
             job.commit()
 
+    def test_an_interrupt_is_not_lost_where_transactions_are_dropped(self) -> None:
+        class Stop(Exception):
+            pass
+
+        def handler(number: int, frame: object) -> None:
+            raise Stop
+
+        before = signal.signal(signal.SIGALRM, handler)
+        lost: list[object] = []
+        hook = sys.unraisablehook
+        sys.unraisablehook = lost.append
+        try:
+            with self.opened() as jobs, jobs.begin("t") as job:
+                for _ in range(300):
+                    with self.assertRaises(Stop):
+                        signal.setitimer(signal.ITIMER_REAL, 0.001)
+                        for _ in range(100000):
+                            with job.begin():
+                                pass
+        finally:
+            signal.setitimer(signal.ITIMER_REAL, 0)
+            signal.signal(signal.SIGALRM, before)
+            sys.unraisablehook = hook
+        self.assertEqual(lost, [])
+
     def test_control_c_leaves_the_program(self) -> None:
         script = (
             "import bogrunsi, sys\n"
