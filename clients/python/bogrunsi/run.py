@@ -63,17 +63,16 @@ class Run(Intake):
         if key not in self.known:
             meet(self, verb, key)
         turns = self.turns
-        me = _ME()
-        if (turns.busy and turns.busy != me) or (turns.line and turns.holder != me):
-            turns.stand(me)
-        turns.busy = me
+        if turns.line or (turns.busy is not None and turns.busy is not node):
+            turns.stand(_ME())
+        turns.busy = node
         try:
             return self._access(node, verb, key, value, tail, usual)
         finally:
-            if turns.busy == me:
-                turns.busy = 0
+            if turns.busy is node:
+                turns.busy = None
             if turns.line:
-                turns.hand_on(me)
+                turns.hand_on(_ME())
 
     def _access(self, node: Node, verb: str, key: str, value: int | None, tail: str, usual: str) -> int | None | Call:
         with self.lock:
@@ -96,7 +95,7 @@ class Run(Intake):
                 # A set or a delete was done. Without any bytes the program has ended.
                 node.writes[key] = value
                 value = None
-            elif reply is not chunk and reply[-1] == _LINE_FEED and reply[:-1].removeprefix(b"-").isdigit():
+            elif reply is not chunk and reply[-1] == _LINE_FEED and (reply[:-1].isdigit() or _is_negative(reply)):
                 value = int(reply)
                 if verb == "add":
                     node.writes[key] = value
@@ -254,6 +253,11 @@ class Run(Intake):
         self._written = written
         self._board(call, 2 if doubtful else 1)
         return call
+
+
+def _is_negative(reply: bytes) -> bool:
+    """Whether it is a number below 0, and a line feed."""
+    return reply[:1] == b"-" and reply[1:-1].isdigit()
 
 
 def meet(run: Run, verb: str, key: str) -> None:

@@ -28,8 +28,8 @@ class Turns:
     def __init__(self) -> None:
         #: Those that stand in line.
         self.line: deque[threading.Lock] = deque()
-        #: Who is at the pipe, or about to be. Where that is no longer so, those that stand in line find out.
-        self.busy = 0
+        #: What is asked for at the pipe, or about to be. Where that is no longer so, those that stand in line find out.
+        self.busy: object = None
         #: Who keeps its turn, until when, and when it has asked last.
         self.holder = 0
         self.until = 0.0
@@ -38,17 +38,15 @@ class Turns:
         self._known: dict[int, float] = {}
 
     def __enter__(self) -> None:
-        me = threading.get_ident()
-        if (self.busy and self.busy != me) or (self.line and self.holder != me):
-            self.stand(me)
-        self.busy = me
+        if self.line or (self.busy is not None and self.busy is not self):
+            self.stand(threading.get_ident())
+        self.busy = self
 
     def __exit__(self, kind: type[BaseException] | None, raised: BaseException | None, trace: TracebackType | None) -> None:
-        me = threading.get_ident()
-        if self.busy == me:
-            self.busy = 0
+        if self.busy is self:
+            self.busy = None
         if self.line:
-            self.hand_on(me)
+            self.hand_on(threading.get_ident())
 
     def stand(self, me: int) -> None:
         """Stands in line, until the turn is handed on or it was long enough."""
