@@ -2,7 +2,8 @@
 
 An exception of a signal handler can cut a Python function between any two of its steps. What must not be lost is done here in one
 step of the interpreter: bytes that were read are in the list `chunks`, and what was written is told by the list that the writer
-gives, whatever comes behind.
+gives, whatever comes behind. The short way of `run.py` reads by a step of a loop, behind which no signal is handled before the bytes are in
+the list.
 """
 
 from __future__ import annotations

@@ -224,8 +224,9 @@ class Connected(Manager):
     def _accesses(self, node: Node) -> Access:
         return self._access
 
-    def _access(self, node: Node, verb: str, key: str, value: int | None, tail: str, usual: str) -> int | None | Call:
-        found = self._noting(node, f"{verb} {node.name} {word(key)}{'' if value is None else f' {value}'}")
+    def _access(self, node: Node, verb: str, key: str, value: int | None, text: str, usual: str) -> int | None | Call:
+        word(key)
+        found = self._noting(node, text[1:])
         return None if found is None else _number(found)
 
     def _noting(self, node: Node, request: str) -> str | int | None:

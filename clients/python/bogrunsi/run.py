@@ -12,6 +12,7 @@ from __future__ import annotations
 
 import os
 import threading
+from itertools import repeat
 
 from .errors import Forked, Full
 from .intake import Call, Intake
@@ -26,12 +27,14 @@ _READ = os.read
 _WRITE = os.write
 _ME = threading.get_ident
 # An answer that comes alone is shorter.
-_SIZE = (448,)
+_SIZE = 448
+# The number of a line as it stands behind the label.
+_PLACES = tuple(f" {number}" for number in range(MOST_LINES + 1))
 _LINE_FEED = 10
 _KEY_BYTES = frozenset("abcdefghijklmnopqrstuvwxyz0123456789._-")
 
-#: A request that was sent in the short way: its node, verb, key and value, what stands behind the name, its session, its place there, and
-#: how many bytes of the report were written before.
+#: A request that was sent in the short way: its node, verb, key and value, its text behind a space, its session, its place there, and how
+#: many bytes of the report were written before.
 Flight = tuple[Node, str, str, int | None, str, Session, int, int]
 
 
@@ -41,10 +44,13 @@ class Run(Intake):
     def __init__(self, pipe: Pipe, report: Report | None) -> None:
         super().__init__(pipe, report)
         self._input = pipe.input
-        self._output = (pipe.output,)
+        # Reads each time it is asked for the next item.
+        self._reads = map(_READ, repeat(pipe.output), repeat(_SIZE))
         self._chunks = pipe.chunks
         #: The request that is under way.
         self.flight: Call | Flight | None = None
+        #: The session of the next call of the short way. There is none while a request is under way, lines are short, or calls wait.
+        self.ready: Session | None = None
         # A session, and how many of its lines were answered when so many lines had been sent and so many chunks taken up. Since then
         # there were calls of the short way alone, with one line and one chunk each.
         self._base = (self.sessions.current, 0, 0, 0)
@@ -54,11 +60,10 @@ class Run(Intake):
         self.lock = threading.Lock()
         self.turns = Turns()
 
-    def access(self, node: Node, verb: str, key: str, value: int | None, tail: str, usual: str) -> int | None | Call:
+    def access(self, node: Node, verb: str, key: str, value: int | None, text: str, usual: str) -> int | None | Call:
         """What an access returns, or the call where it is not over. It goes the short way where nothing is under way and nobody waits.
 
-        `tail` is what stands behind the name, and `usual` what stands between the text and the number, or ends the line, where the
-        answer is the usual one. What can be done while the program works is done then.
+        `text` is the request behind a space, and `usual` what stands between it and the number, or ends the line, where all went well.
         """
         if key not in self.known:
             meet(self, verb, key)
@@ -66,49 +71,55 @@ class Run(Intake):
         if turns.line or (turns.busy is not None and turns.busy is not node):
             turns.stand(_ME())
         turns.busy = node
-        try:
-            return self._access(node, verb, key, value, tail, usual)
-        finally:
-            if turns.busy is node:
-                turns.busy = None
-            if turns.line:
-                turns.hand_on(_ME())
-
-    def _access(self, node: Node, verb: str, key: str, value: int | None, tail: str, usual: str) -> int | None | Call:
         with self.lock:
-            if self.flight is not None or self.spare <= 0 or self.waiting:
-                return Call(node, verb, key, value, f"{verb} {node.name} {tail}")
-            session = self.sessions.current
-            place = session.taken + 1
-            self.flight = flight = (node, verb, key, value, tail, session, place, self._written)
-            try:
-                _WRITE(self._input, f"{session.label} {verb} {node.name} {tail}\n".encode())
-            except BrokenPipeError:
-                # The program has ended. That is told by what is read.
-                return self._slow(flight, True)
-            head = f"{session.label} {place} {verb} {node.name} {tail}{usual}".encode()
-            node.used = True
-            self._chunks.extend(map(_READ, self._output, _SIZE))
-            chunk = self._chunks[-1]
-            reply = chunk.removeprefix(head)
-            if not reply and chunk:
-                # A set or a delete was done. Without any bytes the program has ended.
+            done = self._short(self.ready, node, verb, key, value, text, usual)
+        # Where the call was cut off, those that stand in line find out.
+        if turns.busy is node:
+            turns.busy = None
+        if turns.line:
+            turns.hand_on(_ME())
+        return done
+
+    def _short(
+        self, session: Session | None, node: Node, verb: str, key: str, value: int | None, text: str, usual: str
+    ) -> int | None | Call:
+        """The short way, by a session that is ready. What is no usual answer goes on in the long way."""
+        if session is None:
+            return Call(node, verb, key, value, text[1:])
+        place = session.taken + 1
+        self.ready = None
+        self.flight = flight = (node, verb, key, value, text, session, place, self._written)
+        try:
+            _WRITE(self._input, f"{session.label}{text}\n".encode())
+        except BrokenPipeError:
+            # The program has ended. That is told by what is read.
+            return self._slow(flight, True)
+        node.used = True
+        for chunk in self._reads:
+            # The interpreter handles no signal between the read and this step, so nothing that was read is lost.
+            self._chunks.append(chunk)
+            break
+        reply = chunk.removeprefix(f"{session.label}{_PLACES[place]}{text}{usual}".encode())
+        if not reply and chunk:
+            # A set or a delete was done. Without any bytes the program has ended.
+            node.writes[key] = value
+            value = None
+        elif reply is not chunk and reply[-1] == _LINE_FEED and (reply[:-1].isdigit() or _is_negative(reply)):
+            value = int(reply)
+            if verb == "add":
                 node.writes[key] = value
-                value = None
-            elif reply is not chunk and reply[-1] == _LINE_FEED and (reply[:-1].isdigit() or _is_negative(reply)):
-                value = int(reply)
-                if verb == "add":
-                    node.writes[key] = value
-            elif chunk != f"{session.label} {place} get {node.name} {tail} -> none\n".encode():
-                return self._slow(flight, False)
-            if self._report is not None:
-                self._report.put(chunk, self._written)
-                self._written += len(chunk)
-            session.taken = place
-            if place == MOST_LINES:
-                self.settle()
+        elif verb != "get" or chunk != f"{session.label} {place}{text} -> none\n".encode():
+            return self._slow(flight, False)
+        if self._report is not None:
+            self._report.put(chunk, self._written)
+            self._written += len(chunk)
+        session.taken = place
+        if place == MOST_LINES:
+            self.settle()
+        else:
             self.flight = None
-            return value
+            self.ready = session
+        return value
 
     def _slow(self, flight: Flight, doubtful: bool) -> Call:
         """Goes on in the long way. The call says what became of it."""
@@ -159,6 +170,7 @@ class Run(Intake):
         call.first = sent + 1
         call.last = sent + lines
         self._place = (came, b"", 0, self._written)
+        self.ready = None
         self.flight = call
         self._under_way = call
         if call.session is not None:
@@ -173,7 +185,12 @@ class Run(Intake):
         self.count()
         current = self.sessions.current
         self._base = (current, current.taken, call.last if call.sent else call.first - 1, len(self._chunks))
+        self._clear()
+
+    def _clear(self) -> None:
+        """Notes that nothing is under way. That the short way is open is the last that is noted, and the first that is taken back."""
         self.flight = None
+        self.ready = self.sessions.current if self.spare > 0 and not self.waiting else None
 
     def mark(self) -> None:
         """Reads all that has come about, up to the answer to an empty line."""
@@ -204,7 +221,7 @@ class Run(Intake):
             self.sessions.turn()
             self.count()
             self._base = (self.sessions.current, self.sessions.current.taken, sent, came)
-            self.flight = None
+            self._clear()
             return
         else:
             call = self._unfold(flight, True)
@@ -238,14 +255,15 @@ class Run(Intake):
         self.lock = lock
         self.turns = turns
         self._pipe.forked()
+        self.ready = None
         self.flight = None
         self.fault = Forked
         self.count()
 
     def _unfold(self, flight: Flight, doubtful: bool) -> Call:
         """A request that was sent in the short way, as a call. If it is not known that it was written, a mark is to follow."""
-        node, verb, key, value, tail, session, place, written = flight
-        call = Call(node, verb, key, value, f"{verb} {node.name} {tail}")
+        node, verb, key, value, text, session, place, written = flight
+        call = Call(node, verb, key, value, text[1:])
         call.session, call.place = session, place
         call.doubtful = doubtful
         if not doubtful:

@@ -16,7 +16,7 @@ from .tries import MOST_TRIES, Again, Attempt, Pauses, attempts
 from .words import number
 
 
-#: A call of an access: it gives the value, or the call where it is not over.
+#: A call of an access: it gives the value, or the call where it is not over. `Run.access` says what it is given.
 Access = Callable[[Node, str, str, int | None, str, str], int | None | Call]
 
 
@@ -186,31 +186,33 @@ class Transaction:
 
     def get(self, key: str) -> int | None:
         """The value of a key, as this transaction sees it, or none where it has no value."""
-        value = self._access(self._node, "get", key, None, key, " -> value ")
+        value = self._access(self._node, "get", key, None, f" get {self._node.name} {key}", " -> value ")
         return self._manager._go_on(value, self.timeout) if isinstance(value, Call) else value
 
     def set(self, key: str, value: int) -> None:
         """Gives a key a value."""
         value = number(value)
-        done = self._access(self._node, "set", key, value, f"{key} {value}", " -> ok\n")
+        done = self._access(self._node, "set", key, value, f" set {self._node.name} {key} {value}", " -> ok\n")
         if isinstance(done, Call):
             self._manager._go_on(done, self.timeout)
 
     def add(self, key: str, value: int) -> int:
         """Adds to the value of a key, which is 0 where it has none, and returns the sum."""
         value = number(value)
-        return self._number(self._access(self._node, "add", key, value, f"{key} {value}", " -> new "))
+        text = f" add {self._node.name} {key} {value}"
+        return self._number(self._access(self._node, "add", key, value, text, " -> new "))
 
     def delete(self, key: str) -> None:
         """Takes a key's value away."""
-        done = self._access(self._node, "del", key, None, key, " -> ok\n")
+        done = self._access(self._node, "del", key, None, f" del {self._node.name} {key}", " -> ok\n")
         if isinstance(done, Call):
             self._manager._go_on(done, self.timeout)
 
     def sum(self, group: str) -> int:
         """The sum of the values of all keys that begin with the group's bytes and a dot. Until this transaction and those
         that it commits into have ended, no other may write such a key."""
-        return self._number(self._access(self._node, "sum", group, None, group, " -> value "))
+        text = f" sum {self._node.name} {group}"
+        return self._number(self._access(self._node, "sum", group, None, text, " -> value "))
 
     def _number(self, done: int | None | Call) -> int:
         value = self._manager._go_on(done, self.timeout) if isinstance(done, Call) else done
