@@ -72,7 +72,11 @@ class Run(Intake):
             turns.stand(_ME())
         turns.busy = node
         with self.lock:
-            done = self._short(self.ready, node, verb, key, value, text, usual)
+            session = self.ready
+            if session is not None:
+                done = self._short(session, node, verb, key, value, text, usual)
+            else:
+                done = Call(node, verb, key, value, text[1:])
         # Where the call was cut off, those that stand in line find out.
         if turns.busy is node:
             turns.busy = None
@@ -81,11 +85,9 @@ class Run(Intake):
         return done
 
     def _short(
-        self, session: Session | None, node: Node, verb: str, key: str, value: int | None, text: str, usual: str
+        self, session: Session, node: Node, verb: str, key: str, value: int | None, text: str, usual: str
     ) -> int | None | Call:
         """The short way, by a session that is ready. What is no usual answer goes on in the long way."""
-        if session is None:
-            return Call(node, verb, key, value, text[1:])
         place = session.taken + 1
         self.ready = None
         self.flight = flight = (node, verb, key, value, text, session, place, self._written)
