@@ -8,7 +8,7 @@ use Rattle.serial_spec.specs.declared.entry.Answer.{Answer}
 use Rattle.serial_spec.specs.History.{History}
 use Rattle.serial_spec.specs.Rows.{Rows}
 use Rattle.serial_spec.specs.Interleaving.{Session, lines_of, answered, IsInTurn, IsInterleaving}
-use Rattle.serial_spec.specs.Report.{line, spelled_rows, spelled_entry, spelled_history}
+use Rattle.line_language.specs.Report.{line, spelled_rows, spelled_entry, spelled_history}
 use Rattle.growing_sessions.specs.Growing.{Extends, labels_in, HistoryReadsSame, ReportBegins}
 
 -- a session that has a line is there, and so has a label

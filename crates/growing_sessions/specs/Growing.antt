@@ -12,9 +12,10 @@ use Rattle.serial_spec.specs.History.{History}
 use Rattle.serial_spec.specs.Rows.{Rows}
 use Rattle.serial_spec.specs.Interleaving.{Session, lines_of, answered, IsInterleaving, Step}
 use Rattle.serial_spec.specs.Follows.{StepOfEach}
-use Rattle.serial_spec.specs.Report.{line, spelled_rows, spelled_history, report}
+use Rattle.line_language.specs.Report.{line, spelled_rows, spelled_history, report}
 use Rattle.txn_history.specs.Turns.{IsUnderWay}
-use Rattle.session_text.specs.Grammar.{IsEvent, IsText, is_taken}
+use Rattle.line_language.specs.Events.{IsEvent}
+use Rattle.session_text.specs.Grammar.{IsText, is_taken}
 use Rattle.session_text.specs.Growing.{with_line_of}
 use Rattle.session_text.specs.Texts.{with_header}
 

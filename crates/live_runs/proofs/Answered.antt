@@ -6,7 +6,7 @@ use Rattle.serial_spec.specs.declared.entry.Entry.{Entry}
 use Rattle.serial_spec.specs.declared.event.Event.{Event}
 use Rattle.serial_spec.specs.History.{History}
 use Rattle.serial_spec.specs.Interleaving.{Session}
-use Rattle.serial_spec.specs.Report.{spelled_history}
+use Rattle.line_language.specs.Report.{spelled_history}
 use Rattle.session_text.specs.Growing.{place_of}
 use Rattle.growing_sessions.specs.Growing.{Extends, labels_in}
 use Rattle.growing_sessions.proofs.Lines.{growths_join, line_extends, session_extends}

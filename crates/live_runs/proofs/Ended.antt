@@ -1,7 +1,7 @@
 -- The end of a live run, of which something was shown before.
 use Rattle.std.proofs.Common.{◌≡◌, ℕ, List, [], ◌++◌, length, sym, ap, ◌∙◌}
 use Rattle.txn_bytes.specs.Written.{Writer}
-use Rattle.serial_spec.specs.Report.{spelled_history}
+use Rattle.line_language.specs.Report.{spelled_history}
 use Rattle.durable_top.specs.declared.store.TopStore.{Ghosts}
 use Rattle.interleavings.specs.Reports.{IsReport}
 use Rattle.interleavings.specs.Scheduled.{RunsOut}

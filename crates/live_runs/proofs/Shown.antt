@@ -5,7 +5,7 @@ use Rattle.std.specs.Prelude.{codes}
 use Rattle.serial_spec.specs.declared.entry.Entry.{Entry}
 use Rattle.serial_spec.specs.History.{History}
 use Rattle.serial_spec.specs.Interleaving.{IsInterleaving}
-use Rattle.serial_spec.specs.Report.{line, spelled_entry, spelled_history, spelled_rows}
+use Rattle.line_language.specs.Report.{line, spelled_entry, spelled_history, spelled_rows}
 use Rattle.serial_spec.specs.Rows.{Rows}
 use Rattle.durable_top.specs.declared.store.TopStore.{Ghosts}
 use Rattle.growing_sessions.specs.Growing.{Extends, labels_in}

@@ -1,6 +1,6 @@
 -- By which line the program tells why a live run gave no whole report.
 use Rattle.std.specs.Prelude.{ℕ, List, codes}
-use Rattle.serial_spec.specs.Report.{line}
+use Rattle.line_language.specs.Report.{line}
 use Rattle.manager_core.specs.declared.outcome.OpenFault.TheVariants as opening
 use Rattle.program_words.specs.Faults.{spelled_fault}
 use Rattle.program_words.specs.declared.fault.Fault.TheVariants as fault

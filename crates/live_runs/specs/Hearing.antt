@@ -3,8 +3,8 @@ use Rattle.std.specs.Prelude.{◌≡◌, ◌⊎◌, ◌^◌, ℕ, suc, Bool, tru
 use Rattle.txn_bytes.specs.Written.{Writer}
 use Rattle.serial_spec.specs.declared.event.Event.{Event}
 use Rattle.serial_spec.specs.Interleaving.{Session}
-use Rattle.session_text.specs.declared.fault.LineKind.{LineKind}
-use Rattle.session_text.specs.declared.fault.LineKind.TheVariants as kind
+use Rattle.line_language.specs.declared.fault.LineKind.{LineKind}
+use Rattle.line_language.specs.declared.fault.LineKind.TheVariants as kind
 use Rattle.session_text.specs.Requests.{request_of}
 use Rattle.growing_sessions.specs.Growing.{begun_report, labels_in}
 use Rattle.durable_top.specs.declared.store.TopStore.{Ghosts}

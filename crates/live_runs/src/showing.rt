@@ -1,6 +1,6 @@
 //! The report as it grows: each part is written and passed on.
 ghost use Rattle.std.specs.Prelude.{◌≤◌, ◌++◌, length, reverse, OnErr, OnOk};
-ghost use Rattle.serial_spec.specs.Report.{spelled_history};
+ghost use Rattle.line_language.specs.Report.{spelled_history};
 ghost use Rattle.durable_top.specs.Store.{plain};
 ghost use Rattle.interleavings.specs.Reports.{IsReport};
 ghost use Rattle.report_text.specs.Lines.{ending_text, opening_text};

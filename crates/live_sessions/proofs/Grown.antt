@@ -4,7 +4,7 @@ use Rattle.std.proofs.lemmas.Bool.{le-ltb, lt-ltb}
 use Rattle.serial_spec.specs.declared.event.Event.{Event}
 use Rattle.serial_spec.specs.History.{History}
 use Rattle.serial_spec.specs.Interleaving.{Session, answered, lines_of}
-use Rattle.session_text.specs.declared.fault.LineKind.TheVariants as kind
+use Rattle.line_language.specs.declared.fault.LineKind.TheVariants as kind
 use Rattle.session_text.specs.Growing.{place_of, with_line_of}
 use Rattle.session_text.specs.Texts.{with_header}
 use Rattle.session_text.proofs.Growing.{same_count}

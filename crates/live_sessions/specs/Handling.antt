@@ -3,7 +3,7 @@ use Rattle.std.specs.Prelude.{◌≡◌, ◌⊎◌, ℕ, List, Option, Some, Non
 use Rattle.serial_spec.specs.declared.event.Event.{Event}
 use Rattle.serial_spec.specs.History.{History}
 use Rattle.serial_spec.specs.Interleaving.{Session, Step}
-use Rattle.session_text.specs.declared.fault.LineKind.{LineKind}
+use Rattle.line_language.specs.declared.fault.LineKind.{LineKind}
 use Rattle.session_text.specs.Requests.{request_of}
 use Rattle.growing_sessions.specs.Growing.{IsOpenEnded, labels_in}
 use Rattle.durable_top.specs.declared.store.TopStore.{Ghosts}

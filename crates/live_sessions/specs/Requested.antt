@@ -4,8 +4,8 @@ use Rattle.serial_spec.specs.declared.event.Event.{Event}
 use Rattle.serial_spec.specs.declared.limits.TheConstants.{MOST_LINES, MOST_SESSIONS}
 use Rattle.serial_spec.specs.History.{History}
 use Rattle.serial_spec.specs.Interleaving.{Session, answered, lines_of}
-use Rattle.session_text.specs.declared.fault.LineKind.{LineKind}
-use Rattle.session_text.specs.declared.fault.LineKind.TheVariants as kind
+use Rattle.line_language.specs.declared.fault.LineKind.{LineKind}
+use Rattle.line_language.specs.declared.fault.LineKind.TheVariants as kind
 use Rattle.session_text.specs.Growing.{place_of, with_line_of}
 use Rattle.session_text.specs.Requests.{request_of}
 use Rattle.session_text.specs.Texts.{with_header}

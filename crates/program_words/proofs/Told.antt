@@ -2,7 +2,7 @@
 use Rattle.std.proofs.Common.{◌≡◌, ◌≤◌, ℕ, List, arith}
 use Rattle.std.specs.Prelude.{◌≢◌, Result, Ok, Err, IfOk}
 use Rattle.txn_bytes.specs.Written.{Writer}
-use Rattle.serial_spec.specs.Report.{line}
+use Rattle.line_language.specs.Report.{line}
 use Rattle.program_words.specs.Faults.{IsSaid, spelled_fault}
 use Rattle.program_words.specs.Tellings.{Accounts, HasFaultLine}
 use Rattle.program_words.specs.declared.fault.Fault.{Fault}

@@ -1,7 +1,7 @@
 -- The list of a schedule: session numbers, one comma apart.
 use Rattle.std.specs.Prelude.{ℕ, ℤ, pos, negsuc, ◌^◌, nat_lt, ◌==◌, if◌then◌else◌, List, [], map, Option, Some, None}
 use Rattle.std.specs.List.{slice_split}
-use Rattle.session_text.specs.Numbers.{number_of}
+use Rattle.line_language.specs.Numbers.{number_of}
 
 -- what stands for an item that is no number of 32 bits: the greatest of them, which is no
 -- session's

@@ -3,7 +3,7 @@ use Rattle.std.specs.Prelude.{◌≡◌, ◌⊎◌, ℕ, List, Result, Ok, Err}
 use Rattle.std.specs.Io.KnownBytes.{Appends}
 use Rattle.txn_bytes.specs.Written.{Writer}
 use Rattle.txn_bytes.specs.declared.sink.WriteFault.{WriteFault}
-use Rattle.serial_spec.specs.Report.{line}
+use Rattle.line_language.specs.Report.{line}
 use Rattle.program_words.specs.Faults.{IsCut, IsSaid, spelled_fault}
 use Rattle.program_words.specs.declared.fault.Fault.{Fault}
 use Rattle.program_words.specs.declared.fault.Fault.TheVariants.{CannotWrite}

@@ -2,7 +2,7 @@
 ghost use Rattle.std.specs.Prelude.{◌≡◌, ◌≢◌, ◌≤◌, ◌++◌, codes, decimal, OnErr, OnOk, Ok, Err};
 ghost use Rattle.std.specs.Io.KnownBytes.{Appends, Keeps};
 ghost use Rattle.txn_bytes.specs.Written.{AppendsFront, IsStopped};
-ghost use Rattle.serial_spec.specs.Report.{line};
+ghost use Rattle.line_language.specs.Report.{line};
 ghost use Rattle.program_words.specs.declared.fault.Fault.TheVariants.{CannotWrite};
 ghost use Rattle.program_words.specs.Faults.{IsSaid, spelled_cause, spelled_fault, spelled_kind};
 

@@ -8,11 +8,11 @@ use Rattle.std.proofs.lemmas.Bool.{and_from, not_from_false, or_parts}
 use Rattle.std.proofs.lemmas.Bool.Decides.{Decides-int_eq}
 use Rattle.txn_names.specs.Path.{label_eq}
 use Rattle.txn_names.proofs.Names.{label_eq_self, on_test}
-use Rattle.serial_spec.specs.Report.{line}
+use Rattle.line_language.specs.Report.{line}
 use Rattle.serial_spec.specs.Rows.{Rows, value_in}
-use Rattle.session_text.specs.Steps as steps
-use Rattle.session_text.specs.Words.{cut_at}
-use Rattle.session_text.proofs.Bytes.{Lacks, cut_behind, cut_some}
+use Rattle.line_language.specs.Steps as steps
+use Rattle.line_language.specs.Words.{cut_at}
+use Rattle.line_language.proofs.Bytes.{Lacks, cut_behind, cut_some}
 use Rattle.report_check.specs.Laws.{FaultsStay, ServedIsAccepted, ended_lines}
 use Rattle.report_check.specs.Passing.{Read, has_ended, next, read_from, unread}
 use Rattle.report_check.specs.Verdicts.{IsJudged, IsRun, compared}

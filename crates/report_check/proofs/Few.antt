@@ -6,8 +6,8 @@ use Rattle.txn_names.specs.Path.{label_eq, parent}
 use Rattle.serial_spec.specs.declared.limits.TheConstants.{MOST_ROWS, MOST_SESSIONS, MOST_TRANSACTIONS}
 use Rattle.serial_spec.specs.History.{History, Effect, Begins, Accesses, Commits, Aborts, Nothing, begun, begun_by, is_absent, is_active, status}
 use Rattle.serial_spec.specs.Rows.{Rows}
-use Rattle.report_lines.specs.declared.entry.ReportEntry.{ReportEntry}
-use Rattle.report_lines.specs.declared.entry.ReportEntry.TheVariants as told
+use Rattle.line_language.specs.declared.entry.ReportEntry.{ReportEntry}
+use Rattle.line_language.specs.declared.entry.ReportEntry.TheVariants as told
 use Rattle.report_check.specs.Passing.{Part, Read, at_part, entry_in, is_next, is_past, may_add_row, may_do, session_of, unread, with_entry, with_label, with_opening, with_row}
 
 pub record IsFew (r : Read) : Type 0 where

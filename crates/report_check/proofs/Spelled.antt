@@ -15,18 +15,18 @@ use Rattle.serial_spec.specs.declared.entry.By.{By}
 use Rattle.serial_spec.specs.declared.entry.By.TheVariants as by
 use Rattle.serial_spec.specs.declared.entry.Entry.{Entry}
 use Rattle.serial_spec.specs.History.{History}
-use Rattle.serial_spec.specs.Printing.{spelled_answer, spelled_event, spelled_number}
-use Rattle.serial_spec.specs.Report.{line, report, spelled_entry, spelled_history, spelled_rows}
+use Rattle.line_language.specs.Printing.{spelled_answer, spelled_event, spelled_number}
+use Rattle.line_language.specs.Report.{line, report, spelled_entry, spelled_history, spelled_rows}
 use Rattle.serial_spec.specs.Rows.{Rows}
-use Rattle.session_text.specs.Words.{cut_at}
-use Rattle.session_text.proofs.Bytes.{joined_cut}
-use Rattle.session_text.proofs.Reading.{bind_ok, is_word, pick}
-use Rattle.report_lines.specs.Laws.{spelled_report_entry}
-use Rattle.report_lines.specs.Reading.{entry_of, row_of}
-use Rattle.report_lines.specs.declared.entry.ReportEntry.{ReportEntry}
-use Rattle.report_lines.specs.declared.entry.ReportEntry.TheVariants as told
-use Rattle.report_lines.proofs.Entries.{entries_read_back}
-use Rattle.report_lines.proofs.Rows.{rows_read_back}
+use Rattle.line_language.specs.Words.{cut_at}
+use Rattle.line_language.proofs.Bytes.{joined_cut}
+use Rattle.line_language.proofs.Reading.{bind_ok, is_word, pick}
+use Rattle.line_language.specs.Entries.{spelled_report_entry}
+use Rattle.line_language.specs.Reading.{entry_of, row_of}
+use Rattle.line_language.specs.declared.entry.ReportEntry.{ReportEntry}
+use Rattle.line_language.specs.declared.entry.ReportEntry.TheVariants as told
+use Rattle.line_language.proofs.Entries.{entries_read_back}
+use Rattle.line_language.proofs.Rows.{rows_read_back}
 use Rattle.report_check.specs.Passing.{Part, Start, Opening, Entries, Final, Ended, Read, at_part, entry_in, entry_next, final_next, has_ended, labels_after, may_add_row, may_end, may_follow, middle_next, next, next_at, opening_next, read, read_from, unread, with_entry, with_label, with_opening, with_row}
 
 -- ---- the text so far

@@ -11,8 +11,8 @@ use Rattle.serial_spec.specs.History.{History, Name, begun, has_begun, is_commit
 use Rattle.serial_spec.specs.Interleaving.{answered}
 use Rattle.serial_spec.specs.Items.{items}
 use Rattle.serial_spec.specs.Legal.{first_live, is_top_level}
-use Rattle.serial_spec.specs.Printing.{spelled_event}
-use Rattle.serial_spec.specs.Report.{line, report}
+use Rattle.line_language.specs.Printing.{spelled_event}
+use Rattle.line_language.specs.Report.{line, report}
 use Rattle.serial_spec.specs.Rows.{IsRising, Rows, value_in}
 use Rattle.serial_spec.specs.Serial.{Map, Replies, Runs, map_after}
 use Rattle.serial_spec.specs.Waits.{is_waits}

@@ -11,7 +11,7 @@ use Rattle.serial_spec.specs.declared.event.Event.{Event}
 use Rattle.serial_spec.specs.declared.event.Event.TheVariants.{Abort}
 use Rattle.serial_spec.specs.declared.entry.Answer.{Answer}
 use Rattle.serial_spec.specs.declared.entry.Entry.{Entry}
-use Rattle.serial_spec.specs.Printing.{spelled_event}
+use Rattle.line_language.specs.Printing.{spelled_event}
 use Rattle.serial_spec.specs.Rows.{Rows}
 use Rattle.serial_spec.specs.Places.{is_below}
 use Rattle.serial_spec.specs.History.{History, Effect, Begins, Accesses, Commits, Aborts, Nothing, effect, status, is_absent, is_active, begun}
@@ -19,11 +19,11 @@ use Rattle.serial_spec.specs.Waits.{is_waits}
 use Rattle.serial_spec.specs.Allowed.{has_live_child}
 use Rattle.serial_spec.specs.Legal.{is_top_level, first_live}
 use Rattle.serial_spec.specs.Interleaving.{answered, closing, victim}
-use Rattle.session_text.specs.Steps.{◌>>=◌}
-use Rattle.session_text.specs.Words.{cut_at}
-use Rattle.report_lines.specs.Reading.{entry_of, row_of}
-use Rattle.report_lines.specs.declared.entry.ReportEntry.{ReportEntry}
-use Rattle.report_lines.specs.declared.entry.ReportEntry.TheVariants as told
+use Rattle.line_language.specs.Steps.{◌>>=◌}
+use Rattle.line_language.specs.Words.{cut_at}
+use Rattle.line_language.specs.Reading.{entry_of, row_of}
+use Rattle.line_language.specs.declared.entry.ReportEntry.{ReportEntry}
+use Rattle.line_language.specs.declared.entry.ReportEntry.TheVariants as told
 
 -- which part of a report the next line is of
 pub data Part : Type 0 where

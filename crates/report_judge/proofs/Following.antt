@@ -23,7 +23,7 @@ use Rattle.serial_spec.specs.History.{Name, History, Effect, Aborts, Nothing, be
 use Rattle.serial_spec.specs.Interleaving.{answered, closing, victim}
 use Rattle.serial_spec.specs.Legal.{first_live, is_top_level}
 use Rattle.txn_history.proofs.Begun.{any_begun, some_begun}
-use Rattle.report_lines.specs.declared.entry.ReportEntry.TheVariants as told
+use Rattle.line_language.specs.declared.entry.ReportEntry.TheVariants as told
 use Rattle.report_check.specs.Passing.{Read, entry_in, goes_on, is_close, may_do, may_follow, waiting, with_label}
 use Rattle.report_tables.specs.Spoken.{AreSessionsOf, IsNumberOf, Tells, line_entry}
 use Rattle.report_tables.specs.Told.{AreTransactionsOf, Comes, IsTreeOf}

@@ -2,8 +2,8 @@
 use Rattle.std.proofs.Common.{◌≡◌, ℕ, ◌+◌, ◌<◌, Bool, true, false, not, cond, ◌&&◌, List, [], ◌∷◌, ◌++◌, length, Option, Some, None, Result, Ok, Err, refl, sym, ap, subst, ◌∙◌, true≢false, arith, append_assoc, length-append}
 use Rattle.std.specs.Prelude.{◌==◌, OnOk}
 use Rattle.std.proofs.lemmas.Bool.{and_parts, eqb-true}
-use Rattle.session_text.specs.Words.{cut_at}
-use Rattle.session_text.proofs.Bytes.{Lacks-append}
+use Rattle.line_language.specs.Words.{cut_at}
+use Rattle.line_language.proofs.Bytes.{Lacks-append}
 use Rattle.report_check.specs.Passing.{Read, Part, Start, Opening, Entries, Final, Ended, has_ended, next, read, read_from, unread}
 use Rattle.report_check.specs.Verdicts.{HasVerdict, IsJudged, IsRun, first_wrong}
 use Rattle.report_check.specs.declared.verdict.Verdict.{Verdict}

@@ -14,18 +14,18 @@ use Rattle.serial_spec.specs.declared.entry.Refusal.TheVariants as refusal
 use Rattle.serial_spec.specs.declared.entry.Answer.{Answer}
 use Rattle.serial_spec.specs.declared.entry.Answer.TheVariants.{Done, Waits, Stuck, Refused}
 use Rattle.serial_spec.specs.Operations.{is_i64}
-use Rattle.serial_spec.specs.Printing.{spelled_answer, spelled_event, spelled_number}
-use Rattle.session_text.specs.Steps.{◌>>=◌}
-use Rattle.session_text.specs.Words.{before, behind, cut_at}
-use Rattle.session_text.proofs.Bytes.{Lacks-append, cut_behind, cut_lacking, cut_some}
-use Rattle.session_text.proofs.Reading.{pick}
-use Rattle.session_text.proofs.Spelling.{event_short}
-use Rattle.report_lines.specs.Laws.{IsAnswer, IsReportEntry, spelled_report_entry}
-use Rattle.report_lines.specs.Reading.{entry_of, row_of}
-use Rattle.report_lines.specs.declared.entry.ReportEntry.{ReportEntry}
-use Rattle.report_lines.specs.declared.entry.ReportEntry.TheVariants as told
-use Rattle.report_lines.proofs.Entries.{entries_read_back}
-use Rattle.report_lines.proofs.Rows.{rows_read_back}
+use Rattle.line_language.specs.Printing.{spelled_answer, spelled_event, spelled_number}
+use Rattle.line_language.specs.Steps.{◌>>=◌}
+use Rattle.line_language.specs.Words.{before, behind, cut_at}
+use Rattle.line_language.proofs.Bytes.{Lacks-append, cut_behind, cut_lacking, cut_some}
+use Rattle.line_language.proofs.Reading.{pick}
+use Rattle.line_language.proofs.Spelled.{event_short}
+use Rattle.line_language.specs.Entries.{IsAnswer, IsReportEntry, spelled_report_entry}
+use Rattle.line_language.specs.Reading.{entry_of, row_of}
+use Rattle.line_language.specs.declared.entry.ReportEntry.{ReportEntry}
+use Rattle.line_language.specs.declared.entry.ReportEntry.TheVariants as told
+use Rattle.line_language.proofs.Entries.{entries_read_back}
+use Rattle.line_language.proofs.Rows.{rows_read_back}
 use Rattle.report_check.specs.Passing.{Part, Start, Opening, Entries, Final, Ended, Read, at_part, entry_in, entry_next, final_next, has_ended, may_add_row, may_end, may_follow, middle_next, next, next_at, opening_next, read_from, with_entry, with_opening, with_row}
 use Rattle.report_judge.specs.Judging.{IsLine}
 use Rattle.report_judge.specs.Kept.{line_of, lines_before}

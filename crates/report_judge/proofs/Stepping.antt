@@ -4,10 +4,10 @@ use Rattle.std.specs.Prelude.{nat_lt}
 use Rattle.std.specs.Map.{keys_of}
 use Rattle.serial_spec.specs.History.{History}
 use Rattle.serial_spec.specs.Rows.{Rows}
-use Rattle.report_lines.specs.declared.entry.ReportEntry.{ReportEntry}
-use Rattle.report_lines.specs.Laws.{IsReportEntry}
-use Rattle.report_lines.specs.Reading.{entry_of}
-use Rattle.report_lines.proofs.Entries.{entries_read_back}
+use Rattle.line_language.specs.declared.entry.ReportEntry.{ReportEntry}
+use Rattle.line_language.specs.Entries.{IsReportEntry}
+use Rattle.line_language.specs.Reading.{entry_of}
+use Rattle.line_language.proofs.Entries.{entries_read_back}
 use Rattle.report_check.specs.Passing.{Part, Start, Opening, Entries, Final, Ended, Read, at_part, entry_in, entry_next, may_add_row, may_end, may_follow, none_waits, unread, with_entry, with_opening, with_row}
 use Rattle.txn_tree.specs.Asked.{live_children_of}
 use Rattle.report_tables.specs.Chained.{Known}

@@ -3,7 +3,7 @@ use Rattle.std.specs.Prelude.{◌≡◌, ℕ, ◌++◌, Bool, true, false, not, 
 use Rattle.std.specs.List.{list_all}
 use Rattle.std.specs.Io.KnownBytes.{Consumes, IsAtEnd}
 use Rattle.serial_spec.specs.Rows.{IsRising, Rows, value_in}
-use Rattle.session_text.specs.Words.{cut_at}
+use Rattle.line_language.specs.Words.{cut_at}
 use Rattle.report_check.specs.Passing.{Part, Read, has_ended, read, read_from}
 use Rattle.report_check.specs.Verdicts.{HasVerdict, compared}
 use Rattle.report_check.specs.declared.verdict.Verdict.{Verdict}

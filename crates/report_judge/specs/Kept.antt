@@ -10,7 +10,7 @@ use Rattle.serial_spec.specs.declared.event.Event.TheVariants.{Access, Sum}
 use Rattle.serial_spec.specs.declared.limits.TheConstants.{MOST_ROWS}
 use Rattle.serial_spec.specs.Places.{is_below}
 use Rattle.serial_spec.specs.Rows.{IsRising, Rows, value_in}
-use Rattle.report_lines.specs.declared.entry.ReportEntry.{ReportEntry}
+use Rattle.line_language.specs.declared.entry.ReportEntry.{ReportEntry}
 use Rattle.report_check.specs.Passing.{Part, Start, Opening, Entries, Final, Ended, Read, entry_in, is_close, may_add_row, may_follow, with_entry}
 use Rattle.report_tables.specs.Chained.{Known, known_by}
 use Rattle.report_tables.specs.Spoken.{AreSessionsOf}

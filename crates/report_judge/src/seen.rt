@@ -6,9 +6,9 @@ ghost use Rattle.indexmap.specs.IndexMap.{index_map_len, keys};
 ghost use Rattle.serial_spec.specs.History.{Accesses, History, effect_of};
 ghost use Rattle.serial_spec.specs.Places.{is_below};
 ghost use Rattle.serial_spec.specs.Rows.{IsRising, Rows};
-ghost use Rattle.session_text.specs.Grammar.{IsEvent};
-ghost use Rattle.report_lines.specs.Laws.{IsReportEntry};
-ghost use Rattle.report_lines.specs.Reading.{entry_of, row_of};
+ghost use Rattle.line_language.specs.Events.{IsEvent};
+ghost use Rattle.line_language.specs.Entries.{IsReportEntry};
+ghost use Rattle.line_language.specs.Reading.{entry_of, row_of};
 ghost use Rattle.report_check.specs.Passing.{Ended, Final, Opening, Read, Start, at_part, entry_next, has_ended, may_add_row, may_end, middle_next, next, next_at, opening_next, unread, with_opening, with_row};
 ghost use Rattle.report_judge.specs.Kept.{AddsRow, Follows, IsKept, IsMiddle, IsSeen, Opens, Steps, is_access, is_done_ok, line_of, may_come, opened, part_of};
 ghost use Rattle.serial_spec.specs.declared.target.Asked.TheVariants.{At, Over};
@@ -17,7 +17,7 @@ ghost use Rattle.report_tables.specs.Told.{AreTransactionsOf, Comes};
 ghost use Rattle.report_tables.specs.Valued.{value_at};
 
 use indexmap::IndexMap;
-use report_lines::{ReportEntry, parse_row, read_entry};
+use line_language::{ReportEntry, parse_row, read_entry};
 use report_tables::{
     Access, ByNumber, Groups, Sessions, Transactions, Values, abort, access, begin, commit,
     group_number, none_waits, number_of, session_number, take_line,

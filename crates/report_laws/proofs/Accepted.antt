@@ -14,17 +14,17 @@ use Rattle.serial_spec.specs.History.{History, Name}
 use Rattle.serial_spec.specs.Items.{Items, items}
 use Rattle.serial_spec.specs.Legal.{AreAllowed, Legal}
 use Rattle.serial_spec.specs.Interleaving.{IsFinished, IsInterleaving, Session}
-use Rattle.serial_spec.specs.Report.{report, spelled_entry}
+use Rattle.line_language.specs.Report.{report, spelled_entry}
 use Rattle.serial_spec.specs.Rows.{Rows, value_in}
 use Rattle.serial_spec.specs.Serial.{Runs}
 use Rattle.session_text.specs.Grammar.{IsText}
-use Rattle.session_text.specs.Words.{cut_at}
-use Rattle.session_text.proofs.Bytes.{Lacks}
+use Rattle.line_language.specs.Words.{cut_at}
+use Rattle.line_language.proofs.Bytes.{Lacks}
 use Rattle.txn_history.proofs.Theorems.{legal_allowed}
-use Rattle.report_lines.specs.Laws.{IsReportEntry}
-use Rattle.report_lines.specs.declared.entry.ReportEntry.{ReportEntry}
-use Rattle.report_lines.specs.declared.entry.ReportEntry.TheVariants as told
-use Rattle.report_lines.proofs.Entries.{entries_read_back}
+use Rattle.line_language.specs.Entries.{IsReportEntry}
+use Rattle.line_language.specs.declared.entry.ReportEntry.{ReportEntry}
+use Rattle.line_language.specs.declared.entry.ReportEntry.TheVariants as told
+use Rattle.line_language.proofs.Entries.{entries_read_back}
 use Rattle.report_check.specs.Passing.{Part, Opening, Entries, Final, Ended, Read, at_part, entry_in, may_end, may_follow, none_waits, read, read_from, session_of, unread, waiting}
 use Rattle.report_check.specs.Verdicts.{HasVerdict}
 use Rattle.report_check.specs.declared.verdict.Verdict.TheVariants.{Yes}

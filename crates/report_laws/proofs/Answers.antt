@@ -26,13 +26,13 @@ use Rattle.serial_spec.specs.Serial.{reply_at}
 use Rattle.serial_spec.specs.Sums.{reply_of_sum, sum_in}
 use Rattle.serial_spec.specs.Allowed.{Allowed, answer, answer_to_access, asks_store, cause_at_access, cause_at_begin, cause_at_commit, cause_at_end, has_come, has_live_child, has_waited, is_full_for, may_be_stuck, most_transactions, orphaned, refused_or, waits_elsewhere, when}
 use Rattle.serial_spec.specs.Legal.{AreAllowed}
-use Rattle.session_text.specs.Grammar.{IsEvent}
+use Rattle.line_language.specs.Events.{IsEvent}
 use Rattle.txn_history.proofs.Activity.{acts_active}
 use Rattle.txn_history.proofs.Causes.{acts_at_end, neither}
 use Rattle.txn_history.proofs.Tests.{clash}
 use Rattle.txn_history.proofs.Theorems.{value_seen}
-use Rattle.report_lines.specs.Answers.{may_answer}
-use Rattle.report_lines.specs.Laws.{IsAnswer}
+use Rattle.line_language.specs.Answers.{may_answer}
+use Rattle.line_language.specs.Entries.{IsAnswer}
 use Rattle.report_laws.proofs.Values.{AreEvents, HasRows, after_rows, chain_ops}
 
 -- ---- names in a history

@@ -12,17 +12,18 @@ use Rattle.serial_spec.specs.declared.entry.Answer.TheVariants.{Done}
 use Rattle.serial_spec.specs.declared.event.Event.{Event}
 use Rattle.serial_spec.specs.declared.event.Event.TheVariants.{Abort}
 use Rattle.serial_spec.specs.declared.operation.Reply.TheVariants.{Ok}
-use Rattle.serial_spec.specs.Report.{name_in, spelled_entry}
+use Rattle.line_language.specs.Report.{name_in, spelled_entry}
 use Rattle.serial_spec.specs.History.{History, Name, effect_of, begun, has_begun}
 use Rattle.serial_spec.specs.Rows.{Rows, value_in}
 use Rattle.serial_spec.specs.Waits.{IsVictim}
 use Rattle.serial_spec.specs.Legal.{AreAllowed, IsAbortOf, first_live}
 use Rattle.serial_spec.specs.Interleaving.{IsInTurn, IsInterleaving, Session, answered, lines_of, next_event}
-use Rattle.session_text.specs.Grammar.{IsEvent, IsSession, IsText}
+use Rattle.line_language.specs.Events.{IsEvent}
+use Rattle.session_text.specs.Grammar.{IsSession, IsText}
 use Rattle.txn_history.proofs.Causes.{abort_of}
 use Rattle.txn_history.proofs.Ends.{AbortOf}
 use Rattle.txn_history.proofs.Statuses.{told}
-use Rattle.report_lines.specs.Laws.{IsReportEntry, spelled_report_entry}
+use Rattle.line_language.specs.Entries.{IsReportEntry, spelled_report_entry}
 use Rattle.report_laws.specs.Laws.{told_by}
 use Rattle.report_laws.proofs.Answers.{allowed_fits, begun_named}
 use Rattle.report_laws.proofs.Turns.{with_parts}

@@ -16,7 +16,7 @@ use Rattle.serial_spec.specs.declared.entry.Answer.TheVariants.{Done}
 use Rattle.serial_spec.specs.declared.operation.Reply.TheVariants.{Ok}
 use Rattle.serial_spec.specs.declared.event.Event.{Event}
 use Rattle.serial_spec.specs.declared.event.Event.TheVariants.{Abort}
-use Rattle.serial_spec.specs.Report.{name_in}
+use Rattle.line_language.specs.Report.{name_in}
 use Rattle.serial_spec.specs.History.{History, Name, begun, effect_of}
 use Rattle.serial_spec.specs.Rows.{Rows}
 use Rattle.serial_spec.specs.Waits.{IsVictim}

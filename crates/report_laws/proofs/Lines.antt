@@ -10,15 +10,15 @@ use Rattle.serial_spec.specs.declared.entry.Refusal.TheVariants.{Unknown, Used, 
 use Rattle.serial_spec.specs.declared.event.Event.TheVariants.{Abort}
 use Rattle.serial_spec.specs.declared.operation.Reply.TheVariants.{Ok, Value, Absent, New, Overflow}
 use Rattle.serial_spec.specs.History.{History}
-use Rattle.serial_spec.specs.Printing.{spelled_answer, spelled_event, spelled_number}
-use Rattle.serial_spec.specs.Report.{line, report, spelled_entry, spelled_history, spelled_rows}
+use Rattle.line_language.specs.Printing.{spelled_answer, spelled_event, spelled_number}
+use Rattle.line_language.specs.Report.{line, report, spelled_entry, spelled_history, spelled_rows}
 use Rattle.serial_spec.specs.Rows.{Rows}
-use Rattle.session_text.specs.Words.{cut_at}
-use Rattle.session_text.proofs.Bytes.{Lacks, Lacks-append, Lacks-from_all, cut_behind}
-use Rattle.session_text.proofs.Spelling.{decimal_lacks, event_lacks, line_feed}
-use Rattle.report_lines.specs.Laws.{IsAnswer, IsReportEntry, spelled_report_entry}
-use Rattle.report_lines.specs.declared.entry.ReportEntry.{ReportEntry}
-use Rattle.report_lines.specs.declared.entry.ReportEntry.TheVariants.{Line, Victim, Close}
+use Rattle.line_language.specs.Words.{cut_at}
+use Rattle.line_language.proofs.Bytes.{Lacks, Lacks-append, Lacks-from_all, cut_behind}
+use Rattle.line_language.proofs.Spelled.{decimal_lacks, event_lacks, line_feed}
+use Rattle.line_language.specs.Entries.{IsAnswer, IsReportEntry, spelled_report_entry}
+use Rattle.line_language.specs.declared.entry.ReportEntry.{ReportEntry}
+use Rattle.line_language.specs.declared.entry.ReportEntry.TheVariants.{Line, Victim, Close}
 use Rattle.report_laws.specs.Whole.{IsRow}
 use Rattle.report_laws.proofs.Reading.{number_lacks, row_lacks, row_text}
 

@@ -12,18 +12,18 @@ use Rattle.txn_names.specs.Reading.{label_of}
 use Rattle.txn_names.proofs.Names.{on_test}
 use Rattle.serial_spec.specs.declared.limits.TheConstants.{MOST_ROWS}
 use Rattle.serial_spec.specs.Operations.{is_i64}
-use Rattle.serial_spec.specs.Printing.{spelled_number}
+use Rattle.line_language.specs.Printing.{spelled_number}
 use Rattle.serial_spec.specs.Rows.{IsRising, Rows}
-use Rattle.session_text.specs.Words.{before, behind}
-use Rattle.session_text.specs.Steps as steps
-use Rattle.session_text.proofs.Bytes.{Lacks, Lacks-append, Lacks-from_all}
-use Rattle.session_text.proofs.Reading.{is_word}
-use Rattle.session_text.proofs.Spelling.{IsGap, decimal_lacks, space}
-use Rattle.session_text.specs.Numbers.{number_of}
-use Rattle.report_lines.specs.Reading.{◌>>=◌, abort_of, count_of, entry_of, line_entry_of, row_of, star_entry_of, told_of}
-use Rattle.report_lines.specs.declared.entry.ReportEntry.{ReportEntry}
-use Rattle.report_lines.proofs.Parts.{before_lacking}
-use Rattle.report_lines.proofs.Rows.{rows_read_back}
+use Rattle.line_language.specs.Words.{before, behind}
+use Rattle.line_language.specs.Steps as steps
+use Rattle.line_language.proofs.Bytes.{Lacks, Lacks-append, Lacks-from_all}
+use Rattle.line_language.proofs.Reading.{is_word}
+use Rattle.line_language.proofs.Spelled.{IsGap, decimal_lacks, space}
+use Rattle.line_language.specs.Numbers.{number_of}
+use Rattle.line_language.specs.Reading.{◌>>=◌, abort_of, count_of, entry_of, line_entry_of, row_of, star_entry_of, told_of}
+use Rattle.line_language.specs.declared.entry.ReportEntry.{ReportEntry}
+use Rattle.line_language.proofs.Parts.{before_lacking}
+use Rattle.line_language.proofs.Rows.{rows_read_back}
 use Rattle.report_check.specs.Passing.{Part, Start, Opening, Entries, Final, Ended, Read, at_part, entry_in, entry_next, final_next, is_past, may_add_row, may_end, may_follow, middle_next, next, next_at, opening_next, read_from, with_entry}
 use Rattle.report_laws.specs.Whole.{IsRow}
 

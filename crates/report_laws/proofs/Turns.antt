@@ -13,7 +13,7 @@ use Rattle.serial_spec.specs.declared.entry.Answer.{Answer}
 use Rattle.serial_spec.specs.declared.entry.Answer.TheVariants.{Done, Waits, Stuck, Refused}
 use Rattle.serial_spec.specs.declared.entry.Entry.{Entry}
 use Rattle.serial_spec.specs.declared.event.Event.{Event}
-use Rattle.serial_spec.specs.Printing.{spelled_event}
+use Rattle.line_language.specs.Printing.{spelled_event}
 use Rattle.serial_spec.specs.History.{History, begun}
 use Rattle.serial_spec.specs.Rows.{Rows}
 use Rattle.serial_spec.specs.Waits.{Quiet, IsVictim, is_waits, same_line}

@@ -20,7 +20,7 @@ use Rattle.serial_spec.specs.Items.{Items, None as NoItems, Access as Accessed, 
 use Rattle.serial_spec.specs.Rows.{IsRising, Rows, value_in}
 use Rattle.serial_spec.specs.Serial.{Map, map_after, put}
 use Rattle.serial_spec.proofs.Ordered.{none_above}
-use Rattle.session_text.specs.Grammar.{IsEvent, IsOp}
+use Rattle.line_language.specs.Events.{IsEvent, IsOp}
 use Rattle.report_laws.specs.Whole.{IsRow}
 
 -- each key with a value is a row

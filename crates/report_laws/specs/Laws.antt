@@ -7,13 +7,13 @@ use Rattle.serial_spec.specs.declared.entry.Answer.{Answer}
 use Rattle.serial_spec.specs.declared.event.Event.{Event}
 use Rattle.serial_spec.specs.Allowed.{Allowed}
 use Rattle.serial_spec.specs.Legal.{AreAllowed}
-use Rattle.session_text.specs.Grammar.{IsEvent}
-use Rattle.report_lines.specs.Answers.{may_answer}
-use Rattle.report_lines.specs.Laws.{IsAnswer}
-use Rattle.report_lines.specs.declared.entry.ReportEntry.{ReportEntry}
-use Rattle.report_lines.specs.declared.entry.ReportEntry.TheVariants as told
+use Rattle.line_language.specs.Events.{IsEvent}
+use Rattle.line_language.specs.Answers.{may_answer}
+use Rattle.line_language.specs.Entries.{IsAnswer}
+use Rattle.line_language.specs.declared.entry.ReportEntry.{ReportEntry}
+use Rattle.line_language.specs.declared.entry.ReportEntry.TheVariants as told
 use Rattle.serial_spec.specs.History.{History}
-use Rattle.serial_spec.specs.Report.{name_in, report}
+use Rattle.line_language.specs.Report.{name_in, report}
 use Rattle.serial_spec.specs.Rows.{Rows}
 use Rattle.report_check.specs.Verdicts.{HasVerdict}
 use Rattle.report_check.specs.declared.verdict.Verdict.TheVariants.{Yes}

@@ -17,11 +17,11 @@ use Rattle.serial_spec.specs.declared.event.Event.{Event}
 use Rattle.serial_spec.specs.declared.entry.Answer.{Answer}
 use Rattle.serial_spec.specs.History.{History}
 use Rattle.serial_spec.specs.Interleaving.{answered}
-use Rattle.serial_spec.specs.Printing.{spelled_event}
+use Rattle.line_language.specs.Printing.{spelled_event}
 use Rattle.serial_spec.specs.Waits.{is_waits}
-use Rattle.session_text.specs.Grammar.{IsEvent}
-use Rattle.session_text.specs.Commands.{event_of}
-use Rattle.session_text.proofs.Spelling.{event_again}
+use Rattle.line_language.specs.Events.{IsEvent}
+use Rattle.line_language.specs.Commands.{event_of}
+use Rattle.line_language.proofs.Spelled.{event_again}
 use Rattle.report_check.specs.Passing.{goes_on, none_waits, session_of, waiting, with_label}
 use Rattle.report_tables.specs.Spoken.{AreSessionsOf, IsNumberOf, IsSessionOf, line_entry, told_session}
 use Rattle.report_tables.specs.declared.sessions.Session.{Session}

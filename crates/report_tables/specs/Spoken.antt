@@ -1,7 +1,7 @@
 -- The sessions that a report names.
 use Rattle.std.specs.Prelude.{◌≡◌, ◌≤◌, ◌<◌, ℕ, List, ◌∷◌, length, slice_get, suc, ◌==◌, ◌&&◌, Bool, true, false, Option, Some, None, IfSome, if◌then◌else◌}
 use Rattle.std.specs.Map.{keys_of, values_of}
-use Rattle.session_text.specs.Grammar.{IsEvent}
+use Rattle.line_language.specs.Events.{IsEvent}
 use Rattle.serial_spec.specs.declared.limits.TheConstants.{MOST_SESSIONS}
 use Rattle.serial_spec.specs.declared.entry.By.TheVariants as by
 use Rattle.serial_spec.specs.declared.event.Event.{Event}

@@ -3,7 +3,7 @@
 ghost use Rattle.std.specs.Prelude.{◌≡◌, ◌↔◌, ◌∷◌, ◌++◌, [], ◌<◌, ◌&&◌, ◌==◌, ℕ, List, IsTrue, IfOk, IfSome, OnOk, length, suc, is_none, None};
 ghost use Rattle.indexmap.specs.IndexMap.{get};
 ghost use Rattle.txn_names.specs.Path.{label_eq};
-ghost use Rattle.session_text.specs.Grammar.{IsEvent};
+ghost use Rattle.line_language.specs.Events.{IsEvent};
 ghost use Rattle.serial_spec.specs.Waits.{is_waits};
 ghost use Rattle.serial_spec.specs.History.{History};
 ghost use Rattle.report_check.specs.Passing.{goes_on, none_waits};

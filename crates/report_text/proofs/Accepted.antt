@@ -2,7 +2,7 @@
 use Rattle.std.proofs.Common.{[], ◌∷◌, Result, Ok, Err}
 use Rattle.std.specs.Prelude.{OnOk}
 use Rattle.std.specs.List.{AllByRecursion}
-use Rattle.serial_spec.specs.Report.{report}
+use Rattle.line_language.specs.Report.{report}
 use Rattle.serial_spec.specs.Rows.{Rows}
 use Rattle.interleavings.specs.Reports.{IsReport}
 use Rattle.interleavings.specs.Reports.{IsRow as IsSpelledRow}

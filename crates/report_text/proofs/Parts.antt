@@ -4,7 +4,7 @@ use Rattle.std.specs.Prelude.{slice_get}
 use Rattle.std.proofs.lemmas.List.{reverse-append}
 use Rattle.serial_spec.specs.declared.entry.Entry.{Entry}
 use Rattle.serial_spec.specs.Rows.{Rows}
-use Rattle.serial_spec.specs.Report.{line, spelled_history, spelled_rows}
+use Rattle.line_language.specs.Report.{line, spelled_history, spelled_rows}
 use Rattle.durable_top.specs.declared.store.Row.{Row}
 use Rattle.durable_top.specs.Store.{plain}
 use Rattle.report_text.specs.Lines.{entry_line, row_line, row_lines}

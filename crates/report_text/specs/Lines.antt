@@ -1,8 +1,8 @@
 -- The lines of a report, one by one.
 use Rattle.std.specs.Prelude.{ℕ, ℤ, List, [], ◌++◌, codes, Option, Some, None}
 use Rattle.serial_spec.specs.declared.entry.Entry.{Entry}
-use Rattle.serial_spec.specs.Printing.{spelled_number}
-use Rattle.serial_spec.specs.Report.{line, report, spelled_entry, spelled_rows}
+use Rattle.line_language.specs.Printing.{spelled_number}
+use Rattle.line_language.specs.Report.{line, report, spelled_entry, spelled_rows}
 use Rattle.serial_spec.specs.Rows.{Rows}
 use Rattle.interleavings.specs.Told.{Told}
 

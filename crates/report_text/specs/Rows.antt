@@ -1,7 +1,7 @@
 -- The rows of a table, with the numbers of the commits that set them.
 use Rattle.std.specs.Prelude.{ℕ, List, [], ◌∷◌, ◌++◌, codes}
-use Rattle.serial_spec.specs.Printing.{spelled_number}
-use Rattle.serial_spec.specs.Report.{line}
+use Rattle.line_language.specs.Printing.{spelled_number}
+use Rattle.line_language.specs.Report.{line}
 use Rattle.durable_top.specs.declared.store.Row.{Row}
 
 -- a row as in a report, a space and the number of the commit

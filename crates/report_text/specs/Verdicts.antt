@@ -1,6 +1,6 @@
 -- How a verdict is spelled.
 use Rattle.std.specs.Prelude.{ℕ, List, ◌++◌, codes, decimal}
-use Rattle.serial_spec.specs.Report.{line}
+use Rattle.line_language.specs.Report.{line}
 use Rattle.report_check.specs.declared.verdict.Verdict.{Verdict}
 use Rattle.report_check.specs.declared.verdict.Verdict.TheVariants.{Yes, No}
 

@@ -5,7 +5,6 @@ mod entries;
 mod line_buffer;
 mod report;
 mod rows;
-mod spelling;
 mod verdict;
 
 pub use report::{write_ending, write_entries, write_opening, write_report};

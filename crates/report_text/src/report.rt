@@ -2,7 +2,7 @@
 ghost use Rattle.std.specs.Prelude.{ℕ, [], ◌∷◌, ◌++◌, codes, reverse, OnErr, OnOk};
 ghost use Rattle.std.specs.Io.KnownBytes.{Appends};
 ghost use Rattle.txn_bytes.specs.Written.{AppendsFront, IsStopped};
-ghost use Rattle.serial_spec.specs.Report.{report, spelled_history, spelled_rows};
+ghost use Rattle.line_language.specs.Report.{report, spelled_history, spelled_rows};
 ghost use Rattle.durable_top.specs.Store.{plain};
 ghost use Rattle.report_check.specs.Verdicts.{HasVerdict};
 ghost use Rattle.report_check.specs.declared.verdict.Verdict.TheVariants.{Yes};

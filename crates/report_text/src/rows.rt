@@ -2,13 +2,12 @@
 ghost use Rattle.std.specs.Prelude.{ℕ, [], ◌∷◌, ◌++◌, codes, OnErr, OnOk};
 ghost use Rattle.std.specs.Io.KnownBytes.{Appends};
 ghost use Rattle.txn_bytes.specs.Written.{AppendsFront, IsStopped};
-ghost use Rattle.serial_spec.specs.Report.{line};
+ghost use Rattle.line_language.specs.Report.{line};
 ghost use Rattle.report_text.specs.Rows.{numbered_row, numbered_rows};
 
-use crate::entries::put_row;
 use crate::line_buffer::LineBuffer;
-use crate::spelling::put_number;
 use durable_top::Row;
+use line_language::{put_number, put_row};
 use txn_bytes::{Sink, WriteFault, put};
 
 // The row as in a report, a space and the number.

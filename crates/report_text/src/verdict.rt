@@ -2,10 +2,10 @@
 ghost use Rattle.std.specs.Prelude.{ℕ, [], ◌∷◌, ◌++◌, codes, decimal, OnErr, OnOk};
 ghost use Rattle.std.specs.Io.KnownBytes.{Appends};
 ghost use Rattle.txn_bytes.specs.Written.{AppendsFront, IsStopped};
-ghost use Rattle.serial_spec.specs.Report.{line};
+ghost use Rattle.line_language.specs.Report.{line};
 ghost use Rattle.report_text.specs.Verdicts.{spelled_verdict};
 
-use crate::spelling::put_size;
+use line_language::put_size;
 use report_check::Verdict;
 use txn_bytes::{Sink, WriteFault, put};
 

@@ -3,13 +3,13 @@ use Rattle.std.proofs.Common.{◌≡◌, ℕ, ◌+◌, List, [], ◌∷◌, leng
 use Rattle.std.specs.List.{join_with_byte}
 use Rattle.std.proofs.lemmas.Bool.{ne_eqb}
 use Rattle.serial_spec.specs.Interleaving.{Session}
-use Rattle.session_text.specs.declared.fault.LineKind.TheVariants as kind
+use Rattle.line_language.specs.declared.fault.LineKind.TheVariants as kind
 use Rattle.session_text.specs.declared.fault.TextFault.{TextFault}
 use Rattle.session_text.specs.declared.fault.TextFault.TheVariants as fault
-use Rattle.session_text.specs.Steps.{◌>>=◌}
+use Rattle.line_language.specs.Steps.{◌>>=◌}
 use Rattle.session_text.specs.Texts.{Read, Tells, at_line, read_from, with_bytes}
-use Rattle.session_text.specs.Words.{cut_at}
-use Rattle.session_text.proofs.Bytes.{cut_some, joined_cut}
+use Rattle.line_language.specs.Words.{cut_at}
+use Rattle.line_language.proofs.Bytes.{cut_some, joined_cut}
 
 -- bytes without a line feed
 pub no_feed : (n : ℕ) (ss : List Session) (rest p : List ℕ) → (length rest ≡ 0 → ⊥) → cut_at 10 rest ≡ p ∷ [] → read_from n ss (cut_at 10 rest) ≡ Err (n, kind.End)

@@ -4,18 +4,18 @@ use Rattle.std.specs.List.{join_with_byte, list_any, onto_first, AllByRecursion}
 use Rattle.std.proofs.lemmas.Bool.{or_from, eqb-false}
 use Rattle.serial_spec.specs.Interleaving.{Session}
 use Rattle.serial_spec.specs.declared.event.Event.{Event}
-use Rattle.session_text.specs.declared.fault.LineKind.{LineKind}
-use Rattle.session_text.specs.declared.fault.LineKind.TheVariants as kind
+use Rattle.line_language.specs.declared.fault.LineKind.{LineKind}
+use Rattle.line_language.specs.declared.fault.LineKind.TheVariants as kind
 use Rattle.session_text.specs.Texts.{TextLine, Header, Command}
 use Rattle.session_text.specs.Grammar.{IsText, spelled_text}
 use Rattle.session_text.specs.Laws.{line_count, IsFirstFault, FirstFaultsTold}
-use Rattle.session_text.specs.Steps.{◌>>=◌, unless}
+use Rattle.line_language.specs.Steps.{◌>>=◌, unless}
 use Rattle.session_text.specs.Texts.{Read, grown, misplaced, line_of, with_line, with_bytes, at_line, read_from}
-use Rattle.session_text.specs.Words.{cut_at}
+use Rattle.line_language.specs.Words.{cut_at}
 use Rattle.session_text.proofs.Adding.{some_placed}
-use Rattle.session_text.proofs.Bytes.{joined_cut}
+use Rattle.line_language.proofs.Bytes.{joined_cut}
 use Rattle.session_text.proofs.Growth.{longer, parted, with_line-last}
-use Rattle.session_text.proofs.Reading.{bind_ok}
+use Rattle.line_language.proofs.Reading.{bind_ok}
 use Rattle.session_text.proofs.WholeTexts.{with_bytes_reads, faultless, empty}
 
 -- ---- parts have none of the bytes at which they were cut

@@ -7,9 +7,10 @@ use Rattle.std.proofs.lemmas.Bool.{lt-leb}
 use Rattle.txn_names.specs.Text.{IsLabel}
 use Rattle.serial_spec.specs.declared.event.Event.{Event}
 use Rattle.serial_spec.specs.Interleaving.{Session, lines_of}
-use Rattle.session_text.specs.Grammar.{IsEvent, IsSession, IsText, AreApart, is_taken}
+use Rattle.line_language.specs.Events.{IsEvent}
+use Rattle.session_text.specs.Grammar.{IsSession, IsText, AreApart, is_taken}
 use Rattle.session_text.specs.Growing.{with_line_of}
-use Rattle.session_text.specs.declared.fault.LineKind.TheVariants as kind
+use Rattle.line_language.specs.declared.fault.LineKind.TheVariants as kind
 use Rattle.session_text.specs.Texts.{with_header}
 use Rattle.session_text.proofs.Growth.{longer, all_pushed, text_with_header}
 

@@ -10,9 +10,10 @@ use Rattle.txn_names.specs.Text.{IsLabel}
 use Rattle.txn_names.proofs.Names.{label_eq_self, same_label}
 use Rattle.serial_spec.specs.Interleaving.{Session}
 use Rattle.serial_spec.specs.declared.event.Event.{Event}
-use Rattle.session_text.specs.declared.fault.LineKind.TheVariants as kind
+use Rattle.line_language.specs.declared.fault.LineKind.TheVariants as kind
 use Rattle.session_text.specs.Texts.{Header, Command}
-use Rattle.session_text.specs.Grammar.{IsEvent, IsSession, IsText, AreApart, is_taken}
+use Rattle.line_language.specs.Events.{IsEvent}
+use Rattle.session_text.specs.Grammar.{IsSession, IsText, AreApart, is_taken}
 use Rattle.session_text.specs.Texts.{open_lines, with_line, with_header, misplaced}
 
 -- ---- the last session

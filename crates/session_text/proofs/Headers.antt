@@ -4,10 +4,10 @@ use Rattle.std.specs.Prelude.{codes}
 use Rattle.std.specs.List.{join_with_byte}
 use Rattle.std.specs.Str.{bytes_eq}
 use Rattle.std.proofs.lemmas.Slice.Eq.{bytes_eq-Decides}
-use Rattle.session_text.specs.Commands.{Words}
+use Rattle.line_language.specs.Commands.{Words}
 use Rattle.session_text.specs.Texts.{command_of, line_by, line_of}
-use Rattle.session_text.specs.Words.{cut_at}
-use Rattle.session_text.proofs.Bytes.{cut_some, joined_cut}
+use Rattle.line_language.specs.Words.{cut_at}
+use Rattle.line_language.proofs.Bytes.{cut_some, joined_cut}
 
 -- the third byte of a header
 abbrev pub HasThird : List ℕ → Type 0

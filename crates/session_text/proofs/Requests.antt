@@ -3,19 +3,19 @@ use Rattle.std.proofs.Common.{◌≡◌, ℕ, List, [], ◌∷◌, ◌++◌, len
 use Rattle.std.specs.Option.{ok_or}
 use Rattle.std.specs.List.{list_all}
 use Rattle.std.proofs.lemmas.Bool.{and_parts, not-true, eq-eqb, eqb-true, ne_eqb}
-use Rattle.serial_spec.specs.Printing.{spelled_event}
+use Rattle.line_language.specs.Printing.{spelled_event}
 use Rattle.serial_spec.specs.declared.event.Event.{Event}
 use Rattle.serial_spec.specs.declared.event.Event.TheVariants.{Begin, Access, Sum, Commit, Abort, After}
-use Rattle.session_text.specs.declared.fault.LineKind.TheVariants as kind
-use Rattle.session_text.specs.Commands.{event_of}
-use Rattle.session_text.specs.Grammar.{IsEvent}
+use Rattle.line_language.specs.declared.fault.LineKind.TheVariants as kind
+use Rattle.line_language.specs.Commands.{event_of}
+use Rattle.line_language.specs.Events.{IsEvent}
 use Rattle.session_text.specs.Requests.{unconditional, request_by, request_of, IsRequest, RequestsReadBack}
-use Rattle.session_text.specs.Steps.{◌>>=◌}
-use Rattle.session_text.specs.Texts.{label_in}
-use Rattle.session_text.specs.Words.{before, behind}
-use Rattle.session_text.proofs.Bytes.{Lacks}
-use Rattle.session_text.proofs.Reading.{bind_ok, ok_or_ok, same_ok, pick, not_word, label_reads, label_again, event_reads}
-use Rattle.session_text.proofs.Spelling.{space, label_lacks, event_again}
+use Rattle.line_language.specs.Steps.{◌>>=◌}
+use Rattle.line_language.specs.Commands.{label_in}
+use Rattle.line_language.specs.Words.{before, behind}
+use Rattle.line_language.proofs.Bytes.{Lacks}
+use Rattle.line_language.proofs.Reading.{bind_ok, ok_or_ok, same_ok, pick, not_word, label_reads, label_again, event_reads}
+use Rattle.line_language.proofs.Spelled.{space, label_lacks, event_again}
 
 -- ---- what stands before a byte and behind it
 

@@ -4,20 +4,21 @@ use Rattle.std.specs.Prelude.{codes}
 use Rattle.std.specs.List.{join_with_byte}
 use Rattle.std.specs.Str.{bytes_eq}
 use Rattle.txn_names.specs.Text.{IsLabel}
-use Rattle.serial_spec.specs.Printing.{spelled_event}
+use Rattle.line_language.specs.Printing.{spelled_event}
 use Rattle.serial_spec.specs.declared.operation.Op.TheVariants.{Get, Set, Add, Del}
 use Rattle.serial_spec.specs.declared.event.Event.{Event}
 use Rattle.serial_spec.specs.declared.event.Event.TheVariants.{Begin, Access, Sum, Commit, Abort, After}
-use Rattle.session_text.specs.declared.fault.LineKind.TheVariants as kind
+use Rattle.line_language.specs.declared.fault.LineKind.TheVariants as kind
 use Rattle.session_text.specs.Texts.{TextLine, Header, Command}
-use Rattle.session_text.specs.Commands.{Words, one, event_of}
-use Rattle.session_text.specs.Grammar.{IsEvent}
-use Rattle.session_text.specs.Steps.{◌>>=◌}
-use Rattle.session_text.specs.Texts.{IsTextLine, label_in, labelled, header_of, line_by, line_of}
-use Rattle.session_text.specs.Words.{cut_at}
-use Rattle.session_text.proofs.Bytes.{Lacks, Lacks-append, cut_lacking, cut_behind, joined_cut}
-use Rattle.session_text.proofs.Reading.{bind_ok, same_ok, pick, not_word, is_word, one_reads, label_reads, label_again, event_reads, words_of}
-use Rattle.session_text.proofs.Spelling.{space, line_feed, label_lacks, cut_event, event_again, event_lacks}
+use Rattle.line_language.specs.Commands.{Words, one, event_of}
+use Rattle.line_language.specs.Events.{IsEvent}
+use Rattle.line_language.specs.Steps.{◌>>=◌}
+use Rattle.session_text.specs.Texts.{IsTextLine, labelled, header_of, line_by, line_of}
+use Rattle.line_language.specs.Commands.{label_in}
+use Rattle.line_language.specs.Words.{cut_at}
+use Rattle.line_language.proofs.Bytes.{Lacks, Lacks-append, cut_lacking, cut_behind, joined_cut}
+use Rattle.line_language.proofs.Reading.{bind_ok, same_ok, pick, not_word, is_word, one_reads, label_reads, label_again, event_reads, words_of}
+use Rattle.line_language.proofs.Spelled.{space, line_feed, label_lacks, cut_event, event_again, event_lacks}
 
 abbrev pub spelled_line : TextLine → List ℕ
 spelled_line (Header l) = codes "session " ++ l

@@ -4,19 +4,20 @@ use Rattle.std.specs.Prelude.{codes, nat_le}
 use Rattle.std.specs.List.{join_with_byte}
 use Rattle.std.proofs.lemmas.Bool.{eqb-true, ne_eqb, lt-leb}
 use Rattle.serial_spec.specs.Interleaving.{Session}
-use Rattle.serial_spec.specs.Printing.{spelled_event}
+use Rattle.line_language.specs.Printing.{spelled_event}
 use Rattle.serial_spec.specs.declared.event.Event.{Event}
-use Rattle.session_text.specs.declared.fault.LineKind.{LineKind}
-use Rattle.session_text.specs.declared.fault.LineKind.TheVariants as kind
+use Rattle.line_language.specs.declared.fault.LineKind.{LineKind}
+use Rattle.line_language.specs.declared.fault.LineKind.TheVariants as kind
 use Rattle.session_text.specs.Texts.{TextLine, Header, Command}
-use Rattle.session_text.specs.Grammar.{IsEvent, IsSession, IsText, spelled_lines, spelled_session, spelled_text}
-use Rattle.session_text.specs.Steps.{◌>>=◌, unless}
+use Rattle.line_language.specs.Events.{IsEvent}
+use Rattle.session_text.specs.Grammar.{IsSession, IsText, spelled_lines, spelled_session, spelled_text}
+use Rattle.line_language.specs.Steps.{◌>>=◌, unless}
 use Rattle.session_text.specs.Texts.{IsTextLine, with_line, grown, misplaced, with_bytes, at_line, read_from, sessions_of, Read, line_of}
-use Rattle.session_text.specs.Words.{cut_at}
-use Rattle.session_text.proofs.Bytes.{cut_behind, cut_some, joined_cut}
+use Rattle.line_language.specs.Words.{cut_at}
+use Rattle.line_language.proofs.Bytes.{cut_behind, cut_some, joined_cut}
 use Rattle.session_text.proofs.Growth.{longer, open_lines-last, with_line-last, parted, all_front, all_at, apart_front, last_apart, text_with_header, text_with_line}
 use Rattle.session_text.proofs.Adding.{some_placed}
-use Rattle.session_text.proofs.Reading.{bind_ok}
+use Rattle.line_language.proofs.Reading.{bind_ok}
 use Rattle.session_text.proofs.TextLines.{spelled_line, line_reads, line_again, line_lacks}
 
 -- ---- spelling grows with the sessions

@@ -1,26 +1,12 @@
--- Reading and spelling fit: bytes are read as a number, a command or a text exactly where they
--- spell it, as statements. So each has one spelling, and all that is spelled otherwise is refused:
--- at its first faulty line.
-use Rattle.std.specs.Prelude.{◌≡◌, ◌↔◌, ◌⊎◌, ℕ, ℤ, ◌+◌, ◌<◌, ◌==◌, IsTrue, IsFalse, List, [], ◌∷◌, ◌++◌, length, Some, Ok, Err}
+-- Reading and spelling fit: bytes are read as a text exactly where they spell it, as statements. So
+-- each has one spelling, and all that is spelled otherwise is refused: at its first faulty line.
+use Rattle.std.specs.Prelude.{◌≡◌, ◌↔◌, ◌⊎◌, ℕ, ◌+◌, ◌<◌, ◌==◌, IsTrue, IsFalse, List, [], ◌∷◌, ◌++◌, length, Ok, Err}
 use Rattle.std.specs.List.{list_any}
-use Rattle.serial_spec.specs.Operations.{is_i64}
-use Rattle.serial_spec.specs.Printing.{spelled_event, spelled_number}
 use Rattle.serial_spec.specs.Interleaving.{Session}
-use Rattle.serial_spec.specs.declared.event.Event.{Event}
-use Rattle.session_text.specs.declared.fault.LineKind.{LineKind}
-use Rattle.session_text.specs.declared.fault.LineKind.TheVariants as kind
-use Rattle.session_text.specs.Numbers.{number_of}
-use Rattle.session_text.specs.Commands.{event_of}
-use Rattle.session_text.specs.Grammar.{IsEvent, IsText, spelled_text}
+use Rattle.line_language.specs.declared.fault.LineKind.{LineKind}
+use Rattle.line_language.specs.declared.fault.LineKind.TheVariants as kind
+use Rattle.session_text.specs.Grammar.{IsText, spelled_text}
 use Rattle.session_text.specs.Texts.{sessions_of, with_bytes}
-
-abbrev pub NumbersReadBack : Type 0
-NumbersReadBack = (bs : List ℕ) (z : ℤ)
-    → (number_of bs ≡ Some z) ↔ (IsTrue (is_i64 z) × (bs ≡ spelled_number z))
-
-abbrev pub LinesReadBack : Type 0
-LinesReadBack = (bs : List ℕ) (e : Event)
-    → (event_of bs ≡ Ok e) ↔ (IsEvent e × (bs ≡ spelled_event e))
 
 abbrev pub TextsReadBack : Type 0
 TextsReadBack = (bs : List ℕ) (ss : List Session)

@@ -1,10 +1,11 @@
-pub mod Steps
-pub mod Words
-pub mod Numbers
-pub mod Commands
+pub use Rattle.line_language.specs.Steps
+pub use Rattle.line_language.specs.Words
+pub use Rattle.line_language.specs.Numbers
+pub use Rattle.line_language.specs.Printing
+pub use Rattle.line_language.specs.Commands
+pub use Rattle.line_language.specs.Events
 pub mod Grammar
 pub mod Texts
 pub mod Laws
 pub mod Growing
 pub mod Requests
-pub mod Accesses

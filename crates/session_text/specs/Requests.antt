@@ -3,16 +3,16 @@
 use Rattle.std.specs.Prelude.{◌≡◌, ◌↔◌, ℕ, ◌==◌, if◌then◌else◌, List, ◌∷◌, ◌++◌, length, Option, Result, Ok, Err}
 use Rattle.std.specs.Option.{ok_or}
 use Rattle.txn_names.specs.Text.{IsLabel}
-use Rattle.serial_spec.specs.Printing.{spelled_event}
+use Rattle.line_language.specs.Printing.{spelled_event}
 use Rattle.serial_spec.specs.declared.event.Event.{Event}
 use Rattle.serial_spec.specs.declared.event.Event.TheVariants.{After}
-use Rattle.session_text.specs.declared.fault.LineKind.{LineKind}
-use Rattle.session_text.specs.declared.fault.LineKind.TheVariants as kind
-use Rattle.session_text.specs.Commands.{event_of}
-use Rattle.session_text.specs.Grammar.{IsEvent}
-use Rattle.session_text.specs.Steps.{◌>>=◌}
-use Rattle.session_text.specs.Texts.{label_in}
-use Rattle.session_text.specs.Words.{before, behind}
+use Rattle.line_language.specs.declared.fault.LineKind.{LineKind}
+use Rattle.line_language.specs.declared.fault.LineKind.TheVariants as kind
+use Rattle.line_language.specs.Commands.{event_of}
+use Rattle.line_language.specs.Events.{IsEvent}
+use Rattle.line_language.specs.Steps.{◌>>=◌}
+use Rattle.line_language.specs.Commands.{label_in}
+use Rattle.line_language.specs.Words.{before, behind}
 
 -- who sees replies needs no conditions
 abbrev pub unconditional : Event → Result Event LineKind

@@ -1,19 +1,19 @@
 -- What the bytes of a file are read as: its sessions, or the line and the kind of the first fault.
 use Rattle.std.specs.Prelude.{◌≡◌, ℕ, ◌+◌, ◌-◌, ◌==◌, nat_le, if◌then◌else◌, List, [], ◌∷◌, ◌++◌, length, codes, Option, Some, None, Result, Ok, Err, slice_get, option_map, MatchResult}
 use Rattle.std.specs.Str.{bytes_eq}
-use Rattle.txn_names.specs.Reading.{label_of}
 use Rattle.txn_names.specs.Text.{IsLabel}
 use Rattle.serial_spec.specs.declared.limits.TheConstants.{MOST_LINES, MOST_SESSIONS}
 use Rattle.serial_spec.specs.Interleaving.{Session, lines_of}
 use Rattle.serial_spec.specs.declared.event.Event.{Event}
-use Rattle.session_text.specs.declared.fault.LineKind.{LineKind}
-use Rattle.session_text.specs.declared.fault.LineKind.TheVariants as kind
+use Rattle.line_language.specs.declared.fault.LineKind.{LineKind}
+use Rattle.line_language.specs.declared.fault.LineKind.TheVariants as kind
 use Rattle.session_text.specs.declared.fault.TextFault.{TextFault}
 use Rattle.session_text.specs.declared.fault.TextFault.TheVariants as fault
-use Rattle.session_text.specs.Steps.{◌>>=◌, or_fault, unless}
-use Rattle.session_text.specs.Words.{cut_at}
-use Rattle.session_text.specs.Commands.{Words, one, event_of}
-use Rattle.session_text.specs.Grammar.{IsEvent, is_taken}
+use Rattle.line_language.specs.Steps.{◌>>=◌, unless}
+use Rattle.line_language.specs.Words.{cut_at}
+use Rattle.line_language.specs.Commands.{Words, one, label_in, event_of}
+use Rattle.line_language.specs.Events.{IsEvent}
+use Rattle.session_text.specs.Grammar.{is_taken}
 
 -- ---- one line, by itself
 
@@ -21,9 +21,6 @@ use Rattle.session_text.specs.Grammar.{IsEvent, is_taken}
 pub data TextLine : Type 0 where
   Header : List ℕ → TextLine
   Command : Event → TextLine
-
-abbrev pub label_in : List ℕ → Result (List ℕ) LineKind
-label_in w = or_fault kind.Label (label_of w)
 
 abbrev pub labelled : Words → Result (List ℕ) LineKind
 labelled ws = do

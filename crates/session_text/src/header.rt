@@ -2,12 +2,11 @@
 ghost use Rattle.std.specs.Prelude.{◌≡◌, IfOk, MatchOption};
 ghost use Rattle.std.specs.Option.{option_copied};
 ghost use Rattle.txn_names.specs.Text.{IsLabel};
-ghost use Rattle.session_text.specs.Texts.{command_of, header_of, label_in, labelled, line_of};
-ghost use Rattle.session_text.specs.Words.{parts_left};
+ghost use Rattle.session_text.specs.Texts.{command_of, header_of, labelled, line_of};
+ghost use Rattle.line_language.specs.Commands.{label_in};
+ghost use Rattle.line_language.specs.Words.{parts_left};
 
-use crate::command::one;
-use crate::fault::LineKind;
-use crate::parting::cut;
+use line_language::{LineKind, cut, one};
 use txn_names::Label;
 
 fn label_in(word: &[u8]) -> Result<Label, LineKind>

@@ -2,17 +2,7 @@
 
 ghost use Rattle.session_text.specs.Growing.{PlacesFound};
 ghost use Rattle.session_text.specs.Requests.{RequestsReadBack};
-ghost use Rattle.session_text.specs.Laws.{FirstFaultsTold, LinesReadBack, NumbersReadBack, TextsReadBack};
-
-/// Bytes are read as a number exactly where they spell it.
-pub fn numbers_read_back()
-    ensures { NumbersReadBack }
-{}
-
-/// Bytes are read as a command exactly where they spell it.
-pub fn lines_read_back()
-    ensures { LinesReadBack }
-{}
+ghost use Rattle.session_text.specs.Laws.{FirstFaultsTold, TextsReadBack};
 
 /// Bytes are read as sessions exactly where they spell them.
 pub fn texts_read_back()

@@ -12,20 +12,13 @@
 //! session. A request `LABEL LINE` asks for such a line of the session with this label.
 #![tactic(auto)]
 
-mod command;
 mod fault;
 mod header;
 pub mod laws;
-mod line;
-mod number;
-mod parting;
 mod request;
 mod sessions;
-mod verbs;
 
-pub use fault::{LineKind, TextFault};
-pub use line::{Line, parse_event, parse_line};
-pub use number::parse_number;
-pub use parting::{cut, cut_line};
+pub use fault::TextFault;
+pub use line_language::{Line, LineKind, cut, cut_line, parse_event, parse_line, parse_number};
 pub use request::parse_request;
 pub use sessions::Sessions;

@@ -1,12 +1,10 @@
 //! Requests: lines that a sender adds to a session while it runs.
 ghost use Rattle.std.specs.Prelude.{◌≡◌, IfOk};
 ghost use Rattle.txn_names.specs.Text.{IsLabel};
-ghost use Rattle.session_text.specs.Grammar.{IsEvent};
+ghost use Rattle.line_language.specs.Events.{IsEvent};
 ghost use Rattle.session_text.specs.Requests.{request_of};
 
-use crate::fault::LineKind;
-use crate::line::{Line, parse_line};
-use crate::parting::cut;
+use line_language::{Line, LineKind, cut, parse_line};
 use serial_spec::Event;
 use txn_names::Label;
 

@@ -2,19 +2,17 @@
 ghost use Rattle.std.specs.Prelude.{◌≡◌, ◌==◌, ◌++◌, [], ◌∷◌, length, MatchResult, OnErr, OnOk, Ok, None};
 ghost use Rattle.std.specs.Option.{option_copied};
 ghost use Rattle.serial_spec.specs.declared.event.Event.{Event};
-ghost use Rattle.session_text.specs.Accesses.{AreRead, asked_in};
-ghost use Rattle.session_text.specs.Commands.{event_of};
+ghost use Rattle.line_language.specs.Accesses.{AreRead, asked_in};
+ghost use Rattle.line_language.specs.Commands.{event_of};
 ghost use Rattle.session_text.specs.Grammar.{IsText, is_taken};
 ghost use Rattle.session_text.specs.Texts.{Command, Header, IsPlaced, Tells, command_of, header_of, label_at, line_at, line_of, misplaced, open_lines, sessions_of, with_line};
-ghost use Rattle.session_text.specs.Words.{parts_left};
+ghost use Rattle.line_language.specs.Words.{parts_left};
 
 mod growing;
 
-use crate::command::{AccessWords, access_in, event_of};
-use crate::fault::{LineKind, TextFault};
+use crate::fault::TextFault;
 use crate::header::{labelled, words_of_header};
-use crate::line::Line;
-use crate::parting::cut_line;
+use line_language::{AccessWords, Line, LineKind, access_in, cut_line, parse_event};
 use serial_spec::{Event, MOST_LINES, MOST_SESSIONS, NoMemory};
 use std::alloc::Global;
 use std::marker::Model;
@@ -209,7 +207,7 @@ impl Sessions {
         ensures { IsPlaced self.old number (command_of bytes.now) self.new result }
     {
         let misplaced = self.fault_of_command();
-        match &event_of(bytes) {
+        match &parse_event(bytes) {
             Err(kind) => Err(TextFault::Bad {
                 line: number,
                 kind: *kind,

@@ -1,9 +1,9 @@
-//! The tests of txn_bytes, txn_names, serial_spec, session_text, report_lines and txn_history, each
+//! The tests of txn_bytes, txn_names, serial_spec, line_language, session_text and txn_history, each
 //! in a module of its own.
 #![tactic(auto)]
 
 #[cfg(test)]
-mod report_lines_tests;
+mod line_language_tests;
 #[cfg(test)]
 mod serial_spec_tests;
 #[cfg(test)]

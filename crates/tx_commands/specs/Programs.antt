@@ -2,7 +2,7 @@
 -- error writer.
 use Rattle.std.specs.Prelude.{◌≡◌, ◌⊎◌, ℕ, List, ◌++◌, Option, Some, None, IsNone, Ok, Err, codes}
 use Rattle.txn_bytes.specs.Written.{Writer}
-use Rattle.serial_spec.specs.Report.{line}
+use Rattle.line_language.specs.Report.{line}
 use Rattle.durable_top.specs.declared.store.StoreFault.{StoreFault}
 use Rattle.durable_top.specs.declared.store.TopStore.{Ghosts}
 use Rattle.report_check.specs.declared.verdict.Verdict.{Verdict}

@@ -1,6 +1,6 @@
 //! The program from what the system says of its words: these, or that they are no text.
 ghost use Rattle.std.specs.Prelude.{◌≡◌, ◌≤◌, ◌⊎◌, codes, OnErr};
-ghost use Rattle.serial_spec.specs.Report.{line};
+ghost use Rattle.line_language.specs.Report.{line};
 ghost use Rattle.program_words.specs.declared.status.TheConstants.{DONE, FAILED, MISUSED};
 ghost use Rattle.program_words.specs.Faults.{IsSaid};
 ghost use Rattle.program_words.specs.Tellings.{Accounts};

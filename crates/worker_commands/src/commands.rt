@@ -1,7 +1,7 @@
 //! The command that runs a text by worker threads.
 ghost use Rattle.std.specs.Prelude.{◌≡◌, ◌≤◌, ◌↔◌, IsNone, codes};
 ghost use Rattle.std.specs.Option.{option_copied};
-ghost use Rattle.serial_spec.specs.Report.{line};
+ghost use Rattle.line_language.specs.Report.{line};
 ghost use Rattle.program_words.specs.declared.status.TheConstants.{DONE, FAILED, MISUSED};
 ghost use Rattle.program_words.specs.Faults.{IsSaid};
 ghost use Rattle.program_words.specs.Tellings.{Accounts};

@@ -1,6 +1,6 @@
 -- How many workers there may be, and how many a word asks for.
 use Rattle.std.specs.Prelude.{ℕ, ◌≤◌, ◌<◌, List, Option, Some, None, ℤ, pos, negsuc, ◌&&◌, nat_lt, nat_le, if◌then◌else◌}
-use Rattle.session_text.specs.Numbers.{number_of}
+use Rattle.line_language.specs.Numbers.{number_of}
 use Rattle.worker_pool.specs.declared.workers.TheConstants.{MOST_WORKERS}
 
 -- at least one worker, and no more than there may be

@@ -8,7 +8,7 @@ ghost use Rattle.session_text.specs.Growing.{place_of, with_line_of};
 ghost use Rattle.session_text.specs.Texts.{with_header};
 
 use super::{Session, Sessions};
-use crate::line::Line;
+use line_language::Line;
 use serial_spec::NoMemory;
 use std::alloc::Global;
 use txn_names::Label;

@@ -2,7 +2,7 @@ use Rattle.std.proofs.Common.{reverse, refl, subst, arith}
 use Rattle.std.proofs.lemmas.List.{length-reverse}
 use Rattle.std.specs.Io.KnownBytes.{Appends}
 use Rattle.txn_bytes.specs.Written.{AppendsFront}
-use Rattle.serial_spec.specs.Report.{spelled_history}
+use Rattle.line_language.specs.Report.{spelled_history}
 use Rattle.live_runs.specs.Showing.{entries_behind}
 use Rattle.live_runs.proofs.Passing.{cut, passed, unpassed}
 use Rattle.live_runs.proofs.Shown.{behind_told}

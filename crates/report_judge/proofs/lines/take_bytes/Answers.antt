@@ -1,6 +1,6 @@
 use Rattle.std.proofs.Common.{◌≡◌, ℕ, List, ◌++◌, ◌∷◌, Some, None, length, length-append, sym, ap, subst, ◌∙◌, arith}
 use Rattle.std.specs.Option.{option_copied}
-use Rattle.session_text.specs.Words.{behind}
+use Rattle.line_language.specs.Words.{behind}
 use Rattle.report_judge.specs.Judging.{IsLine}
 use Rattle.report_judge.proofs.Judging.{way_first, way_last, way_next}
 use Rattle.report_judge.proofs.Lining.{cut_line, cut_none}

@@ -2,7 +2,7 @@ use Rattle.std.proofs.Common.{◌+◌, List, ℕ, drop, reverse, subst}
 use Rattle.txn_bytes.specs.Written.{AppendsFront}
 use Rattle.txn_bytes.proofs.Appending.{front_of, on_err, then, then_front}
 use Rattle.serial_spec.specs.declared.entry.Entry.{Entry}
-use Rattle.serial_spec.specs.Report.{spelled_history}
+use Rattle.line_language.specs.Report.{spelled_history}
 use Rattle.report_text.specs.Lines.{entry_line}
 use Rattle.report_text.proofs.Parts.{spelled-at, spelled-parted}
 use Rattle.report_text.proofs.entries.put_history.Goals as goal

@@ -1,6 +1,6 @@
 use Rattle.std.proofs.Common.{reverse, take}
 use Rattle.std.specs.Io.KnownBytes.{Appends}
-use Rattle.serial_spec.specs.Report.{spelled_history}
+use Rattle.line_language.specs.Report.{spelled_history}
 use Rattle.report_text.proofs.entries.put_history.Given as goal
 
 abbrev pub invariant-loop-entry : goal.invariant-loop-entry

@@ -1,6 +1,6 @@
 use Rattle.std.proofs.Common.{take}
 use Rattle.std.specs.Io.KnownBytes.{Appends}
-use Rattle.serial_spec.specs.Report.{spelled_rows}
+use Rattle.line_language.specs.Report.{spelled_rows}
 use Rattle.report_text.proofs.entries.put_table.Given as goal
 
 abbrev pub invariant-loop-place : goal.invariant-loop-place

@@ -3,7 +3,7 @@ use Rattle.std.specs.Prelude.{slice_get}
 use Rattle.txn_bytes.specs.Written.{AppendsFront}
 use Rattle.txn_bytes.proofs.Appending.{front_of, on_err, then, then_front}
 use Rattle.serial_spec.specs.Rows.{Rows}
-use Rattle.serial_spec.specs.Report.{spelled_rows}
+use Rattle.line_language.specs.Report.{spelled_rows}
 use Rattle.durable_top.specs.Store.{plain}
 use Rattle.report_text.specs.Lines.{row_lines}
 use Rattle.report_text.proofs.Parts.{plain-at, plain-take, spelled_rows-at, spelled_rows-parted}

@@ -1,6 +1,6 @@
 use Rattle.std.proofs.Common.{List, ℕ, ◌++◌}
 use Rattle.std.specs.Prelude.{codes}
-use Rattle.serial_spec.specs.Report.{line, spelled_rows}
+use Rattle.line_language.specs.Report.{line, spelled_rows}
 use Rattle.txn_bytes.proofs.Appending.{front_of, on_err, then, then_front, then_on_err}
 use Rattle.report_text.proofs.report.write_ending.Goals as goal
 

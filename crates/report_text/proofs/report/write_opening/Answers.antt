@@ -1,5 +1,5 @@
 use Rattle.std.specs.Prelude.{codes}
-use Rattle.serial_spec.specs.Report.{line, spelled_rows}
+use Rattle.line_language.specs.Report.{line, spelled_rows}
 use Rattle.durable_top.specs.Store.{plain}
 use Rattle.txn_bytes.proofs.Appending.{front_of, on_err, then_on_err}
 use Rattle.report_text.proofs.report.write_opening.Goals as goal

@@ -1,6 +1,6 @@
 use Rattle.std.proofs.Common.{◌≡◌, List, ℕ, ◌++◌, ap, sym, subst, ◌∙◌, append_assoc, OnErr}
 use Rattle.std.specs.Prelude.{codes}
-use Rattle.serial_spec.specs.Report.{line, spelled_history, spelled_rows}
+use Rattle.line_language.specs.Report.{line, spelled_history, spelled_rows}
 use Rattle.txn_bytes.specs.Written.{AppendsFront}
 use Rattle.txn_bytes.proofs.Appending.{front_of, on_err, then, then_front, then_on_err}
 use Rattle.report_text.proofs.Accepted.{accepted, on_ok}

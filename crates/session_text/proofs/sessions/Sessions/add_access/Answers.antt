@@ -1,6 +1,6 @@
 use Rattle.std.proofs.Common.{Ok, sym, ap, ◌∙◌}
-use Rattle.session_text.specs.Accesses.{asked_in}
-use Rattle.session_text.specs.Steps.{◌>>=◌, unless}
+use Rattle.line_language.specs.Accesses.{asked_in}
+use Rattle.line_language.specs.Steps.{◌>>=◌, unless}
 use Rattle.session_text.specs.Texts.{Command, at_line, grown, placed}
 use Rattle.session_text.proofs.sessions.Sessions.add_access.Goals as goal
 

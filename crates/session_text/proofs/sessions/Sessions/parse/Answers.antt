@@ -2,9 +2,9 @@ use Rattle.std.proofs.Common.{◌≡◌, ℕ, ◌+◌, ◌∷◌, List, length, 
 use Rattle.std.specs.Option.{option_copied}
 use Rattle.std.proofs.lemmas.Bool.Decides.{nat_tests}
 use Rattle.std.proofs.lemmas.Result.{err_from_is_err_and}
-use Rattle.session_text.specs.Steps.{◌>>=◌}
+use Rattle.line_language.specs.Steps.{◌>>=◌}
 use Rattle.session_text.specs.Texts.{Read, Tells, at_line, read_from, with_bytes}
-use Rattle.session_text.specs.Words.{cut_at, parts_left}
+use Rattle.line_language.specs.Words.{cut_at, parts_left}
 use Rattle.session_text.proofs.Feeds.{no_feed, first_line, fault_told}
 use Rattle.session_text.proofs.sessions.Sessions.parse.Goals as goal
 

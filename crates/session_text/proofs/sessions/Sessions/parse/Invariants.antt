@@ -1,5 +1,5 @@
 use Rattle.std.proofs.Common.{◌≡◌, ◌+◌, ◌≤◌, length}
-use Rattle.session_text.specs.Words.{cut_at}
+use Rattle.line_language.specs.Words.{cut_at}
 use Rattle.session_text.specs.Texts.{read_from, sessions_of}
 use Rattle.session_text.proofs.sessions.Sessions.parse.Given as goal
 

@@ -1,0 +1,13 @@
+pub mod Cutting
+pub mod Numerals
+pub mod Bytes
+pub mod Reading
+pub mod Spelled
+pub mod Feeding
+pub mod ReadBack
+pub mod Counting
+pub mod Accesses
+pub mod Parts
+pub mod Rows
+pub mod Answering
+pub mod Entries

@@ -1,0 +1,27 @@
+use Rattle.std.proofs.Common.{◌≡◌, ℕ, List, ◌∷◌, Ok, Err, ap, ◌∙◌, subst, rules}
+use Rattle.std.specs.Option.{option_copied}
+use Rattle.txn_names.specs.Reading.{pieces}
+use Rattle.serial_spec.specs.declared.event.Event.TheVariants.{Access}
+use Rattle.serial_spec.specs.declared.operation.Op.TheVariants.{Get, Del}
+use Rattle.line_language.specs.declared.fault.LineKind.TheVariants as kind
+use Rattle.line_language.specs.Commands.{keyed, key_in}
+use Rattle.line_language.specs.Steps.{◌>>=◌, or_fault}
+use Rattle.line_language.specs.Words.{cut_at, parts_left}
+use Rattle.line_language.proofs.Accesses.{Before, either, key_fault}
+use Rattle.line_language.proofs.command.keyed_words.Goals as goal
+
+pub returns-in_default-check-clause-read : goal.returns-in_default-check-clause-read
+returns-in_default-check-clause-read c =
+    let a : List ℕ = c.cut.result.0.now in
+    let k : List ℕ = c.in-Some.key.now in
+    let f = c.fault_before-in_default-check.result in
+    let left : cut_at 32 c.args.words.now ≡ a ∷ cut_at 32 k =
+    c.cut.ensures.parts ∙ ap (λ rest. a ∷ parts_left 32 (option_copied rest)) c.in-Some.is in
+    let m : Before (cut_at 32 k) kind.Key f =
+    subst (λ last. Before (parts_left 32 (option_copied last)) kind.Key f) c.in-Some.is c.fault_before-in_default-check.ensures in
+    let bad : key_in k ≡ Err kind.Key = search rules in
+    let read : keyed (cut_at 32 c.args.words.now) ≡ Err f =
+    ap keyed left ∙ key_fault a k (pieces a) f (ap (or_fault kind.Name) c.in-Ok.ensures.read) bad m in
+    either c.args.deletes _ _ (Err f)
+    (ap (λ r. r >>= λ q. Ok (Access q.0 q.1 Del)) read)
+    (ap (λ r. r >>= λ q. Ok (Access q.0 q.1 Get)) read)

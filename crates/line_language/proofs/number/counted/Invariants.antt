@@ -1,0 +1,8 @@
+use Rattle.std.proofs.Common.{◌≡◌, ◌^◌, ◌<◌, true, take}
+use Rattle.std.specs.Char.{is_ascii_digit}
+use Rattle.std.specs.List.{list_all}
+use Rattle.std.specs.Str.Parse.{digits_value}
+use Rattle.line_language.proofs.number.counted.Given as goal
+
+abbrev pub invariant-loop-byte : goal.invariant-loop-byte
+invariant-loop-byte l = (list_all is_ascii_digit (take l.byte-index l.bytes) ≡ true) × (l.count ≡ digits_value 10 (take l.byte-index l.bytes)) × (l.count < 2 ^ 63)

@@ -1,0 +1,11 @@
+use Rattle.std.proofs.Common.{SFits, w64, rules}
+use Rattle.std.proofs.lemmas.Int.{to_z-of_z}
+use Rattle.txn_bytes.proofs.Appending.{front_of, on_err, then_on_err}
+use Rattle.line_language.proofs.spelling.put_told.Goals as goal
+
+pub returns-in_err-put-clause-err : goal.returns-in_err-put-clause-err
+returns-in_err-put-clause-err g c = on_err c.from_residual.result (front_of _ _ _ _ c.in_err-put.ensures.err)
+
+pub returns-clause-err : goal.returns-clause-err
+returns-clause-err g c =
+    let fits : SFits w64 c.args.number = search rules in then_on_err _ _ _ _ _ _ c.in_ok-put.ensures.ok (simp to_z-of_z at c.put_number.ensures.err)

@@ -1,0 +1,12 @@
+pub mod Steps
+pub mod Words
+pub mod Numbers
+pub mod Printing
+pub mod Commands
+pub mod Accesses
+pub mod Events
+pub mod Answers
+pub mod Reading
+pub mod Entries
+pub mod Report
+pub mod Laws

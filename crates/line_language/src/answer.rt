@@ -1,0 +1,210 @@
+//! Answers, read, and which of them an event may have.
+ghost use Rattle.std.specs.Prelude.{◌≡◌, codes};
+ghost use Rattle.std.specs.Str.{bytes_eq};
+ghost use Rattle.line_language.specs.Answers.{may_answer, may_begin, may_commit, may_access, may_abort, may_after, may_sum};
+ghost use Rattle.line_language.specs.Reading.{answer_of, one_word, orphan_of, refusal_of, two_words};
+
+use crate::number::parse_number;
+use crate::parting::cut;
+use serial_spec::{Answer, Event, Op, Refusal, Reply};
+use txn_names::Name;
+
+// The words of most answers, which are told without a call.
+fn is_ok(word: &[u8]) -> bool
+    ensures { result ≡ bytes_eq word.now (codes "ok") }
+{
+    matches!(word, b"ok")
+}
+
+fn is_value(word: &[u8]) -> bool
+    ensures { result ≡ bytes_eq word.now (codes "value") }
+{
+    matches!(word, b"value")
+}
+
+fn is_new(word: &[u8]) -> bool
+    ensures { result ≡ bytes_eq word.now (codes "new") }
+{
+    matches!(word, b"new")
+}
+
+// An answer of one word.
+fn one_word(word: &[u8]) -> Option<Answer>
+    ensures { result ≡ one_word word.now }
+{
+    if is_ok(word) {
+        return Some(Answer::Done(Reply::Ok));
+    }
+    if word == b"none".as_slice() {
+        return Some(Answer::Done(Reply::Absent));
+    }
+    if word == b"overflow".as_slice() {
+        return Some(Answer::Done(Reply::Overflow));
+    }
+    if word == b"waits".as_slice() {
+        return Some(Answer::Waits);
+    }
+    if word == b"stuck".as_slice() {
+        return Some(Answer::Stuck);
+    }
+    None
+}
+
+// What stands behind `refused`.
+fn refusal_of(word: &[u8]) -> Option<Refusal>
+    ensures { result ≡ refusal_of word.now }
+{
+    if word == b"unknown".as_slice() {
+        return Some(Refusal::Unknown);
+    }
+    if word == b"used".as_slice() {
+        return Some(Refusal::Used);
+    }
+    if word == b"no-parent".as_slice() {
+        return Some(Refusal::NoParent);
+    }
+    if word == b"done".as_slice() {
+        return Some(Refusal::Done);
+    }
+    if word == b"children".as_slice() {
+        return Some(Refusal::Children);
+    }
+    if word == b"waiting".as_slice() {
+        return Some(Refusal::Waiting);
+    }
+    if word == b"full".as_slice() {
+        return Some(Refusal::Full);
+    }
+    if word == b"store".as_slice() {
+        return Some(Refusal::Store);
+    }
+    None
+}
+
+// Why an orphan was refused. It is rare, and read apart: a call makes room for all that is read in
+// it.
+#[inline(never)]
+fn orphan_of(word: &[u8]) -> Option<Answer>
+    ensures { result ≡ orphan_of word.now }
+{
+    Some(Answer::Refused(Refusal::Orphan(Name::parse(word).ok()?)))
+}
+
+// An answer of two words: the first one, and what stands behind it.
+fn two_words(word: &[u8], rest: &[u8]) -> Option<Answer>
+    ensures { result ≡ two_words word.now rest.now }
+{
+    if is_value(word) {
+        return Some(Answer::Done(Reply::Value(parse_number(rest)?)));
+    }
+    if is_new(word) {
+        return Some(Answer::Done(Reply::New(parse_number(rest)?)));
+    }
+    if word == b"refused".as_slice() {
+        return Some(Answer::Refused(refusal_of(rest)?));
+    }
+    if word == b"orphan".as_slice() {
+        return orphan_of(rest);
+    }
+    None
+}
+
+/// The answer that the bytes spell.
+pub(crate) fn answer_of(bytes: &[u8]) -> Option<Answer>
+    ensures { result ≡ answer_of bytes.now }
+{
+    match cut(bytes, b' ') {
+        (word, None) => one_word(word),
+        (word, Some(rest)) => two_words(word, rest),
+    }
+}
+
+fn may_begin(answer: &Answer) -> bool
+    ensures { result ≡ may_begin answer.now }
+{
+    match answer {
+        Answer::Done(Reply::Ok) => true,
+        Answer::Refused(Refusal::Used | Refusal::NoParent | Refusal::Orphan(_) | Refusal::Full) =>
+            true,
+        _ => false,
+    }
+}
+
+fn may_access(op: Op, answer: &Answer) -> bool
+    ensures { result ≡ may_access op answer.now }
+{
+    match answer {
+        Answer::Waits | Answer::Stuck => true,
+        Answer::Refused(
+            Refusal::Unknown
+            | Refusal::Orphan(_)
+            | Refusal::Done
+            | Refusal::Waiting
+            | Refusal::Full,
+        ) => true,
+        Answer::Done(Reply::Value(_) | Reply::Absent) => matches!(op, Op::Get),
+        Answer::Done(Reply::Ok) => matches!(op, Op::Set(_) | Op::Del),
+        Answer::Done(Reply::New(_) | Reply::Overflow) => matches!(op, Op::Add(_)),
+        _ => false,
+    }
+}
+
+// A sum makes no key known, so no limit refuses it.
+fn may_sum(answer: &Answer) -> bool
+    ensures { result ≡ may_sum answer.now }
+{
+    match answer {
+        Answer::Waits | Answer::Stuck => true,
+        Answer::Refused(Refusal::Unknown | Refusal::Orphan(_) | Refusal::Done | Refusal::Waiting) =>
+            true,
+        Answer::Done(Reply::Value(_) | Reply::Overflow) => true,
+        _ => false,
+    }
+}
+
+fn may_commit(answer: &Answer) -> bool
+    ensures { result ≡ may_commit answer.now }
+{
+    match answer {
+        Answer::Done(Reply::Ok) => true,
+        Answer::Refused(
+            Refusal::Unknown
+            | Refusal::Orphan(_)
+            | Refusal::Done
+            | Refusal::Children
+            | Refusal::Waiting
+            | Refusal::Store,
+        ) => true,
+        _ => false,
+    }
+}
+
+fn may_abort(answer: &Answer) -> bool
+    ensures { result ≡ may_abort answer.now }
+{
+    match answer {
+        Answer::Done(Reply::Ok) => true,
+        Answer::Refused(Refusal::Unknown | Refusal::Orphan(_) | Refusal::Done) => true,
+        _ => false,
+    }
+}
+
+fn may_after(answer: &Answer) -> bool
+    ensures { result ≡ may_after answer.now }
+{
+    matches!(answer, Answer::Done(Reply::Ok) | Answer::Stuck)
+}
+
+/// Whether a line that asks this may have the answer.
+pub(crate) fn may_answer(event: &Event, answer: &Answer) -> bool
+    ensures { result ≡ may_answer event.now answer.now }
+{
+    match event {
+        Event::Begin(_) => may_begin(answer),
+        Event::Access(_, _, op) => may_access(*op, answer),
+        Event::Sum(_, _) => may_sum(answer),
+        Event::Commit(_) => may_commit(answer),
+        Event::Abort(_) => may_abort(answer),
+        Event::After(_, _) => may_after(answer),
+    }
+}

@@ -1,0 +1,289 @@
+//! Command lines: the words behind the first, read as the first asks.
+ghost use Rattle.std.specs.Prelude.{◌≡◌, if◌then◌else◌, IfOk, IfSome, MatchResult};
+ghost use Rattle.std.specs.Option.{option_copied};
+ghost use Rattle.line_language.specs.Steps.{Gives};
+ghost use Rattle.line_language.specs.Accesses.{AreRead, asked_in};
+ghost use Rattle.line_language.specs.Words.{cut_at, parts_left};
+ghost use Rattle.line_language.specs.Commands.{abort_of, add_of, after_of, begin_of, commit_of, del_of, event_of, get_of, one, set_of, sum_of, two, when_in};
+
+use crate::fault::LineKind;
+use crate::number::parse_number;
+use crate::parting::cut;
+use crate::verbs::{is_abort, is_add, is_after, is_begin, is_del, is_get, is_set, is_sum};
+use serial_spec::{Event, Op, When};
+use txn_names::{Group, Key, Name};
+
+/// The one word that is left, of the words behind those that were read: `Shape` where none or more
+/// are left.
+pub fn one(words: Option<&[u8]>) -> Result<&[u8], LineKind>
+    ensures { Gives (λ w. w.now) result (one (parts_left 32 (option_copied words.entry))) }
+{
+    let Some(bytes) = words else {
+        return Err(LineKind::Shape);
+    };
+    match cut(bytes, b' ') {
+        (word, None) => Ok(word),
+        (_, Some(_)) => Err(LineKind::Shape),
+    }
+}
+
+fn two(words: Option<&[u8]>) -> Result<(&[u8], &[u8]), LineKind>
+    ensures { Gives (λ w. (w.0.now, w.1.now)) result
+        (two (parts_left 32 (option_copied words.entry))) }
+{
+    let Some(bytes) = words else {
+        return Err(LineKind::Shape);
+    };
+    let (first, rest) = cut(bytes, b' ');
+    let second = one(rest)?;
+    Ok((first, second))
+}
+
+fn when_in(word: &[u8]) -> Result<When, LineKind>
+    ensures { result ≡ when_in word.now }
+{
+    match word {
+        b"begun" => Ok(When::Begun),
+        b"done" => Ok(When::Done),
+        _ => Err(LineKind::Word),
+    }
+}
+
+/// The words of a line that asks for an access of a key, which have no fault: what is large is made
+/// of them where it is to stand.
+#[derive(Clone, Copy)]
+pub struct AccessWords<'a> {
+    name: &'a [u8],
+    depth: usize,
+    key: &'a [u8],
+    op: Op,
+}
+
+impl AccessWords<'_> {
+    /// What the line asks.
+    #[inline(always)]
+    pub fn event(&self) -> Event
+        requires { AreRead self.now }
+        ensures { result ≡ asked_in self.now }
+    {
+        let name = Name::of_spelled(self.name, self.depth);
+        Event::Access(name, Key::of(self.key), self.op)
+    }
+}
+
+// The fault of a line where an operand has this one, and one word is to stand at its end: words too
+// many are told first.
+#[inline(never)]
+fn fault_before(last: Option<&[u8]>, kind: LineKind) -> LineKind
+    ensures { MatchResult (one (parts_left 32 (option_copied last.entry)))
+        (λ _. result ≡ kind) (λ shape. result ≡ shape) }
+{
+    match one(last) {
+        Ok(_) => kind,
+        Err(shape) => shape,
+    }
+}
+
+// The words of a line that reads or deletes a key. No key has a space, so the last word is not
+// searched for one.
+#[tactic(auto, using(crate::proofs::Accesses::key_alone))]
+fn keyed_words(words: &[u8], deletes: bool) -> Result<AccessWords<'_>, LineKind>
+    ensures read { let left = cut_at 32 words.now in
+        Gives asked_in result (if deletes then del_of left else get_of left) }
+    ensures words { IfOk result AreRead }
+{
+    let (name, last) = cut(words, b' ');
+    let Some(key) = last else {
+        return Err(LineKind::Shape);
+    };
+    let Ok(depth) = Name::depth_of(name) else {
+        return Err(fault_before(last, LineKind::Name));
+    };
+    let Ok(()) = Key::check(key) else {
+        return Err(fault_before(last, LineKind::Key));
+    };
+    let op = if deletes { Op::Del } else { Op::Get };
+    Ok(AccessWords {
+        name,
+        depth,
+        key,
+        op,
+    })
+}
+
+// The words of a line that adds a number to the value of a key, or makes it the value. No number
+// has a space.
+fn valued_words(words: &[u8], adds: bool) -> Result<AccessWords<'_>, LineKind>
+    ensures read { let left = cut_at 32 words.now in
+        Gives asked_in result (if adds then add_of left else set_of left) }
+    ensures words { IfOk result AreRead }
+{
+    let (name, rest) = cut(words, b' ');
+    let Some(operands) = rest else {
+        return Err(LineKind::Shape);
+    };
+    let (key, last) = cut(operands, b' ');
+    let Some(number) = last else {
+        return Err(LineKind::Shape);
+    };
+    let Ok(depth) = Name::depth_of(name) else {
+        return Err(fault_before(last, LineKind::Name));
+    };
+    let Ok(()) = Key::check(key) else {
+        return Err(fault_before(last, LineKind::Key));
+    };
+    let Some(value) = parse_number(number) else {
+        return Err(fault_before(last, LineKind::Number));
+    };
+    let op = if adds { Op::Add(value) } else { Op::Set(value) };
+    Ok(AccessWords {
+        name,
+        depth,
+        key,
+        op,
+    })
+}
+
+/// The words of a line that asks for an access of a key, or the kind of its first fault. Of other
+/// lines nothing is told.
+pub fn access_in(bytes: &[u8]) -> Option<Result<AccessWords<'_>, LineKind>>
+    ensures read { IfSome result (λ read. Gives asked_in read (event_of bytes.now)) }
+    ensures words { IfSome result (λ read. IfOk read AreRead) }
+{
+    match bytes {
+        [b'g', b'e', b't', b' ', words @ ..] => Some(keyed_words(words, false)),
+        [b's', b'e', b't', b' ', words @ ..] => Some(valued_words(words, false)),
+        [b'a', b'd', b'd', b' ', words @ ..] => Some(valued_words(words, true)),
+        [b'd', b'e', b'l', b' ', words @ ..] => Some(keyed_words(words, true)),
+        _ => None,
+    }
+}
+
+// A line that reads or deletes a key.
+fn keyed(words: Option<&[u8]>, deletes: bool) -> Result<Event, LineKind>
+    ensures { let left = parts_left 32 (option_copied words.entry) in
+        result ≡ (if deletes then del_of left else get_of left) }
+{
+    let Some(words) = words else {
+        return Err(LineKind::Shape);
+    };
+    match keyed_words(words, deletes) {
+        Ok(access) => Ok(access.event()),
+        Err(kind) => Err(kind),
+    }
+}
+
+// A line that adds a number to the value of a key, or makes it the value.
+fn valued(words: Option<&[u8]>, adds: bool) -> Result<Event, LineKind>
+    ensures { let left = parts_left 32 (option_copied words.entry) in
+        result ≡ (if adds then add_of left else set_of left) }
+{
+    let Some(words) = words else {
+        return Err(LineKind::Shape);
+    };
+    match valued_words(words, adds) {
+        Ok(access) => Ok(access.event()),
+        Err(kind) => Err(kind),
+    }
+}
+
+// Most lines ask for an access of a key. The others are read apart, since a call makes room for all
+// that is read in it.
+#[inline(never)]
+fn begin_of(words: Option<&[u8]>) -> Result<Event, LineKind>
+    ensures { result ≡ begin_of (parts_left 32 (option_copied words.entry)) }
+{
+    let name = one(words)?;
+    let Ok(depth) = Name::depth_of(name) else {
+        return Err(LineKind::Name);
+    };
+    Ok(Event::Begin(Name::of_spelled(name, depth)))
+}
+
+// It is far less common than an access of a key.
+#[inline(never)]
+fn sum_of(words: Option<&[u8]>) -> Result<Event, LineKind>
+    ensures { result ≡ sum_of (parts_left 32 (option_copied words.entry)) }
+{
+    let (first, second) = two(words)?;
+    let Ok(name) = &Name::parse(first) else {
+        return Err(LineKind::Name);
+    };
+    let Ok(group) = &Group::parse(second) else {
+        return Err(LineKind::Key);
+    };
+    Ok(Event::Sum(*name, *group))
+}
+
+#[inline(never)]
+fn commit_of(words: Option<&[u8]>) -> Result<Event, LineKind>
+    ensures { result ≡ commit_of (parts_left 32 (option_copied words.entry)) }
+{
+    let name = one(words)?;
+    let Ok(depth) = Name::depth_of(name) else {
+        return Err(LineKind::Name);
+    };
+    Ok(Event::Commit(Name::of_spelled(name, depth)))
+}
+
+#[inline(never)]
+fn abort_of(words: Option<&[u8]>) -> Result<Event, LineKind>
+    ensures { result ≡ abort_of (parts_left 32 (option_copied words.entry)) }
+{
+    let name = one(words)?;
+    let Ok(depth) = Name::depth_of(name) else {
+        return Err(LineKind::Name);
+    };
+    Ok(Event::Abort(Name::of_spelled(name, depth)))
+}
+
+#[inline(never)]
+fn after_of(words: Option<&[u8]>) -> Result<Event, LineKind>
+    ensures { result ≡ after_of (parts_left 32 (option_copied words.entry)) }
+{
+    let (first, second) = two(words)?;
+    let Ok(name) = &Name::parse(first) else {
+        return Err(LineKind::Name);
+    };
+    let when = when_in(second)?;
+    Ok(Event::After(*name, when))
+}
+
+/// What a command line asks, or the kind of its first fault. Each event is given where it is made:
+/// as the value of an `if` it would be moved once for each `else` around it.
+pub(crate) fn event_of(bytes: &[u8]) -> Result<Event, LineKind>
+    ensures { result ≡ event_of bytes.now }
+{
+    if bytes.is_empty() {
+        return Err(LineKind::Empty);
+    }
+    let (word, words) = cut(bytes, b' ');
+    if is_begin(word) {
+        return begin_of(words);
+    }
+    if is_get(word) {
+        return keyed(words, false);
+    }
+    if is_set(word) {
+        return valued(words, false);
+    }
+    if is_add(word) {
+        return valued(words, true);
+    }
+    if is_del(word) {
+        return keyed(words, true);
+    }
+    if is_sum(word) {
+        return sum_of(words);
+    }
+    if word == b"commit".as_slice() {
+        return commit_of(words);
+    }
+    if is_abort(word) {
+        return abort_of(words);
+    }
+    if is_after(word) {
+        return after_of(words);
+    }
+    Err(LineKind::Word)
+}

@@ -1,0 +1,29 @@
+//! The language of lines: commands, answers, entries and rows as bytes, read and spelled.
+//!
+//! A command is `begin N`, `get N K`, `set N K V`, `add N K V`, `del N K`, `sum N G`, `commit N`,
+//! `abort N`, `after N begun` or `after N done`, where N is a name, K a key, V a number and G a
+//! group. Words stand one space apart. An entry of a report is `LABEL LINE TEXT -> REPLY`,
+//! `* victim N` or `* close N`, and a row is `K=V`. Each has one spelling: bytes are read as one
+//! exactly where they spell it, and for all others it is told what is wrong first.
+#![tactic(auto)]
+
+mod answer;
+mod command;
+mod entry;
+mod fault;
+pub mod laws;
+mod line;
+mod number;
+mod parting;
+mod row;
+mod spelling;
+mod verbs;
+
+pub use command::{AccessWords, access_in, one};
+pub use entry::{ReportEntry, parse_entry, put_entry, read_entry};
+pub use fault::LineKind;
+pub use line::{Line, parse_event, parse_line};
+pub use number::parse_number;
+pub use parting::{cut, cut_line};
+pub use row::{parse_row, put_row};
+pub use spelling::{put_number, put_size};

@@ -1,0 +1,238 @@
+//! How numbers, events and answers are spelled, one spelling each. After a fault the writer has
+//! taken a beginning of the spelling.
+ghost use Rattle.std.specs.Prelude.{ℕ, [], ◌∷◌, ◌++◌, codes, decimal, OnErr, OnOk};
+ghost use Rattle.std.specs.Io.KnownBytes.{Appends};
+ghost use Rattle.txn_bytes.specs.Written.{AppendsFront, IsStopped};
+ghost use Rattle.txn_names.specs.Text.{spelled_name};
+ghost use Rattle.line_language.specs.Printing.{spelled_access, spelled_answer, spelled_event, spelled_number, spelled_refusal, spelled_reply, spelled_when};
+
+use itoa::Buffer;
+use serial_spec::{Answer, Event, Op, Refusal, Reply, When};
+use txn_bytes::{Sink, WriteFault, put};
+use txn_names::{Group, Key, Name};
+
+/// Writes the number as it is spelled. After a fault, the only one, the writer has taken a beginning
+/// of that.
+pub fn put_number<W: Sink>(out: &mut W, number: i64) -> Result<(), WriteFault>
+    ensures ok { OnOk result
+        (Appends (W.contents out.old) (W.contents out.new) (spelled_number number)) }
+    ensures err { OnErr result
+        (AppendsFront (W.contents out.old) (W.contents out.new) (spelled_number number)) }
+    ensures asked { OnErr result (IsStopped W.Sink out.new) }
+{
+    let mut buffer = Buffer::new();
+    put(out, buffer.format(number).as_bytes())
+}
+
+pub(crate) fn put_count<W: Sink>(out: &mut W, count: u32) -> Result<(), WriteFault>
+    ensures ok { OnOk result (Appends (W.contents out.old) (W.contents out.new) (decimal count)) }
+    ensures err { OnErr result
+        (AppendsFront (W.contents out.old) (W.contents out.new) (decimal count)) }
+    ensures asked { OnErr result (IsStopped W.Sink out.new) }
+{
+    let mut buffer = Buffer::new();
+    put(out, buffer.format(count).as_bytes())
+}
+
+/// Writes the size in digits. After a fault, the only one, the writer has taken a beginning of that.
+pub fn put_size<W: Sink>(out: &mut W, size: usize) -> Result<(), WriteFault>
+    ensures ok { OnOk result (Appends (W.contents out.old) (W.contents out.new) (decimal size)) }
+    ensures err { OnErr result
+        (AppendsFront (W.contents out.old) (W.contents out.new) (decimal size)) }
+    ensures asked { OnErr result (IsStopped W.Sink out.new) }
+{
+    let mut buffer = Buffer::new();
+    put(out, buffer.format(size).as_bytes())
+}
+
+// A word with its space, and a name.
+pub(crate) fn put_named<W: Sink>(out: &mut W, word: &[u8], name: &Name) -> Result<(), WriteFault>
+    ensures ok { OnOk result (Appends (W.contents out.old) (W.contents out.new) (word.now
+        ++ spelled_name name.now)) }
+    ensures err { OnErr result (AppendsFront (W.contents out.old) (W.contents out.new) (word.now
+        ++ spelled_name name.now)) }
+    ensures asked { OnErr result (IsStopped W.Sink out.new) }
+{
+    put(out, word)?;
+    name.write_to(out)
+}
+
+// A word with its space, a name and the bytes of a key or a group.
+fn put_spaced<W: Sink>(
+    out: &mut W,
+    word: &[u8],
+    name: &Name,
+    bytes: &[u8],
+) -> Result<(), WriteFault>
+    ensures ok { OnOk result (Appends (W.contents out.old) (W.contents out.new) (word.now
+        ++ spelled_name name.now ++ codes " " ++ bytes.now)) }
+    ensures err { OnErr result (AppendsFront (W.contents out.old) (W.contents out.new) (word.now
+        ++ spelled_name name.now ++ codes " " ++ bytes.now)) }
+    ensures asked { OnErr result (IsStopped W.Sink out.new) }
+{
+    put_named(out, word, name)?;
+    put(out, b" ")?;
+    put(out, bytes)
+}
+
+// A word with its space, a name and a key.
+fn put_keyed<W: Sink>(out: &mut W, word: &[u8], name: &Name, key: &Key) -> Result<(), WriteFault>
+    ensures ok { OnOk result (Appends (W.contents out.old) (W.contents out.new) (word.now
+        ++ spelled_name name.now ++ codes " " ++ key.now)) }
+    ensures err { OnErr result (AppendsFront (W.contents out.old) (W.contents out.new) (word.now
+        ++ spelled_name name.now ++ codes " " ++ key.now)) }
+    ensures asked { OnErr result (IsStopped W.Sink out.new) }
+{
+    put_spaced(out, word, name, key.as_bytes())
+}
+
+// A word with its space, a name, a key and a number.
+fn put_valued<W: Sink>(
+    out: &mut W,
+    word: &[u8],
+    name: &Name,
+    key: &Key,
+    number: i64,
+) -> Result<(), WriteFault>
+    ensures ok { OnOk result (Appends (W.contents out.old) (W.contents out.new) (word.now
+        ++ spelled_name name.now ++ codes " " ++ key.now ++ codes " " ++ spelled_number number)) }
+    ensures err { OnErr result (AppendsFront (W.contents out.old) (W.contents out.new) (word.now
+        ++ spelled_name name.now ++ codes " " ++ key.now ++ codes " " ++ spelled_number number)) }
+    ensures asked { OnErr result (IsStopped W.Sink out.new) }
+{
+    put_keyed(out, word, name, key)?;
+    put(out, b" ")?;
+    put_number(out, number)
+}
+
+fn put_access<W: Sink>(out: &mut W, name: &Name, key: &Key, op: Op) -> Result<(), WriteFault>
+    ensures ok { OnOk result
+        (Appends (W.contents out.old) (W.contents out.new) (spelled_access name.now key.now op)) }
+    ensures err { OnErr result
+        (AppendsFront (W.contents out.old) (W.contents out.new)
+        (spelled_access name.now key.now op)) }
+    ensures asked { OnErr result (IsStopped W.Sink out.new) }
+{
+    match op {
+        Op::Get => put_keyed(out, b"get ", name, key),
+        Op::Set(value) => put_valued(out, b"set ", name, key, value),
+        Op::Add(amount) => put_valued(out, b"add ", name, key, amount),
+        Op::Del => put_keyed(out, b"del ", name, key),
+    }
+}
+
+fn put_sum<W: Sink>(out: &mut W, name: &Name, group: &Group) -> Result<(), WriteFault>
+    ensures ok { OnOk result (Appends (W.contents out.old) (W.contents out.new) (codes "sum "
+        ++ spelled_name name.now ++ codes " " ++ group.now)) }
+    ensures err { OnErr result (AppendsFront (W.contents out.old) (W.contents out.new) (codes "sum "
+        ++ spelled_name name.now ++ codes " " ++ group.now)) }
+    ensures asked { OnErr result (IsStopped W.Sink out.new) }
+{
+    put_spaced(out, b"sum ", name, group.as_bytes())
+}
+
+fn put_when<W: Sink>(out: &mut W, when: When) -> Result<(), WriteFault>
+    ensures ok { OnOk result
+        (Appends (W.contents out.old) (W.contents out.new) (spelled_when when)) }
+    ensures err { OnErr result
+        (AppendsFront (W.contents out.old) (W.contents out.new) (spelled_when when)) }
+    ensures asked { OnErr result (IsStopped W.Sink out.new) }
+{
+    match when {
+        When::Begun => put(out, b"begun"),
+        When::Done => put(out, b"done"),
+    }
+}
+
+fn put_after<W: Sink>(out: &mut W, name: &Name, when: When) -> Result<(), WriteFault>
+    ensures ok { OnOk result (Appends (W.contents out.old) (W.contents out.new) (codes "after "
+        ++ spelled_name name.now ++ codes " " ++ spelled_when when)) }
+    ensures err { OnErr result
+        (AppendsFront (W.contents out.old) (W.contents out.new) (codes "after "
+        ++ spelled_name name.now ++ codes " " ++ spelled_when when)) }
+    ensures asked { OnErr result (IsStopped W.Sink out.new) }
+{
+    put_named(out, b"after ", name)?;
+    put(out, b" ")?;
+    put_when(out, when)
+}
+
+pub(crate) fn put_event<W: Sink>(out: &mut W, event: &Event) -> Result<(), WriteFault>
+    ensures ok { OnOk result
+        (Appends (W.contents out.old) (W.contents out.new) (spelled_event event.now)) }
+    ensures err { OnErr result
+        (AppendsFront (W.contents out.old) (W.contents out.new) (spelled_event event.now)) }
+    ensures asked { OnErr result (IsStopped W.Sink out.new) }
+{
+    match event {
+        Event::Begin(name) => put_named(out, b"begin ", name),
+        Event::Access(name, key, op) => put_access(out, name, key, *op),
+        Event::Sum(name, group) => put_sum(out, name, group),
+        Event::Commit(name) => put_named(out, b"commit ", name),
+        Event::Abort(name) => put_named(out, b"abort ", name),
+        Event::After(name, when) => put_after(out, name, *when),
+    }
+}
+
+fn put_reply<W: Sink>(out: &mut W, reply: Reply) -> Result<(), WriteFault>
+    ensures ok { OnOk result
+        (Appends (W.contents out.old) (W.contents out.new) (spelled_reply reply)) }
+    ensures err { OnErr result
+        (AppendsFront (W.contents out.old) (W.contents out.new) (spelled_reply reply)) }
+    ensures asked { OnErr result (IsStopped W.Sink out.new) }
+{
+    match reply {
+        Reply::Ok => put(out, b"ok"),
+        Reply::Value(value) => put_told(out, b"value ", value),
+        Reply::Absent => put(out, b"none"),
+        Reply::New(sum) => put_told(out, b"new ", sum),
+        Reply::Overflow => put(out, b"overflow"),
+    }
+}
+
+// A word with its space, and a number.
+fn put_told<W: Sink>(out: &mut W, word: &[u8], number: i64) -> Result<(), WriteFault>
+    ensures ok { OnOk result (Appends (W.contents out.old) (W.contents out.new) (word.now
+        ++ spelled_number number)) }
+    ensures err { OnErr result (AppendsFront (W.contents out.old) (W.contents out.new) (word.now
+        ++ spelled_number number)) }
+    ensures asked { OnErr result (IsStopped W.Sink out.new) }
+{
+    put(out, word)?;
+    put_number(out, number)
+}
+
+fn put_refusal<W: Sink>(out: &mut W, refusal: &Refusal) -> Result<(), WriteFault>
+    ensures ok { OnOk result
+        (Appends (W.contents out.old) (W.contents out.new) (spelled_refusal refusal.now)) }
+    ensures err { OnErr result
+        (AppendsFront (W.contents out.old) (W.contents out.new) (spelled_refusal refusal.now)) }
+    ensures asked { OnErr result (IsStopped W.Sink out.new) }
+{
+    match refusal {
+        Refusal::Unknown => put(out, b"refused unknown"),
+        Refusal::Used => put(out, b"refused used"),
+        Refusal::NoParent => put(out, b"refused no-parent"),
+        Refusal::Done => put(out, b"refused done"),
+        Refusal::Orphan(name) => put_named(out, b"orphan ", name),
+        Refusal::Children => put(out, b"refused children"),
+        Refusal::Waiting => put(out, b"refused waiting"),
+        Refusal::Full => put(out, b"refused full"),
+        Refusal::Store => put(out, b"refused store"),
+    }
+}
+
+pub(crate) fn put_answer<W: Sink>(out: &mut W, answer: &Answer) -> Result<(), WriteFault>
+    ensures ok { OnOk result
+        (Appends (W.contents out.old) (W.contents out.new) (spelled_answer answer.now)) }
+    ensures err { OnErr result
+        (AppendsFront (W.contents out.old) (W.contents out.new) (spelled_answer answer.now)) }
+    ensures asked { OnErr result (IsStopped W.Sink out.new) }
+{
+    match answer {
+        Answer::Done(reply) => put_reply(out, *reply),
+        Answer::Waits => put(out, b"waits"),
+        Answer::Stuck => put(out, b"stuck"),
+        Answer::Refused(refusal) => put_refusal(out, refusal),
+    }
+}

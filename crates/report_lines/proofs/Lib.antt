@@ -1,4 +1,0 @@
-pub mod Parts
-pub mod Rows
-pub mod Answering
-pub mod Entries
