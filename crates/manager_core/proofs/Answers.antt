@@ -18,7 +18,8 @@ use Rattle.serial_spec.specs.Locks.{is_blocked}
 use Rattle.serial_spec.specs.Values.{seen}
 use Rattle.serial_spec.specs.Rows.{Rows, value_in}
 use Rattle.serial_spec.specs.Legal.{AreAllowed}
-use Rattle.serial_spec.specs.Allowed.{Allowed, most_transactions, answer, has_waited, when, cause_at_begin, cause_at_end, cause_at_access, cause_at_commit}
+use Rattle.serial_spec.specs.Allowed.{Allowed, most_transactions, answer, has_waited, cause_at_begin, cause_at_end, cause_at_access, cause_at_commit}
+use Rattle.serial_spec.specs.Causes.{when}
 use Rattle.txn_history.proofs.Activity.{acts_active}
 use Rattle.txn_history.proofs.OwnLines.{line_self}
 use Rattle.txn_history.proofs.Causes.{neither, acts_at_end}

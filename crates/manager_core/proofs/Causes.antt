@@ -17,7 +17,8 @@ use Rattle.serial_spec.specs.declared.entry.Refusal.TheVariants.{Children, Done,
 use Rattle.serial_spec.specs.History.{Name, History, is_active, or_else}
 use Rattle.serial_spec.specs.Rows.{Rows}
 use Rattle.serial_spec.specs.Legal.{AreAllowed}
-use Rattle.serial_spec.specs.Allowed.{when, waits_elsewhere, is_full_for, has_live_child, cause_at_end, cause_at_access, cause_at_commit}
+use Rattle.serial_spec.specs.Allowed.{waits_elsewhere, is_full_for, has_live_child, cause_at_end, cause_at_access, cause_at_commit}
+use Rattle.serial_spec.specs.Causes.{when}
 use Rattle.manager_core.specs.Kept.{AreTablesOf}
 use Rattle.manager_core.specs.Tables.{Tabled, cause_in}
 use Rattle.manager_core.proofs.Answers.{active_at_access}

@@ -21,7 +21,8 @@ use Rattle.serial_spec.specs.Locks.{is_blocked}
 use Rattle.serial_spec.specs.Values.{seen}
 use Rattle.serial_spec.specs.Rows.{Rows, value_in}
 use Rattle.serial_spec.specs.Waits.{accesses, open_waits, same_line, wait_of}
-use Rattle.serial_spec.specs.Allowed.{when, refused_or, is_full_for, waits_elsewhere, cause_at_end, cause_at_access, has_come, has_waited, answer}
+use Rattle.serial_spec.specs.Allowed.{refused_or, is_full_for, waits_elsewhere, cause_at_end, cause_at_access, has_come, has_waited, answer}
+use Rattle.serial_spec.specs.Causes.{when}
 use Rattle.serial_spec.specs.Legal.{AreAllowed}
 use Rattle.manager_core.specs.Kept.{AreTablesOf}
 use Rattle.manager_core.specs.Lines.{IsWaitOf, access_by, waiting_access}

@@ -33,7 +33,8 @@ use Rattle.serial_spec.specs.Targets.{kind_of, target}
 use Rattle.serial_spec.specs.Locks.{conflicts, foot, is_blocker, is_blocked, reach}
 use Rattle.txn_history.proofs.Theorems.{foot_is_greater, reach_is_some}
 use Rattle.serial_spec.specs.Rows.{Rows}
-use Rattle.manager_core.specs.Kept.{status_of, AreTablesOf, IsTreeOf, lock_at, content_of}
+use Rattle.manager_core.specs.Kept.{AreTablesOf, IsTreeOf, lock_at, content_of}
+use Rattle.txn_tree.specs.Statuses.{status_of}
 use Rattle.wait_graph.specs.Edges.{Keeps, Tells}
 use Rattle.manager_core.specs.Tables.{Tabled, AbortsIn, is_below, wait_at}
 use Rattle.manager_core.proofs.Blocking.{any_named}

@@ -17,7 +17,8 @@ use Rattle.durable_top.specs.Store.{plain}
 use Rattle.durable_top.specs.Numbered.{entries_in}
 use Rattle.durable_top.specs.declared.store.TopStore.{Ghosts}
 use Rattle.manager_core.specs.declared.manager.AtOpening.{AtOpening}
-use Rattle.manager_core.specs.Kept.{AreTablesOf, IsEstateOf, IsTreeOf, status_of, wait_of_any}
+use Rattle.manager_core.specs.Kept.{AreTablesOf, IsEstateOf, IsTreeOf, wait_of_any}
+use Rattle.txn_tree.specs.Statuses.{status_of}
 use Rattle.manager_core.specs.Tables.{Tabled, rows_in, wait_for}
 use Rattle.manager_core.specs.Sound.{IsBacked}
 

@@ -4,6 +4,7 @@ use Rattle.std.proofs.lemmas.Bool.{false≢true}
 use Rattle.std.proofs.lemmas.List.{reverse-append}
 use Rattle.txn_names.specs.Path.{path_eq}
 use Rattle.txn_tree.specs.States.{States, names, status_in}
+use Rattle.txn_tree.proofs.Statuses.{status_set}
 use Rattle.txn_tree.specs.declared.status.Status.{Status as State}
 use Rattle.txn_tree.specs.declared.status.Status.TheVariants as state
 use Rattle.orphans.specs.Marked.{Marked, is_marked}
@@ -15,12 +16,8 @@ use Rattle.serial_spec.specs.Legal.{AreAllowed}
 use Rattle.txn_history.specs.Steps.{sets_status}
 use Rattle.txn_history.specs.Laws.{table_next}
 use Rattle.txn_history.proofs.Theorems.{status_after, table_after}
-use Rattle.manager_core.specs.Kept.{status_of, IsTreeOf, AreMarksOf}
-
--- a state that is set
-status_set : (b : Bool) (s old : State) → status_of (cond b s old) ≡ cond b (status_of s) (status_of old)
-status_set true s old = refl
-status_set false s old = refl
+use Rattle.manager_core.specs.Kept.{IsTreeOf, AreMarksOf}
+use Rattle.txn_tree.specs.Statuses.{status_of}
 
 -- begins nobody and ends nobody
 abbrev pub is_plain : Effect → Bool

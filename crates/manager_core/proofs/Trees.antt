@@ -5,7 +5,9 @@ use Rattle.std.proofs.lemmas.List.{length-reverse}
 use Rattle.std.proofs.lemmas.Map.Entries.{length-keys_of}
 use Rattle.std.specs.List.{list_any}
 use Rattle.txn_names.specs.Path.{path_eq, parent, top_of}
-use Rattle.txn_tree.specs.States.{States, names, status_in, is_absent as is_absent_state, is_live as is_live_state, is_committed as is_committed_state, is_aborted as is_aborted_state}
+use Rattle.txn_tree.specs.States.{States, names, status_in}
+use Rattle.txn_tree.proofs.Statuses.{absent_as, live_as, committed_as, is_aborted_status, aborted_as, aborted_by, absent_by}
+use Rattle.txn_names.proofs.Tops.{top_as}
 use Rattle.txn_tree.specs.Asked.{is_absent_in, is_active_in, is_live_in, has_committed_in, has_aborted_in, top_aborted_in, is_live_child_in}
 use Rattle.txn_tree.specs.Causes as tree
 use Rattle.txn_tree.specs.declared.status.Status.{Status as State}
@@ -16,61 +18,12 @@ use Rattle.serial_spec.specs.Rows.{Rows}
 use Rattle.serial_spec.specs.Legal.{AreAllowed}
 use Rattle.serial_spec.specs.Allowed.{has_live_child, cause_at_begin, cause_at_end}
 use Rattle.txn_history.proofs.Theorems.{ended_begun}
-use Rattle.manager_core.specs.Kept.{status_of, IsTreeOf, AreMarksOf, AreTablesOf}
+use Rattle.manager_core.specs.Kept.{IsTreeOf, AreMarksOf, AreTablesOf}
+use Rattle.txn_tree.specs.Statuses.{status_of}
 use Rattle.manager_core.specs.Tables.{Tabled, cause_in}
 use Rattle.txn_history.proofs.Reversed.{any_reversed}
 
--- ---- states
-
-absent_as : (s : State) → is_absent_state s ≡ is_absent (status_of s)
-absent_as state.Absent = refl
-absent_as state.Live = refl
-absent_as state.Committed = refl
-absent_as state.Aborted = refl
-
-live_as : (s : State) → is_live_state s ≡ is_live_status (status_of s)
-live_as state.Absent = refl
-live_as state.Live = refl
-live_as state.Committed = refl
-live_as state.Aborted = refl
-
-committed_as : (s : State) → is_committed_state s ≡ is_committed (status_of s)
-committed_as state.Absent = refl
-committed_as state.Live = refl
-committed_as state.Committed = refl
-committed_as state.Aborted = refl
-
-abbrev is_aborted : Status → Bool
-is_aborted Aborted = true
-is_aborted s = false
-
-aborted_as : (s : State) → is_aborted_state s ≡ is_aborted (status_of s)
-aborted_as state.Absent = refl
-aborted_as state.Live = refl
-aborted_as state.Committed = refl
-aborted_as state.Aborted = refl
-
-aborted_by : (b a c : Bool) → (a ≡ true → b ≡ true) → is_aborted (cond b (cond a Aborted (cond c Committed Live)) Absent) ≡ a
-aborted_by true true c f = refl
-aborted_by true false true f = refl
-aborted_by true false false f = refl
-aborted_by false true c f = absurd (false≢true (f refl))
-aborted_by false false c f = refl
-
-absent_by : (b a c : Bool) → is_absent (cond b (cond a Aborted (cond c Committed Live)) Absent) ≡ not b
-absent_by true true c = refl
-absent_by true false true = refl
-absent_by true false false = refl
-absent_by false a c = refl
-
 -- ---- topmost fronts
-
--- where two tests agree on all fronts they find the same
-top_as : (p q : Name → Bool) → ((l : List ℕ) (ls : Name) → p (l ∷ ls) ≡ q (l ∷ ls)) → (t : Name) → top_of p t ≡ top_of q t
-top_as p q f [] = refl
-top_as p q f (l ∷ ls) =
-    ap (λ b. cond b (Some (l ∷ [])) (option_map (λ u. l ∷ u) (top_of (λ u. p (l ∷ u)) ls))) (f l [])
-    ∙ ap (λ o. cond (q (l ∷ [])) (Some (l ∷ [])) (option_map (λ u. l ∷ u) o)) (top_as (λ u. p (l ∷ u)) (λ u. q (l ∷ u)) (λ m ms. f l (m ∷ ms)) ls)
 
 -- the marks find the topmost aborted one
 pub top_by_marks : (h : History) (marks : Marked) → AreMarksOf h marks → (t : Name) → top_of (is_marked marks) t ≡ top_aborted h t
@@ -81,7 +34,7 @@ module _ (rows : Rows) (h : History) (states : States) (allowed : AreAllowed row
   top_by_states : (t : Name) → top_aborted_in states t ≡ top_aborted h t
   top_by_states t = top_as (has_aborted_in states) (has_aborted h)
       (λ l ls.
-      aborted_as (status_in states (l ∷ ls)) ∙ ap is_aborted (is.status (l ∷ ls))
+      aborted_as (status_in states (l ∷ ls)) ∙ ap is_aborted_status (is.status (l ∷ ls))
       ∙ aborted_by (has_begun h (l ∷ ls)) (has_aborted h (l ∷ ls)) (has_committed h (l ∷ ls)) (ended_begun rows h allowed (l ∷ ls)).1)
       t
 

@@ -15,7 +15,8 @@ use Rattle.serial_spec.specs.declared.target.Asked.{Asked}
 use Rattle.serial_spec.specs.History.{Name, History, event_of, Status, Absent, Live, Committed, Aborted, Aborts, or_else, is_active, is_committed, is_live, is_live_status, is_orphan, has_begun, has_committed, has_aborted, top_aborted}
 use Rattle.serial_spec.specs.Waits.{IsVictim, Quiet, WaitInTurn, accesses, open_waits, same_line, waits_by, wait_of}
 use Rattle.serial_spec.specs.Rows.{Rows}
-use Rattle.serial_spec.specs.Allowed.{cause_at_end, when}
+use Rattle.serial_spec.specs.Allowed.{cause_at_end}
+use Rattle.serial_spec.specs.Causes.{when}
 use Rattle.serial_spec.specs.Legal.{AreAllowed, Legal}
 use Rattle.serial_spec.specs.Interleaving.{AfterVictims, victim}
 use Rattle.durable_top.specs.declared.store.TopStore.{Ghosts}

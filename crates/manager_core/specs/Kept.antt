@@ -2,13 +2,12 @@
 -- no cycle of waits stands.
 use Rattle.std.specs.Prelude.{◌≡◌, ℕ, ℤ, if◌then◌else◌, List, reverse, slice_get, Option, Some, None}
 use Rattle.txn_tree.specs.States.{States, names, status_in}
-use Rattle.txn_tree.specs.declared.status.Status.{Status as State}
-use Rattle.txn_tree.specs.declared.status.Status.TheVariants as state
+use Rattle.txn_tree.specs.Statuses.{status_of}
 use Rattle.orphans.specs.Marked.{Marked, is_marked}
 use Rattle.lock_table.specs.declared.modes.Modes.{Modes}
 use Rattle.lock_table.specs.Inherited.{free}
 use Rattle.inherit.specs.LocksAndVersions.{LocksAndVersions, modes_of, left_of}
-use Rattle.serial_spec.specs.History.{Name, History, Status, Absent, Live, Committed, Aborted, status, is_active, begun, has_aborted}
+use Rattle.serial_spec.specs.History.{Name, History, status, is_active, begun, has_aborted}
 use Rattle.serial_spec.specs.declared.target.Target.{Target}
 use Rattle.serial_spec.specs.Locks.{held, retained}
 use Rattle.serial_spec.specs.Items.{items}
@@ -24,13 +23,6 @@ use Rattle.durable_top.specs.Store.{plain}
 use Rattle.manager_core.specs.declared.manager.AtOpening.{AtOpening}
 use Rattle.manager_core.specs.Tables.{Tabled, rows_in, wait_for}
 use Rattle.manager_core.specs.Sound.{IsBacked}
-
--- a state of the tree, as the definitions call it
-abbrev pub status_of : State → Status
-status_of state.Absent = Absent
-status_of state.Live = Live
-status_of state.Committed = Committed
-status_of state.Aborted = Aborted
 
 -- the tree is what the history says
 pub record IsTreeOf (h : History) (tree : States) : Type 0 where

@@ -28,13 +28,13 @@ use Rattle.txn_cells.specs.Cells.{is_it}
 use Rattle.serial_spec.specs.Serial.{reply_at}
 use Rattle.serial_spec.specs.Values.{leaves_at, seen}
 use Rattle.serial_spec.specs.Rows.{Rows, value_in}
-use Rattle.serial_spec.specs.Allowed.{when, cause_at_access}
+use Rattle.serial_spec.specs.Allowed.{cause_at_access}
+use Rattle.serial_spec.specs.Causes.{why_ended}
 use Rattle.manager_core.specs.declared.accessing.Attempt.{Attempt}
 use Rattle.manager_core.specs.declared.accessing.Attempt.TheVariants.{Answered, Waits, Refused}
 use Rattle.serial_spec.specs.Legal.{is_top_level}
 use Rattle.manager_core.specs.State.{entry}
 use Rattle.serial_spec.specs.declared.entry.Refusal.{Refusal}
-use Rattle.serial_spec.specs.declared.entry.Refusal.TheVariants.{Unknown, Done as HasCommitted, Orphan}
 
 -- who has begun with the state of each, who has aborted, what live transactions lock and have left,
 -- over the table, and who waits
@@ -53,9 +53,8 @@ rows_in tables = rows_of tables.estate
 -- the first of the causes that access, commit and abort share
 abbrev pub cause_in : Tabled → Name → Option Refusal
 cause_in tables t =
-    or_else (when (is_absent_in tables.tree t) Unknown)
-    (or_else (option_map (λ a. Orphan a) (top_of (is_marked tables.marks) t))
-    (when (has_committed_in tables.tree t) HasCommitted))
+    why_ended (is_absent_in tables.tree t) (top_of (is_marked tables.marks) t)
+    (has_committed_in tables.tree t)
 
 abbrev pub is_live_top_in : States → Name → Bool
 is_live_top_in tree t = is_top_level t && is_live_in tree t

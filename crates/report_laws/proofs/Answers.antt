@@ -24,7 +24,8 @@ use Rattle.serial_spec.specs.Items.{chain}
 use Rattle.serial_spec.specs.Rows.{Rows, value_in}
 use Rattle.serial_spec.specs.Serial.{reply_at}
 use Rattle.serial_spec.specs.Sums.{reply_of_sum, sum_in}
-use Rattle.serial_spec.specs.Allowed.{Allowed, answer, answer_to_access, asks_store, cause_at_access, cause_at_begin, cause_at_commit, cause_at_end, has_come, has_live_child, has_waited, is_full_for, may_be_stuck, most_transactions, orphaned, refused_or, waits_elsewhere, when}
+use Rattle.serial_spec.specs.Allowed.{Allowed, answer, answer_to_access, asks_store, cause_at_access, cause_at_begin, cause_at_commit, cause_at_end, has_come, has_live_child, has_waited, is_full_for, may_be_stuck, most_transactions, refused_or, waits_elsewhere}
+use Rattle.serial_spec.specs.Causes.{when, why_orphaned}
 use Rattle.serial_spec.specs.Legal.{AreAllowed}
 use Rattle.line_language.specs.Events.{IsEvent}
 use Rattle.txn_history.proofs.Activity.{acts_active}
@@ -122,13 +123,13 @@ module _ (P : Refusal → Type 0) (h : History) (events : AreEvents h) (named : 
   orphan_by t None e = tt
   orphan_by t (Some a) e = named a (aborted_named h a events (top_passes t (has_aborted h) a e))
 
-  each_orphan : (t : Name) → Each P (orphaned h t)
+  each_orphan : (t : Name) → Each P (why_orphaned (top_aborted h t))
   each_orphan t = orphan_by t (top_aborted h t) refl
 
   each_at_end : (t : Name) → P Unknown → P HasCommitted → Each P (cause_at_end h t)
   each_at_end t u c =
-      each_or P (when (not (has_begun h t)) Unknown) (or_else (orphaned h t) (when (is_committed (status h t)) HasCommitted)) (each_when P _ Unknown u)
-      (each_or P (orphaned h t) (when (is_committed (status h t)) HasCommitted) (each_orphan t) (each_when P _ HasCommitted c))
+      each_or P (when (not (has_begun h t)) Unknown) (or_else (why_orphaned (top_aborted h t)) (when (is_committed (status h t)) HasCommitted)) (each_when P _ Unknown u)
+      (each_or P (why_orphaned (top_aborted h t)) (when (is_committed (status h t)) HasCommitted) (each_orphan t) (each_when P _ HasCommitted c))
 
 -- what is answered is a refusal by the cause, or what comes where there is none
 given_or : (P : Answer → Type 0) (c : Option Refusal) (o : Option Answer) (a : Answer) → Each (λ r. P (Refused r)) c → (c ≡ None → o ≡ Some a → P a) → refused_or c o ≡ Some a → P a
@@ -145,7 +146,7 @@ module _ (rows : Rows) (h : History) (allowed : AreAllowed rows h) (has : HasRow
   begin_fits t a = given_or P (cause_at_begin h t) (Some (Done Ok)) a
       (each_or R (when (not (is_absent (status h t))) Used) _ (each_when R _ Used (record { fits = refl; answer = tt }))
       (each_or R (when (is_absent (status h (parent t))) NoParent) _ (each_when R _ NoParent (record { fits = refl; answer = tt }))
-      (each_or R (orphaned h (parent t)) _ (each_orphan R h events (λ u n. record { fits = refl; answer = n }) (parent t))
+      (each_or R (why_orphaned (top_aborted h (parent t))) _ (each_orphan R h events (λ u n. record { fits = refl; answer = n }) (parent t))
       (each_or R (when (is_committed (status h (parent t))) NoParent) (when (nat_le most_transactions (length (begun h))) Full) (each_when R _ NoParent (record { fits = refl; answer = tt }))
       (each_when R _ Full (record { fits = refl; answer = tt }))))))
       (λ _ same. fits_done (Begin t) refl a same)

@@ -15,10 +15,11 @@ use Rattle.serial_spec.specs.declared.entry.Answer.TheVariants.{Done}
 use Rattle.serial_spec.specs.declared.event.Event.{Event}
 use Rattle.serial_spec.specs.declared.event.Event.TheVariants.{Begin, Access, Sum, Commit, Abort}
 use Rattle.serial_spec.specs.declared.operation.Reply.TheVariants.{Ok}
-use Rattle.serial_spec.specs.History.{History, Name, Effect, Begins, Accesses, Commits, Aborts, Nothing, Absent, Live, Committed, Aborted, begun, effect_of, has_aborted, has_begun, has_committed, is_absent, is_active, is_committed, is_live, is_live_status, or_else, status}
+use Rattle.serial_spec.specs.History.{History, Name, Effect, Begins, Accesses, Commits, Aborts, Nothing, Absent, Live, Committed, Aborted, begun, effect_of, has_aborted, has_begun, has_committed, is_absent, is_active, is_committed, is_live, is_live_status, or_else, status, top_aborted}
 use Rattle.serial_spec.specs.Rows.{Rows}
 use Rattle.serial_spec.specs.Waits.{IsVictim, OnCycle, WaitInTurn, accesses, open_waits, wait_of, waits_by, waits_for}
-use Rattle.serial_spec.specs.Allowed.{Allowed, cause_at_begin, has_live_child, orphaned, when}
+use Rattle.serial_spec.specs.Allowed.{Allowed, cause_at_begin, has_live_child}
+use Rattle.serial_spec.specs.Causes.{when, why_orphaned}
 use Rattle.serial_spec.specs.Legal.{IsAbortOf, MayCome, first_live, is_top_level}
 use Rattle.txn_history.proofs.Activity.{acts_active}
 use Rattle.txn_history.proofs.Causes.{Sound, abort_of, acts_at_end, done_not_refused, neither, not_refused, not_when, sound}
@@ -76,10 +77,10 @@ room_to_begin : (h : History) (t : Name) → cause_at_begin h t ≡ None → len
 room_to_begin h t e =
     let last = when (nat_le MOST_TRANSACTIONS (length (begun h))) Full in
     let third = or_else (when (is_committed (status h (parent t))) NoParent) last in
-    let second = or_else (orphaned h (parent t)) third in
+    let second = or_else (why_orphaned (top_aborted h (parent t))) third in
     let p = neither (when (not (is_absent (status h t))) Used) (or_else (when (is_absent (status h (parent t))) NoParent) second) e in
     let q = neither (when (is_absent (status h (parent t))) NoParent) second p.1 in
-    let r = neither (orphaned h (parent t)) third q.1 in
+    let r = neither (why_orphaned (top_aborted h (parent t))) third q.1 in
     let s = neither (when (is_committed (status h (parent t))) NoParent) last r.1 in
     let full = not_when (nat_le MOST_TRANSACTIONS (length (begun h))) Full s.1 in
     leb-false MOST_TRANSACTIONS (length (begun h)) full

@@ -19,7 +19,8 @@ use Rattle.serial_spec.specs.declared.limits.TheConstants.{MOST_TRANSACTIONS}
 use Rattle.serial_spec.specs.declared.entry.Entry.{Entry}
 use Rattle.serial_spec.specs.declared.target.Asked.{Asked}
 use Rattle.serial_spec.specs.declared.entry.Refusal.TheVariants.{Used, NoParent, Orphan, Full}
-use Rattle.serial_spec.specs.Allowed.{has_live_child, when}
+use Rattle.serial_spec.specs.Allowed.{has_live_child}
+use Rattle.serial_spec.specs.Causes.{when}
 use Rattle.serial_spec.specs.History.{Name, History, Begins, Accesses, Commits, Aborts, Nothing, Absent, Live, Committed, Aborted, begun, effect, has_aborted, has_begun, has_committed, is_absent, is_active, is_live, is_live_status, or_else, status}
 use Rattle.report_check.specs.Passing.{may_do}
 use Rattle.report_check.specs.Serving.{accesses_of, with_access}

@@ -1,5 +1,4 @@
 pub mod Appending
-pub mod Climbing
 pub mod Counting
 pub mod Doing
 pub mod Leading

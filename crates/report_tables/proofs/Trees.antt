@@ -6,7 +6,9 @@ use Rattle.std.proofs.lemmas.Map.Entries.{length-keys_of}
 use Rattle.std.specs.List.{list_any}
 use Rattle.txn_names.specs.Path.{path_eq, parent, top_of}
 use Rattle.txn_names.proofs.Names.{on_test, on_path, same_path, is_front_self}
-use Rattle.txn_tree.specs.States.{States, names, status_in, is_absent as is_absent_state, is_live as is_live_state, is_aborted as is_aborted_state}
+use Rattle.txn_tree.specs.States.{States, names, status_in}
+use Rattle.txn_tree.proofs.Statuses.{absent_as, live_as, is_aborted_status, aborted_as, aborted_by, status_set}
+use Rattle.txn_names.proofs.Tops.{top_as}
 use Rattle.txn_tree.specs.Asked.{is_absent_in, is_active_in, is_live_in, has_aborted_in, top_aborted_in, is_live_child_in}
 use Rattle.txn_tree.specs.declared.status.Status.{Status as State}
 use Rattle.txn_tree.specs.declared.status.Status.TheVariants as state
@@ -19,7 +21,8 @@ use Rattle.txn_history.proofs.Activity.{ActsAs, acting, active_acts}
 use Rattle.txn_history.proofs.StatusTests.{status_by, absent_not_begun}
 use Rattle.txn_history.proofs.Reversed.{any_reversed}
 use Rattle.report_check.specs.Passing.{may_do}
-use Rattle.report_tables.specs.Told.{IsEnded, IsTreeOf, status_of}
+use Rattle.report_tables.specs.Told.{IsEnded, IsTreeOf}
+use Rattle.txn_tree.specs.Statuses.{status_of}
 
 -- ---- one entry more
 
@@ -121,10 +124,6 @@ ended_none = record { rootless = refl; committed = λ t c. absurd (true≢false 
 
 -- ---- the tree, one entry later
 
-status_set : (b : Bool) (s old : State) → status_of (cond b s old) ≡ cond b (status_of s) (status_of old)
-status_set true s old = refl
-status_set false s old = refl
-
 module _ (h : History) (e : Entry) (old new : States) (is : IsTreeOf h old) where
   tree_next : (x : Effect) → effect e ≡ x → may_do h x ≡ true → IsNamed x
       → names new ≡ reverse (begun_by x (begun h)) → ((u : Name) → status_of (status_in new u) ≡ sets_status x u (status_of (status_in old u))) → IsTreeOf (e ∷ h) new
@@ -162,46 +161,10 @@ module _ (h : History) (e : Entry) (tree : States) (is : IsTreeOf h tree) where
 
 -- ---- what is asked of the tree
 
-absent_as : (s : State) → is_absent_state s ≡ is_absent (status_of s)
-absent_as state.Absent = refl
-absent_as state.Live = refl
-absent_as state.Committed = refl
-absent_as state.Aborted = refl
-
-live_as : (s : State) → is_live_state s ≡ is_live_status (status_of s)
-live_as state.Absent = refl
-live_as state.Live = refl
-live_as state.Committed = refl
-live_as state.Aborted = refl
-
-abbrev is_aborted : Status → Bool
-is_aborted Aborted = true
-is_aborted s = false
-
-aborted_as : (s : State) → is_aborted_state s ≡ is_aborted (status_of s)
-aborted_as state.Absent = refl
-aborted_as state.Live = refl
-aborted_as state.Committed = refl
-aborted_as state.Aborted = refl
-
-aborted_by : (b a c : Bool) → (a ≡ true → b ≡ true) → is_aborted (cond b (cond a Aborted (cond c Committed Live)) Absent) ≡ a
-aborted_by true true c f = refl
-aborted_by true false true f = refl
-aborted_by true false false f = refl
-aborted_by false true c f = absurd (false≢true (f refl))
-aborted_by false false c f = refl
-
--- where two tests agree on all fronts they find the same
-top_as : (p q : Name → Bool) → ((l : List ℕ) (ls : Name) → p (l ∷ ls) ≡ q (l ∷ ls)) → (t : Name) → top_of p t ≡ top_of q t
-top_as p q f [] = refl
-top_as p q f (l ∷ ls) =
-    ap (λ b. cond b (Some (l ∷ [])) (option_map (λ u. l ∷ u) (top_of (λ u. p (l ∷ u)) ls))) (f l [])
-    ∙ ap (λ o. cond (q (l ∷ [])) (Some (l ∷ [])) (option_map (λ u. l ∷ u) o)) (top_as (λ u. p (l ∷ u)) (λ u. q (l ∷ u)) (λ m ms. f l (m ∷ ms)) ls)
-
 module _ (h : History) (tree : States) (is : IsTreeOf h tree) where
   top_in : (t : Name) → top_aborted_in tree t ≡ top_aborted h t
   top_in t = top_as (has_aborted_in tree) (has_aborted h)
-      (λ l ls. aborted_as (status_in tree (l ∷ ls)) ∙ ap is_aborted (is.status (l ∷ ls)) ∙ aborted_by (has_begun h (l ∷ ls)) (has_aborted h (l ∷ ls)) (has_committed h (l ∷ ls)) (is.ended.aborted (l ∷ ls)))
+      (λ l ls. aborted_as (status_in tree (l ∷ ls)) ∙ ap is_aborted_status (is.status (l ∷ ls)) ∙ aborted_by (has_begun h (l ∷ ls)) (has_aborted h (l ∷ ls)) (has_committed h (l ∷ ls)) (is.ended.aborted (l ∷ ls)))
       t
 
   pub absent_in : (t : Name) → is_absent_in tree t ≡ is_absent (status h t)

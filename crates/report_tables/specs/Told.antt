@@ -2,11 +2,10 @@
 use Rattle.std.specs.Prelude.{◌≡◌, ℕ, Bool, true, false, List, [], ◌∷◌, length, reverse, slice_get, Some}
 use Rattle.txn_names.specs.Path.{parent}
 use Rattle.txn_tree.specs.States.{States, names, status_in}
+use Rattle.txn_tree.specs.Statuses.{status_of}
 use Rattle.txn_tree.specs.Asked.{is_absent_in, is_live_in}
-use Rattle.txn_tree.specs.declared.status.Status.{Status as State}
-use Rattle.txn_tree.specs.declared.status.Status.TheVariants as state
 use Rattle.serial_spec.specs.declared.entry.Entry.{Entry}
-use Rattle.serial_spec.specs.History.{Name, History, Effect, Status, Absent, Live, Committed, Aborted, effect, status, begun, has_begun, has_committed, has_aborted}
+use Rattle.serial_spec.specs.History.{Name, History, Effect, effect, status, begun, has_begun, has_committed, has_aborted}
 use Rattle.report_check.specs.Passing.{may_do}
 use Rattle.report_check.specs.Serving.{accesses_of}
 use Rattle.report_check.proofs.Grown.{IsGrown}
@@ -14,13 +13,6 @@ use Rattle.report_tables.specs.Chained.{Holds, Known}
 use Rattle.report_tables.specs.declared.chains.Access.{Access}
 use Rattle.report_tables.specs.declared.chains.Chain.{Chain}
 use Rattle.report_tables.specs.declared.transactions.Transactions.{Transactions}
-
--- a state of the tree, as the definitions call it
-abbrev pub status_of : State → Status
-status_of state.Absent = Absent
-status_of state.Live = Live
-status_of state.Committed = Committed
-status_of state.Aborted = Aborted
 
 -- who has ended had begun, and the root never did
 pub record IsEnded (h : History) : Type 0 where

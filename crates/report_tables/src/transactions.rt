@@ -1,9 +1,9 @@
 //! The transactions that a report tells of: the state of each, and its accesses.
 ghost use Rattle.std.specs.Prelude.{◌≡◌, ◌∷◌, ◌++◌, ◌+◌, [], ℕ, List, length, nat_lt, suc, slice_get, false, true, None, Some, IfNone, IfOk, IfSome};
 ghost use Rattle.txn_names.specs.Text.{IsName};
-ghost use Rattle.txn_tree.specs.States.{IsTree, is_aborted, is_live, names};
+ghost use Rattle.txn_tree.specs.States.{IsTree, names};
 ghost use Rattle.txn_tree.specs.Asked.{is_active_in};
-ghost use Rattle.txn_tree.specs.Numbered.{IsClosed, live_children_at, status_at};
+ghost use Rattle.txn_tree.specs.Numbered.{IsClosed, live_children_at};
 ghost use Rattle.serial_spec.specs.History.{Aborts, Accesses, Begins, Commits, History};
 ghost use Rattle.serial_spec.specs.declared.target.Asked.{Asked};
 ghost use Rattle.report_tables.specs.Chained.{Asks, Known};
@@ -13,7 +13,7 @@ use crate::chains::{Access, Chain, append_at, chain_at};
 use serial_spec::NoMemory;
 use std::alloc::{AllocError, Global};
 use txn_names::Name;
-use txn_tree::{Status, Tree, TreeFault, TxnNo};
+use txn_tree::{Tree, TreeFault, TxnNo};
 
 /// The transactions, and their accesses that were answered.
 #[derive(Drop)]
@@ -22,18 +22,6 @@ pub struct Transactions {
     /// The root's chain, and behind it that of each transaction, by its number.
     pub chains: Vec<Chain>,
     pub accesses: Vec<Access>,
-}
-
-fn is_live_at(tree: &Tree, txn: TxnNo) -> bool
-    ensures { result ≡ is_live (status_at tree.now txn) }
-{
-    matches!(tree.status_at(txn), Status::Live)
-}
-
-fn has_aborted_at(tree: &Tree, txn: TxnNo) -> bool
-    ensures { result ≡ is_aborted (status_at tree.now txn) }
-{
-    matches!(tree.status_at(txn), Status::Aborted)
 }
 
 fn has_live_child_at(tree: &Tree, txn: TxnNo) -> bool
@@ -52,18 +40,7 @@ fn active_number(tree: &Tree, name: &Name) -> Option<TxnNo>
 {
     name.has_labels();
     tree.has_distinct_names();
-    let txn = tree.no_of(name)?;
-    if !is_live_at(tree, txn) {
-        return None;
-    }
-    let mut above = tree.parent_of(txn);
-    while let Some(number) = above {
-        if has_aborted_at(tree, number) {
-            return None;
-        }
-        above = tree.parent_of(number);
-    }
-    Some(txn)
+    tree.active_no_of(name)
 }
 
 // Where the chain of a transaction stands.

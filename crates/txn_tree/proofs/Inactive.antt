@@ -6,14 +6,14 @@ use Rattle.std.proofs.lemmas.Map.Entries.{length-keys_of}
 use Rattle.std.proofs.lemmas.Option.{slice_get_within}
 use Rattle.txn_names.specs.Path.{Path}
 use Rattle.serial_spec.specs.History.{or_else}
-use Rattle.serial_spec.specs.Allowed.{when}
+use Rattle.serial_spec.specs.Causes.{when, why_orphaned}
 use Rattle.serial_spec.specs.declared.entry.Refusal.{Refusal}
 use Rattle.serial_spec.specs.declared.entry.Refusal.TheVariants.{Unknown, NoParent, Done, Orphan}
 use Rattle.txn_tree.specs.declared.status.Status.{Status}
 use Rattle.txn_tree.specs.declared.status.Status.TheVariants.{Absent, Live, Committed, Aborted}
 use Rattle.txn_tree.specs.States.{States, names, status_in, is_absent, is_committed, is_live}
 use Rattle.txn_tree.specs.Asked.{has_committed_in, is_absent_in, is_active_in, top_aborted_in}
-use Rattle.txn_tree.specs.Causes.{cause_at_abort, cause_at_parent, orphaned}
+use Rattle.txn_tree.specs.Causes.{cause_at_abort, cause_at_parent}
 use Rattle.txn_tree.specs.Numbered.{is_active_at, is_active_named}
 use Rattle.txn_tree.proofs.Orphans.{active_parts, begun_active}
 
@@ -28,7 +28,7 @@ module _ (tree : States) (t : Path) (quiet : is_active_in tree t ≡ false) (beg
       by true e = refl
       by false e = absurd (true≢false (sym (begun_active tree t begun e (ap is_some upright)) ∙ quiet))
 
-  last_cause : (r s : Refusal) → top_aborted_in tree t ≡ None → Some s ≡ or_else (when (is_absent_in tree t) r) (or_else (orphaned tree t) (when (has_committed_in tree t) s))
+  last_cause : (r s : Refusal) → top_aborted_in tree t ≡ None → Some s ≡ or_else (when (is_absent_in tree t) r) (or_else (why_orphaned (top_aborted_in tree t)) (when (has_committed_in tree t) s))
   last_cause r s upright = by (is_absent_in tree t) (top_aborted_in tree t) (has_committed_in tree t) begun upright (committed upright)
     where
       by : (a : Bool) (o : Option Path) (d : Bool) → a ≡ false → o ≡ None → d ≡ true → Some s ≡ or_else (when a r) (or_else (option_map (λ p. Orphan p) o) (when d s))

@@ -1,3 +1,4 @@
+pub mod Statuses
 pub mod Begun
 pub mod Changes
 pub mod Children

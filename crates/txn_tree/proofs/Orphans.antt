@@ -11,7 +11,8 @@ use Rattle.txn_tree.specs.States.{States, names, status_in, is_absent, is_live, 
 use Rattle.txn_tree.specs.Asked.{ended_by_abort, has_aborted_in, is_absent_in, is_active_in, is_live_in, is_orphan_in, has_committed_in, top_aborted_in, live_children_of}
 use Rattle.txn_tree.specs.Causes.{cause_at_begin}
 use Rattle.serial_spec.specs.History.{or_else}
-use Rattle.serial_spec.specs.Allowed.{when, most_transactions}
+use Rattle.serial_spec.specs.Allowed.{most_transactions}
+use Rattle.serial_spec.specs.Causes.{when}
 use Rattle.serial_spec.specs.declared.entry.Refusal.TheVariants.{Used, NoParent, Orphan, Full}
 use Rattle.txn_tree.specs.Numbered.{IsUpward, is_active_at, is_active_named, is_below_orphan, is_below_orphan_named}
 use Rattle.txn_tree.proofs.Counts.{count_has, count_none}

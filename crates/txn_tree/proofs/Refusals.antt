@@ -7,14 +7,15 @@ use Rattle.std.proofs.lemmas.Map.Views.{IfSome-lookup_from_All}
 use Rattle.txn_names.specs.Path.{Path, path_eq, parent}
 use Rattle.txn_names.specs.Text.{IsName}
 use Rattle.serial_spec.specs.History.{or_else}
-use Rattle.serial_spec.specs.Allowed.{when, most_transactions}
+use Rattle.serial_spec.specs.Allowed.{most_transactions}
+use Rattle.serial_spec.specs.Causes.{when, why_orphaned}
 use Rattle.serial_spec.specs.declared.entry.Refusal.{Refusal}
 use Rattle.serial_spec.specs.declared.entry.Refusal.TheVariants.{Used, NoParent, Full}
 use Rattle.txn_tree.specs.declared.status.Status.{Status}
 use Rattle.txn_tree.specs.declared.status.Status.TheVariants.{Absent}
 use Rattle.txn_tree.specs.States.{States, IsTree, is_absent}
-use Rattle.txn_tree.specs.Asked.{is_absent_in, has_committed_in}
-use Rattle.txn_tree.specs.Causes.{orphaned, cause_at_begin}
+use Rattle.txn_tree.specs.Asked.{is_absent_in, has_committed_in, top_aborted_in}
+use Rattle.txn_tree.specs.Causes.{cause_at_begin}
 
 no_cause_at_begin : (a b : Bool) (o : Option Refusal) (d e : Bool)
     → or_else (when (not a) Used) (or_else (when b NoParent) (or_else o (or_else (when d NoParent) (when e Full)))) ≡ None
@@ -36,7 +37,7 @@ no_row (Some s) h e = absurd (h (is s e))
 
 module _ (tree : States) (t : Path) (begins : cause_at_begin tree t ≡ None) where
   causes : (is_absent_in tree t ≡ true) × (nat_le most_transactions (length tree) ≡ false)
-  causes = no_cause_at_begin (is_absent_in tree t) (is_absent_in tree (parent t)) (orphaned tree (parent t)) (has_committed_in tree (parent t)) (nat_le most_transactions (length tree)) begins
+  causes = no_cause_at_begin (is_absent_in tree t) (is_absent_in tree (parent t)) (why_orphaned (top_aborted_in tree (parent t))) (has_committed_in tree (parent t)) (nat_le most_transactions (length tree)) begins
 
   -- there is place for one more
   pub place_to_begin : length tree < most_transactions

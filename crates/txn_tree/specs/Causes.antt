@@ -1,39 +1,31 @@
 -- Why a begin, a commit or an abort is refused: the first cause that holds.
-use Rattle.std.specs.Prelude.{ℕ, not, nat_le, length, Option, Some, None, Result, Err, option_map}
+use Rattle.std.specs.Prelude.{ℕ, not, nat_le, length, Option, Some, None, Result, Err}
 use Rattle.std.specs.List.{list_any}
 use Rattle.txn_names.specs.Path.{Path, parent}
 use Rattle.serial_spec.specs.History.{or_else}
-use Rattle.serial_spec.specs.Allowed.{when, most_transactions}
+use Rattle.serial_spec.specs.Allowed.{most_transactions}
+use Rattle.serial_spec.specs.Causes.{when, why_childless, why_ended, why_unbegun}
 use Rattle.serial_spec.specs.declared.entry.Refusal.{Refusal}
-use Rattle.serial_spec.specs.declared.entry.Refusal.TheVariants.{Unknown, Used, NoParent, Done, Orphan, Children, Full}
+use Rattle.serial_spec.specs.declared.entry.Refusal.TheVariants.{Children}
 use Rattle.txn_tree.specs.declared.fault.TreeFault.{TreeFault}
 use Rattle.txn_tree.specs.declared.fault.TreeFault.TheVariants.{Refused}
 use Rattle.txn_tree.specs.States.{States, names}
 use Rattle.txn_tree.specs.Asked.{is_absent_in, has_committed_in, top_aborted_in, is_live_child_in}
 
-abbrev pub orphaned : States → Path → Option Refusal
-orphaned tree t = option_map (λ a. Orphan a) (top_aborted_in tree t)
-
 -- why a transaction can have no more children
 abbrev pub cause_at_parent : States → Path → Option Refusal
 cause_at_parent tree p =
-    or_else (when (is_absent_in tree p) NoParent)
-    (or_else (orphaned tree p)
-    (when (has_committed_in tree p) NoParent))
+    why_childless (is_absent_in tree p) (top_aborted_in tree p) (has_committed_in tree p)
 
 abbrev pub cause_at_begin : States → Path → Option Refusal
 cause_at_begin tree t =
-    or_else (when (not (is_absent_in tree t)) Used)
-    (or_else (when (is_absent_in tree (parent t)) NoParent)
-    (or_else (orphaned tree (parent t))
-    (or_else (when (has_committed_in tree (parent t)) NoParent)
-    (when (nat_le most_transactions (length tree)) Full))))
+    why_unbegun (not (is_absent_in tree t)) (is_absent_in tree (parent t))
+    (top_aborted_in tree (parent t)) (has_committed_in tree (parent t))
+    (nat_le most_transactions (length tree))
 
 abbrev pub cause_at_abort : States → Path → Option Refusal
 cause_at_abort tree t =
-    or_else (when (is_absent_in tree t) Unknown)
-    (or_else (orphaned tree t)
-    (when (has_committed_in tree t) Done))
+    why_ended (is_absent_in tree t) (top_aborted_in tree t) (has_committed_in tree t)
 
 abbrev pub cause_at_commit : States → Path → Option Refusal
 cause_at_commit tree t =

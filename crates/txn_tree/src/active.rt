@@ -24,8 +24,8 @@ impl Tree {
         false
     }
 
-    // The number of the transaction, if it is active.
-    pub(crate) fn active_no_of(&self, name: &Name) -> Option<TxnNo>
+    /// The number of the transaction, if it is live and no orphan.
+    pub fn active_no_of(&self, name: &Name) -> Option<TxnNo>
         ensures named { IfSome result (λ n. slice_get (names self.now) n ≡ Some name.now) }
         ensures active { IfSome result (λ n. is_active_at self.now n ≡ true) }
         ensures is { is_some result ≡ is_active_in self.now name.now }

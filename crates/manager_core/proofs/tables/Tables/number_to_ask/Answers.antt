@@ -3,7 +3,8 @@ use Rattle.std.proofs.lemmas.Bool.{not-false}
 use Rattle.txn_tree.specs.Asked.{IsNumberOf}
 use Rattle.txn_tree.specs.Numbered.{is_active_at}
 use Rattle.serial_spec.specs.declared.entry.Refusal.TheVariants.{Full, Waiting}
-use Rattle.serial_spec.specs.Allowed.{cause_at_access, is_full_for, when}
+use Rattle.serial_spec.specs.Allowed.{cause_at_access, is_full_for}
+use Rattle.serial_spec.specs.Causes.{when}
 use Rattle.serial_spec.specs.History.{or_else}
 use Rattle.manager_core.specs.Tables.{Tabled}
 use Rattle.manager_core.proofs.Causes.{active_cause, refused_by_absence, refused_by_inactivity}
