@@ -6,7 +6,7 @@ use Rattle.std.proofs.lemmas.List.{take_at}
 use Rattle.txn_names.specs.Path.{Path}
 use Rattle.txn_names.specs.Text.{IsLabel, IsName, is_label_byte, spelled_name}
 use Rattle.txn_names.specs.Reading.{onto, pieces, is_empty, is_long, is_name_byte, name_of}
-use Rattle.txn_names.specs.Cutting.{HasOtherFirst, onto_all}
+use Rattle.txn_names.specs.inner.Cutting.{HasOtherFirst, onto_all}
 use Rattle.txn_names.specs.declared.name.NameFault.TheVariants as name
 use Rattle.txn_names.proofs.Pieces.{plain}
 use Rattle.txn_names.specs.Fields.{some, spelled_pieces}
