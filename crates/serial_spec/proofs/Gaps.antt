@@ -16,7 +16,7 @@ use Rattle.serial_spec.specs.Values.{value_or}
 use Rattle.serial_spec.specs.Places.{is_below, matching, rank}
 use Rattle.serial_spec.specs.Rows.{Rows, IsRising}
 use Rattle.serial_spec.specs.declared.changing.Gap.{Gap}
-use Rattle.serial_spec.specs.Gaps.{around, IsGapped, IsBehind}
+use Rattle.serial_spec.specs.inner.Gaps.{around, IsGapped, IsBehind}
 use Rattle.serial_spec.specs.Rows.{value_in}
 use Rattle.serial_spec.specs.Serial.{Map, put}
 use Rattle.serial_spec.proofs.Ordered.{unequal, below_not}

@@ -1,11 +1,8 @@
 //! Many changes of rows in one pass, from the last key to the first.
 ghost use Rattle.std.specs.Prelude.{◌≡◌, ◌+◌, ◌-◌, ◌<◌, ◌≤◌, ℕ, List, length, slice_get, slice_set, vec_capacity, is_some, IsTrue};
 ghost use Rattle.std.specs.List.{insert, remove};
-ghost use Rattle.std.specs.Ordering.{nat_cmp};
-ghost use Rattle.std.specs.Cmp.Lexicographic.{slice_cmp};
-ghost use Rattle.std.specs.declared.cmp.Ordering.TheVariants.{Less};
 ghost use Rattle.serial_spec.specs.Changes.{AreRising, overlay};
-ghost use Rattle.serial_spec.specs.Gaps.{around, IsGapped, IsBehind, HasRoom};
+ghost use Rattle.serial_spec.specs.inner.Gaps.{around, IsBefore, IsBehind, IsGapped, HasRoom};
 ghost use Rattle.serial_spec.specs.Places.{matching, rank};
 ghost use Rattle.serial_spec.specs.Rows.{IsRising, value_in};
 ghost use Rattle.serial_spec.specs.Serial.{put};
@@ -52,8 +49,7 @@ fn put_in_gap(rows: &mut Vec<(Key, i64)>, gap: Gap, place: usize, row: &(Key, i6
     requires place { place ≤ gap.front }
     requires some { 0 < gap.len }
     ensures front { result.front ≡ place }
-    ensures behind { (q : List ℕ) → slice_cmp nat_cmp q row.now.0 ≡ Less
-        → IsBehind rows.new.items result q }
+    ensures behind { (q : List ℕ) → IsBefore q row.now.0 → IsBehind rows.new.items result q }
     ensures left { result.len + 1 ≡ gap.len }
     ensures rows { around rows.new.items result ≡ insert (around rows.old.items gap) place row.now }
     ensures len { length rows.new.items ≡ length rows.old.items }
@@ -137,8 +133,7 @@ fn insert_at(
     requires place { place ≤ gap.front }
     requires some { 0 < left }
     requires room { HasRoom rows.old.items (vec_capacity rows.old) gap left }
-    ensures behind { (q : List ℕ) → slice_cmp nat_cmp q row.now.0 ≡ Less
-        → IsBehind rows.new.items result q }
+    ensures behind { (q : List ℕ) → IsBefore q row.now.0 → IsBehind rows.new.items result q }
     ensures room { HasRoom rows.new.items (vec_capacity rows.new) result (left - 1) }
     ensures within { result.front + result.len ≤ length rows.new.items }
     ensures rows { around rows.new.items result ≡ insert (around rows.old.items gap) place row.now }
@@ -164,8 +159,8 @@ fn change_one(rows: &mut Vec<(Key, i64)>, gap: Gap, left: usize, change: &Change
     requires some { 0 < left }
     requires room { HasRoom rows.old.items (vec_capacity rows.old) gap left }
     ensures gapped { IsGapped rows.new.items result }
-    ensures behind { (q : List ℕ) → slice_cmp nat_cmp q change.now.key ≡ Less
-        → IsBehind rows.old.items gap q → IsBehind rows.new.items result q }
+    ensures behind { (q : List ℕ) → IsBefore q change.now.key → IsBehind rows.old.items gap q
+        → IsBehind rows.new.items result q }
     ensures room { HasRoom rows.new.items (vec_capacity rows.new) result (left - 1) }
     ensures values { value_in (around rows.new.items result)
         ≡ put (value_in (around rows.old.items gap)) change.now.key change.now.value }

@@ -3,7 +3,7 @@ use Rattle.std.proofs.lemmas.Int.{to_z-of_z}
 use Rattle.std.specs.Prelude.{slice_get}
 use Rattle.serial_spec.specs.Places.{matching, rank}
 use Rattle.serial_spec.specs.Rows.{Rows}
-use Rattle.serial_spec.specs.Gaps.{around}
+use Rattle.serial_spec.specs.inner.Gaps.{around}
 use Rattle.serial_spec.proofs.Gaps.{values_removed, values_kept, values_set, values_inserted, rising_after_set, rising_after_insert, rising_after_remove, above_removed, above_set}
 use Rattle.serial_spec.proofs.changing.change_one.Goals as goal
 

@@ -5,7 +5,7 @@ use Rattle.std.specs.Ordering.{nat_cmp}
 use Rattle.std.specs.Cmp.Lexicographic.{slice_cmp}
 use Rattle.std.specs.declared.cmp.Ordering.TheVariants.{Less}
 use Rattle.serial_spec.specs.Changes.{overlay}
-use Rattle.serial_spec.specs.Gaps.{around, IsGapped, IsBehind, HasRoom}
+use Rattle.serial_spec.specs.inner.Gaps.{around, IsGapped, IsBehind, HasRoom}
 use Rattle.serial_spec.specs.Rows.{value_in}
 use Rattle.serial_spec.proofs.changing.change_rows.Given as goal
 

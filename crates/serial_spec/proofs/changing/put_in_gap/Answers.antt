@@ -1,6 +1,6 @@
 use Rattle.std.proofs.Common.{refl, ℕ}
 use Rattle.serial_spec.specs.Rows.{Rows}
-use Rattle.serial_spec.specs.Gaps.{around}
+use Rattle.serial_spec.specs.inner.Gaps.{around}
 use Rattle.serial_spec.proofs.Gaps.{put_moved, above_inserted, within_around}
 use Rattle.serial_spec.proofs.changing.put_in_gap.Goals as goal
 

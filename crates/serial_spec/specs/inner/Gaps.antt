@@ -15,10 +15,13 @@ pub record IsGapped (rows : Rows) (gap : Gap) : Type 0 where
   pub within : gap.front + gap.len ≤ length rows
   pub rising : IsRising (around rows gap)
 
+-- the first key stands before the second in byte order
+abbrev pub IsBefore : List ℕ → List ℕ → Type 0
+IsBefore k q = slice_cmp nat_cmp k q ≡ Less
+
 -- the first row behind the gap, if there is one, is of a key above this one
 abbrev pub IsBehind : Rows → Gap → List ℕ → Type 0
-IsBehind rows gap k =
-    IfSome (slice_get (around rows gap) gap.front) (λ r. slice_cmp nat_cmp k r.0 ≡ Less)
+IsBehind rows gap k = IfSome (slice_get (around rows gap) gap.front) (λ r. IsBefore k r.0)
 
 -- so many rows fit into the gap, or there is none yet and they fit behind the others without memory
 abbrev pub HasRoom : Rows → ℕ → Gap → ℕ → Type 0
