@@ -3,3 +3,4 @@ pub mod Tables
 pub mod Greatest
 pub mod Numbering
 pub mod Entries
+pub mod Settled

@@ -1,8 +1,9 @@
 -- Rows from values and numbers that are kept apart.
 use Rattle.std.specs.Prelude.{◌≡◌, ℕ, ℤ, pos, List, map, Option, Some, None, is_some}
-use Rattle.serial_spec.specs.Rows.{Rows}
+use Rattle.serial_spec.specs.Rows.{Rows, value_in}
 use Rattle.serial_spec.specs.Serial.{Map}
 use Rattle.durable_top.specs.declared.store.Row.{Row}
+use Rattle.durable_top.specs.Numbered.{Numbered, entries_in}
 
 abbrev pub number_else_0 : Option ℤ → ℤ
 number_else_0 None = pos 0
@@ -12,6 +13,10 @@ number_else_0 (Some n) = n
 abbrev pub joined : Rows → Map → List Row
 joined values numbers =
     map (λ r. record { key = r.0; value = r.1; commit = number_else_0 (numbers r.0) }) values
+
+-- what each key has by the two
+abbrev pub entries_by : Rows → Rows → Numbered
+entries_by values numbers = entries_in (joined values (value_in numbers))
 
 -- a key has a number where it has a value
 abbrev pub HaveSameKeys : Map → Map → Type 0

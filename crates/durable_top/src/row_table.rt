@@ -5,7 +5,7 @@ ghost use Rattle.serial_spec.specs.Rows.{IsRising, value_in};
 ghost use Rattle.durable_top.specs.Store.{plain};
 ghost use Rattle.durable_top.specs.Numbered.{entries_in, last_number, AreNumbered, Commits, IsFull};
 ghost use Rattle.durable_top.specs.Numbers.{renumbered, IsTopIn};
-ghost use Rattle.durable_top.specs.Joined.{joined, number_else_0, HaveSameKeys};
+ghost use Rattle.durable_top.specs.Joined.{joined, entries_by, number_else_0, HaveSameKeys};
 
 use crate::numbers::{NumberTable, next_number};
 use crate::rows::{change, table_of};
@@ -104,8 +104,8 @@ fn make(
     requires same { HaveSameKeys (value_in values.old.rows) (value_in numbers.old.rows) }
     ensures same { HaveSameKeys (value_in values.new.rows) (value_in numbers.new.rows) }
     ensures ok { OnOk result
-        (Commits changes.now (entries_in (joined values.old.rows (value_in numbers.old.rows)))
-        (entries_in (joined values.new.rows (value_in numbers.new.rows)))) }
+        (Commits changes.now (entries_by values.old.rows numbers.old.rows)
+        (entries_by values.new.rows numbers.new.rows)) }
     ensures same_values { OnErr result (values.new.rows ≡ values.old.rows) }
     ensures same_numbers { OnErr result (numbers.new.rows ≡ numbers.old.rows) }
     ensures memory { IfErr result (λ fault. fault ≡ StoreFault.Memory) }

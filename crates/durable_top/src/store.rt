@@ -1,9 +1,9 @@
 //! Where the results of top-level transactions are kept.
-ghost use Rattle.std.specs.Prelude.{◌≡◌, ◌⊎◌, ℕ, ◌≤◌, ◌↔◌, List, Result, IsErrOf, IfOk, OnOk, IfErr, is_err};
+ghost use Rattle.std.specs.Prelude.{◌≡◌, ℕ, ◌≤◌, ◌↔◌, List, Result, IsErrOf, IfOk, OnOk, IfErr, is_err};
 ghost use Rattle.serial_spec.specs.Changes.{AreRising, overlay};
 ghost use Rattle.serial_spec.specs.Rows.{IsRising, value_in};
 ghost use Rattle.serial_spec.specs.Serial.{Map};
-ghost use Rattle.durable_top.specs.Store.{plain, told, faults_after, TellsFailure};
+ghost use Rattle.durable_top.specs.Store.{plain, told, faults_after, IsNotFailed, LeavesAlone, LeavesNoMore, LeavesNoneBut, TellsFailure};
 ghost use Rattle.durable_top.specs.Numbered.{Numbered, values_of, Commits, entries_in, AreNumbered};
 
 use std::alloc::Global;
@@ -93,11 +93,9 @@ pub trait TopStore: Drop {
             (IsErrOf result StoreFault.Failed) }
         ensures faults { faults self.new ≡ faults self.old }
         ensures doubt { doubt self.old ≤ doubt self.new }
-        ensures crash { doubt self.new ≡ 0 → (left : Map) → may_leave self.new left →
-            may_leave self.old left }
-        ensures crash_numbers { doubt self.new ≡ 0 → (left : Numbered) →
-            may_leave_numbered self.new left
-            → may_leave_numbered self.old left }
+        ensures crash { doubt self.new ≡ 0 → LeavesNoMore may_leave self.old self.new }
+        ensures crash_numbers { doubt self.new ≡ 0
+            → LeavesNoMore may_leave_numbered self.old self.new }
         ensures asked { loads self.old self.new (told result) };
 
     /// Makes the changes in the table, which stand in byte order of their keys, one for each. The
@@ -113,10 +111,11 @@ pub trait TopStore: Drop {
             OnOk result (table self.new ≡ overlay changes.now (table self.old)) }
         ensures numbers { doubt self.new ≡ 0
             → OnOk result (Commits changes.now (numbered self.old) (numbered self.new)) }
-        ensures refused { doubt self.new ≡ 0 → IfErr result (λ fault.
-            (fault ≡ StoreFault.Failed → ⊥) → table self.new ≡ table self.old) }
-        ensures kept_numbers { doubt self.new ≡ 0 → IfErr result (λ fault.
-            (fault ≡ StoreFault.Failed → ⊥) → numbered self.new ≡ numbered self.old) }
+        ensures refused { doubt self.new ≡ 0
+            → IfErr result (λ fault. IsNotFailed fault → table self.new ≡ table self.old) }
+        ensures kept_numbers { doubt self.new ≡ 0
+            → IfErr result (λ fault.
+            IsNotFailed fault → numbered self.new ≡ numbered self.old) }
         ensures values { values_of (numbered self.new) ≡ table self.new }
         ensures leaves_values { (left : Numbered) → may_leave_numbered self.new left
             → may_leave self.new (values_of left) }
@@ -124,20 +123,18 @@ pub trait TopStore: Drop {
             (IsErrOf result StoreFault.Failed) }
         ensures faults { faults self.new ≡ faults_after (is_err result) (faults self.old) }
         ensures doubt { doubt self.old ≤ doubt self.new }
-        ensures crash { doubt self.new ≡ 0 → (left : Map) → may_leave self.new left
-            → may_leave self.old left ⊎ (left ≡ overlay changes.now (table self.old)) }
-        ensures crash_numbers { doubt self.new ≡ 0 → (left : Numbered) →
-            may_leave_numbered self.new left
-            → may_leave_numbered self.old left ⊎ Commits changes.now (numbered self.old) left }
-        ensures settled { doubt self.new ≡ 0 → OnOk result ((left : Map) → may_leave self.new left
-            → left ≡ overlay changes.now (table self.old)) }
-        ensures settled_numbers { doubt self.new ≡ 0 →
-            OnOk result ((left : Numbered) → may_leave_numbered self.new left
-            → left ≡ numbered self.new) }
-        ensures shut { doubt self.new ≡ 0 → failures self.old ≡ 1 → (left : Map) →
-            may_leave self.new left → may_leave self.old left }
-        ensures shut_numbers { doubt self.new ≡ 0 → failures self.old ≡ 1 → (left : Numbered)
-            → may_leave_numbered self.new left → may_leave_numbered self.old left }
+        ensures crash { doubt self.new ≡ 0 → LeavesNoneBut may_leave self.old self.new
+            (λ left. left ≡ overlay changes.now (table self.old)) }
+        ensures crash_numbers { doubt self.new ≡ 0 → LeavesNoneBut may_leave_numbered
+            self.old self.new (Commits changes.now (numbered self.old)) }
+        ensures settled { doubt self.new ≡ 0 → OnOk result
+            (LeavesAlone may_leave self.new (overlay changes.now (table self.old))) }
+        ensures settled_numbers { doubt self.new ≡ 0
+            → OnOk result (LeavesAlone may_leave_numbered self.new (numbered self.new)) }
+        ensures shut { doubt self.new ≡ 0 → failures self.old ≡ 1
+            → LeavesNoMore may_leave self.old self.new }
+        ensures shut_numbers { doubt self.new ≡ 0 → failures self.old ≡ 1
+            → LeavesNoMore may_leave_numbered self.old self.new }
         ensures asked { commits self.old self.new changes.now result };
 
     /// 0, and 1 once the device has failed in a call.

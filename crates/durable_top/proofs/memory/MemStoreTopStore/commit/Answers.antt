@@ -1,4 +1,9 @@
-use Rattle.std.proofs.Common.{inr, rules, ◌∙◌}
+use Rattle.std.proofs.Common.{◌≡◌, inr, rules, ◌∙◌}
+use Rattle.std.specs.Prelude.{OnOk}
+use Rattle.serial_spec.specs.Changes.{overlay}
+use Rattle.serial_spec.specs.Rows.{value_in}
+use Rattle.durable_top.specs.Store.{plain}
+use Rattle.durable_top.proofs.Settled.{settled_so}
 use Rattle.durable_top.proofs.Numbering.{values_in_rows, values_left}
 use Rattle.durable_top.proofs.memory.MemStoreTopStore.commit.Goals as goal
 
@@ -16,3 +21,8 @@ returns-else-is_err-clause-leaves_values c = λ left is. values_left c.match-pla
 
 pub returns-else-is_err-clause-crash : goal.returns-else-is_err-clause-crash
 returns-else-is_err-clause-crash c = λ clean left is. inr (is ∙ search rules)
+
+pub returns-else-is_err-clause-settled : goal.returns-else-is_err-clause-settled
+returns-else-is_err-clause-settled c = λ clean.
+    let made : OnOk c.match-planned.answer (value_in (plain c.match-planned.self-inside.table) ≡ overlay c.args.changes.now (value_in (plain c.args.self.now.rows))) = search rules in
+    settled_so _ _ c.match-planned.answer made
