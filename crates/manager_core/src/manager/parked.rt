@@ -1,8 +1,8 @@
 //! Lines that wait for a condition, and lines that are given up.
-ghost use Rattle.std.specs.Prelude.{◌≡◌, ◌↔◌, ◌∷◌, IfOk, IsOk, OnErr, OnOk, IsFalse, IsTrue};
+ghost use Rattle.std.specs.Prelude.{◌≡◌, ◌<◌, ◌↔◌, ◌∷◌, length, IfOk, IsOk, OnErr, OnOk, IsFalse, IsTrue};
 ghost use Rattle.serial_spec.specs.declared.event.Event.TheVariants.{After};
 ghost use Rattle.serial_spec.specs.declared.entry.Answer.TheVariants.{Stuck};
-ghost use Rattle.serial_spec.specs.Allowed.{has_come};
+ghost use Rattle.serial_spec.specs.Allowed.{has_come, known, most_keys};
 ghost use Rattle.manager_core.specs.Lines.{CanGiveUp, IsFree, IsWaitOf};
 ghost use Rattle.manager_core.specs.Parking.{Awaited, IsKeptOut, IsParked, NobodyWaits};
 ghost use Rattle.manager_core.specs.State.{entry};
@@ -10,7 +10,7 @@ ghost use Rattle.manager_core.specs.State.{entry};
 use crate::manager::Manager;
 use crate::outcome::Outcome;
 use durable_top::TopStore;
-use serial_spec::{Asked, By, Event, NoMemory, Reply, When};
+use serial_spec::{Asked, By, Event, MOST_KEYS, NoMemory, Reply, When};
 use txn_names::Name;
 
 impl<S: TopStore> Manager<S> {
@@ -61,6 +61,14 @@ impl<S: TopStore> Manager<S> {
         ensures { IsTrue result ↔ NobodyWaits self.now.history }
     {
         self.tables.nobody_waits(&self.log)
+    }
+
+    /// Whether fewer keys are known than may be, those of the opening rows and of answered accesses,
+    /// so that no access is refused for their number. It takes no memory.
+    pub fn knows_few(&self) -> bool
+        ensures { IsTrue result ↔ length (known self.now.rows self.now.history) < most_keys }
+    {
+        self.log.known() < MOST_KEYS
     }
 
     /// Whether it is seen at once that the line is held up: an access waits by it that was seen
