@@ -35,10 +35,6 @@ one_whole bs w h = sym (joined_cut 32 bs) ∙ ap (λ ws. join_with_byte 32 ws) (
 abbrev pub Before : Words → LineKind → LineKind → Type 0
 Before ws k f = MatchResult (one ws) (λ _. f ≡ k) (λ shape. f ≡ shape)
 
-pub either : {A : Type 0} (b : Bool) (x y z : A) → x ≡ z → y ≡ z → cond b x y ≡ z
-either true x y z h g = h
-either false x y z h g = g
-
 -- the steps of reading, once one word is left
 abbrev word_after : List ℕ → Result (List ℕ) LineKind → Result (List ℕ × List ℕ) LineKind
 word_after a r = r >>= λ b. Ok (a, b)

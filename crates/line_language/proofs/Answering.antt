@@ -8,19 +8,19 @@ use Rattle.txn_names.specs.Text.{spelled_name}
 use Rattle.txn_names.specs.Reading.{name_of}
 use Rattle.txn_names.proofs.ReadBack.{name_of-spelled, read_is_name}
 use Rattle.serial_spec.specs.declared.operation.Reply.TheVariants.{Ok as Fine, Value, Absent, New, Overflow}
-use Rattle.serial_spec.specs.declared.entry.Refusal.{Refusal}
-use Rattle.serial_spec.specs.declared.entry.Refusal.TheVariants.{Unknown, Used, NoParent, Orphan, Children, Waiting, Full, Store}
-use Rattle.serial_spec.specs.declared.entry.Refusal.TheVariants.{Done as HasCommitted}
+use Rattle.serial_spec.specs.declared.entry.Refusal.TheVariants.{Orphan}
 use Rattle.serial_spec.specs.declared.entry.Answer.{Answer}
 use Rattle.serial_spec.specs.declared.entry.Answer.TheVariants.{Done, Waits, Stuck, Refused}
-use Rattle.line_language.specs.Printing.{spelled_answer, spelled_number, spelled_refusal}
+use Rattle.line_language.specs.Printing.{spelled_answer, spelled_number}
 use Rattle.line_language.specs.Numbers.{number_of}
 use Rattle.line_language.specs.Words.{before, behind}
 use Rattle.line_language.proofs.Bytes.{Lacks}
 use Rattle.line_language.proofs.ReadBack.{numbers_read_back}
 use Rattle.line_language.proofs.Reading.{is_word, pick}
 use Rattle.line_language.specs.Entries.{IsAnswer}
-use Rattle.line_language.specs.Reading.{answer_of, one_word, refusal_of, two_words, words_of}
+use Rattle.line_language.specs.Reading.{answer_of, one_word, two_words, words_of}
+use Rattle.line_language.specs.Refusals.{refusal_of}
+use Rattle.line_language.proofs.Refused.{refusal_reads}
 use Rattle.line_language.proofs.Parts.{before_next, parted, same_some, was_ok, whole}
 
 none_is : {A P : Type 0} (x : A) → None ≡ Some x → P
@@ -47,28 +47,6 @@ one_reads w x h =
     (λ h. word w (codes "waits") Waits x _ (tt, refl) h
     (λ h. word w (codes "stuck") Stuck x _ (tt, refl) h
     (λ h. none_is x h)))))
-
--- ---- what stands behind `refused`
-
-abbrev IsRefusal : List ℕ → Refusal → Type 0
-IsRefusal w x = IsAnswer (Refused x) × (codes "refused " ++ w ≡ spelled_refusal x)
-
-cause : (w v : List ℕ) (a x : Refusal) (o : Option Refusal) → IsRefusal v a → cond (bytes_eq w v) (Some a) o ≡ Some x → (o ≡ Some x → IsRefusal w x) → IsRefusal w x
-cause w v a x o is h more =
-    pick (bytes_eq w v) (Some a) o (Some x) h
-    (λ b e. subst (IsRefusal w) (same_some a x e) (is.0, ap (λ u. codes "refused " ++ u) (is_word w v b) ∙ is.1)) (λ _ e. more e)
-
-refusal_reads : (w : List ℕ) (x : Refusal) → refusal_of w ≡ Some x → IsRefusal w x
-refusal_reads w x h =
-    cause w (codes "unknown") Unknown x _ (tt, refl) h
-    (λ h. cause w (codes "used") Used x _ (tt, refl) h
-    (λ h. cause w (codes "no-parent") NoParent x _ (tt, refl) h
-    (λ h. cause w (codes "done") HasCommitted x _ (tt, refl) h
-    (λ h. cause w (codes "children") Children x _ (tt, refl) h
-    (λ h. cause w (codes "waiting") Waiting x _ (tt, refl) h
-    (λ h. cause w (codes "full") Full x _ (tt, refl) h
-    (λ h. cause w (codes "store") Store x _ (tt, refl) h
-    (λ h. none_is x h))))))))
 
 -- ---- two words
 
@@ -130,13 +108,6 @@ answer_again (Done (New v)) h =
 answer_again (Done Overflow) h = refl
 answer_again Waits h = refl
 answer_again Stuck h = refl
-answer_again (Refused Unknown) h = refl
-answer_again (Refused Used) h = refl
-answer_again (Refused NoParent) h = refl
-answer_again (Refused HasCommitted) h = refl
 answer_again (Refused (Orphan t)) h =
     by_words (codes "orphan") (spelled_name t) refl ∙ ap (λ r. option_map (λ t. Refused (Orphan t)) (result_ok r)) (name_of-spelled t h)
-answer_again (Refused Children) h = refl
-answer_again (Refused Waiting) h = refl
-answer_again (Refused Full) h = refl
-answer_again (Refused Store) h = refl
+answer_again (Refused r) h = refl

@@ -1,8 +1,11 @@
 pub mod Cutting
 pub mod Numerals
 pub mod Bytes
+pub mod Operations
+pub mod Refused
 pub mod Reading
 pub mod Spelled
+pub mod Longest
 pub mod Feeding
 pub mod ReadBack
 pub mod Counting

@@ -1,6 +1,6 @@
 -- Commands read from their words, and their words spelled again.
-use Rattle.std.proofs.Common.{◌≡◌, ℕ, ℤ, List, [], ◌∷◌, length, true, false, Bool, cond, not, nat_eq, nat_lt, Result, Ok, Err, Option, Some, None, refl, sym, ap, ap₂, ◌∙◌, subst, arith, append_assoc}
-use Rattle.std.specs.Prelude.{codes, IsTrue}
+use Rattle.std.proofs.Common.{◌≡◌, ℕ, ℤ, pos, List, [], ◌∷◌, length, true, false, Bool, cond, not, nat_eq, nat_lt, Result, Ok, Err, Option, Some, None, refl, sym, ap, ap₂, ◌∙◌, subst, arith, append_assoc}
+use Rattle.std.specs.Prelude.{◌++◌, codes, IfSome, IsTrue}
 use Rattle.std.specs.List.{list_all, join_with_byte}
 use Rattle.std.specs.Option.{ok_or}
 use Rattle.std.specs.Str.{bytes_eq}
@@ -14,16 +14,16 @@ use Rattle.txn_names.specs.declared.key.KeyFault.TheVariants as key
 use Rattle.txn_names.specs.declared.label.LabelFault.TheVariants as label
 use Rattle.txn_names.proofs.ReadBack.{name_of-spelled, read_is_name}
 use Rattle.serial_spec.specs.Operations.{is_i64}
-use Rattle.line_language.specs.Printing.{spelled_event, spelled_number, spelled_when}
+use Rattle.line_language.specs.Printing.{spelled_event, spelled_number, spelled_when, with_number}
+use Rattle.line_language.specs.Verbs.{IsOp, operand, operation_of, with_operand, word}
 use Rattle.serial_spec.specs.declared.operation.Op.{Op}
-use Rattle.serial_spec.specs.declared.operation.Op.TheVariants.{Get, Set, Add, Del}
 use Rattle.serial_spec.specs.declared.event.When.{When}
 use Rattle.serial_spec.specs.declared.event.When.TheVariants.{Begun, Done}
 use Rattle.serial_spec.specs.declared.event.Event.{Event}
 use Rattle.serial_spec.specs.declared.event.Event.TheVariants.{Begin, Access, Sum, Commit, Abort, After}
 use Rattle.line_language.specs.declared.fault.LineKind.{LineKind}
 use Rattle.line_language.specs.declared.fault.LineKind.TheVariants as kind
-use Rattle.line_language.specs.Commands.{Words, one, two, three, name_in, key_in, group_in, number_in, when_in, named, keyed, grouped, valued, timed, begin_of, get_of, set_of, add_of, del_of, sum_of, commit_of, abort_of, after_of, command_of, event_of}
+use Rattle.line_language.specs.Commands.{Words, one, two, three, name_in, key_in, group_in, number_in, when_in, named, keyed, grouped, valued, timed, begin_of, access_by, access_of, by_operation, other_of, sum_of, commit_of, abort_of, after_of, command_of, event_of}
 use Rattle.line_language.specs.Events.{IsEvent}
 use Rattle.line_language.specs.Numbers.{number_of}
 use Rattle.line_language.specs.Steps.{◌>>=◌, or_fault}
@@ -31,6 +31,7 @@ use Rattle.line_language.specs.Commands.{label_in}
 use Rattle.line_language.specs.Words.{cut_at}
 use Rattle.line_language.proofs.Bytes.{cut_some, joined_cut}
 use Rattle.line_language.proofs.Numerals.{number_reads, number_again}
+use Rattle.line_language.proofs.Operations.{operand_with, with_again, with_none, word_again, word_reads, word_with}
 
 -- two words or more are not one
 pub one-more : (bs w rest : List ℕ) → cut_at 32 bs ≡ w ∷ cut_at 32 rest → one (cut_at 32 bs) ≡ Err kind.Shape
@@ -214,35 +215,32 @@ timed_reads ws p h =
 
 -- ---- commands
 
--- the operands of a command, spelled
-abbrev pub access_operands : Path → List ℕ → Op → Words
-access_operands n k Get = spelled_name n ∷ k ∷ []
-access_operands n k (Set v) = spelled_name n ∷ k ∷ spelled_number v ∷ []
-access_operands n k (Add v) = spelled_name n ∷ k ∷ spelled_number v ∷ []
-access_operands n k Del = spelled_name n ∷ k ∷ []
+-- the number behind the key, if there is one
+abbrev pub number_words : Option ℤ → Words
+number_words None = []
+number_words (Some v) = spelled_number v ∷ []
 
-abbrev pub access_word : Op → List ℕ
-access_word Get = codes "get"
-access_word (Set v) = codes "set"
-access_word (Add v) = codes "add"
-access_word Del = codes "del"
+-- the operands of an access, spelled
+abbrev pub access_operands : Path → List ℕ → Option ℤ → Words
+access_operands n k v = spelled_name n ∷ k ∷ number_words v
 
 -- the words of a command line
 abbrev pub words_of : Event → Words
 words_of (Begin n) = codes "begin" ∷ spelled_name n ∷ []
-words_of (Access n k o) = access_word o ∷ access_operands n k o
+words_of (Access n k o) = word o ∷ access_operands n k (operand o)
 words_of (Sum n g) = codes "sum" ∷ spelled_name n ∷ g ∷ []
 words_of (Commit n) = codes "commit" ∷ spelled_name n ∷ []
 words_of (Abort n) = codes "abort" ∷ spelled_name n ∷ []
 words_of (After n t) = codes "after" ∷ spelled_name n ∷ spelled_when t ∷ []
 
+joined_access : (w : List ℕ) (n : Path) (k : List ℕ) (v : Option ℤ) → join_with_byte 32 (w ∷ access_operands n k v) ≡ with_number (w ++ codes " " ++ spelled_name n ++ codes " " ++ k) v
+joined_access w n k None = simp append_assoc
+joined_access w n k (Some v) = simp append_assoc
+
 -- joined by spaces they are its spelling
 pub joined_words : (e : Event) → join_with_byte 32 (words_of e) ≡ spelled_event e
 joined_words (Begin n) = refl
-joined_words (Access n k Get) = simp append_assoc
-joined_words (Access n k (Set v)) = simp append_assoc
-joined_words (Access n k (Add v)) = simp append_assoc
-joined_words (Access n k Del) = simp append_assoc
+joined_words (Access n k o) = joined_access (word o) n k (operand o)
 joined_words (Sum n g) = simp append_assoc
 joined_words (Commit n) = refl
 joined_words (Abort n) = refl
@@ -257,29 +255,28 @@ begin_reads w ws e is h =
     let r = named_reads ws n.0 n.1 in
     subst (Spells (w ∷ ws)) (same_ok _ e n.2) (r.0, ap₂ (λ v vs. v ∷ vs) is r.1)
 
-get_reads : (w : List ℕ) (ws : Words) (e : Event) → w ≡ codes "get" → get_of ws ≡ Ok e → Spells (w ∷ ws) e
-get_reads w ws e is h =
-    let a = bind_ok (keyed ws) (λ a. Ok (Access a.0 a.1 Get)) e h in
-    let r = keyed_reads ws a.0 a.1 in
-    subst (Spells (w ∷ ws)) (same_ok _ e a.2) ((r.0, r.1, tt), ap₂ (λ v vs. v ∷ vs) is r.2)
+abbrev IsNumber : Option ℤ → Type 0
+IsNumber o = IfSome o (λ v. IsTrue (is_i64 v))
 
-set_reads : (w : List ℕ) (ws : Words) (e : Event) → w ≡ codes "set" → set_of ws ≡ Ok e → Spells (w ∷ ws) e
-set_reads w ws e is h =
-    let a = bind_ok (valued ws) (λ a. Ok (Access a.0 a.1 (Set a.2))) e h in
-    let r = valued_reads ws a.0 a.1 in
-    subst (Spells (w ∷ ws)) (same_ok _ e a.2) ((r.0, r.1, r.2), ap₂ (λ v vs. v ∷ vs) is r.3)
-
-add_reads : (w : List ℕ) (ws : Words) (e : Event) → w ≡ codes "add" → add_of ws ≡ Ok e → Spells (w ∷ ws) e
-add_reads w ws e is h =
-    let a = bind_ok (valued ws) (λ a. Ok (Access a.0 a.1 (Add a.2))) e h in
-    let r = valued_reads ws a.0 a.1 in
-    subst (Spells (w ∷ ws)) (same_ok _ e a.2) ((r.0, r.1, r.2), ap₂ (λ v vs. v ∷ vs) is r.3)
-
-del_reads : (w : List ℕ) (ws : Words) (e : Event) → w ≡ codes "del" → del_of ws ≡ Ok e → Spells (w ∷ ws) e
-del_reads w ws e is h =
-    let a = bind_ok (keyed ws) (λ a. Ok (Access a.0 a.1 Del)) e h in
-    let r = keyed_reads ws a.0 a.1 in
-    subst (Spells (w ∷ ws)) (same_ok _ e a.2) ((r.0, r.1, tt), ap₂ (λ v vs. v ∷ vs) is r.2)
+access_reads : (w : List ℕ) (ws : Words) (o : Op) (e : Event) → w ≡ word o → access_of o ws ≡ Ok e → Spells (w ∷ ws) e
+access_reads w ws o e is h = by (operand o) refl h
+  where
+    by : (m : Option ℤ) → operand o ≡ m → access_by m o ws ≡ Ok e → Spells (w ∷ ws) e
+    by None none h =
+        let a = bind_ok (keyed ws) (λ a. Ok (Access a.0 a.1 o)) e h in
+        let r = keyed_reads ws a.0 a.1 in
+        subst (Spells (w ∷ ws)) (same_ok _ e a.2) (
+          (r.0, r.1, subst IsNumber (sym none) tt),
+          ap₂ (λ v vs. v ∷ vs) is (r.2 ∙ ap (λ (n : Option ℤ). spelled_name a.0.0 ∷ a.0.1 ∷ number_words n) (sym none)),
+        )
+    by (Some u) some h =
+        let a = bind_ok (valued ws) (λ a. Ok (Access a.0 a.1 (with_operand o a.2))) e h in
+        let r = valued_reads ws a.0 a.1 in
+        let has : operand (with_operand o a.0.2) ≡ Some a.0.2 = operand_with o u a.0.2 some in
+        subst (Spells (w ∷ ws)) (same_ok _ e a.2) (
+          (r.0, r.1, subst IsNumber (sym has) r.2),
+          ap₂ (λ v vs. v ∷ vs) (is ∙ sym (word_with o a.0.2)) (r.3 ∙ ap (λ (n : Option ℤ). spelled_name a.0.0 ∷ a.0.1 ∷ number_words n) (sym has)),
+        )
 
 sum_reads : (w : List ℕ) (ws : Words) (e : Event) → w ≡ codes "sum" → sum_of ws ≡ Ok e → Spells (w ∷ ws) e
 sum_reads w ws e is h =
@@ -305,18 +302,21 @@ after_reads w ws e is h =
     let r = timed_reads ws a.0 a.1 in
     subst (Spells (w ∷ ws)) (same_ok _ e a.2) (r.0, ap₂ (λ v vs. v ∷ vs) is r.1)
 
-command_reads : (w : List ℕ) (ws : Words) (e : Event) → command_of (w ∷ ws) ≡ Ok e → Spells (w ∷ ws) e
-command_reads w ws e h =
+other_reads : (w : List ℕ) (ws : Words) (e : Event) → other_of w ws ≡ Ok e → Spells (w ∷ ws) e
+other_reads w ws e h =
     pick (bytes_eq w (codes "begin")) _ _ (Ok e) h (λ t r. begin_reads w ws e (is_word w _ t) r) (λ _ h1.
-    pick (bytes_eq w (codes "get")) _ _ (Ok e) h1 (λ t r. get_reads w ws e (is_word w _ t) r) (λ _ h2.
-    pick (bytes_eq w (codes "set")) _ _ (Ok e) h2 (λ t r. set_reads w ws e (is_word w _ t) r) (λ _ h3.
-    pick (bytes_eq w (codes "add")) _ _ (Ok e) h3 (λ t r. add_reads w ws e (is_word w _ t) r) (λ _ h4.
-    pick (bytes_eq w (codes "del")) _ _ (Ok e) h4 (λ t r. del_reads w ws e (is_word w _ t) r) (λ _ h5.
-    pick (bytes_eq w (codes "sum")) _ _ (Ok e) h5 (λ t r. sum_reads w ws e (is_word w _ t) r) (λ _ h6.
-    pick (bytes_eq w (codes "commit")) _ _ (Ok e) h6 (λ t r. commit_reads w ws e (is_word w _ t) r) (λ _ h7.
-    pick (bytes_eq w (codes "abort")) _ _ (Ok e) h7 (λ t r. abort_reads w ws e (is_word w _ t) r) (λ _ h8.
-    pick (bytes_eq w (codes "after")) _ _ (Ok e) h8 (λ t r. after_reads w ws e (is_word w _ t) r)
-    (λ _ h9. not_word kind.Word e h9)))))))))
+    pick (bytes_eq w (codes "sum")) _ _ (Ok e) h1 (λ t r. sum_reads w ws e (is_word w _ t) r) (λ _ h2.
+    pick (bytes_eq w (codes "commit")) _ _ (Ok e) h2 (λ t r. commit_reads w ws e (is_word w _ t) r) (λ _ h3.
+    pick (bytes_eq w (codes "abort")) _ _ (Ok e) h3 (λ t r. abort_reads w ws e (is_word w _ t) r) (λ _ h4.
+    pick (bytes_eq w (codes "after")) _ _ (Ok e) h4 (λ t r. after_reads w ws e (is_word w _ t) r)
+    (λ _ h5. not_word kind.Word e h5)))))
+
+command_reads : (w : List ℕ) (ws : Words) (e : Event) → command_of (w ∷ ws) ≡ Ok e → Spells (w ∷ ws) e
+command_reads w ws e h = by (operation_of w) refl h
+  where
+    by : (m : Option Op) → operation_of w ≡ m → by_operation w ws m ≡ Ok e → Spells (w ∷ ws) e
+    by (Some o) is h = access_reads w ws o e (word_reads w o is) h
+    by None is h = other_reads w ws e h
 
 words_read : (ws : Words) (e : Event) → command_of ws ≡ Ok e → Spells ws e
 words_read [] e h = not_word kind.Word e h
@@ -332,12 +332,26 @@ event_reads bs e h =
 
 -- ---- what is spelled is read again
 
+access_again : (n : Path) (k : List ℕ) (o : Op) → IsName n → IsKey k → IsOp o → command_of (words_of (Access n k o)) ≡ Ok (Access n k o)
+access_again n k o name key op = ap (by_operation (word o) (access_operands n k (operand o))) (word_again o) ∙ by (operand o) refl op
+  where
+    asked : Op
+    asked = with_operand o (pos 0)
+
+    by : (m : Option ℤ) → operand o ≡ m → IsNumber m → access_of asked (access_operands n k m) ≡ Ok (Access n k o)
+    by None none is =
+        let same : asked ≡ o = with_none o (pos 0) none in
+        ap (λ (p : Op). access_by (operand p) p (access_operands n k None)) same
+        ∙ ap (λ m. access_by m o (access_operands n k None)) none
+        ∙ rw (name_again n name, key_again k key) refl
+    by (Some v) some is =
+        ap (λ m. access_by m asked (access_operands n k (Some v))) (operand_with o v (pos 0) some)
+        ∙ rw (name_again n name, key_again k key, value_again v is) refl
+        ∙ ap (λ (p : Op). Ok (Access n k p)) (with_again o (pos 0) v some)
+
 pub command_again : (e : Event) → IsEvent e → command_of (words_of e) ≡ Ok e
 command_again (Begin n) h = rw (name_again n h) refl
-command_again (Access n k Get) h = rw (name_again n h.0, key_again k h.1) refl
-command_again (Access n k (Set v)) h = rw (name_again n h.0, key_again k h.1, value_again v h.2) refl
-command_again (Access n k (Add v)) h = rw (name_again n h.0, key_again k h.1, value_again v h.2) refl
-command_again (Access n k Del) h = rw (name_again n h.0, key_again k h.1) refl
+command_again (Access n k o) h = access_again n k o h.0 h.1 h.2
 command_again (Sum n g) h = rw (name_again n h.0, group_again g h.1) refl
 command_again (Commit n) h = rw (name_again n h) refl
 command_again (Abort n) h = rw (name_again n h) refl

@@ -1,19 +1,19 @@
--- Command lines as they are spelled: where they can be cut, that they are read again, and how long they are.
-use Rattle.std.proofs.Common.{◌≡◌, ℕ, ℤ, pos, negsuc, suc, ◌*◌, ◌^◌, ◌<◌, ◌≤◌, List, [], ◌∷◌, length, true, false, Bool, cond, not, nat_eq, Result, Ok, Err, refl, sym, ap, ◌∙◌, subst, arith, lit<, length-append}
-use Rattle.std.specs.Prelude.{codes, decimal}
+-- Command lines as they are spelled: where they can be cut, and that they are read again.
+use Rattle.std.proofs.Common.{◌≡◌, ℕ, ℤ, pos, negsuc, suc, ◌^◌, ◌<◌, List, [], ◌∷◌, length, true, false, Bool, cond, not, nat_eq, Option, Some, None, Result, Ok, Err, refl, sym, ap, ◌∙◌, subst, arith, length-append}
+use Rattle.std.specs.Prelude.{◌++◌, codes, decimal, IfSome}
 use Rattle.std.specs.Char.{is_ascii_digit}
 use Rattle.std.specs.List.{list_all, list_any, join_with_byte, AllByRecursion}
 use Rattle.std.proofs.lemmas.Bool.{and_from, ne_eqb, ltb-true, not_from_false}
-use Rattle.std.proofs.lemmas.Fmt.{digits_decimal, length-decimal-le}
+use Rattle.std.proofs.lemmas.Fmt.{digits_decimal}
 use Rattle.txn_names.specs.Path.{Path}
 use Rattle.txn_names.specs.Groups.{IsGroup}
-use Rattle.txn_names.specs.Text.{IsName, IsKey, IsLabel, is_label_byte, is_key_byte, slashed, spelled_name}
+use Rattle.txn_names.specs.Text.{IsName, IsKey, is_label_byte, is_key_byte, spelled_name}
 use Rattle.txn_names.specs.Reading.{pieces, is_empty, is_name_byte}
 use Rattle.txn_names.specs.declared.name.NameFault.TheVariants as name
 use Rattle.txn_names.proofs.ReadBack.{name_of-spelled}
 use Rattle.serial_spec.specs.Operations.{is_i64}
-use Rattle.line_language.specs.Printing.{spelled_event, spelled_number, spelled_when}
-use Rattle.serial_spec.specs.declared.operation.Op.TheVariants.{Get, Set, Add, Del}
+use Rattle.line_language.specs.Printing.{spelled_event, spelled_number, spelled_when, with_number}
+use Rattle.line_language.specs.Verbs.{operand, word}
 use Rattle.serial_spec.specs.declared.event.When.{When}
 use Rattle.serial_spec.specs.declared.event.When.TheVariants.{Begun, Done}
 use Rattle.serial_spec.specs.declared.event.Event.{Event}
@@ -23,7 +23,8 @@ use Rattle.line_language.specs.Events.{IsEvent}
 use Rattle.line_language.specs.Words.{cut_at}
 use Rattle.line_language.proofs.Bytes.{Lacks, Lacks-append, Lacks-from_all, cut_joined}
 use Rattle.line_language.proofs.Numerals.{own}
-use Rattle.line_language.proofs.Reading.{words_of, joined_words, command_again}
+use Rattle.line_language.proofs.Reading.{access_operands, number_words, words_of, joined_words, command_again}
+use Rattle.line_language.proofs.Operations.{word_plain}
 
 -- ---- bytes that no word has
 
@@ -73,12 +74,13 @@ when_lacks : (c : ℕ) → IsGap c → (t : When) → Lacks c (spelled_when t)
 when_lacks c g Begun = label_lacks c g (codes "begun") refl
 when_lacks c g Done = label_lacks c g (codes "done") refl
 
+number_lack : (c : ℕ) → IsGap c → (m : Option ℤ) → IfSome m (λ v. is_i64 v ≡ true) → AllByRecursion (Lacks c) (number_words m)
+number_lack c g None h = tt
+number_lack c g (Some v) h = (number_lacks c g v h, tt)
+
 words_lack : (c : ℕ) → IsGap c → (e : Event) → IsEvent e → AllByRecursion (Lacks c) (words_of e)
 words_lack c g (Begin n) h = (label_lacks c g (codes "begin") refl, (name_lacks c g n h, tt))
-words_lack c g (Access n k Get) h = (label_lacks c g (codes "get") refl, (name_lacks c g n h.0, (key_lacks c g k h.1, tt)))
-words_lack c g (Access n k (Set v)) h = (label_lacks c g (codes "set") refl, (name_lacks c g n h.0, (key_lacks c g k h.1, (number_lacks c g v h.2, tt))))
-words_lack c g (Access n k (Add v)) h = (label_lacks c g (codes "add") refl, (name_lacks c g n h.0, (key_lacks c g k h.1, (number_lacks c g v h.2, tt))))
-words_lack c g (Access n k Del) h = (label_lacks c g (codes "del") refl, (name_lacks c g n h.0, (key_lacks c g k h.1, tt)))
+words_lack c g (Access n k o) h = (label_lacks c g (word o) (word_plain o), (name_lacks c g n h.0, (key_lacks c g k h.1, number_lack c g (operand o) h.2)))
 words_lack c g (Sum n k) h = (label_lacks c g (codes "sum") refl, (name_lacks c g n h.0, (group_lacks c g k h.1, tt)))
 words_lack c g (Commit n) h = (label_lacks c g (codes "commit") refl, (name_lacks c g n h, tt))
 words_lack c g (Abort n) h = (label_lacks c g (codes "abort") refl, (name_lacks c g n h, tt))
@@ -108,12 +110,13 @@ some_words (Commit n) = omega arith
 some_words (Abort n) = omega arith
 some_words (After n t) = omega arith
 
+some_access : (w : List ℕ) (n : Path) (k : List ℕ) (m : Option ℤ) → 0 < length (with_number (w ++ codes " " ++ spelled_name n ++ codes " " ++ k) m)
+some_access w n k None = omega (arith, length-append {A = ℕ})
+some_access w n k (Some v) = omega (arith, length-append {A = ℕ})
+
 some_bytes : (e : Event) → 0 < length (spelled_event e)
 some_bytes (Begin n) = omega arith
-some_bytes (Access n k Get) = omega arith
-some_bytes (Access n k (Set v)) = omega arith
-some_bytes (Access n k (Add v)) = omega arith
-some_bytes (Access n k Del) = omega arith
+some_bytes (Access n k o) = some_access (word o) n k (operand o)
 some_bytes (Sum n g) = omega arith
 some_bytes (Commit n) = omega arith
 some_bytes (Abort n) = omega arith
@@ -134,39 +137,3 @@ event_from bs ws e some cut h =
 
 pub event_again : (e : Event) → IsEvent e → event_of (spelled_event e) ≡ Ok e
 event_again e h = event_from (spelled_event e) (words_of e) e (some_bytes e) (cut_event e h) (command_again e h)
-
--- ---- how long it is
-
-length-slashed : (ls : Path) → AllByRecursion IsLabel ls → length (slashed ls) ≤ 17 * length ls
-length-slashed [] h = omega arith
-length-slashed (l ∷ ls) h = omega (arith, h.0.short, length-slashed ls h.1, length-append {A = ℕ} l (slashed ls))
-
-length-name : (n : Path) → IsName n → length (spelled_name n) ≤ 271
-length-name [] h = omega arith
-length-name (l ∷ ls) h = omega (arith, h.short, h.labels.0.short, length-slashed ls h.labels.1, length-append {A = ℕ} l (slashed ls))
-
-length-number : (v : ℤ) → is_i64 v ≡ true → length (spelled_number v) ≤ 20
-length-number (pos n) h =
-    let small : n < 2 ^ 63 = ltb-true n (2 ^ 63) h in
-    omega (arith, length-decimal-le 19 n (lit< tt) (omega arith) (omega arith))
-length-number (negsuc n) h =
-    let small : n < 2 ^ 63 = ltb-true n (2 ^ 63) h in
-    omega (arith, length-decimal-le 19 (suc n) (lit< tt) (omega arith) (omega arith))
-
-length-when : (t : When) → length (spelled_when t) ≤ 5
-length-when Begun = omega arith
-length-when Done = omega arith
-
-joined_short : (e : Event) → IsEvent e → length (join_with_byte 32 (words_of e)) ≤ 329
-joined_short (Begin n) h = omega (arith, length-name n h)
-joined_short (Access n k Get) h = omega (arith, length-name n h.0, h.1.short, length-append {A = ℕ})
-joined_short (Access n k (Set v)) h = omega (arith, length-name n h.0, h.1.short, length-number v h.2, length-append {A = ℕ})
-joined_short (Access n k (Add v)) h = omega (arith, length-name n h.0, h.1.short, length-number v h.2, length-append {A = ℕ})
-joined_short (Access n k Del) h = omega (arith, length-name n h.0, h.1.short, length-append {A = ℕ})
-joined_short (Sum n g) h = omega (arith, length-name n h.0, h.1.short, length-append {A = ℕ})
-joined_short (Commit n) h = omega (arith, length-name n h)
-joined_short (Abort n) h = omega (arith, length-name n h)
-joined_short (After n t) h = omega (arith, length-name n h, length-when t, length-append {A = ℕ})
-
-pub event_short : (e : Event) → IsEvent e → length (spelled_event e) ≤ 329
-event_short e h = omega (arith, joined_short e h, ap (λ (bs : List ℕ). length bs) (joined_words e))

@@ -2,14 +2,14 @@
 -- another matter.
 use Rattle.std.specs.Prelude.{Bool, true, false}
 use Rattle.serial_spec.specs.declared.operation.Op.{Op}
-use Rattle.serial_spec.specs.declared.operation.Op.TheVariants.{Get, Set, Add, Del}
-use Rattle.serial_spec.specs.declared.operation.Reply.TheVariants.{Ok, Value, Absent, New, Overflow}
+use Rattle.serial_spec.specs.declared.operation.Reply.TheVariants.{Ok, Value, Overflow}
 use Rattle.serial_spec.specs.declared.event.Event.{Event}
 use Rattle.serial_spec.specs.declared.event.Event.TheVariants.{Begin, Access, Sum, Commit, Abort, After}
 use Rattle.serial_spec.specs.declared.entry.Refusal.TheVariants.{Unknown, Used, NoParent, Orphan, Children, Waiting, Full, Store}
 use Rattle.serial_spec.specs.declared.entry.Refusal.TheVariants.{Done as HasCommitted}
 use Rattle.serial_spec.specs.declared.entry.Answer.{Answer}
 use Rattle.serial_spec.specs.declared.entry.Answer.TheVariants.{Done, Waits, Stuck, Refused}
+use Rattle.line_language.specs.Verbs.{may_reply}
 
 abbrev pub may_begin : Answer → Bool
 may_begin (Done Ok) = true
@@ -20,12 +20,7 @@ may_begin (Refused Full) = true
 may_begin a = false
 
 abbrev pub may_access : Op → Answer → Bool
-may_access Get (Done (Value v)) = true
-may_access Get (Done Absent) = true
-may_access (Set v) (Done Ok) = true
-may_access (Add d) (Done (New v)) = true
-may_access (Add d) (Done Overflow) = true
-may_access Del (Done Ok) = true
+may_access o (Done r) = may_reply o r
 may_access o Waits = true
 may_access o Stuck = true
 may_access o (Refused Unknown) = true

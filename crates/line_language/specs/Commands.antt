@@ -1,11 +1,11 @@
 -- What a command line is read as, without its line feed: its event, or the kind of its first fault.
-use Rattle.std.specs.Prelude.{ℕ, ℤ, ◌==◌, if◌then◌else◌, List, [], ◌∷◌, length, codes, Result, Ok, Err}
+use Rattle.std.specs.Prelude.{ℕ, ℤ, ◌==◌, if◌then◌else◌, List, [], ◌∷◌, length, codes, Option, Some, None, Result, Ok, Err}
 use Rattle.std.specs.Option.{ok_or}
 use Rattle.std.specs.Str.{bytes_eq}
 use Rattle.txn_names.specs.Path.{Path}
 use Rattle.txn_names.specs.Groups.{group_of}
 use Rattle.txn_names.specs.Reading.{name_of, key_of, label_of}
-use Rattle.serial_spec.specs.declared.operation.Op.TheVariants.{Get, Set, Add, Del}
+use Rattle.serial_spec.specs.declared.operation.Op.{Op}
 use Rattle.serial_spec.specs.declared.event.When.{When}
 use Rattle.serial_spec.specs.declared.event.When.TheVariants.{Begun, Done}
 use Rattle.serial_spec.specs.declared.event.Event.{Event}
@@ -14,6 +14,7 @@ use Rattle.line_language.specs.declared.fault.LineKind.{LineKind}
 use Rattle.line_language.specs.declared.fault.LineKind.TheVariants as kind
 use Rattle.line_language.specs.Numbers.{number_of}
 use Rattle.line_language.specs.Steps.{◌>>=◌, or_fault}
+use Rattle.line_language.specs.Verbs.{operand, operation_of, with_operand}
 use Rattle.line_language.specs.Words.{cut_at}
 
 abbrev pub Words : Type 0
@@ -104,25 +105,25 @@ begin_of ws = do
   n ← named ws
   Ok (Begin n)
 
-abbrev pub get_of : Words → Result Event LineKind
-get_of ws = do
+-- an operation whose word is followed by a name and a key alone
+abbrev pub keyed_access : Op → Words → Result Event LineKind
+keyed_access o ws = do
   a ← keyed ws
-  Ok (Access a.0 a.1 Get)
+  Ok (Access a.0 a.1 o)
 
-abbrev pub set_of : Words → Result Event LineKind
-set_of ws = do
+-- and one that has a number behind these, whichever it had before
+abbrev pub valued_access : Op → Words → Result Event LineKind
+valued_access o ws = do
   a ← valued ws
-  Ok (Access a.0 a.1 (Set a.2))
+  Ok (Access a.0 a.1 (with_operand o a.2))
 
-abbrev pub add_of : Words → Result Event LineKind
-add_of ws = do
-  a ← valued ws
-  Ok (Access a.0 a.1 (Add a.2))
+abbrev pub access_by : Option ℤ → Op → Words → Result Event LineKind
+access_by None o ws = keyed_access o ws
+access_by (Some v) o ws = valued_access o ws
 
-abbrev pub del_of : Words → Result Event LineKind
-del_of ws = do
-  a ← keyed ws
-  Ok (Access a.0 a.1 Del)
+-- the access that this operation asks
+abbrev pub access_of : Op → Words → Result Event LineKind
+access_of o ws = access_by (operand o) o ws
 
 abbrev pub sum_of : Words → Result Event LineKind
 sum_of ws = do
@@ -144,20 +145,24 @@ after_of ws = do
   a ← timed ws
   Ok (After a.0 a.1)
 
--- by its first word, of which there is one at least
-abbrev pub command_of : Words → Result Event LineKind
-command_of [] = Err kind.Word
-command_of (w ∷ ws) =
+-- by the first word, where it is none of an operation
+abbrev pub other_of : List ℕ → Words → Result Event LineKind
+other_of w ws =
     if bytes_eq w (codes "begin") then begin_of ws
-    else if bytes_eq w (codes "get") then get_of ws
-    else if bytes_eq w (codes "set") then set_of ws
-    else if bytes_eq w (codes "add") then add_of ws
-    else if bytes_eq w (codes "del") then del_of ws
     else if bytes_eq w (codes "sum") then sum_of ws
     else if bytes_eq w (codes "commit") then commit_of ws
     else if bytes_eq w (codes "abort") then abort_of ws
     else if bytes_eq w (codes "after") then after_of ws
     else Err kind.Word
+
+abbrev pub by_operation : List ℕ → Words → Option Op → Result Event LineKind
+by_operation w ws None = other_of w ws
+by_operation w ws (Some o) = access_of o ws
+
+-- by the first word, of which there is one at least
+abbrev pub command_of : Words → Result Event LineKind
+command_of [] = Err kind.Word
+command_of (w ∷ ws) = by_operation w ws (operation_of w)
 
 -- the line is cut at each space: a space before, behind or next to another leaves a word without
 -- bytes, which counts

@@ -1,18 +1,9 @@
 -- What a command may ask.
-use Rattle.std.specs.Prelude.{IsTrue}
 use Rattle.txn_names.specs.Groups.{IsGroup}
 use Rattle.txn_names.specs.Text.{IsName, IsKey}
-use Rattle.serial_spec.specs.Operations.{is_i64}
-use Rattle.serial_spec.specs.declared.operation.Op.{Op}
-use Rattle.serial_spec.specs.declared.operation.Op.TheVariants.{Get, Set, Add, Del}
 use Rattle.serial_spec.specs.declared.event.Event.{Event}
 use Rattle.serial_spec.specs.declared.event.Event.TheVariants.{Begin, Access, Sum, Commit, Abort, After}
-
-abbrev pub IsOp : Op → Type 0
-IsOp Get = Unit {0}
-IsOp (Set v) = IsTrue (is_i64 v)
-IsOp (Add v) = IsTrue (is_i64 v)
-IsOp Del = Unit {0}
+use Rattle.line_language.specs.Verbs.{IsOp}
 
 -- names, keys, groups and numbers are such
 abbrev pub IsEvent : Event → Type 0

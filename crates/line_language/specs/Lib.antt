@@ -1,6 +1,8 @@
 pub mod Steps
 pub mod Words
 pub mod Numbers
+pub mod Verbs
+pub mod Refusals
 pub mod Printing
 pub mod Commands
 pub mod Accesses

@@ -8,14 +8,13 @@ use Rattle.txn_names.specs.Path.{Path}
 use Rattle.txn_names.specs.Reading.{key_of, label_of, name_of}
 use Rattle.serial_spec.specs.declared.limits.TheConstants.{MOST_LINES}
 use Rattle.serial_spec.specs.declared.operation.Reply.TheVariants.{Ok, Value, Absent, New, Overflow}
-use Rattle.serial_spec.specs.declared.entry.Refusal.{Refusal}
-use Rattle.serial_spec.specs.declared.entry.Refusal.TheVariants.{Unknown, Used, NoParent, Orphan, Children, Waiting, Full, Store}
-use Rattle.serial_spec.specs.declared.entry.Refusal.TheVariants.{Done as HasCommitted}
+use Rattle.serial_spec.specs.declared.entry.Refusal.TheVariants.{Orphan}
 use Rattle.serial_spec.specs.declared.entry.Answer.{Answer}
 use Rattle.serial_spec.specs.declared.entry.Answer.TheVariants.{Done, Waits, Stuck, Refused}
 use Rattle.line_language.specs.Commands.{event_of}
 use Rattle.line_language.specs.Numbers.{number_of}
 use Rattle.line_language.specs.Words.{before, behind}
+use Rattle.line_language.specs.Refusals.{refusal_of}
 use Rattle.line_language.specs.Answers.{may_answer}
 use Rattle.line_language.specs.declared.entry.ReportEntry.{ReportEntry}
 use Rattle.line_language.specs.declared.entry.ReportEntry.TheVariants.{Line, Victim, Close}
@@ -29,18 +28,6 @@ one_word w =
     else if bytes_eq w (codes "overflow") then Some (Done Overflow)
     else if bytes_eq w (codes "waits") then Some Waits
     else if bytes_eq w (codes "stuck") then Some Stuck
-    else None
-
-abbrev pub refusal_of : List ℕ → Option Refusal
-refusal_of w =
-    if bytes_eq w (codes "unknown") then Some Unknown
-    else if bytes_eq w (codes "used") then Some Used
-    else if bytes_eq w (codes "no-parent") then Some NoParent
-    else if bytes_eq w (codes "done") then Some HasCommitted
-    else if bytes_eq w (codes "children") then Some Children
-    else if bytes_eq w (codes "waiting") then Some Waiting
-    else if bytes_eq w (codes "full") then Some Full
-    else if bytes_eq w (codes "store") then Some Store
     else None
 
 abbrev pub orphan_of : List ℕ → Option Answer

@@ -2,10 +2,12 @@
 ghost use Rattle.std.specs.Prelude.{◌≡◌, codes};
 ghost use Rattle.std.specs.Str.{bytes_eq};
 ghost use Rattle.line_language.specs.Answers.{may_answer, may_begin, may_commit, may_access, may_abort, may_after, may_sum};
-ghost use Rattle.line_language.specs.Reading.{answer_of, one_word, orphan_of, refusal_of, two_words};
+ghost use Rattle.line_language.specs.Reading.{answer_of, one_word, orphan_of, two_words};
 
 use crate::number::parse_number;
 use crate::parting::cut;
+use crate::refusals::refusal_of;
+use crate::verbs::may_reply;
 use serial_spec::{Answer, Event, Op, Refusal, Reply};
 use txn_names::Name;
 
@@ -46,37 +48,6 @@ fn one_word(word: &[u8]) -> Option<Answer>
     }
     if word == b"stuck".as_slice() {
         return Some(Answer::Stuck);
-    }
-    None
-}
-
-// What stands behind `refused`.
-fn refusal_of(word: &[u8]) -> Option<Refusal>
-    ensures { result ≡ refusal_of word.now }
-{
-    if word == b"unknown".as_slice() {
-        return Some(Refusal::Unknown);
-    }
-    if word == b"used".as_slice() {
-        return Some(Refusal::Used);
-    }
-    if word == b"no-parent".as_slice() {
-        return Some(Refusal::NoParent);
-    }
-    if word == b"done".as_slice() {
-        return Some(Refusal::Done);
-    }
-    if word == b"children".as_slice() {
-        return Some(Refusal::Children);
-    }
-    if word == b"waiting".as_slice() {
-        return Some(Refusal::Waiting);
-    }
-    if word == b"full".as_slice() {
-        return Some(Refusal::Full);
-    }
-    if word == b"store".as_slice() {
-        return Some(Refusal::Store);
     }
     None
 }
@@ -142,9 +113,7 @@ fn may_access(op: Op, answer: &Answer) -> bool
             | Refusal::Waiting
             | Refusal::Full,
         ) => true,
-        Answer::Done(Reply::Value(_) | Reply::Absent) => matches!(op, Op::Get),
-        Answer::Done(Reply::Ok) => matches!(op, Op::Set(_) | Op::Del),
-        Answer::Done(Reply::New(_) | Reply::Overflow) => matches!(op, Op::Add(_)),
+        Answer::Done(reply) => may_reply(op, *reply),
         _ => false,
     }
 }

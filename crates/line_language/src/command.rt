@@ -1,15 +1,15 @@
 //! Command lines: the words behind the first, read as the first asks.
-ghost use Rattle.std.specs.Prelude.{◌≡◌, if◌then◌else◌, IfOk, IfSome, MatchResult};
+ghost use Rattle.std.specs.Prelude.{◌≡◌, IfOk, MatchResult};
 ghost use Rattle.std.specs.Option.{option_copied};
 ghost use Rattle.line_language.specs.Steps.{Gives};
 ghost use Rattle.line_language.specs.Accesses.{AreRead, asked_in};
 ghost use Rattle.line_language.specs.Words.{cut_at, parts_left};
-ghost use Rattle.line_language.specs.Commands.{abort_of, add_of, after_of, begin_of, commit_of, del_of, event_of, get_of, one, set_of, sum_of, two, when_in};
+ghost use Rattle.line_language.specs.Commands.{abort_of, access_of, after_of, begin_of, commit_of, event_of, keyed_access, one, sum_of, two, valued_access, when_in};
 
 use crate::fault::LineKind;
 use crate::number::parse_number;
 use crate::parting::cut;
-use crate::verbs::{is_abort, is_add, is_after, is_begin, is_del, is_get, is_set, is_sum};
+use crate::verbs::{is_abort, is_after, is_begin, is_sum, operand, operation_of, with_operand};
 use serial_spec::{Event, Op, When};
 use txn_names::{Group, Key, Name};
 
@@ -84,12 +84,11 @@ fn fault_before(last: Option<&[u8]>, kind: LineKind) -> LineKind
     }
 }
 
-// The words of a line that reads or deletes a key. No key has a space, so the last word is not
-// searched for one.
+/// The words of a line that asks this operation, which has no number, behind the word of it. No key
+/// has a space, so the last word is not searched for one.
 #[tactic(auto, using(crate::proofs::Accesses::key_alone))]
-fn keyed_words(words: &[u8], deletes: bool) -> Result<AccessWords<'_>, LineKind>
-    ensures read { let left = cut_at 32 words.now in
-        Gives asked_in result (if deletes then del_of left else get_of left) }
+pub(crate) fn keyed_words(words: &[u8], op: Op) -> Result<AccessWords<'_>, LineKind>
+    ensures read { Gives asked_in result (keyed_access op (cut_at 32 words.now)) }
     ensures words { IfOk result AreRead }
 {
     let (name, last) = cut(words, b' ');
@@ -102,7 +101,6 @@ fn keyed_words(words: &[u8], deletes: bool) -> Result<AccessWords<'_>, LineKind>
     let Ok(()) = Key::check(key) else {
         return Err(fault_before(last, LineKind::Key));
     };
-    let op = if deletes { Op::Del } else { Op::Get };
     Ok(AccessWords {
         name,
         depth,
@@ -111,11 +109,10 @@ fn keyed_words(words: &[u8], deletes: bool) -> Result<AccessWords<'_>, LineKind>
     })
 }
 
-// The words of a line that adds a number to the value of a key, or makes it the value. No number
-// has a space.
-fn valued_words(words: &[u8], adds: bool) -> Result<AccessWords<'_>, LineKind>
-    ensures read { let left = cut_at 32 words.now in
-        Gives asked_in result (if adds then add_of left else set_of left) }
+/// The words of a line that asks this operation with a number behind the key, in the place of its
+/// own. No number has a space.
+pub(crate) fn valued_words(words: &[u8], op: Op) -> Result<AccessWords<'_>, LineKind>
+    ensures read { Gives asked_in result (valued_access op (cut_at 32 words.now)) }
     ensures words { IfOk result AreRead }
 {
     let (name, rest) = cut(words, b' ');
@@ -135,53 +132,33 @@ fn valued_words(words: &[u8], adds: bool) -> Result<AccessWords<'_>, LineKind>
     let Some(value) = parse_number(number) else {
         return Err(fault_before(last, LineKind::Number));
     };
-    let op = if adds { Op::Add(value) } else { Op::Set(value) };
     Ok(AccessWords {
         name,
         depth,
         key,
-        op,
+        op: with_operand(op, value),
     })
 }
 
-/// The words of a line that asks for an access of a key, or the kind of its first fault. Of other
-/// lines nothing is told.
-pub fn access_in(bytes: &[u8]) -> Option<Result<AccessWords<'_>, LineKind>>
-    ensures read { IfSome result (λ read. Gives asked_in read (event_of bytes.now)) }
-    ensures words { IfSome result (λ read. IfOk read AreRead) }
+// The words of a line that asks this operation, behind the word of it.
+fn words_of(words: &[u8], op: Op) -> Result<AccessWords<'_>, LineKind>
+    ensures read { Gives asked_in result (access_of op (cut_at 32 words.now)) }
+    ensures words { IfOk result AreRead }
 {
-    match bytes {
-        [b'g', b'e', b't', b' ', words @ ..] => Some(keyed_words(words, false)),
-        [b's', b'e', b't', b' ', words @ ..] => Some(valued_words(words, false)),
-        [b'a', b'd', b'd', b' ', words @ ..] => Some(valued_words(words, true)),
-        [b'd', b'e', b'l', b' ', words @ ..] => Some(keyed_words(words, true)),
-        _ => None,
+    match operand(op) {
+        Some(_) => valued_words(words, op),
+        None => keyed_words(words, op),
     }
 }
 
-// A line that reads or deletes a key.
-fn keyed(words: Option<&[u8]>, deletes: bool) -> Result<Event, LineKind>
-    ensures { let left = parts_left 32 (option_copied words.entry) in
-        result ≡ (if deletes then del_of left else get_of left) }
+// A line that asks this operation, by what stands behind its word.
+fn access_of(words: Option<&[u8]>, op: Op) -> Result<Event, LineKind>
+    ensures { result ≡ access_of op (parts_left 32 (option_copied words.entry)) }
 {
     let Some(words) = words else {
         return Err(LineKind::Shape);
     };
-    match keyed_words(words, deletes) {
-        Ok(access) => Ok(access.event()),
-        Err(kind) => Err(kind),
-    }
-}
-
-// A line that adds a number to the value of a key, or makes it the value.
-fn valued(words: Option<&[u8]>, adds: bool) -> Result<Event, LineKind>
-    ensures { let left = parts_left 32 (option_copied words.entry) in
-        result ≡ (if adds then add_of left else set_of left) }
-{
-    let Some(words) = words else {
-        return Err(LineKind::Shape);
-    };
-    match valued_words(words, adds) {
+    match words_of(words, op) {
         Ok(access) => Ok(access.event()),
         Err(kind) => Err(kind),
     }
@@ -258,20 +235,11 @@ pub(crate) fn event_of(bytes: &[u8]) -> Result<Event, LineKind>
         return Err(LineKind::Empty);
     }
     let (word, words) = cut(bytes, b' ');
+    if let Some(op) = operation_of(word) {
+        return access_of(words, op);
+    }
     if is_begin(word) {
         return begin_of(words);
-    }
-    if is_get(word) {
-        return keyed(words, false);
-    }
-    if is_set(word) {
-        return valued(words, false);
-    }
-    if is_add(word) {
-        return valued(words, true);
-    }
-    if is_del(word) {
-        return keyed(words, true);
     }
     if is_sum(word) {
         return sum_of(words);

@@ -12,18 +12,25 @@ mod command;
 mod entry;
 mod fault;
 pub mod laws;
+mod lengths;
 mod line;
 mod number;
 mod parting;
+mod refusals;
 mod row;
 mod spelling;
 mod verbs;
 
-pub use command::{AccessWords, access_in, one};
+pub use command::{AccessWords, one};
 pub use entry::{ReportEntry, parse_entry, put_entry, read_entry};
 pub use fault::LineKind;
+pub use lengths::{
+    MOST_ANSWER, MOST_COMMAND, MOST_DIGITS, MOST_ENTRY, MOST_KEY, MOST_LABEL, MOST_NAME,
+    MOST_NUMBER, MOST_REQUEST, MOST_WORD,
+};
 pub use line::{Line, parse_event, parse_line};
 pub use number::parse_number;
 pub use parting::{cut, cut_line};
 pub use row::{parse_row, put_row};
 pub use spelling::{put_number, put_size};
+pub use verbs::access_in;

@@ -1,24 +1,22 @@
 //! Command lines.
 ghost use Rattle.std.specs.Prelude.{◌≡◌, ◌≤◌, IfOk, length, take};
 ghost use Rattle.line_language.specs.Printing.{spelled_event};
+ghost use Rattle.line_language.specs.declared.lengths.TheConstants.{MOST_COMMAND};
 ghost use Rattle.line_language.specs.Commands.{event_of};
 ghost use Rattle.line_language.specs.Events.{IsEvent};
 
 use crate::command;
 use crate::fault::LineKind;
+use crate::lengths::MOST_COMMAND;
 use serial_spec::Event;
 use std::marker::Model;
-
-// The most bytes of a command line, without its line feed: `set`, a name, a key and a value, and
-// the spaces between them.
-const MOST_BYTES: usize = 329;
 
 /// A command line: what it asks, and its text, which is the one spelling of that. It takes no
 /// memory.
 #[derive(Drop)]
 pub struct Line {
     event: Event,
-    bytes: [u8; MOST_BYTES],
+    bytes: [u8; MOST_COMMAND],
     len: u16,
 }
 
@@ -26,13 +24,14 @@ impl Model for Line {
     ghost use Rattle.std.specs.Prelude.{◌≡◌, ◌≤◌, length, take};
     ghost use Rattle.serial_spec.specs.declared.event.Event.{Event};
     ghost use Rattle.line_language.specs.Printing.{spelled_event};
+    ghost use Rattle.line_language.specs.declared.lengths.TheConstants.{MOST_COMMAND};
     ghost use Rattle.line_language.specs.Events.{IsEvent};
 
     ghost Value = { Event };
 
     ghost view = { λ l. l.event };
 
-    ghost invariant = { λ l. IsEvent l.event × (l.len ≤ 329) × (length l.bytes ≡ 329)
+    ghost invariant = { λ l. IsEvent l.event × (l.len ≤ MOST_COMMAND) × (length l.bytes ≡ MOST_COMMAND)
         × (take l.len l.bytes ≡ spelled_event l.event) };
 }
 
@@ -72,12 +71,12 @@ impl Line {
 }
 
 // The bytes in a field of fixed length, the rest of which is zeros.
-fn filled(bytes: &[u8]) -> [u8; MOST_BYTES]
-    requires { length bytes.now ≤ 329 }
-    ensures length { length result ≡ 329 }
+fn filled(bytes: &[u8]) -> [u8; MOST_COMMAND]
+    requires { length bytes.now ≤ MOST_COMMAND }
+    ensures length { length result ≡ MOST_COMMAND }
     ensures front { take (length bytes.now) result ≡ bytes.now }
 {
-    let mut held = [0; MOST_BYTES];
+    let mut held = [0; MOST_COMMAND];
     held[..bytes.len()].copy_from_slice(bytes);
     held
 }

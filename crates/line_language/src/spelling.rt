@@ -6,6 +6,8 @@ ghost use Rattle.txn_bytes.specs.Written.{AppendsFront, IsStopped};
 ghost use Rattle.txn_names.specs.Text.{spelled_name};
 ghost use Rattle.line_language.specs.Printing.{spelled_access, spelled_answer, spelled_event, spelled_number, spelled_refusal, spelled_reply, spelled_when};
 
+use crate::refusals::refused;
+use crate::verbs::{lead, operand};
 use itoa::Buffer;
 use serial_spec::{Answer, Event, Op, Refusal, Reply, When};
 use txn_bytes::{Sink, WriteFault, put};
@@ -113,11 +115,9 @@ fn put_access<W: Sink>(out: &mut W, name: &Name, key: &Key, op: Op) -> Result<()
         (spelled_access name.now key.now op)) }
     ensures asked { OnErr result (IsStopped W.Sink out.new) }
 {
-    match op {
-        Op::Get => put_keyed(out, b"get ", name, key),
-        Op::Set(value) => put_valued(out, b"set ", name, key, value),
-        Op::Add(amount) => put_valued(out, b"add ", name, key, amount),
-        Op::Del => put_keyed(out, b"del ", name, key),
+    match operand(op) {
+        Some(number) => put_valued(out, lead(op), name, key, number),
+        None => put_keyed(out, lead(op), name, key),
     }
 }
 
@@ -210,15 +210,8 @@ fn put_refusal<W: Sink>(out: &mut W, refusal: &Refusal) -> Result<(), WriteFault
     ensures asked { OnErr result (IsStopped W.Sink out.new) }
 {
     match refusal {
-        Refusal::Unknown => put(out, b"refused unknown"),
-        Refusal::Used => put(out, b"refused used"),
-        Refusal::NoParent => put(out, b"refused no-parent"),
-        Refusal::Done => put(out, b"refused done"),
         Refusal::Orphan(name) => put_named(out, b"orphan ", name),
-        Refusal::Children => put(out, b"refused children"),
-        Refusal::Waiting => put(out, b"refused waiting"),
-        Refusal::Full => put(out, b"refused full"),
-        Refusal::Store => put(out, b"refused store"),
+        _ => put(out, refused(refusal)),
     }
 }
 

@@ -4,23 +4,13 @@ use Rattle.std.specs.Prelude.{codes, decimal, nat_eq}
 use Rattle.std.specs.Option.{ok_or}
 use Rattle.std.specs.Str.{bytes_eq}
 use Rattle.std.proofs.lemmas.Bool.{and_from, false_from_ne_true, ltb-true, ne_eqb, not_from_false, eqb-true}
-use Rattle.std.proofs.lemmas.Fmt.{length-decimal-le}
 use Rattle.std.proofs.lemmas.Slice.Eq.{bytes_eq-Decides}
-use Rattle.txn_names.specs.Path.{Path}
-use Rattle.txn_names.specs.Text.{IsLabel, IsName, slashed, spelled_name}
-use Rattle.std.specs.List.{AllByRecursion}
-use Rattle.serial_spec.specs.declared.operation.Reply.TheVariants as reply
-use Rattle.serial_spec.specs.declared.entry.Refusal.TheVariants as refusal
-use Rattle.serial_spec.specs.declared.entry.Answer.{Answer}
-use Rattle.serial_spec.specs.declared.entry.Answer.TheVariants.{Done, Waits, Stuck, Refused}
-use Rattle.serial_spec.specs.Operations.{is_i64}
-use Rattle.line_language.specs.Printing.{spelled_answer, spelled_event, spelled_number}
+use Rattle.line_language.specs.Printing.{spelled_number}
 use Rattle.line_language.specs.Steps.{◌>>=◌}
 use Rattle.line_language.specs.Words.{before, behind, cut_at}
 use Rattle.line_language.proofs.Bytes.{Lacks-append, cut_behind, cut_lacking, cut_some}
 use Rattle.line_language.proofs.Reading.{pick}
-use Rattle.line_language.proofs.Spelled.{event_short}
-use Rattle.line_language.specs.Entries.{IsAnswer, IsReportEntry, spelled_report_entry}
+use Rattle.line_language.proofs.Longest.{entry_short, length-number}
 use Rattle.line_language.specs.Reading.{entry_of, row_of}
 use Rattle.line_language.specs.declared.entry.ReportEntry.{ReportEntry}
 use Rattle.line_language.specs.declared.entry.ReportEntry.TheVariants as told
@@ -84,59 +74,6 @@ next_line r s p h = next_counts r.part r s p h
 
 -- ---- no line of a report is longer than the longest entry
 
-length-slashed : (p : Path) → AllByRecursion IsLabel p → length (slashed p) ≤ 17 * length p
-length-slashed [] h = omega arith
-length-slashed (l ∷ ls) h = omega (arith, h.0.short, length-slashed ls h.1, length-append {A = ℕ} l (slashed ls))
-
-length-name : (n : Path) → IsName n → length (spelled_name n) ≤ 271
-length-name [] h = omega arith
-length-name (l ∷ ls) h = omega (arith, h.short, h.labels.0.short, length-slashed ls h.labels.1, length-append {A = ℕ} l (slashed ls))
-
-length-number : (v : ℤ) → is_i64 v ≡ true → length (spelled_number v) ≤ 20
-length-number (pos n) h =
-    let small : n < 2 ^ 63 = ltb-true n (2 ^ 63) h in
-    omega (arith, length-decimal-le 19 n (lit< tt) (omega arith) (omega arith))
-length-number (negsuc n) h =
-    let small : n < 2 ^ 63 = ltb-true n (2 ^ 63) h in
-    omega (arith, length-decimal-le 19 (suc n) (lit< tt) (omega arith) (omega arith))
-
-length-answer : (a : Answer) → IsAnswer a → length (spelled_answer a) ≤ 278
-length-answer (Done reply.Ok) h = omega arith
-length-answer (Done (reply.Value v)) h = omega (arith, length-number v h)
-length-answer (Done reply.Absent) h = omega arith
-length-answer (Done (reply.New v)) h = omega (arith, length-number v h)
-length-answer (Done reply.Overflow) h = omega arith
-length-answer Waits h = omega arith
-length-answer Stuck h = omega arith
-length-answer (Refused refusal.Unknown) h = omega arith
-length-answer (Refused refusal.Used) h = omega arith
-length-answer (Refused refusal.NoParent) h = omega arith
-length-answer (Refused refusal.Done) h = omega arith
-length-answer (Refused (refusal.Orphan t)) h = omega (arith, length-name t h)
-length-answer (Refused refusal.Children) h = omega arith
-length-answer (Refused refusal.Waiting) h = omega arith
-length-answer (Refused refusal.Full) h = omega arith
-length-answer (Refused refusal.Store) h = omega arith
-
-length-entry : (x : ReportEntry) → IsReportEntry x → length (spelled_report_entry x) ≤ 633
-length-entry (told.Line l n e a) h =
-    let digits : length (decimal n) ≤ 4 = length-decimal-le 4 n (lit< tt) (omega arith) (omega (arith, h.last)) in
-    omega (
-      arith,
-      h.label.short,
-      digits,
-      event_short e h.event,
-      length-answer a h.answer,
-      length-append {A = ℕ} (l ++ codes " " ++ decimal n ++ codes " " ++ spelled_event e ++ codes " -> ") (spelled_answer a),
-      length-append {A = ℕ} (l ++ codes " " ++ decimal n ++ codes " " ++ spelled_event e) (codes " -> "),
-      length-append {A = ℕ} (l ++ codes " " ++ decimal n ++ codes " ") (spelled_event e),
-      length-append {A = ℕ} (l ++ codes " " ++ decimal n) (codes " "),
-      length-append {A = ℕ} (l ++ codes " ") (decimal n),
-      length-append {A = ℕ} l (codes " "),
-    )
-length-entry (told.Victim t) h = omega (arith, length-name t h, length-append {A = ℕ} (codes "* victim ") (spelled_name t))
-length-entry (told.Close t) h = omega (arith, length-name t h, length-append {A = ℕ} (codes "* close ") (spelled_name t))
-
 module _ (w : List ℕ) (long : 633 < length w) where
   long_word : (v : List ℕ) → length v ≤ 633 → bytes_eq w v ≡ false
   long_word v short = false_from_ne_true _ (λ e. let same = ap (λ (xs : List ℕ). length xs) ((bytes_eq-Decides w v).0 e) in omega (arith, long, short, same))
@@ -148,7 +85,7 @@ module _ (w : List ℕ) (long : 633 < length w) where
       by None e = refl
       by (Some x) e =
           let read = (entries_read_back w x).0 e in
-          absurd (omega (arith, long, length-entry x read.0, ap (λ (xs : List ℕ). length xs) read.1))
+          absurd (omega (arith, long, entry_short x read.0, ap (λ (xs : List ℕ). length xs) read.1))
 
   long_row : row_of w ≡ None
   long_row = by (row_of w) refl

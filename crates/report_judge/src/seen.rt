@@ -16,8 +16,9 @@ ghost use Rattle.report_tables.specs.Chained.{Known, known_by};
 ghost use Rattle.report_tables.specs.Told.{AreTransactionsOf, Comes};
 ghost use Rattle.report_tables.specs.Valued.{value_at};
 
+use crate::kept::MOST_BYTES;
 use indexmap::IndexMap;
-use line_language::{ReportEntry, parse_row, read_entry};
+use line_language::{MOST_ENTRY, ReportEntry, parse_row, read_entry};
 use report_tables::{
     Access, ByNumber, Groups, Sessions, Transactions, Values, abort, access, begin, commit,
     group_number, none_waits, number_of, session_number, take_line,
@@ -25,6 +26,9 @@ use report_tables::{
 use serial_spec::{Answer, Event, MOST_ROWS, NoMemory, Op, Reply};
 use std::alloc::{AllocError, Global};
 use txn_names::{Group, Key, Label, Name};
+
+// There is room for each line that may stand in a report.
+const _: () = prove!(MOST_BYTES == MOST_ENTRY);
 
 /// Which part of a report the next line is of.
 #[derive(Clone, Copy, Debug, PartialEq, Eq)]

@@ -1,6 +1,6 @@
 -- What a line of a legal history is answered may stand in a report.
 use Rattle.std.proofs.Common.{◌≡◌, ℕ, ℤ, List, [], ◌∷◌, true, false, Bool, cond, not, Option, Some, None, refl, sym, ◌∙◌, subst}
-use Rattle.std.specs.Prelude.{◌+ℤ◌, ◌||◌, length, nat_le, option_map}
+use Rattle.std.specs.Prelude.{◌||◌, length, nat_le, option_map}
 use Rattle.txn_names.specs.Path.{parent, top_of}
 use Rattle.txn_names.specs.Text.{IsName}
 use Rattle.txn_names.proofs.Names.{on_test, same_path}
@@ -12,11 +12,10 @@ use Rattle.serial_spec.specs.declared.entry.Refusal.TheVariants.{Unknown, Used, 
 use Rattle.serial_spec.specs.declared.event.Event.{Event}
 use Rattle.serial_spec.specs.declared.event.Event.TheVariants.{Begin, Access, Sum, Commit, Abort, After}
 use Rattle.serial_spec.specs.declared.operation.Op.{Op}
-use Rattle.serial_spec.specs.declared.operation.Op.TheVariants.{Get, Set, Add, Del}
-use Rattle.serial_spec.specs.declared.operation.Reply.TheVariants.{Ok, Value, New, Overflow}
+use Rattle.serial_spec.specs.declared.operation.Reply.TheVariants.{Ok, Value, Overflow}
 use Rattle.serial_spec.specs.declared.target.Asked.{Asked}
 use Rattle.serial_spec.specs.declared.target.Asked.TheVariants.{At, Over}
-use Rattle.serial_spec.specs.Operations.{amount, is_i64, reply_of}
+use Rattle.serial_spec.specs.Operations.{is_i64, reply_of}
 use Rattle.serial_spec.specs.History.{History, Name, effect, effect_of, event_of, begun, has_aborted, has_begun, is_abort, is_absent, is_active, is_begin, is_committed, or_else, status, top_aborted}
 use Rattle.serial_spec.specs.Locks.{is_blocked}
 use Rattle.serial_spec.specs.Values.{seen}
@@ -34,6 +33,7 @@ use Rattle.txn_history.proofs.Tests.{clash}
 use Rattle.txn_history.proofs.Theorems.{value_seen}
 use Rattle.line_language.specs.Answers.{may_answer}
 use Rattle.line_language.specs.Entries.{IsAnswer}
+use Rattle.line_language.proofs.Operations.{reply_fits as reply_is}
 use Rattle.report_laws.proofs.Values.{AreEvents, HasRows, after_rows, chain_ops}
 
 -- ---- names in a history
@@ -81,26 +81,14 @@ pub record Fits (e : Event) (a : Answer) : Type 0 where
   pub fits : may_answer e a ≡ true
   pub answer : IsAnswer a
 
-by_asked : (P : Asked → Type 0) → ((k : List ℕ) → P (At k Get)) → ((k : List ℕ) (v : ℤ) → P (At k (Set v))) → ((k : List ℕ) (v : ℤ) → P (At k (Add v)))
-    → ((k : List ℕ) → P (At k Del)) → ((g : List ℕ) → P (Over g)) → (a : Asked) → P a
-by_asked P g s a d o (At k Get) = g k
-by_asked P g s a d o (At k (Set v)) = s k v
-by_asked P g s a d o (At k (Add v)) = a k v
-by_asked P g s a d o (At k Del) = d k
-by_asked P g s a d o (Over q) = o q
-
 -- the answer is one of every access
 pub record FitsAll (t : Name) (x : Answer) : Type 0 where
-  pub got : (k : List ℕ) → may_answer (Access t k Get) x ≡ true
-  pub put_in : (k : List ℕ) (v : ℤ) → may_answer (Access t k (Set v)) x ≡ true
-  pub added : (k : List ℕ) (v : ℤ) → may_answer (Access t k (Add v)) x ≡ true
-  pub left_out : (k : List ℕ) → may_answer (Access t k Del) x ≡ true
+  pub keyed : (k : List ℕ) (o : Op) → may_answer (Access t k o) x ≡ true
   pub summed : (g : List ℕ) → may_answer (Sum t g) x ≡ true
 
 fits_any : (t : Name) (x : Answer) → FitsAll t x → IsAnswer x → (a : Asked) → Fits (event_of t a) x
-fits_any t x all is = by_asked (λ a. Fits (event_of t a) x)
-    (λ k. record { fits = all.got k; answer = is }) (λ k v. record { fits = all.put_in k v; answer = is }) (λ k v. record { fits = all.added k v; answer = is })
-    (λ k. record { fits = all.left_out k; answer = is }) (λ g. record { fits = all.summed g; answer = is })
+fits_any t x all is (At k o) = record { fits = all.keyed k o; answer = is }
+fits_any t x all is (Over g) = record { fits = all.summed g; answer = is }
 
 -- ---- causes
 
@@ -180,20 +168,16 @@ module _ (rows : Rows) (h : History) (allowed : AreAllowed rows h) (has : HasRow
 
   -- no sum is refused `full`
   full_fits : (t : Name) (a : Asked) → Each (λ r. Fits (event_of t a) (Refused r)) (when (is_full_for rows h a) Full)
-  full_fits t = by_asked (λ a. Each (λ r. Fits (event_of t a) (Refused r)) (when (is_full_for rows h a) Full))
-      (λ k. each_when (λ r. Fits (Access t k Get) (Refused r)) (is_full_for rows h (At k Get)) Full (record { fits = refl; answer = tt }))
-      (λ k v. each_when (λ r. Fits (Access t k (Set v)) (Refused r)) (is_full_for rows h (At k (Set v))) Full (record { fits = refl; answer = tt }))
-      (λ k v. each_when (λ r. Fits (Access t k (Add v)) (Refused r)) (is_full_for rows h (At k (Add v))) Full (record { fits = refl; answer = tt }))
-      (λ k. each_when (λ r. Fits (Access t k Del) (Refused r)) (is_full_for rows h (At k Del)) Full (record { fits = refl; answer = tt }))
-      (λ g. tt)
+  full_fits t (At k o) = each_when (λ r. Fits (Access t k o) (Refused r)) (is_full_for rows h (At k o)) Full (record { fits = refl; answer = tt })
+  full_fits t (Over g) = tt
 
   access_causes : (b : By) (t : Name) (a : Asked) → Each (λ r. Fits (event_of t a) (Refused r)) (cause_at_access rows h b t a)
   access_causes b t a =
       each_or R (cause_at_end h t) _
-      (each_at_end R h events (λ v n. fits_any t (Refused (Orphan v)) (record { got = λ k. refl; put_in = λ k v. refl; added = λ k v. refl; left_out = λ k. refl; summed = λ g. refl }) n a) t
-      (fits_any t (Refused Unknown) (record { got = λ k. refl; put_in = λ k v. refl; added = λ k v. refl; left_out = λ k. refl; summed = λ g. refl }) tt a) (fits_any t (Refused HasCommitted) (record { got = λ k. refl; put_in = λ k v. refl; added = λ k v. refl; left_out = λ k. refl; summed = λ g. refl }) tt a))
+      (each_at_end R h events (λ v n. fits_any t (Refused (Orphan v)) (record { keyed = λ k o. refl; summed = λ g. refl }) n a) t
+      (fits_any t (Refused Unknown) (record { keyed = λ k o. refl; summed = λ g. refl }) tt a) (fits_any t (Refused HasCommitted) (record { keyed = λ k o. refl; summed = λ g. refl }) tt a))
       (each_or R (when (waits_elsewhere h b t) Waiting) (when (is_full_for rows h a) Full)
-      (each_when R _ Waiting (fits_any t (Refused Waiting) (record { got = λ k. refl; put_in = λ k v. refl; added = λ k v. refl; left_out = λ k. refl; summed = λ g. refl }) tt a))
+      (each_when R _ Waiting (fits_any t (Refused Waiting) (record { keyed = λ k o. refl; summed = λ g. refl }) tt a))
       (full_fits t a))
     where
       R : Refusal → Type 0
@@ -204,12 +188,7 @@ module _ (rows : Rows) (h : History) (allowed : AreAllowed rows h) (has : HasRow
   seen_is t k acts v e = (after_rows (value_in rows) (chain h t) (chain_ops h events t) has k v (sym (value_seen rows h allowed t k acts) ∙ e)).value
 
   key_fits : (t : Name) (k : List ℕ) (o : Op) (v : Option ℤ) → ((w : ℤ) → v ≡ Some w → is_i64 w ≡ true) → Fits (Access t k o) (Done (reply_of v o))
-  key_fits t k Get None is = record { fits = refl; answer = tt }
-  key_fits t k Get (Some w) is = record { fits = refl; answer = is w refl }
-  key_fits t k (Set w) v is = record { fits = refl; answer = tt }
-  key_fits t k (Add d) v is = on_test (is_i64 (amount v +ℤ d)) (λ b. Fits (Access t k (Add d)) (Done (cond b (New (amount v +ℤ d)) Overflow)))
-      (λ e. record { fits = refl; answer = e }) (λ _. record { fits = refl; answer = tt })
-  key_fits t k Del v is = record { fits = refl; answer = tt }
+  key_fits t k o v is = let reply = reply_is o v is in record { fits = reply.0; answer = reply.1 }
 
   sum_fits : (t : Name) (g : List ℕ) (s : ℤ) → Fits (Sum t g) (Done (reply_of_sum s))
   sum_fits t g s = on_test (is_i64 s) (λ b. Fits (Sum t g) (Done (cond b (Value s) Overflow)))
@@ -220,10 +199,10 @@ module _ (rows : Rows) (h : History) (allowed : AreAllowed rows h) (has : HasRow
   reply_fits t (Over g) acts = sum_fits t g (sum_in (seen (value_in rows) h t) g)
 
   waits_fit : (t : Name) (a : Asked) → Fits (event_of t a) Waits
-  waits_fit t a = fits_any t Waits (record { got = λ k. refl; put_in = λ k v. refl; added = λ k v. refl; left_out = λ k. refl; summed = λ g. refl }) tt a
+  waits_fit t a = fits_any t Waits (record { keyed = λ k o. refl; summed = λ g. refl }) tt a
 
   stuck_fit : (t : Name) (a : Asked) → Fits (event_of t a) Stuck
-  stuck_fit t a = fits_any t Stuck (record { got = λ k. refl; put_in = λ k v. refl; added = λ k v. refl; left_out = λ k. refl; summed = λ g. refl }) tt a
+  stuck_fit t a = fits_any t Stuck (record { keyed = λ k o. refl; summed = λ g. refl }) tt a
 
   is_given : (e : Event) (blocked waited : Bool) (b a : Answer) → Fits e Waits → Fits e b → cond blocked (cond waited None (Some Waits)) (Some b) ≡ Some a → Fits e a
   is_given e true true b a w f same = cc
@@ -267,13 +246,4 @@ module _ (rows : Rows) (h : History) (allowed : AreAllowed rows h) (has : HasRow
   pub allowed_fits : (b : By) (e : Event) (a : Answer) → Allowed rows h b e a → Fits e a
   allowed_fits b e Stuck may = stuck_fits b e may
   allowed_fits b e (Refused Store) may = store_fits e may.1
-  allowed_fits b e (Done r) may = answered_fits b e (Done r) may
-  allowed_fits b e Waits may = answered_fits b e Waits may
-  allowed_fits b e (Refused Unknown) may = answered_fits b e (Refused Unknown) may
-  allowed_fits b e (Refused Used) may = answered_fits b e (Refused Used) may
-  allowed_fits b e (Refused NoParent) may = answered_fits b e (Refused NoParent) may
-  allowed_fits b e (Refused HasCommitted) may = answered_fits b e (Refused HasCommitted) may
-  allowed_fits b e (Refused (Orphan t)) may = answered_fits b e (Refused (Orphan t)) may
-  allowed_fits b e (Refused Children) may = answered_fits b e (Refused Children) may
-  allowed_fits b e (Refused Waiting) may = answered_fits b e (Refused Waiting) may
-  allowed_fits b e (Refused Full) may = answered_fits b e (Refused Full) may
+  allowed_fits b e a may = answered_fits b e a may

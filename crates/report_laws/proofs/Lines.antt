@@ -5,10 +5,10 @@ use Rattle.std.specs.List.{AllByRecursion, list_all}
 use Rattle.std.proofs.lemmas.Bool.{and_parts}
 use Rattle.txn_names.specs.Text.{IsName, is_label_byte, spelled_name}
 use Rattle.serial_spec.specs.declared.entry.Answer.{Answer}
-use Rattle.serial_spec.specs.declared.entry.Answer.TheVariants.{Done, Waits, Stuck, Refused}
-use Rattle.serial_spec.specs.declared.entry.Refusal.TheVariants.{Unknown, Used, NoParent, Done as HasCommitted, Orphan, Children, Waiting, Full, Store}
+use Rattle.serial_spec.specs.declared.entry.Answer.TheVariants.{Done, Refused}
+use Rattle.serial_spec.specs.declared.entry.Refusal.TheVariants.{Orphan}
 use Rattle.serial_spec.specs.declared.event.Event.TheVariants.{Abort}
-use Rattle.serial_spec.specs.declared.operation.Reply.TheVariants.{Ok, Value, Absent, New, Overflow}
+use Rattle.serial_spec.specs.declared.operation.Reply.TheVariants.{Value, New}
 use Rattle.serial_spec.specs.History.{History}
 use Rattle.line_language.specs.Printing.{spelled_answer, spelled_event, spelled_number}
 use Rattle.line_language.specs.Report.{line, report, spelled_entry, spelled_history, spelled_rows}
@@ -80,22 +80,10 @@ name_lacks : (t : List (List ℕ)) → IsName t → Lacks 10 (spelled_name t)
 name_lacks t is = Lacks-right 10 (codes "abort ") (spelled_name t) (event_lacks (Abort t) is)
 
 answer_lacks : (a : Answer) → IsAnswer a → Lacks 10 (spelled_answer a)
-answer_lacks (Done Ok) is = refl
 answer_lacks (Done (Value v)) is = Lacks-append 10 (codes "value ") (spelled_number v) refl (number_lacks 10 line_feed v is)
-answer_lacks (Done Absent) is = refl
 answer_lacks (Done (New v)) is = Lacks-append 10 (codes "new ") (spelled_number v) refl (number_lacks 10 line_feed v is)
-answer_lacks (Done Overflow) is = refl
-answer_lacks Waits is = refl
-answer_lacks Stuck is = refl
-answer_lacks (Refused Unknown) is = refl
-answer_lacks (Refused Used) is = refl
-answer_lacks (Refused NoParent) is = refl
-answer_lacks (Refused HasCommitted) is = refl
 answer_lacks (Refused (Orphan t)) is = Lacks-append 10 (codes "orphan ") (spelled_name t) refl (name_lacks t is)
-answer_lacks (Refused Children) is = refl
-answer_lacks (Refused Waiting) is = refl
-answer_lacks (Refused Full) is = refl
-answer_lacks (Refused Store) is = refl
+answer_lacks a is = refl
 
 pub entry_lacks : (x : ReportEntry) → IsReportEntry x → Lacks 10 (spelled_report_entry x)
 entry_lacks (Line l n e a) is =

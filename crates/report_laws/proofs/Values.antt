@@ -1,12 +1,10 @@
 -- What accesses of keys by numbers leave are rows: keys of the grammar, with numbers. A sum leaves nothing.
 use Rattle.std.proofs.Common.{◌≡◌, ℕ, ℤ, List, [], ◌∷◌, true, cond, Option, Some, None, sym, ap, ◌∙◌, subst}
-use Rattle.std.specs.Prelude.{◌+ℤ◌}
 use Rattle.std.specs.List.{AllByRecursion}
 use Rattle.txn_names.specs.Path.{parent, path_eq}
 use Rattle.txn_names.specs.Text.{IsKey}
 use Rattle.txn_names.proofs.Names.{label_eq_self, on_label, on_test}
 use Rattle.serial_spec.specs.declared.operation.Op.{Op}
-use Rattle.serial_spec.specs.declared.operation.Op.TheVariants.{Get, Set, Add, Del}
 use Rattle.serial_spec.specs.declared.operation.Reply.TheVariants.{Ok}
 use Rattle.serial_spec.specs.declared.target.Asked.{Asked}
 use Rattle.serial_spec.specs.declared.target.Asked.TheVariants.{At, Over}
@@ -14,13 +12,15 @@ use Rattle.serial_spec.specs.declared.entry.Answer.{Answer}
 use Rattle.serial_spec.specs.declared.entry.Answer.TheVariants.{Done}
 use Rattle.serial_spec.specs.declared.event.Event.{Event}
 use Rattle.serial_spec.specs.declared.event.Event.TheVariants.{Begin, Access, Sum, Commit, Abort}
-use Rattle.serial_spec.specs.Operations.{amount, is_i64, value_after}
+use Rattle.serial_spec.specs.Operations.{is_i64, value_after}
 use Rattle.serial_spec.specs.History.{History, Name, Effect, Begins, Accesses, Commits, Aborts, Nothing, effect, effect_of}
 use Rattle.serial_spec.specs.Items.{Items, None as NoItems, Access as Accessed, Block, after, chain, chain_of, items, with_item}
 use Rattle.serial_spec.specs.Rows.{IsRising, Rows, value_in}
 use Rattle.serial_spec.specs.Serial.{Map, map_after, put}
 use Rattle.serial_spec.proofs.Ordered.{none_above}
-use Rattle.line_language.specs.Events.{IsEvent, IsOp}
+use Rattle.line_language.specs.Events.{IsEvent}
+use Rattle.line_language.specs.Verbs.{IsOp}
+use Rattle.line_language.proofs.Operations.{left_is}
 use Rattle.report_laws.specs.Whole.{IsRow}
 
 -- each key with a value is a row
@@ -28,16 +28,6 @@ abbrev pub HasRows : Map → Type 0
 HasRows m = (k : List ℕ) (v : ℤ) → m k ≡ Some v → IsRow (k, v)
 
 -- ---- one access
-
-added : (v d w : ℤ) (o : Option ℤ) → (o ≡ Some w → is_i64 w ≡ true) → cond (is_i64 v) (Some v) o ≡ Some w → is_i64 w ≡ true
-added v d w o old e = on_test (is_i64 v) (λ b. cond b (Some v) o ≡ Some w → is_i64 w ≡ true)
-    (λ is same. let eq : v ≡ w = cc in subst (λ (x : ℤ). is_i64 x ≡ true) eq is) (λ _ same. old same) e
-
-left_is : (o : Option ℤ) (op : Op) (w : ℤ) → IsOp op → ((v : ℤ) → o ≡ Some v → is_i64 v ≡ true) → value_after o op ≡ Some w → is_i64 w ≡ true
-left_is o Get w is old e = old w e
-left_is o (Set v) w is old e = let eq : v ≡ w = cc in subst (λ (x : ℤ). is_i64 x ≡ true) eq is
-left_is o (Add d) w is old e = added (amount o +ℤ d) d w o (old w) e
-left_is o Del w is old e = cc
 
 put_rows : (m : Map) (k : List ℕ) (o : Op) → IsKey k → IsOp o → HasRows m → HasRows (put m k (value_after (m k) o))
 put_rows m k o key op rows q v = on_label k q (λ b. cond b (value_after (m k) o) (m q) ≡ Some v → IsRow (q, v))

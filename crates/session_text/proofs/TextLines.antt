@@ -1,11 +1,15 @@
 -- The lines of a text: what is read is spelled so, and what is spelled so is read.
-use Rattle.std.proofs.Common.{◌≡◌, ℕ, List, [], ◌∷◌, ◌++◌, Ok, refl, sym, ap, ap₂, ◌∙◌, subst}
+use Rattle.std.proofs.Common.{◌≡◌, ℕ, ◌≤◌, List, [], ◌∷◌, ◌++◌, length, false, cond, Ok, refl, sym, ap, ap₂, ◌∙◌, subst, arith}
 use Rattle.std.specs.Prelude.{codes}
 use Rattle.std.specs.List.{join_with_byte}
 use Rattle.std.specs.Str.{bytes_eq}
+use Rattle.std.proofs.lemmas.Bool.{false_from_ne_true}
+use Rattle.std.proofs.lemmas.Slice.Eq.{bytes_eq-Decides}
 use Rattle.txn_names.specs.Text.{IsLabel}
 use Rattle.line_language.specs.Printing.{spelled_event}
-use Rattle.serial_spec.specs.declared.operation.Op.TheVariants.{Get, Set, Add, Del}
+use Rattle.line_language.specs.declared.lengths.TheConstants.{MOST_WORD}
+use Rattle.line_language.specs.Verbs.{operand, word}
+use Rattle.line_language.proofs.Operations.{word_length}
 use Rattle.serial_spec.specs.declared.event.Event.{Event}
 use Rattle.serial_spec.specs.declared.event.Event.TheVariants.{Begin, Access, Sum, Commit, Abort, After}
 use Rattle.line_language.specs.declared.fault.LineKind.TheVariants as kind
@@ -17,7 +21,7 @@ use Rattle.session_text.specs.Texts.{IsTextLine, labelled, header_of, line_by, l
 use Rattle.line_language.specs.Commands.{label_in}
 use Rattle.line_language.specs.Words.{cut_at}
 use Rattle.line_language.proofs.Bytes.{Lacks, Lacks-append, cut_lacking, cut_behind, joined_cut}
-use Rattle.line_language.proofs.Reading.{bind_ok, same_ok, pick, not_word, is_word, one_reads, label_reads, label_again, event_reads, words_of}
+use Rattle.line_language.proofs.Reading.{bind_ok, same_ok, pick, not_word, is_word, one_reads, label_reads, label_again, event_reads, access_operands, words_of}
 use Rattle.line_language.proofs.Spelled.{space, line_feed, label_lacks, cut_event, event_again, event_lacks}
 
 abbrev pub spelled_line : TextLine → List ℕ
@@ -64,13 +68,13 @@ header_again l h =
     cut_behind 32 (codes "session") l refl ∙ ap (λ ws. codes "session" ∷ ws) (cut_lacking 32 l (label_lacks 32 space l h.plain)) in
     ap (λ ws. line_by ws (codes "session " ++ l)) cut ∙ ap (λ r. r >>= λ x. Ok (Header x)) (label_again l h)
 
+no_header : (w : List ℕ) → length w ≤ MOST_WORD → bytes_eq w (codes "session") ≡ false
+no_header w short = false_from_ne_true _ (λ e. let same = ap (λ (xs : List ℕ). length xs) ((bytes_eq-Decides w (codes "session")).0 e) in omega (arith, short, same))
+
 -- the first word of a command is not a header's
 by_words : (e : Event) (bs : List ℕ) → line_by (words_of e) bs ≡ (event_of bs >>= λ d. Ok (Command d))
 by_words (Begin n) bs = refl
-by_words (Access n k Get) bs = refl
-by_words (Access n k (Set v)) bs = refl
-by_words (Access n k (Add v)) bs = refl
-by_words (Access n k Del) bs = refl
+by_words (Access n k o) bs = ap (λ b. cond b (header_of (access_operands n k (operand o))) (event_of bs >>= λ d. Ok (Command d))) (no_header (word o) (word_length o))
 by_words (Sum n g) bs = refl
 by_words (Commit n) bs = refl
 by_words (Abort n) bs = refl

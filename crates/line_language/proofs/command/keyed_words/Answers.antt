@@ -2,12 +2,11 @@ use Rattle.std.proofs.Common.{◌≡◌, ℕ, List, ◌∷◌, Ok, Err, ap, ◌�
 use Rattle.std.specs.Option.{option_copied}
 use Rattle.txn_names.specs.Reading.{pieces}
 use Rattle.serial_spec.specs.declared.event.Event.TheVariants.{Access}
-use Rattle.serial_spec.specs.declared.operation.Op.TheVariants.{Get, Del}
 use Rattle.line_language.specs.declared.fault.LineKind.TheVariants as kind
 use Rattle.line_language.specs.Commands.{keyed, key_in}
 use Rattle.line_language.specs.Steps.{◌>>=◌, or_fault}
 use Rattle.line_language.specs.Words.{cut_at, parts_left}
-use Rattle.line_language.proofs.Accesses.{Before, either, key_fault}
+use Rattle.line_language.proofs.Accesses.{Before, key_fault}
 use Rattle.line_language.proofs.command.keyed_words.Goals as goal
 
 pub returns-in_default-check-clause-read : goal.returns-in_default-check-clause-read
@@ -22,6 +21,4 @@ returns-in_default-check-clause-read c =
     let bad : key_in k ≡ Err kind.Key = search rules in
     let read : keyed (cut_at 32 c.args.words.now) ≡ Err f =
     ap keyed left ∙ key_fault a k (pieces a) f (ap (or_fault kind.Name) c.in-Ok.ensures.read) bad m in
-    either c.args.deletes _ _ (Err f)
-    (ap (λ r. r >>= λ q. Ok (Access q.0 q.1 Del)) read)
-    (ap (λ r. r >>= λ q. Ok (Access q.0 q.1 Get)) read)
+    ap (λ r. r >>= λ q. Ok (Access q.0 q.1 c.args.op)) read

@@ -1,16 +1,16 @@
-use Rattle.std.proofs.Common.{◌≡◌, ℕ, List, ◌∷◌, Result, Ok, Err, Some, None, sym, ap, ◌∙◌, subst, rules, arith}
+use Rattle.std.proofs.Common.{◌≡◌, ℕ, List, ◌∷◌, Result, Ok, Err, Some, None, sym, ap, ◌∙◌, subst, rules, SFits, w64}
+use Rattle.std.proofs.lemmas.Int.{to_z-of_z}
 use Rattle.std.specs.Option.{option_copied}
 use Rattle.txn_names.specs.Reading.{pieces}
 use Rattle.serial_spec.specs.declared.event.Event.TheVariants.{Access}
-use Rattle.serial_spec.specs.declared.operation.Op.TheVariants.{Set, Add}
+use Rattle.line_language.specs.Verbs.{with_operand}
 use Rattle.line_language.specs.declared.fault.LineKind.TheVariants as kind
 use Rattle.line_language.specs.Commands.{valued}
 use Rattle.line_language.specs.Numbers.{number_of}
 use Rattle.line_language.specs.Steps.{◌>>=◌, or_fault}
 use Rattle.line_language.specs.Words.{cut_at, parts_left}
-use Rattle.line_language.proofs.Accesses.{Before, either, number_fault, number_fits}
+use Rattle.line_language.proofs.Accesses.{Before, number_fault, number_fits}
 use Rattle.line_language.proofs.command.valued_words.Goals as goal
-use Rattle.line_language.proofs.command.valued_words.Goals.{then-adds, else-adds}
 
 pub returns-in_default-parse_number-clause-read : goal.returns-in_default-parse_number-clause-read
 returns-in_default-parse_number-clause-read c =
@@ -27,9 +27,7 @@ returns-in_default-parse_number-clause-read c =
     let read : valued (cut_at 32 c.args.words.now) ≡ Err f =
     ap valued left
     ∙ number_fault a k w (pieces a) f (ap (or_fault kind.Name) c.in-Ok.ensures.read) (ap (or_fault kind.Key) c.in-Ok-check.ensures.read) none m in
-    either c.args.adds _ _ (Err f)
-    (ap (λ r. r >>= λ q. Ok (Access q.0 q.1 (Add q.2))) read)
-    (ap (λ r. r >>= λ q. Ok (Access q.0 q.1 (Set q.2))) read)
+    ap (λ r. r >>= λ q. Ok (Access q.0 q.1 (with_operand c.args.op q.2))) read
 
 pub returns-clause-read : goal.returns-clause-read
 returns-clause-read c =
@@ -44,7 +42,6 @@ returns-clause-read c =
     let read : valued (cut_at 32 c.args.words.now) ≡ Ok (pieces a, k, v) =
     ap valued left
     ∙ number_fits a k w (pieces a) v (ap (or_fault kind.Name) c.in-Ok.ensures.read) (ap (or_fault kind.Key) c.in-Ok-check.ensures.read) some in
-    elim c.if-adds.branch [
-      | then-adds b ↦ let is : c.if-adds.op ≡ Add v = search (rules, arith) in rw (b.if-adds.true, is) (ap (λ r. r >>= λ q. Ok (Access q.0 q.1 (Add q.2))) read)
-      | else-adds b ↦ let is : c.if-adds.op ≡ Set v = search (rules, arith) in rw (b.if-adds.false, is) (ap (λ r. r >>= λ q. Ok (Access q.0 q.1 (Set q.2))) read)
-    ]
+    let fits : SFits w64 v = search rules in
+    let op = simp to_z-of_z at c.with_operand.ensures in
+    rw op (ap (λ r. r >>= λ q. Ok (Access q.0 q.1 (with_operand c.args.op q.2))) read)

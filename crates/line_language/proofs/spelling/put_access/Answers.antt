@@ -1,35 +1,19 @@
-use Rattle.std.proofs.Common.{SFits, w64, rules}
+use Rattle.std.proofs.Common.{SFits, w64, rules, sym, ◌∙◌}
 use Rattle.std.proofs.lemmas.Int.{to_z-of_z}
 use Rattle.line_language.proofs.spelling.put_access.Goals as goal
 
-pub returns-in-Get-clause-ok : goal.returns-in-Get-clause-ok
-returns-in-Get-clause-ok g c = rw c.in-Get.is c.put_keyed.ensures.ok
+pub returns-in-Some-clause-ok : goal.returns-in-Some-clause-ok
+returns-in-Some-clause-ok g c =
+    let fits : SFits w64 c.in-Some.number = search rules in
+    rw (sym c.operand.ensures ∙ c.in-Some.is) (rw c.lead.ensures at (simp to_z-of_z at c.put_valued.ensures.ok))
 
-pub returns-in-Get-clause-err : goal.returns-in-Get-clause-err
-returns-in-Get-clause-err g c = rw c.in-Get.is c.put_keyed.ensures.err
+pub returns-in-None-clause-ok : goal.returns-in-None-clause-ok
+returns-in-None-clause-ok g c = rw (sym c.operand.ensures ∙ c.in-None.is) (rw c.lead-in-None.ensures at c.put_keyed.ensures.ok)
 
-pub returns-in-Set-clause-ok : goal.returns-in-Set-clause-ok
-returns-in-Set-clause-ok g c =
-    let fits : SFits w64 c.in-Set.value = search rules in
-    rw c.in-Set.is (simp to_z-of_z at c.put_valued.ensures.ok)
+pub returns-in-Some-clause-err : goal.returns-in-Some-clause-err
+returns-in-Some-clause-err g c =
+    let fits : SFits w64 c.in-Some.number = search rules in
+    rw (sym c.operand.ensures ∙ c.in-Some.is) (rw c.lead.ensures at (simp to_z-of_z at c.put_valued.ensures.err))
 
-pub returns-in-Set-clause-err : goal.returns-in-Set-clause-err
-returns-in-Set-clause-err g c =
-    let fits : SFits w64 c.in-Set.value = search rules in
-    rw c.in-Set.is (simp to_z-of_z at c.put_valued.ensures.err)
-
-pub returns-in-Add-clause-ok : goal.returns-in-Add-clause-ok
-returns-in-Add-clause-ok g c =
-    let fits : SFits w64 c.in-Add.amount = search rules in
-    rw c.in-Add.is (simp to_z-of_z at c.put_valued-in-Add.ensures.ok)
-
-pub returns-in-Add-clause-err : goal.returns-in-Add-clause-err
-returns-in-Add-clause-err g c =
-    let fits : SFits w64 c.in-Add.amount = search rules in
-    rw c.in-Add.is (simp to_z-of_z at c.put_valued-in-Add.ensures.err)
-
-pub returns-in-Del-clause-ok : goal.returns-in-Del-clause-ok
-returns-in-Del-clause-ok g c = rw c.in-Del.is c.put_keyed-in-Del.ensures.ok
-
-pub returns-in-Del-clause-err : goal.returns-in-Del-clause-err
-returns-in-Del-clause-err g c = rw c.in-Del.is c.put_keyed-in-Del.ensures.err
+pub returns-in-None-clause-err : goal.returns-in-None-clause-err
+returns-in-None-clause-err g c = rw (sym c.operand.ensures ∙ c.in-None.is) (rw c.lead-in-None.ensures at c.put_keyed.ensures.err)

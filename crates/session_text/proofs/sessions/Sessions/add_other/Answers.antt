@@ -9,12 +9,12 @@ add_event-requires-clause-placed c = sym (c.fault_of_command-misplaced.ensures c
 pub returns-in-Some : goal.returns-in-Some
 returns-in-Some c =
     let e = c.in-Ok.event in
-    ap (λ read. at_line c.args.number (placed c.args.self.now (read >>= λ d. Ok (Command d)))) (sym c.event_of.ensures ∙ c.in-Ok.is)
+    ap (λ read. at_line c.args.number (placed c.args.self.now (read >>= λ d. Ok (Command d)))) (sym c.parse_event.ensures.read ∙ c.in-Ok.is)
     ∙ ap (λ fault. at_line c.args.number (unless fault (grown c.args.self.now (Command e)))) (sym (c.fault_of_command-misplaced.ensures e) ∙ c.in-Some.is)
 
 pub returns-in-Ok-add_event : goal.returns-in-Ok-add_event
 returns-in-Ok-add_event c =
     let e = c.in-Ok.event in
-    ap (λ read. at_line c.args.number (placed c.args.self.now (read >>= λ d. Ok (Command d)))) (sym c.event_of.ensures ∙ c.in-Ok.is)
+    ap (λ read. at_line c.args.number (placed c.args.self.now (read >>= λ d. Ok (Command d)))) (sym c.parse_event.ensures.read ∙ c.in-Ok.is)
     ∙ ap (λ fault. at_line c.args.number (unless fault (grown c.args.self.now (Command e)))) (sym (c.fault_of_command-misplaced.ensures e) ∙ c.in-None.is)
     ∙ ap Ok (sym c.in-Ok-add_event.ensures.ok)
