@@ -1,7 +1,8 @@
 -- Bytes that are written one part after another.
-use Rattle.std.proofs.Common.{◌≢◌, ◌<◌, ℕ, List, [], ◌∷◌, ◌++◌, length, Option, Some, None, take, drop, append_assoc, append-nil, refl, sym, ◌∙◌, ap, arith, length-drop, take-append-drop, Result, Ok, Err, OnErr, OnOk}
+use Rattle.std.proofs.Common.{◌≢◌, ◌<◌, ℕ, List, [], ◌∷◌, ◌++◌, length, Option, Some, None, take, drop, append_assoc, append-nil, refl, sym, ◌∙◌, ap, arith, length-drop, take-append-drop, Result, Ok, Err, IsErr, OnErr, OnOk}
 use Rattle.std.specs.Io.KnownBytes.{Appends, Keeps}
-use Rattle.txn_bytes.specs.Written.{AppendsFront}
+use Rattle.txn_bytes.specs.Written.{AppendsFront, Puts, Writer}
+use Rattle.txn_bytes.specs.declared.sink.WriteFault.{WriteFault}
 
 pub then : (a b c : Option (List ℕ)) (x y : List ℕ) → Appends a b x → Appends b c y → Appends a c (x ++ y)
 then None b c x y h k = tt
@@ -69,3 +70,24 @@ then_on_err a b c x y (Err e) h k = then_front a b c x y h k
 pub then_on_ok : {T E : Type 0} (a b c : Option (List ℕ)) (x y : List ℕ) (r : Result T E) → Appends a b x → OnOk r (Appends b c y) → OnOk r (Appends a c (x ++ y))
 then_on_ok a b c x y (Ok v) h k = then a b c x y h k
 then_on_ok a b c x y (Err e) h k = tt
+
+-- ---- what functions that print do
+
+module _ {W : Type 0} {w : Writer W} where
+  -- where there is nothing to print
+  pub puts_none : {a : W} {done : Unit {0}} → Puts w a a [] (Ok done)
+  puts_none {a = a} {done = done} = record { ok = nothing (w.contents a); err = tt; asked = tt }
+
+  -- one part after another
+  pub puts_then : {a b c : W} {x y : List ℕ} {done : Unit {0}} {r : Result (Unit {0}) WriteFault} → Puts w a b x (Ok done) → Puts w b c y r → Puts w a c (x ++ y) r
+  puts_then {a = a} {b = b} {c = c} {x = x} {y = y} {done = done} {r = Ok u} h k = record { ok = then (w.contents a) (w.contents b) (w.contents c) x y h.ok k.ok; err = tt; asked = tt }
+  puts_then {a = a} {b = b} {c = c} {x = x} {y = y} {done = done} {r = Err fault} h k = record { ok = tt; err = then_front (w.contents a) (w.contents b) (w.contents c) x y h.ok k.err; asked = k.asked }
+
+  -- a part was cut off, and another was to come
+  pub cut_before : {a b : W} {x : List ℕ} {fault : WriteFault} (y : List ℕ) → Puts w a b x (Err fault) → Puts w a b (x ++ y) (Err fault)
+  cut_before {a = a} {b = b} {x = x} {fault = fault} y h = record { ok = tt; err = front_of (w.contents a) (w.contents b) x y h.err; asked = h.asked }
+
+  -- an error that a `?` hands on
+  pub handed_on : {a b : W} {x : List ℕ} {fault : WriteFault} {r : Result (Unit {0}) WriteFault} → Puts w a b x (Err fault) → IsErr r → Puts w a b x r
+  handed_on {a = a} {b = b} {x = x} {fault = fault} {r = Ok done} h e = absurd (cc)
+  handed_on {a = a} {b = b} {x = x} {fault = fault} {r = Err f} h e = record { ok = tt; err = h.err; asked = h.asked }

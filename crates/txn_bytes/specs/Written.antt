@@ -1,5 +1,5 @@
 -- What a writer holds after a write that may have stopped on the way.
-use Rattle.std.specs.Prelude.{◌≡◌, ◌≢◌, ℕ, List, [], ◌++◌, Option, Result, Err}
+use Rattle.std.specs.Prelude.{◌≡◌, ◌≢◌, ℕ, List, [], ◌++◌, Option, Result, Err, OnOk, OnErr}
 use Rattle.std.specs.Io.KnownBytes.{Appends}
 use Rattle.txn_bytes.specs.declared.sink.WriteFault.{WriteFault}
 
@@ -25,3 +25,11 @@ pub record IsStopped {W : Type 0} (w : Writer W) (new : W) : Type 0 where
   pub bytes : List ℕ
   pub fault : WriteFault
   pub refused : w.takes before new bytes (Err fault)
+
+-- What a function that prints these bytes does to its writer, by its answer: the writer took all of
+-- them; or it took a beginning and not all, since it answered a fault when it was asked for more
+pub record Puts {W : Type 0} (w : Writer W) (old new : W) (bs : List ℕ)
+    (answer : Result (Unit {0}) WriteFault) : Type 0 where
+  pub ok : OnOk answer (Appends (w.contents old) (w.contents new) bs)
+  pub err : OnErr answer (AppendsFront (w.contents old) (w.contents new) bs)
+  pub asked : OnErr answer (IsStopped w new)

@@ -1,4 +1,4 @@
-use Rattle.std.proofs.Common.{◌≡◌, ℕ, ◌-◌, ◌≤◌, List, length, take, drop, subst, arith, length-drop}
+use Rattle.std.proofs.Common.{rules, ◌≡◌, ℕ, ◌-◌, ◌≤◌, List, length, take, drop, subst, arith, length-drop}
 use Rattle.std.proofs.lemmas.List.{take_rest}
 use Rattle.std.proofs.Math.Seq.{take-add}
 use Rattle.txn_bytes.proofs.Appending.{then, kept, front_taken}
@@ -15,5 +15,9 @@ loop-at-preserved g c =
       written = rw take-add (then _ _ _ _ _ c.loop-at.invariant.written (rw part at c.in-Ok.ensures.ok));
     }
 
-pub returns-in-Err-clause-err : goal.returns-in-Err-clause-err
-returns-in-Err-clause-err g c = front_taken _ _ c.loop-at.at _ c.loop-at-test.true (kept _ _ _ _ c.loop-at.invariant.written c.in-Err.ensures.err)
+pub returns-in-Err : goal.returns-in-Err
+returns-in-Err g c = record {
+  ok = tt;
+  err = front_taken _ _ c.loop-at.at _ c.loop-at-test.true (kept _ _ _ _ c.loop-at.invariant.written c.in-Err.ensures.err);
+  asked = search rules;
+}
