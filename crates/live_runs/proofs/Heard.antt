@@ -10,7 +10,7 @@ use Rattle.durable_top.specs.declared.store.TopStore.{Ghosts}
 use Rattle.interleavings.specs.Attempts.{GoesOn}
 use Rattle.interleavings.specs.Turning.{Turning}
 use Rattle.interleavings.proofs.Schedules.{on_same, on_still}
-use Rattle.request_lines.specs.Sources.{Requests}
+use Rattle.txn_bytes.specs.Sources.{Reader}
 use Rattle.request_lines.specs.declared.lines.Taken.{Taken}
 use Rattle.request_lines.specs.declared.lines.Taken.TheVariants.{Whole, Long, Cut, End}
 use Rattle.live_runs.specs.Hearing.{Becomes, Heard, Hears, IsShownOf, Moment, begun_of, sessions_heard, with_heard, with_read}
@@ -52,7 +52,7 @@ module _ {S : Type 0} (g : Ghosts S) where
     written_become Cut bytes fault old new out_old out_new t shown h = absurd t
     written_become End bytes fault old new out_old out_new t shown h = absurd t
 
-module _ {R S W E : Type 0} (r : Requests R) (g : Ghosts S) (w : Writer W) (e : Writer E)
+module _ {R S W E : Type 0} (r : Reader R) (g : Ghosts S) (w : Writer W) (e : Writer E)
     (first : Moment R S W E) where
   abbrev HearsHere : List Heard → Moment R S W E → Type 0
   HearsHere list last = Hears r g w e first list last

@@ -5,7 +5,7 @@ use Rattle.line_language.specs.declared.fault.LineKind.TheVariants as kind
 use Rattle.durable_top.specs.declared.store.TopStore.{Ghosts}
 use Rattle.interleavings.specs.Scheduled.{LetsGo}
 use Rattle.interleavings.specs.Turning.{Turning}
-use Rattle.request_lines.specs.Sources.{Requests}
+use Rattle.txn_bytes.specs.Sources.{Reader}
 use Rattle.request_lines.specs.declared.lines.Taken.TheVariants.{Whole, Long}
 use Rattle.request_lines.specs.Taking.{Holds, Takes}
 use Rattle.program_words.specs.Faults.{IsSaid, spelled_fault}
@@ -14,7 +14,7 @@ use Rattle.live_runs.specs.declared.fault.LiveFault.{LiveFault}
 use Rattle.live_runs.specs.declared.fault.LiveFault.TheVariants.{Open, Read, NoMemory, Write}
 use Rattle.live_runs.specs.Hearing.{Answers, BreaksHearing, EndsAt, HasAnswerFault, HasHearingFault, Heard, Hears, HearsAll, HearsNext, HearsOne, HearsSome, Moment, holds_nothing, moment}
 
-module _ {R S W E : Type 0} (r : Requests R) (g : Ghosts S) (w : Writer W) (e : Writer E) where
+module _ {R S W E : Type 0} (r : Reader R) (g : Ghosts S) (w : Writer W) (e : Writer E) where
   -- ---- one line
 
   pub hears_whole : (n : ℕ) (old new : Moment R S W E) (bytes : List ℕ)

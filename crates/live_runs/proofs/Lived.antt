@@ -20,14 +20,14 @@ use Rattle.interleavings.proofs.Closed.{numbered_from}
 use Rattle.interleavings.proofs.Schedules.{on_still}
 use Rattle.interleavings.proofs.Trails.{trail_more}
 use Rattle.report_text.proofs.Accepted.{accepted}
-use Rattle.request_lines.specs.Sources.{Requests}
+use Rattle.txn_bytes.specs.Sources.{Reader}
 use Rattle.live_runs.specs.Hearing.{HearsAll, Moment, begun_of, holds_nothing, moment, sessions_heard}
 use Rattle.live_runs.specs.declared.fault.LiveFault.{LiveFault}
 use Rattle.live_runs.specs.Living.{Begins, ComesTo, Finishes, HasEndFault, HasLiveCause, IsLived}
 use Rattle.live_runs.proofs.Heard.{hears_sessions, hears_went, hears_written, written_same}
 use Rattle.live_runs.proofs.Shown.{end_trail, labels_are, opening_is, went}
 
-module _ {R S W E : Type 0} (r : Requests R) (g : Ghosts S) (w : Writer W) (e : Writer E)
+module _ {R S W E : Type 0} (r : Reader R) (g : Ghosts S) (w : Writer W) (e : Writer E)
     (store : S) (in_old in_new : R) (out_old opened between out_new : W) (err_old err_new : E) (first last : Turning S) (left : S)
     (begins : Begins g w store first out_old opened)
     (heard : HearsAll r g w e (moment in_old holds_nothing first opened err_old) in_new last between err_new)
@@ -100,7 +100,7 @@ module _ {R S W E : Type 0} (r : Requests R) (g : Ghosts S) (w : Writer W) (e : 
   }
 
 -- a run that came to its end, and one that did not
-module _ {R S W E : Type 0} (r : Requests R) (g : Ghosts S) (w : Writer W) (e : Writer E)
+module _ {R S W E : Type 0} (r : Reader R) (g : Ghosts S) (w : Writer W) (e : Writer E)
     (store : S) (in_old in_new : R) (out_old opened between out_new : W) (err_old err_new : E) (first last : Turning S)
     (begins : Begins g w store first out_old opened)
     (heard : HearsAll r g w e (moment in_old holds_nothing first opened err_old) in_new last between err_new) where

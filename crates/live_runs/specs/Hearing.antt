@@ -12,7 +12,7 @@ use Rattle.interleavings.specs.Scheduled.{LetsGo}
 use Rattle.interleavings.specs.Turning.{Turning}
 use Rattle.request_lines.specs.declared.lines.Taken.{Taken}
 use Rattle.request_lines.specs.declared.lines.Taken.TheVariants.{Whole, Long, Cut, End}
-use Rattle.request_lines.specs.Sources.{Requests}
+use Rattle.txn_bytes.specs.Sources.{Reader}
 use Rattle.request_lines.specs.Taking.{Holds, Stops, Takes}
 use Rattle.live_sessions.specs.Requested.{with_request}
 use Rattle.live_sessions.specs.Handling.{Breaks, Handled, IsTaken}
@@ -130,7 +130,7 @@ module _ {S W : Type 0} (g : Ghosts S) (w : Writer W) where
 
 -- ---- line after line
 
-module _ {R S W E : Type 0} (r : Requests R) (g : Ghosts S) (w : Writer W) (e : Writer E) where
+module _ {R S W E : Type 0} (r : Reader R) (g : Ghosts S) (w : Writer W) (e : Writer E) where
   -- line n was taken off the reader, and was told or answered
   pub record HearsOne (n : ℕ) (old : Moment R S W E) (x : Heard)
       (new : Moment R S W E) : Type 0 where

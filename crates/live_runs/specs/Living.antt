@@ -18,7 +18,7 @@ use Rattle.interleavings.specs.Turning.{IsStart, Turning}
 use Rattle.report_check.specs.Verdicts.{HasVerdict}
 use Rattle.report_check.specs.declared.verdict.Verdict.TheVariants.{Yes}
 use Rattle.report_text.specs.Lines.{opening_text}
-use Rattle.request_lines.specs.Sources.{Requests}
+use Rattle.txn_bytes.specs.Sources.{Reader}
 use Rattle.program_words.specs.Faults.{IsSaid}
 use Rattle.report_text.specs.Lines.{spelled_report}
 use Rattle.live_runs.specs.declared.fault.LiveFault.{LiveFault}
@@ -104,7 +104,7 @@ module _ {S W : Type 0} (g : Ghosts S) (w : Writer W) where
     pub written : Appends (w.contents old) (w.contents new) (spelled_report told)
     pub accepted : HasVerdict (spelled_report told) Yes
 
-module _ {R S W E : Type 0} (r : Requests R) (g : Ghosts S) (w : Writer W) (e : Writer E)
+module _ {R S W E : Type 0} (r : Reader R) (g : Ghosts S) (w : Writer W) (e : Writer E)
     (store : S) (in_old in_new : R) (out_old out_new : W) (err_old err_new : E) where
   -- The opening, the lines of the input up to its end, and the end of the run, one behind another
   pub record IsLived (left : S) : Type 0 where
@@ -154,7 +154,7 @@ module _ {R S W E : Type 0} (r : Requests R) (g : Ghosts S) (w : Writer W) (e : 
 
 -- it failed for a cause, and the error writer got the line of that behind those of the lines that
 -- were not taken
-pub record IsUnlived {R S W E : Type 0} (r : Requests R) (g : Ghosts S) (w : Writer W)
+pub record IsUnlived {R S W E : Type 0} (r : Reader R) (g : Ghosts S) (w : Writer W)
     (e : Writer E) (store : S) (in_old in_new : R) (out_old out_new : W)
     (err_old err_new : E) (left : Option S) : Type 0 where
   pub fault : LiveFault

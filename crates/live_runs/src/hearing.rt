@@ -9,9 +9,9 @@ use crate::showing::show_entries;
 use durable_top::TopStore;
 use live_sessions::Live;
 use program_words::{Fault, tell};
-use request_lines::{RequestLines, Source, Taken};
+use request_lines::{RequestLines, Taken};
 use session_text::LineKind;
-use txn_bytes::Sink;
+use txn_bytes::{Sink, Source};
 
 // Says that this line of the input was not taken, and why.
 fn refuse<E: Sink>(err: &mut E, line: usize, kind: LineKind)

@@ -9,9 +9,8 @@ use crate::showing::{show_opening, show_rest};
 use durable_top::TopStore;
 use live_sessions::Live;
 use program_words::{DONE, Ended};
-use request_lines::Source;
 use std::alloc::Global;
-use txn_bytes::Sink;
+use txn_bytes::{Sink, Source};
 
 // No sessions yet, and the opening is shown. The store comes back where that was not taken.
 fn begin<S: TopStore, W: Sink>(

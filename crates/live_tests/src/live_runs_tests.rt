@@ -120,7 +120,7 @@ fn lived_once(
     let store = MemStore::new(alloc, &[])?;
     let mut out = writer(alloc, left, flushes)?;
     let mut err = Vec::with_capacity(alloc, 200)?;
-    let ended = live_over(alloc, input, store, &mut out, &mut err);
+    let ended = live_over(alloc, input, store, &mut &mut out, &mut err);
     Ok(Told {
         status: ended.status,
         out: out.taken,

@@ -1,6 +1,7 @@
 //! Lines off readers that give a few bytes at a time, are interrupted, or fail.
-use request_lines::{MOST_BYTES, ReadFault, RequestLines, Taken};
+use request_lines::{MOST_BYTES, RequestLines, Taken};
 use std::io::{self, ErrorKind, Read};
+use txn_bytes::ReadFault;
 
 // Bytes that are given at most so many at a time. The call with this number, from 0, answers this
 // error.

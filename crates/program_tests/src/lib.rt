@@ -1,5 +1,7 @@
-//! The tests of tx_program, in a module of its own.
+//! The tests of tx_program, and of the commands over files that are not the machine's.
 #![tactic(auto)]
 
+#[cfg(test)]
+mod interrupted_tests;
 #[cfg(test)]
 mod tx_program_tests;

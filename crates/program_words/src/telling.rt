@@ -1,7 +1,7 @@
 //! The one line by which the program says why it gave no report, to the error writer.
-ghost use Rattle.std.specs.Prelude.{◌≡◌, ◌≢◌, ◌≤◌, ◌++◌, codes, decimal, OnErr, OnOk, Ok, Err};
-ghost use Rattle.std.specs.Io.KnownBytes.{Appends, Keeps};
-ghost use Rattle.txn_bytes.specs.Written.{AppendsFront, IsStopped};
+ghost use Rattle.std.specs.Prelude.{◌≡◌, ◌≢◌, ◌≤◌, ◌++◌, codes, decimal, Ok, Err};
+ghost use Rattle.std.specs.Io.KnownBytes.{Keeps};
+ghost use Rattle.txn_bytes.specs.Written.{Puts};
 ghost use Rattle.line_language.specs.Report.{line};
 ghost use Rattle.program_words.specs.declared.fault.Fault.TheVariants.{CannotWrite};
 ghost use Rattle.program_words.specs.Faults.{IsSaid, spelled_cause, spelled_fault, spelled_kind};
@@ -13,32 +13,21 @@ use session_text::LineKind;
 use txn_bytes::{Sink, WriteFault, put};
 
 fn put_number<E: Sink>(err: &mut E, number: usize) -> Result<(), WriteFault>
-    ensures ok { OnOk result (Appends (E.contents err.old) (E.contents err.new) (decimal number)) }
-    ensures err { OnErr result
-        (AppendsFront (E.contents err.old) (E.contents err.new) (decimal number)) }
-    ensures asked { OnErr result (IsStopped E.Sink err.new) }
+    ensures { Puts E.Sink err.old err.new (decimal number) result }
 {
     let mut buffer = Buffer::new();
     put(err, buffer.format(number).as_bytes())
 }
 
 fn put_kind<E: Sink>(err: &mut E, kind: LineKind) -> Result<(), WriteFault>
-    ensures ok { OnOk result
-        (Appends (E.contents err.old) (E.contents err.new) (spelled_kind kind)) }
-    ensures err { OnErr result
-        (AppendsFront (E.contents err.old) (E.contents err.new) (spelled_kind kind)) }
-    ensures asked { OnErr result (IsStopped E.Sink err.new) }
+    ensures { Puts E.Sink err.old err.new (spelled_kind kind) result }
 {
     put(err, word_of(&kind).as_bytes())
 }
 
 // The first bytes, and then the second.
 fn put_behind<E: Sink>(err: &mut E, first: &[u8], second: &[u8]) -> Result<(), WriteFault>
-    ensures ok { OnOk result
-        (Appends (E.contents err.old) (E.contents err.new) (first.now ++ second.now)) }
-    ensures err { OnErr result
-        (AppendsFront (E.contents err.old) (E.contents err.new) (first.now ++ second.now)) }
-    ensures asked { OnErr result (IsStopped E.Sink err.new) }
+    ensures { Puts E.Sink err.old err.new (first.now ++ second.now) result }
 {
     put(err, first)?;
     put(err, second)
@@ -46,11 +35,7 @@ fn put_behind<E: Sink>(err: &mut E, first: &[u8], second: &[u8]) -> Result<(), W
 
 // Words with their space, and a number.
 fn put_counted<E: Sink>(err: &mut E, words: &[u8], number: usize) -> Result<(), WriteFault>
-    ensures ok { OnOk result
-        (Appends (E.contents err.old) (E.contents err.new) (words.now ++ decimal number)) }
-    ensures err { OnErr result
-        (AppendsFront (E.contents err.old) (E.contents err.new) (words.now ++ decimal number)) }
-    ensures asked { OnErr result (IsStopped E.Sink err.new) }
+    ensures { Puts E.Sink err.old err.new (words.now ++ decimal number) result }
 {
     put(err, words)?;
     put_number(err, number)
@@ -58,13 +43,8 @@ fn put_counted<E: Sink>(err: &mut E, words: &[u8], number: usize) -> Result<(), 
 
 // A line of a text, and what is wrong with it.
 fn put_place<E: Sink>(err: &mut E, number: usize, kind: LineKind) -> Result<(), WriteFault>
-    ensures ok { OnOk result
-        (Appends (E.contents err.old) (E.contents err.new)
-        (codes "tx: line " ++ decimal number ++ codes ": " ++ spelled_kind kind)) }
-    ensures err { OnErr result
-        (AppendsFront (E.contents err.old) (E.contents err.new)
-        (codes "tx: line " ++ decimal number ++ codes ": " ++ spelled_kind kind)) }
-    ensures asked { OnErr result (IsStopped E.Sink err.new) }
+    ensures { Puts E.Sink err.old err.new
+        (codes "tx: line " ++ decimal number ++ codes ": " ++ spelled_kind kind) result }
 {
     put_counted(err, b"tx: line ", number)?;
     put(err, b": ")?;
@@ -73,11 +53,7 @@ fn put_place<E: Sink>(err: &mut E, number: usize, kind: LineKind) -> Result<(), 
 
 // What the line says, without its line feed.
 fn put_cause<E: Sink>(err: &mut E, fault: Fault<'_>) -> Result<(), WriteFault>
-    ensures ok { OnOk result
-        (Appends (E.contents err.old) (E.contents err.new) (spelled_cause fault.entry)) }
-    ensures err { OnErr result
-        (AppendsFront (E.contents err.old) (E.contents err.new) (spelled_cause fault.entry)) }
-    ensures asked { OnErr result (IsStopped E.Sink err.new) }
+    ensures { Puts E.Sink err.old err.new (spelled_cause fault.entry) result }
 {
     match fault {
         Fault::CannotRead(file) => put_behind(err, b"tx: cannot read ", file.as_bytes()),
@@ -92,11 +68,7 @@ fn put_cause<E: Sink>(err: &mut E, fault: Fault<'_>) -> Result<(), WriteFault>
 }
 
 fn put_fault<E: Sink>(err: &mut E, fault: Fault<'_>) -> Result<(), WriteFault>
-    ensures ok { OnOk result
-        (Appends (E.contents err.old) (E.contents err.new) (spelled_fault fault.entry)) }
-    ensures err { OnErr result
-        (AppendsFront (E.contents err.old) (E.contents err.new) (spelled_fault fault.entry)) }
-    ensures asked { OnErr result (IsStopped E.Sink err.new) }
+    ensures { Puts E.Sink err.old err.new (spelled_fault fault.entry) result }
 {
     put_cause(err, fault)?;
     put(err, b"\n")

@@ -1,14 +1,18 @@
 -- What is judged, some bytes later.
-use Rattle.std.proofs.Common.{◌≡◌, ℕ, ◌+◌, ◌<◌, Bool, true, false, not, cond, ◌&&◌, List, [], ◌∷◌, ◌++◌, length, Option, Some, None, Result, Ok, Err, refl, sym, ap, subst, ◌∙◌, true≢false, arith, append_assoc, length-append}
+use Rattle.std.proofs.Common.{◌≡◌, ◌≢◌, inl, inr, ℕ, ◌+◌, ◌<◌, ◌≤◌, suc, Bool, true, false, not, cond, ◌&&◌, List, [], ◌∷◌, ◌++◌, length, Option, Some, None, Result, Ok, Err, refl, sym, ap, subst, ◌∙◌, true≢false, arith, append_assoc, length-append}
 use Rattle.std.specs.Prelude.{◌==◌, OnOk}
 use Rattle.std.proofs.lemmas.Bool.{and_parts, eqb-true}
+use Rattle.std.specs.Io.KnownBytes.{Consumes, IsAtEnd}
+use Rattle.std.proofs.KnownBytes.{Consumes-trans}
+use Rattle.txn_bytes.specs.Sources.{HasGiven, Reader}
+use Rattle.txn_bytes.proofs.Sourcing.{given_more}
 use Rattle.line_language.specs.Words.{cut_at}
-use Rattle.line_language.proofs.Bytes.{Lacks-append}
+use Rattle.line_language.proofs.Bytes.{Lacks-append, cut_behind, cut_lacking}
 use Rattle.report_check.specs.Passing.{Read, Part, Start, Opening, Entries, Final, Ended, has_ended, next, read, read_from, unread}
 use Rattle.report_check.specs.Verdicts.{HasVerdict, IsJudged, IsRun, first_wrong}
 use Rattle.report_check.specs.declared.verdict.Verdict.{Verdict}
 use Rattle.report_check.specs.declared.verdict.Verdict.TheVariants.{No}
-use Rattle.report_judge.specs.Judging.{GoesFrom, IsDue, IsLine, Stands, is_over}
+use Rattle.report_judge.specs.Judging.{AreLines, GoesFrom, IsDue, IsLine, IsSettled, IsVerdictOn, Stands, WantsMore, is_over}
 use Rattle.report_judge.specs.Kept.{IsSeen, Steps, line_of, part_of}
 use Rattle.report_judge.specs.declared.lines.Judge.{Judge}
 use Rattle.report_judge.specs.declared.lines.Standing.{Standing}
@@ -18,6 +22,23 @@ use Rattle.report_judge.proofs.Lining.{line_faulty, line_read, long_faulty, next
 -- bytes that are told apart otherwise
 moved : (bs cs rest : List ℕ) → read ((bs ++ cs) ++ rest) ≡ read (bs ++ (cs ++ rest))
 moved bs cs rest = ap read (append_assoc bs cs rest)
+
+-- ---- the lines that have ended
+
+lines_ended : (bs p : List ℕ) (line : ℕ) → IsLine p → AreLines bs p line → AreLines (bs ++ 10 ∷ []) [] (line + 1)
+lines_ended bs p line whole a = record {
+  ended = a.ended ++ p ∷ [];
+  cut = λ rest. ap (cut_at 10) (append_assoc bs (10 ∷ []) rest) ∙ a.cut (10 ∷ rest) ∙ ap (λ (ps : List (List ℕ)). a.ended ++ ps) (cut_behind 10 p rest whole)
+      ∙ sym (append_assoc a.ended (p ∷ []) (cut_at 10 rest));
+  count = omega (arith, a.count, length-append a.ended (p ∷ []));
+}
+
+lines_kept : (bs p cs : List ℕ) (line : ℕ) → AreLines bs p line → AreLines (bs ++ cs) (p ++ cs) line
+lines_kept bs p cs line a = record {
+  ended = a.ended;
+  cut = λ rest. ap (cut_at 10) (append_assoc bs cs rest) ∙ a.cut (cs ++ rest) ∙ ap (λ (xs : List ℕ). a.ended ++ cut_at 10 xs) (sym (append_assoc p cs rest));
+  count = a.count;
+}
 
 -- ---- a line has ended
 
@@ -38,6 +59,7 @@ line_ended bs p line s z whole due takes = by (next due.0 p) refl (takes due.0 d
       steps,
       ap (λ n. n + 1) due.2 ∙ sym (next_line due.0 x p e),
       λ rest. moved bs (10 ∷ []) rest ∙ due.3 (10 ∷ rest) ∙ line_read line due.0 x p rest whole e,
+      lines_ended bs p line whole due.4,
     )
 
 pub line_refused : (bs p : List ℕ) (line : ℕ) (s z : Seen) → IsLine p → GoesFrom bs p line s false → ((r : Read) → IsSeen r s → line ≡ line_of r → Steps false (next r p) z)
@@ -53,6 +75,7 @@ bytes_kept bs p cs line s false due = (
   due.1,
   due.2,
   λ rest. moved bs cs rest ∙ due.3 (cs ++ rest) ∙ ap (λ xs. read_from line due.0 (cut_at 10 xs)) (sym (append_assoc p cs rest)),
+  lines_kept bs p cs line due.4,
 )
 
 pub bytes_long : (bs p cs q : List ℕ) (line : ℕ) (s z : Seen) (b : Bool) → IsLine p → IsLine cs → 633 < length p + length cs → GoesFrom bs p line s b → GoesFrom (bs ++ cs) q line z true
@@ -81,6 +104,16 @@ was_ended Opening e = absurd (true≢false (sym e))
 was_ended Entries e = absurd (true≢false (sym e))
 was_ended Final e = absurd (true≢false (sym e))
 was_ended Ended e = refl
+
+same_line : (m n : ℕ) → ◌≡◌ {A = Result Read ℕ} (Err m) (Err n) → m ≡ n
+same_line m n e = cc
+
+-- the verdict, by what reading gives
+pub judged_faulty : (bs : List ℕ) (n : ℕ) → read bs ≡ Err n → HasVerdict bs (No n)
+judged_faulty bs n reads = subst (λ (j : Result Read ℕ). IsJudged j (No n)) (sym reads) refl
+
+pub judged_whole : (bs : List ℕ) (r : Read) (v : Verdict) → read bs ≡ Ok r → IsRun r (first_wrong r) v → HasVerdict bs v
+judged_whole bs r v reads run = subst (λ (j : Result Read ℕ). IsJudged j v) (sym reads) run
 
 module _ (bs : List ℕ) (j : Judge) (stands : Stands bs j) where
   abbrev p : List ℕ
@@ -115,12 +148,64 @@ module _ (bs : List ℕ) (j : Judge) (stands : Stands bs j) where
           let same : (length p == 0 && has_ended due.0.part) ≡ false = ap (λ q. length p == 0 && has_ended q) (sym due.1.part) ∙ is in
           reads_last due.0 due.3 ∙ ap (λ b. cond b (Ok due.0) (Err j.standing.line)) same
 
--- the verdict, by what reading gives
-pub judged_faulty : (bs : List ℕ) (n : ℕ) → read bs ≡ Err n → HasVerdict bs (No n)
-judged_faulty bs n reads = subst (λ (j : Result Read ℕ). IsJudged j (No n)) (sym reads) refl
+  -- the first fault is no line that has ended
+  pub open_still : j.standing.faulty ≡ false → WantsMore bs
+  open_still is = by (subst (λ (b : Bool). GoesFrom bs p j.standing.line j.standing.seen b) is stands.due)
+    where
+      by : GoesFrom bs p j.standing.line j.standing.seen false → WantsMore bs
+      by due = record {
+        ended = due.4.ended;
+        part = p;
+        lines = ap (cut_at 10) (sym (append_none bs)) ∙ due.4.cut [] ∙ ap (λ (xs : List ℕ). due.4.ended ++ cut_at 10 xs) (append_none p)
+            ∙ ap (λ (ps : List (List ℕ)). due.4.ended ++ ps) (cut_lacking 10 p stands.line);
+        right = λ n e. last (length p == 0 && has_ended due.0.part) n (sym (reads_last due.0 due.3) ∙ e);
+        short = stands.short;
+      }
+        where
+          last : (b : Bool) (n : ℕ) → cond b (Ok due.0) (Err j.standing.line) ≡ Err n → length due.4.ended < n
+          last true n e = absurd (cc)
+          last false n e = omega (arith, same_line j.standing.line n e, due.4.count)
 
-pub judged_whole : (bs : List ℕ) (r : Read) (v : Verdict) → read bs ≡ Ok r → IsRun r (first_wrong r) v → HasVerdict bs v
-judged_whole bs r v reads run = subst (λ (j : Result Read ℕ). IsJudged j v) (sym reads) run
+  -- whatever follows
+  pub settled_so : j.standing.faulty ≡ true → IsSettled bs (No j.standing.line)
+  settled_so is rest =
+      judged_faulty (bs ++ rest) j.standing.line
+      (subst (λ (b : Bool). GoesFrom bs p j.standing.line j.standing.seen b) is stands.due rest)
+
+-- nothing has come yet
+pub wants_first : WantsMore []
+wants_first = record {
+  ended = [];
+  part = [];
+  lines = refl;
+  right = λ n e. omega (arith, same_line 1 n e);
+  short = omega arith;
+}
+
+-- ---- how much was read
+
+module _ {R : Type 0} (r : Reader R) (n : ℕ) (old mid new : R) (bytes piece : List ℕ) (v : Verdict) (few : n < 134217728) (given : HasGiven r WantsMore n old mid bytes) (wanted : WantsMore bytes)
+    (taken : Consumes (r.remaining old) (r.remaining mid) bytes) (last : r.gives mid new (Ok piece)) (more : Consumes (r.remaining mid) (r.remaining new) piece) where
+  -- the reader came to its end
+  pub verdict_whole : piece ≡ [] → IsAtEnd (r.remaining new) → HasVerdict bytes v → IsVerdictOn r old new v
+  verdict_whole none ended verdict = inl (record {
+    bytes = bytes;
+    whole = record { calls = n; few = few; before = mid; given = given; wanted = wanted; ended = subst (λ (ys : List ℕ). r.gives mid new (Ok ys)) none last };
+    taken = subst (λ (ys : List ℕ). Consumes (r.remaining old) (r.remaining new) ys) (ap (λ (ys : List ℕ). bytes ++ ys) none ∙ append_none bytes) (Consumes-trans _ _ _ _ _ taken more);
+    ended = ended;
+    verdict = verdict;
+  })
+
+  -- what it gave settled the verdict
+  pub verdict_early : piece ≢ [] → IsSettled (bytes ++ piece) v → IsVerdictOn r old new v
+  verdict_early some settled = inr (record {
+    calls = n + 1;
+    few = omega (arith, few);
+    bytes = bytes ++ piece;
+    given = given_more r WantsMore n old mid new bytes piece given wanted last some;
+    taken = Consumes-trans _ _ _ _ _ taken more;
+    settled = settled;
+  })
 
 -- ---- a bytes' worth of steps
 
@@ -129,7 +214,7 @@ on_ok_map (Ok v) P Q h f = f h
 on_ok_map (Err e) P Q h f = tt
 
 pub first_stands : (s : Seen) → IsSeen unread s → GoesFrom [] [] 1 s false
-first_stands s seen = (unread, seen, refl, λ rest. refl)
+first_stands s seen = (unread, seen, refl, λ rest. refl, record { ended = []; cut = λ rest. refl; count = refl })
 
 pub no_bytes : (xs : List ℕ) → (length xs == 0) ≡ true → xs ≡ []
 no_bytes [] e = refl

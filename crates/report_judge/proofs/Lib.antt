@@ -4,4 +4,3 @@ pub mod Lining
 pub mod Remaining
 pub mod Rowing
 pub mod Stepping
-pub mod Sourcing

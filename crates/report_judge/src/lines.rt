@@ -1,19 +1,24 @@
 //! Bytes that come piece by piece, judged line by line.
-ghost use Rattle.std.specs.Prelude.{◌≡◌, ◌≤◌, ◌<◌, ◌+◌, ◌-◌, ◌^◌, ◌∷◌, ◌++◌, [], ℕ, List, length, slice_get, IfOk, OnOk};
+ghost use Rattle.std.specs.Prelude.{◌≡◌, ◌≤◌, ◌<◌, ◌+◌, ◌-◌, ◌^◌, ◌∷◌, ◌++◌, [], ℕ, List, length, slice_get, IfOk, IfSome, IsNone, OnOk};
 ghost use Rattle.report_check.specs.Passing.{Ended, Read};
 ghost use Rattle.report_check.specs.Verdicts.{HasVerdict, IsRun, first_wrong};
 ghost use Rattle.report_tables.specs.Chained.{chain_in};
-ghost use Rattle.report_judge.specs.Judging.{IsComparedBy, IsDue, IsLine, Stands, is_over};
+ghost use Rattle.report_judge.specs.Judging.{IsComparedBy, IsDue, IsLine, IsSettled, Stands, WantsMore, is_over};
 ghost use Rattle.report_judge.specs.Kept.{IsSeen, line_of, part_of};
 
-use crate::kept::Kept;
 use crate::seen::{Part, Seen, take};
 use report_check::Verdict;
 use report_tables::{Transactions, Values, compare, serve_all};
 use serial_spec::NoMemory;
 use session_text::cut_line;
 use std::alloc::Global;
+use txn_bytes::Bytes;
 use txn_names::Key;
+
+/// How many bytes the longest line of a report has, without its line feed: a label, the number of
+/// a line, the longest line of a session, and the answer `orphan` with the longest name, with what
+/// stands between them.
+pub const MOST_BYTES: usize = 633;
 
 /// What the lines so far came to.
 #[derive(Drop)]
@@ -30,7 +35,7 @@ pub(crate) struct Standing {
 pub(crate) struct Judge {
     pub(crate) standing: Standing,
     /// The bytes of a line that has not ended.
-    pub(crate) kept: Kept,
+    pub(crate) kept: Bytes<MOST_BYTES>,
 }
 
 impl Judge {
@@ -46,7 +51,7 @@ impl Judge {
                 line: 1,
                 faulty: false,
             },
-            kept: Kept::new(),
+            kept: Bytes::new(),
         })
     }
 }
@@ -77,7 +82,7 @@ fn keep(judge: &mut Judge, bytes: &[u8])
         → Stands (bs ++ bytes.now) judge.new }
     ensures line { judge.new.standing.line ≡ judge.old.standing.line }
 {
-    if !judge.kept.add(bytes) {
+    if !judge.kept.extend(bytes) {
         judge.standing.faulty = true;
     }
 }
@@ -177,6 +182,19 @@ fn is_over(judge: &Judge) -> bool
         (part_of judge.now.standing.seen.part) }
 {
     !judge.standing.faulty && (judge.kept.is_empty() && judge.standing.seen.has_ended())
+}
+
+/// The verdict, where it is settled whatever bytes come.
+pub(crate) fn settled(judge: &Judge) -> Option<Verdict>
+    ensures settled { IfSome result (λ v.
+        (bs : List ℕ) → Stands bs judge.now → IsSettled bs v) }
+    ensures wanted { IsNone result → (bs : List ℕ) → Stands bs judge.now → WantsMore bs }
+{
+    if judge.standing.faulty {
+        Some(Verdict::No(judge.standing.line))
+    } else {
+        None
+    }
 }
 
 /// The verdict on the bytes. Afterwards what is seen has no meaning. The only error is that memory

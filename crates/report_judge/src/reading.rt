@@ -2,10 +2,10 @@
 ghost use Rattle.std.specs.Prelude.{◌≡◌, [], IfErr, IfOk};
 ghost use Rattle.report_judge.specs.Judging.{HasCheckCause, IsVerdictOn, Stands};
 
-use crate::lines::{Judge, finish, take_bytes};
-use crate::source::{MOST_READS, ReadFault, Source};
+use crate::lines::{Judge, finish, settled, take_bytes};
 use report_check::Verdict;
 use std::alloc::Global;
+use txn_bytes::{MOST_READS, ReadFault, Source};
 
 // How many bytes are asked for at a time.
 const PIECE: usize = 4096;
@@ -15,7 +15,8 @@ const PIECE: usize = 4096;
 pub enum CheckFault {
     /// A growth was refused.
     NoMemory,
-    /// A read failed, or the end had not come after `MOST_READS` of them.
+    /// A read failed, or the end had not come after `MOST_READS` of them. No fault that no later
+    /// line can mend had come then.
     Read,
 }
 
@@ -36,7 +37,10 @@ fn judge_all<R: Source>(judge: &mut Judge, report: &mut R) -> Result<Verdict, Ch
                 };
             }
             Ok(len) => match take_bytes(judge, &bytes[..len]) {
-                Ok(()) => {}
+                Ok(()) => match settled(judge) {
+                    Some(verdict) => return Ok(verdict),
+                    None => {}
+                },
                 Err(_) => return Err(CheckFault::NoMemory),
             },
             Err(ReadFault) => return Err(CheckFault::Read),
@@ -45,8 +49,9 @@ fn judge_all<R: Source>(judge: &mut Judge, report: &mut R) -> Result<Verdict, Ch
     Err(CheckFault::Read)
 }
 
-/// The verdict on the bytes that the reader has left, which is read to its end. After an error
-/// some of them are taken.
+/// The verdict on the bytes that the reader has left. It is read until a line that has ended may
+/// not stand where it stands, or is too long, since no later line changes the verdict then; else to
+/// its end. After an error some of the bytes are taken.
 pub fn check<R: Source>(alloc: Global, report: &mut R) -> Result<Verdict, CheckFault>
     ensures ok { IfOk result (λ v. IsVerdictOn R.Source report.old report.new v) }
     ensures err { IfErr result (HasCheckCause R.Source report.old report.new) }

@@ -40,15 +40,17 @@ impl Read for Piecemeal<'_> {
     }
 }
 
-// A reader that gives a zero byte for ever.
+// A reader that gives this byte for ever.
 #[derive(Drop)]
-struct Endless;
+struct Endless {
+    byte: u8,
+}
 
 impl Read for Endless {
     fn read(&mut self, buf: &mut [u8]) -> io::Result<usize> {
         match buf.first_mut() {
             Some(byte) => {
-                *byte = 0;
+                *byte = self.byte;
                 Ok(1)
             }
             None => Ok(0),
@@ -136,9 +138,31 @@ fn a_reader_that_fails(rt: HostRuntime) {
     );
 }
 
+// Behind a line at fault nothing is read.
+#[test]
+fn a_reader_that_fails_behind_a_fault(rt: HostRuntime) {
+    for (text, calls, line) in [
+        ("opens\n", 1, 1),
+        ("open\n\nopen\n", 1, 2),
+        ("open\nx=1\nw=1\n", 2, 3),
+    ] {
+        assert_eq!(rt;
+            judged(rt.alloc(), text, 7, Some(calls)),
+            Ok(Verdict::No(line))
+        );
+    }
+}
+
+// Zeros are a line that is too long at last, and a line feed is an empty line at once.
 #[test]
 fn a_reader_without_an_end(rt: HostRuntime) {
-    assert_eq!(rt; check(rt.alloc(), &mut Endless), Err(CheckFault::Read));
+    for byte in [0, b'\n'] {
+        let told = match check(rt.alloc(), &mut Endless { byte }) {
+            Err(CheckFault::NoMemory) => check(rt.alloc(), &mut Endless { byte }),
+            told => told,
+        };
+        assert_eq!(rt; told, Ok(Verdict::No(1)));
+    }
 }
 
 #[test]

@@ -5,8 +5,8 @@ use Rattle.std.proofs.lemmas.List.{take_all}
 use Rattle.std.proofs.KnownBytes.{Consumes-nil, Consumes-trans, Consumes-kept}
 use Rattle.std.specs.Io.KnownBytes.{Consumes}
 use Rattle.request_lines.specs.declared.lines.Taken.TheVariants.{Whole, Long, Cut, End}
-use Rattle.request_lines.specs.Keeping.{Adds, EndsLine, IsLine, Keeps, KeepsLine}
-use Rattle.request_lines.specs.Sources.{HasGiven, IsFault, IsGiven, IsPiece, Requests}
+use Rattle.txn_bytes.specs.Sources.{HasGiven, IsFault, IsGiven, IsPiece, Reader}
+use Rattle.request_lines.specs.Keeping.{Adds, EndsLine, GoesOn, IsLine, Keeps, KeepsLine}
 use Rattle.request_lines.specs.Taking.{Holds, Stops, Takes, TakesLast, at_end, at_feed}
 use Rattle.request_lines.proofs.Feeds.{lines_join}
 
@@ -29,16 +29,16 @@ abbrev pub holding : List ℕ → Keeps → Holds
 holding piece k = record { held = piece; kept = k.kept }
 
 -- after so many calls it has come to a line, of which so much is kept, and behind it the piece is held
-pub record IsUnderWay {R : Type 0} (r : Requests R) (old : R) (held : List ℕ) (calls : ℕ) (now : R)
+pub record IsUnderWay {R : Type 0} (r : Reader R) (old : R) (held : List ℕ) (calls : ℕ) (now : R)
     (piece : List ℕ) (k : Keeps) : Type 0 where
   pub line : List ℕ
   pub bytes : List ℕ
-  pub given : IsGiven r held calls old now bytes
+  pub given : IsGiven r (GoesOn held) calls old now bytes
   pub parts : held ++ bytes ≡ line ++ piece
   pub unbroken : IsLine line
   pub keeps : KeepsLine line k
 
-module _ {R : Type 0} (r : Requests R) (old : R) (held : List ℕ) where
+module _ {R : Type 0} (r : Reader R) (old : R) (held : List ℕ) where
   abbrev pub Way : ℕ → R → List ℕ → Keeps → Type 0
   Way calls now piece k = IsUnderWay r old held calls now piece k
 
@@ -76,7 +76,7 @@ module _ {R : Type 0} (r : Requests R) (old : R) (held : List ℕ) where
         line = way.line;
         bytes = way.bytes ++ piece;
         given = record {
-          asked = subst (λ n. HasGiven r held n old new (way.bytes ++ piece)) next (record {
+          asked = subst (λ n. HasGiven r (GoesOn held) n old new (way.bytes ++ piece)) next (record {
             before = now;
             front = way.bytes;
             piece = piece;

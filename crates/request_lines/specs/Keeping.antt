@@ -20,6 +20,10 @@ Adds more old new = (bs : List ℕ) → KeepsLine bs old → KeepsLine (bs ++ mo
 abbrev pub IsLine : List ℕ → Type 0
 IsLine bs = AllByRecursion (λ b. IsFalse (b == 10)) bs
 
+-- behind what was held and these bytes a line goes on
+abbrev pub GoesOn : List ℕ → List ℕ → Type 0
+GoesOn held bytes = IsLine (held ++ bytes)
+
 -- of some bytes those before the first line feed went to the line, and those behind it are left
 pub record EndsLine (old new : List ℕ) (before after : Keeps) : Type 0 where
   pub front : List ℕ

@@ -1,11 +1,11 @@
 -- Lines that are taken off a reader one at a time.
 use Rattle.std.specs.Prelude.{◌≡◌, ◌≢◌, ◌<◌, ◌-◌, ◌^◌, ◌==◌, ◌⊎◌, ℕ, if◌then◌else◌, List, [], ◌∷◌, ◌++◌, length, take, Ok, Err}
 use Rattle.std.specs.Io.KnownBytes.{Consumes, IsAtEnd}
+use Rattle.txn_bytes.specs.Sources.{IsGiven, Reader}
 use Rattle.request_lines.specs.declared.kept.TheConstants.{MOST_BYTES}
 use Rattle.request_lines.specs.declared.lines.Taken.{Taken}
 use Rattle.request_lines.specs.declared.lines.Taken.TheVariants.{Whole, Long, Cut, End}
-use Rattle.request_lines.specs.Keeping.{IsLine, Keeps}
-use Rattle.request_lines.specs.Sources.{IsGiven, Requests}
+use Rattle.request_lines.specs.Keeping.{GoesOn, IsLine, Keeps}
 
 -- the bytes that the reader has given and no line has taken, and those that are kept of the line
 -- that was taken last
@@ -14,23 +14,23 @@ pub record Holds : Type 0 where
   pub kept : List ℕ
 
 -- what was held and what was given since are the line, its line feed, and what is held now
-pub record TakesLine {R : Type 0} (r : Requests R) (old new : R) (before after : Holds)
+pub record TakesLine {R : Type 0} (r : Reader R) (old new : R) (before after : Holds)
     (line : List ℕ) : Type 0 where
   pub calls : ℕ
   pub bytes : List ℕ
-  pub given : IsGiven r before.held calls old new bytes
+  pub given : IsGiven r (GoesOn before.held) calls old new bytes
   pub parts : before.held ++ bytes ≡ line ++ 10 ∷ after.held
   pub unbroken : IsLine line
   pub kept : after.kept ≡ take MOST_BYTES line
 
 -- what was held and what was given since has no line feed, and then the reader said that it was at
 -- its end
-pub record TakesLast {R : Type 0} (r : Requests R) (old new : R) (before after : Holds)
+pub record TakesLast {R : Type 0} (r : Reader R) (old new : R) (before after : Holds)
     (line : List ℕ) : Type 0 where
   pub calls : ℕ
   pub bytes : List ℕ
   pub last : R
-  pub given : IsGiven r before.held calls old last bytes
+  pub given : IsGiven r (GoesOn before.held) calls old last bytes
   pub parts : before.held ++ bytes ≡ line
   pub unbroken : IsLine line
   pub ended : r.gives last new (Ok [])
@@ -40,7 +40,7 @@ pub record TakesLast {R : Type 0} (r : Requests R) (old new : R) (before after :
   pub kept : after.kept ≡ take MOST_BYTES line
 
 -- what was taken
-abbrev pub Takes : {R : Type 0} → Requests R → R → R → Holds → Holds → Taken → Type 0
+abbrev pub Takes : {R : Type 0} → Reader R → R → R → Holds → Holds → Taken → Type 0
 Takes r old new before after Whole = TakesLine r old new before after after.kept
 Takes r old new before after Long =
     (line : List ℕ) × TakesLine r old new before after line × (MOST_BYTES < length line)
@@ -50,12 +50,12 @@ Takes r old new before after End = TakesLast r old new before after []
 
 -- no line was taken: behind these bytes, which have no line feed, the reader answered an error, or
 -- it was called too many times
-pub record Stops {R : Type 0} (r : Requests R) (old new : R) (before after : Holds) : Type 0 where
+pub record Stops {R : Type 0} (r : Reader R) (old new : R) (before after : Holds) : Type 0 where
   pub line : List ℕ
   pub calls : ℕ
   pub bytes : List ℕ
   pub last : R
-  pub given : IsGiven r before.held calls old last bytes
+  pub given : IsGiven r (GoesOn before.held) calls old last bytes
   pub taken : Consumes (r.remaining old) (r.remaining new) bytes
   pub parts : before.held ++ bytes ≡ line ++ after.held
   pub unbroken : IsLine line

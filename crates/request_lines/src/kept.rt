@@ -1,8 +1,9 @@
 //! The bytes of a line, as far as they are kept.
-ghost use Rattle.std.specs.Prelude.{◌≡◌, ◌+◌, ◌++◌, ◌≤◌, [], length};
+ghost use Rattle.std.specs.Prelude.{◌≡◌, ◌≤◌, [], length};
 ghost use Rattle.request_lines.specs.Keeping.{Adds, KeepsLine};
 
 use std::marker::Model;
+use txn_bytes::Bytes;
 
 /// How many bytes the longest request has, without its line feed: a label, a space, and the
 /// longest line of a session.
@@ -11,21 +12,17 @@ pub const MOST_BYTES: usize = 346;
 /// The bytes of a line, or its first `MOST_BYTES` where it has more. It takes no memory.
 #[derive(Drop)]
 pub(crate) struct Kept {
-    bytes: [u8; MOST_BYTES],
-    len: usize,
+    bytes: Bytes<MOST_BYTES>,
     // Whether the line has more bytes than are kept.
     more: bool,
 }
 
 impl Model for Kept {
-    ghost use Rattle.std.specs.Prelude.{◌≡◌, ◌≤◌, length, take};
     ghost use Rattle.request_lines.specs.Keeping.{Keeps};
 
     ghost Value = { Keeps };
 
-    ghost view = { λ k. record { kept = take k.len k.bytes; more = k.more } };
-
-    ghost invariant = { λ k. (k.len ≤ 346) × (length k.bytes ≡ 346) };
+    ghost view = { λ k. record { kept = k.bytes; more = k.more } };
 }
 
 impl Kept {
@@ -34,8 +31,7 @@ impl Kept {
         ensures { KeepsLine [] result }
     {
         Kept {
-            bytes: [0; MOST_BYTES],
-            len: 0,
+            bytes: Bytes::new(),
             more: false,
         }
     }
@@ -45,7 +41,7 @@ impl Kept {
         ensures value { result.now ≡ self.now.kept }
         ensures fits { length result.now ≤ MOST_BYTES }
     {
-        &self.bytes[..self.len]
+        self.bytes.as_bytes()
     }
 
     /// Whether the line has more bytes than are kept.
@@ -59,7 +55,7 @@ impl Kept {
     pub(crate) fn clear(&mut self)
         ensures { KeepsLine [] self.new }
     {
-        self.len = 0;
+        self.bytes.clear();
         self.more = false;
     }
 
@@ -67,23 +63,11 @@ impl Kept {
     pub(crate) fn add(&mut self, bytes: &[u8])
         ensures { Adds bytes.now self.old self.new }
     {
-        let room = MOST_BYTES - self.as_bytes().len();
-        if bytes.len() <= room {
-            self.put(bytes);
-        } else {
-            self.put(&bytes[..room]);
-            self.more = true;
+        if self.bytes.extend(bytes) {
+            return;
         }
-    }
-
-    // Puts bytes behind those that are kept, which fit.
-    fn put(&mut self, bytes: &[u8])
-        requires { length self.old.kept + length bytes.now ≤ MOST_BYTES }
-        ensures kept { self.new.kept ≡ self.old.kept ++ bytes.now }
-        ensures more { self.new.more ≡ self.old.more }
-    {
-        let end = self.len + bytes.len();
-        self.bytes[self.len..end].copy_from_slice(bytes);
-        self.len = end;
+        let room = MOST_BYTES - self.bytes.as_bytes().len();
+        self.bytes.extend(&bytes[..room]);
+        self.more = true;
     }
 }

@@ -5,8 +5,6 @@
 mod kept;
 mod lines;
 mod piece;
-mod source;
 
 pub use kept::MOST_BYTES;
 pub use lines::{RequestLines, Taken};
-pub use source::{ReadFault, Source};

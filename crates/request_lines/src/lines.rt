@@ -4,8 +4,8 @@ ghost use Rattle.request_lines.specs.Taking.{at_end, at_feed, Stops, Takes};
 
 use crate::kept::{Kept, MOST_BYTES};
 use crate::piece::Piece;
-use crate::source::{ReadFault, Source};
 use std::marker::Model;
+use txn_bytes::{ReadFault, Source};
 
 /// What was taken.
 #[derive(Clone, Copy, Debug, PartialEq, Eq)]

@@ -1,11 +1,11 @@
 //! The bytes that a reader gave last.
 ghost use Rattle.std.specs.Prelude.{◌≡◌, ◌≤◌, ◌==◌, [], drop, length, position, OnOk, OnErr, MatchBool};
-ghost use Rattle.request_lines.specs.Sources.{IsFault, IsPiece};
+ghost use Rattle.txn_bytes.specs.Sources.{IsFault, IsPiece};
 ghost use Rattle.request_lines.specs.Keeping.{Adds, EndsLine, IsLine};
 
 use crate::kept::Kept;
-use crate::source::{ReadFault, Source};
 use std::marker::Model;
+use txn_bytes::{ReadFault, Source};
 
 // How many bytes are asked for at a time.
 const MOST_GIVEN: usize = 4096;

@@ -65,7 +65,7 @@ fn is_put(alloc: Global, calls: usize, fails: bool, want: &[u8]) -> bool {
         fails,
     };
     let wanted = if calls == 3 { Ok(()) } else { Err(WriteFault) };
-    put(&mut out, b"abcdefg") == wanted && out.taken.as_slice() == want
+    put(&mut &mut out, b"abcdefg") == wanted && out.taken.as_slice() == want
 }
 
 #[test]

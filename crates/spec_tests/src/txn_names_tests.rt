@@ -139,7 +139,7 @@ fn halts(rt: &impl Abort, alloc: Global, fails: bool, calls: usize, want: &str) 
         calls,
         fails,
     };
-    let told = name(rt, "ab/c").write_to(&mut out);
+    let told = name(rt, "ab/c").write_to(&mut &mut out);
     let wanted = if calls == 4 { Ok(()) } else { Err(WriteFault) };
     told == wanted && out.taken.as_slice() == want.as_bytes()
 }

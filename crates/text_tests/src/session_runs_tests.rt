@@ -142,7 +142,7 @@ fn is_narrow(rt: &impl Abort, alloc: Global, left: usize, flushes: bool) -> bool
         flushes,
     };
     let mut err = Vec::new(alloc);
-    let ended = replay_over(alloc, FIRST, &[], empty(rt, alloc), &mut out, &mut err);
+    let ended = replay_over(alloc, FIRST, &[], empty(rt, alloc), &mut &mut out, &mut err);
     let taken = out.taken.as_slice();
     ended.status == 1
         && err.as_slice() == b"tx: cannot write\n".as_slice()

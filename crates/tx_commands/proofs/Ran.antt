@@ -1,7 +1,7 @@
 -- A run of a file's text, from its steps, and how far a file was read when memory ran out.
 use Rattle.std.proofs.Common.{◌≡◌, ℕ, ℤ, List, Option, None, ap, sym, subst, inl, inr}
 use Rattle.std.specs.Option.{option_map}
-use Rattle.report_judge.specs.Sources.{Reader}
+use Rattle.txn_bytes.specs.Sources.{Reader}
 use Rattle.tx_commands.specs.Programs.{HasRun}
 use Rattle.tx_commands.specs.Texts.{HasFile, HasUnfoundCause, IsReadSoFar, IsWholeText}
 use Rattle.tx_commands.specs.Worlds.{State, World}

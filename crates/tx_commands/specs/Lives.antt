@@ -2,7 +2,7 @@
 -- error writer.
 use Rattle.std.specs.Prelude.{◌≡◌, ◌⊎◌, ℕ, List, Option, Some, None, IsSomeAnd}
 use Rattle.durable_top.specs.declared.store.TopStore.{Ghosts}
-use Rattle.request_lines.specs.Sources.{Requests}
+use Rattle.txn_bytes.specs.Sources.{Reader}
 use Rattle.live_runs.specs.Living.{IsLived, IsUnlived}
 use Rattle.program_words.specs.Faults.{IsSaid, spelled_fault}
 use Rattle.program_words.specs.declared.fault.Fault.TheVariants.{NoMemory}
@@ -17,7 +17,7 @@ pub record HasLived {S : Type 0} (IsOver : S → Option S → Type 0)
   pub over : IsOver store left
   pub ended : HasEnded store left
 
-module _ {H T P N I W E : Type 0} (o : World H T P N W E) (r : Requests I)
+module _ {H T P N I W E : Type 0} (o : World H T P N W E) (r : Reader I)
     (before after : State H W E) (in_old in_new : I) where
   -- nothing was read or written, and this is why
   pub record IsUnbegunLive (HasCause : Type 0) : Type 0 where

@@ -1,6 +1,7 @@
 -- What the program's exit status says of what it read, of its output, of its store and of the
 -- error writer.
 use Rattle.std.specs.Prelude.{◌≡◌, ◌⊎◌, ℕ, List, ◌++◌, Option, Some, None, IsNone, Ok, Err, codes}
+use Rattle.txn_bytes.specs.Sources.{Reader}
 use Rattle.txn_bytes.specs.Written.{Writer}
 use Rattle.line_language.specs.Report.{line}
 use Rattle.durable_top.specs.declared.store.StoreFault.{StoreFault}
@@ -8,7 +9,6 @@ use Rattle.durable_top.specs.declared.store.TopStore.{Ghosts}
 use Rattle.report_check.specs.declared.verdict.Verdict.{Verdict}
 use Rattle.report_check.specs.declared.verdict.Verdict.TheVariants.{No, Yes}
 use Rattle.report_judge.specs.Judging.{HasCheckCause, IsVerdictOn}
-use Rattle.report_judge.specs.Sources.{Reader}
 use Rattle.report_judge.specs.declared.reading.CheckFault.TheVariants as judging
 use Rattle.report_text.specs.Verdicts.{spelled_verdict}
 use Rattle.program_words.specs.Faults.{IsSaid, spelled_fault}

@@ -1,33 +1,36 @@
 -- What the file at a path gave.
 use Rattle.std.specs.Prelude.{◌<◌, ◌≤◌, ◌⊎◌, ℕ, List, length, Ok, Err}
-use Rattle.report_judge.specs.Sources.{HasGiven, IsPartRead, IsReadWhole, IsUnread, Reader}
+use Rattle.txn_bytes.specs.Sources.{HasGiven, IsPartRead, IsReadWhole, IsUnread, Reader}
 use Rattle.tx_commands.specs.declared.host.Surroundings as surroundings
 use Rattle.tx_commands.specs.declared.reading.TheConstants.{LONGEST_TEXT}
 use Rattle.tx_commands.specs.declared.reading.TextFault.{TextFault}
 use Rattle.tx_commands.specs.declared.reading.TextFault.TheVariants.{NoMemory, Unread}
 
+-- the bytes are no more than a text may have, so that more is wanted
+abbrev pub IsShort : List ℕ → Type 0
+IsShort bytes = length bytes ≤ LONGEST_TEXT
+
 module _ {R : Type 0} (r : Reader R) (old new : R) where
   -- the reader gave these bytes up to its end, and they are no more than a text may have
-  pub record IsWholeText (text : List ℕ) : Type 0 where
-    pub whole : IsReadWhole r old new text
-    pub short : length text ≤ LONGEST_TEXT
+  abbrev pub IsWholeText : List ℕ → Type 0
+  IsWholeText text = IsReadWhole r IsShort old new text
 
   -- it gave more bytes than a text may have
   pub record IsTooLong : Type 0 where
     pub calls : ℕ
     pub bytes : List ℕ
-    pub given : HasGiven r calls old new bytes
+    pub given : HasGiven r IsShort calls old new bytes
     pub long : LONGEST_TEXT < length bytes
 
   -- why a reader gave no text: a growth was refused while it gave bytes; or it did not come to its
   -- end, or gave too many
   abbrev pub HasTextCause : TextFault → Type 0
-  HasTextCause NoMemory = IsPartRead r old new
-  HasTextCause Unread = IsUnread r old new ⊎ IsTooLong
+  HasTextCause NoMemory = IsPartRead r IsShort old new
+  HasTextCause Unread = IsUnread r IsShort old new ⊎ IsTooLong
 
   -- it gave some bytes, or a whole text
   abbrev pub IsReadSoFar : Type 0
-  IsReadSoFar = IsPartRead r old new ⊎ ((text : List ℕ) × IsWholeText text)
+  IsReadSoFar = IsPartRead r IsShort old new ⊎ ((text : List ℕ) × IsWholeText text)
 
 -- the surroundings were asked for the file at this path and gave it, and reading took it from one
 -- state to another so

@@ -1,7 +1,7 @@
 -- What a command has to do with: the surroundings, the stores and the two writers.
+use Rattle.txn_bytes.specs.Sources.{Reader}
 use Rattle.txn_bytes.specs.Written.{Writer}
 use Rattle.durable_top.specs.declared.store.TopStore.{Ghosts}
-use Rattle.report_judge.specs.Sources.{Reader}
 use Rattle.tx_commands.specs.declared.host.Surroundings as surroundings
 
 -- what is said of the surroundings, of a file and of a database that they give, of a store in

@@ -10,11 +10,11 @@ use crate::host::Surroundings;
 use durable_top::TopStore;
 use program_words::{DONE, FAILED, Fault, finish, tell};
 use report_check::Verdict;
-use report_judge::{CheckFault, ReadFault, check};
+use report_judge::{CheckFault, check};
 use report_text::write_verdict;
 use sql_store::MemoryStore;
 use std::alloc::Global;
-use txn_bytes::Sink;
+use txn_bytes::{ReadFault, Sink};
 
 // The output is asked to take the verdict and to pass it on. The answer is whether it did both;
 // where not, that is told.

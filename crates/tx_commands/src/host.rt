@@ -2,10 +2,10 @@
 ghost use Rattle.std.specs.Prelude.{◌≡◌};
 
 use durable_top::{StoreFault, TopStore};
-use report_judge::{ReadFault, Source};
 use sql_store::DatabaseStore;
 use std::fs::{self, File};
 use std::rt::HostRuntime;
+use txn_bytes::{ReadFault, Source};
 
 /// Files and databases by their paths, with relations that say what was asked of them and what the
 /// answer was. Their state is what was asked so far.
@@ -17,7 +17,7 @@ use std::rt::HostRuntime;
 /// what was asked.
 pub trait Surroundings {
     ghost use Rattle.std.specs.Prelude.{ℕ, List, Option, Result};
-    ghost use Rattle.report_judge.specs.declared.source.ReadFault.{ReadFault};
+    ghost use Rattle.txn_bytes.specs.declared.source.ReadFault.{ReadFault};
     ghost use Rattle.durable_top.specs.declared.store.StoreFault.{StoreFault};
 
     /// A file that was opened to be read.

@@ -9,10 +9,9 @@ use crate::host::Surroundings;
 use durable_top::TopStore;
 use live_runs::live_over;
 use program_words::{Fault, tell};
-use request_lines::Source;
 use sql_store::MemoryStore;
 use std::alloc::Global;
-use txn_bytes::Sink;
+use txn_bytes::{Sink, Source};
 
 // Over a table in memory that is empty at the beginning.
 fn live_none<H: Surroundings, I: Source, W: Sink, E: Sink>(

@@ -3,8 +3,8 @@ ghost use Rattle.std.specs.Prelude.{IfErr, IfOk};
 ghost use Rattle.tx_commands.specs.Texts.{HasFile, HasTextCause, HasUnfoundCause, IsWholeText};
 
 use crate::host::Surroundings;
-use report_judge::{MOST_READS, ReadFault, Source};
 use std::alloc::Global;
+use txn_bytes::{MOST_READS, ReadFault, Source};
 
 /// How many bytes a session text may have at most.
 pub const LONGEST_TEXT: usize = 134_217_728;

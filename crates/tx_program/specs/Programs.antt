@@ -1,7 +1,7 @@
 -- What the words of the command line asked for, and whether it was done.
 use Rattle.std.specs.Prelude.{◌≡◌, ◌≤◌, ℕ}
 use Rattle.std.specs.Option.{option_copied}
-use Rattle.request_lines.specs.Sources.{Requests}
+use Rattle.txn_bytes.specs.Sources.{Reader}
 use Rattle.program_words.specs.declared.status.TheConstants.{DONE, FAILED}
 use Rattle.program_words.specs.Faults.{IsSaid, spelled_fault}
 use Rattle.program_words.specs.declared.fault.Fault.TheVariants.{NoMemory}
@@ -32,7 +32,7 @@ module _ {H T P N W E : Type 0} (o : World H T P N W E) (before after : State H 
   IsCondemnedBy (Run file workers database) = ⊥
   IsCondemnedBy (Alone solo) = IsCondemnedAlone solo
 
-module _ {H T P N I W E : Type 0} (o : World H T P N W E) (r : Requests I)
+module _ {H T P N I W E : Type 0} (o : World H T P N W E) (r : Reader I)
     (before after : State H W E) (in_old in_new : I) where
   -- it was done: the output got the report, or the verdict yes, or the rows. Only a live run reads
   -- the input

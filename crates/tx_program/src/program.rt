@@ -11,15 +11,13 @@ use clap::Error;
 use command_line::{Solo, Task, task_of};
 use durable_top::TopStore;
 use program_words::{Fault, misuse, tell};
-use report_judge::Source;
-use request_lines::Source as RequestSource;
 use sql_store::MemoryStore;
 use std::alloc::{AllocError, Global};
 use std::sync::Wait;
 use std::thread::Threads;
 use std::time::Clock;
 use tx_commands::{Surroundings, judge, list, live, replay};
-use txn_bytes::Sink;
+use txn_bytes::{Sink, Source};
 use worker_commands::run;
 
 /// Does what the words after the program's name ask for, over the files and databases of `host`,
@@ -28,13 +26,7 @@ use worker_commands::run;
 /// line. Words that are no command line are told there too. Workers run on `threads`, by which
 /// nothing else is done, and the requests of a live run come from `input`, of which nothing else
 /// reads.
-pub fn tx_main<
-    H: Surroundings,
-    R: Threads + Wait + Clock + Sync,
-    I: RequestSource,
-    W: Sink,
-    E: Sink,
->(
+pub fn tx_main<H: Surroundings, R: Threads + Wait + Clock + Sync, I: Source, W: Sink, E: Sink>(
     host: &mut H,
     threads: &R,
     alloc: Global,
@@ -92,7 +84,7 @@ pub fn tx_main<
 }
 
 // What one thread does, by its command.
-fn perform<H: Surroundings, I: RequestSource, W: Sink, E: Sink>(
+fn perform<H: Surroundings, I: Source, W: Sink, E: Sink>(
     host: &mut H,
     alloc: Global,
     solo: Solo,

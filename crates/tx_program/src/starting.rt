@@ -10,8 +10,6 @@ ghost use Rattle.tx_program.specs.Programs.{ForSomeTask, IsCondemnedBy, IsDone, 
 use crate::program::tx_main;
 use durable_top::TopStore;
 use program_words::misuse;
-use report_judge::Source;
-use request_lines::Source as RequestSource;
 use sql_store::MemoryStore;
 use std::alloc::Global;
 use std::io;
@@ -19,11 +17,11 @@ use std::sync::Wait;
 use std::thread::Threads;
 use std::time::Clock;
 use tx_commands::Surroundings;
-use txn_bytes::Sink;
+use txn_bytes::{Sink, Source};
 
 /// The exit status: that of `tx_main` with these words, or that the words are no text, which is told
 /// in a line on `err`.
-pub fn start<H: Surroundings, R: Threads + Wait + Clock + Sync, I: RequestSource, W: Sink, E: Sink>(
+pub fn start<H: Surroundings, R: Threads + Wait + Clock + Sync, I: Source, W: Sink, E: Sink>(
     host: &mut H,
     threads: &R,
     alloc: Global,

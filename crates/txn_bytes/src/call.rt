@@ -6,7 +6,9 @@ use crate::sink::WriteFault;
 use std::io::Write;
 
 /// A writer, with relations that say which call was made: in which state of the writer, with which
-/// bytes, what it answered and in which state it was left. Every type that is `Write` is one.
+/// bytes, what it answered and in which state it was left. Of the library's writers files, the
+/// standard streams, vectors and buffers are sinks. A reference to any writer is one too: what
+/// takes a sink takes `&mut &mut writer` for each writer.
 ///
 /// A caller that is generic over the sink knows nothing of the relations, and so it can only have
 /// them from a call of the method. By them it can promise that a fault which it tells is one that
@@ -38,28 +40,4 @@ pub trait Sink: Write {
     fn pass_on(&mut self) -> Result<(), WriteFault>
         ensures kept { Keeps (Self.contents self.old) (Self.contents self.new) }
         ensures asked { flushes self.old self.new result };
-}
-
-impl<W: Write> Sink for W {
-    ghost use Rattle.std.specs.Io.KnownBytes.{Keeps, WriteAppends};
-
-    ghost takes = { λ old new bytes answer.
-        WriteAppends (W.contents old) (W.contents new) answer bytes };
-
-    ghost flushes = { λ old new answer. Keeps (W.contents old) (W.contents new) };
-
-    fn take(&mut self, bytes: &[u8]) -> Result<usize, WriteFault> {
-        match self.write(bytes) {
-            Ok(0) => Err(WriteFault),
-            Ok(n) => Ok(n),
-            Err(_) => Err(WriteFault),
-        }
-    }
-
-    fn pass_on(&mut self) -> Result<(), WriteFault> {
-        match self.flush() {
-            Ok(()) => Ok(()),
-            Err(_) => Err(WriteFault),
-        }
-    }
 }

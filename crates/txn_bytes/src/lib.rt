@@ -1,10 +1,15 @@
-//! Bytes: a few of them held in a value, and any number handed to a writer.
+//! Bytes: held in a value, handed to a writer, and given by a reader.
 #![tactic(auto)]
 
+mod bytes;
 mod call;
 mod held;
 mod sink;
+mod sinks;
+mod source;
 
+pub use bytes::Bytes;
 pub use call::Sink;
 pub use held::Held;
 pub use sink::{WriteFault, put};
+pub use source::{MOST_READS, ReadFault, Source};

@@ -49,7 +49,7 @@ fn is_narrow(rt: &impl Abort, alloc: Global, left: usize, flushes: bool) -> bool
     };
     let mut err = Vec::new(alloc);
     let mut store = store_of_two(rt, alloc, empty(rt, alloc));
-    let status = list_rows(alloc, &mut store, &mut out, &mut err);
+    let status = list_rows(alloc, &mut store, &mut &mut out, &mut err);
     let taken = out.taken.as_slice();
     status == 1
         && err.as_slice() == b"tx: cannot write\n".as_slice()

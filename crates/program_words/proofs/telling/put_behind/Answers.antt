@@ -1,8 +1,8 @@
-use Rattle.txn_bytes.proofs.Appending.{front_of, on_err, then_on_err}
+use Rattle.txn_bytes.proofs.Appending.{cut_before, handed_on, puts_then}
 use Rattle.program_words.proofs.telling.put_behind.Goals as goal
 
-pub returns-in_err-put-clause-err : goal.returns-in_err-put-clause-err
-returns-in_err-put-clause-err g c = on_err c.from_residual.result (front_of _ _ _ _ c.in_err-put.ensures.err)
+pub returns-in_err-put : goal.returns-in_err-put
+returns-in_err-put g c = handed_on (cut_before _ c.in_err-put.ensures) c.from_residual.ensures.0
 
-pub returns-clause-err : goal.returns-clause-err
-returns-clause-err g c = then_on_err _ _ _ _ _ _ c.in_ok-put.ensures.ok c.put-2.ensures.err
+pub returns : goal.returns
+returns g c = puts_then c.in_ok-put.ensures c.put-2.ensures

@@ -1,15 +1,11 @@
-use Rattle.std.specs.Prelude.{codes}
-use Rattle.txn_bytes.proofs.Appending.{front_of, on_err, then, then_front, then_on_err}
+use Rattle.txn_bytes.proofs.Appending.{cut_before, handed_on, puts_then}
 use Rattle.program_words.proofs.telling.put_place.Goals as goal
 
-pub returns-in_err-put_counted-clause-err : goal.returns-in_err-put_counted-clause-err
-returns-in_err-put_counted-clause-err g c =
-    on_err c.from_residual.result (front_of _ _ _ _ (front_of _ _ _ _ c.in_err-put_counted.ensures.err))
+pub returns-in_err-put_counted : goal.returns-in_err-put_counted
+returns-in_err-put_counted g c = handed_on (cut_before _ (cut_before _ c.in_err-put_counted.ensures)) c.from_residual.ensures.0
 
-pub returns-in_err-put-clause-err : goal.returns-in_err-put-clause-err
-returns-in_err-put-clause-err g c =
-    on_err c.from_residual-in_err-put.result (front_of _ _ _ _ (then_front _ _ _ _ (codes ": ") c.in_ok-put_counted.ensures.ok c.in_err-put.ensures.err))
+pub returns-in_err-put : goal.returns-in_err-put
+returns-in_err-put g c = handed_on (cut_before _ (puts_then c.in_ok-put_counted.ensures c.in_err-put.ensures)) c.from_residual-in_err-put.ensures.0
 
-pub returns-clause-err : goal.returns-clause-err
-returns-clause-err g c =
-    then_on_err _ _ _ _ _ _ (then _ _ _ _ (codes ": ") c.in_ok-put_counted.ensures.ok c.in_ok-put.ensures.ok) c.put_kind.ensures.err
+pub returns : goal.returns
+returns g c = puts_then (puts_then c.in_ok-put_counted.ensures c.in_ok-put.ensures) c.put_kind.ensures

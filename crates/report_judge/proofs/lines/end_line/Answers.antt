@@ -8,6 +8,7 @@ returns-then-is_empty-clause-stands c =
     on_ok_map c.take_line.result _ _ c.take_line.ensures.due
     (λ takes bs whole stands. record {
       line = stands.line;
+      short = stands.short;
       due = ended_apart bs c.args.bytes.now c.args.judge.now.kept c.args.judge.now.standing c.take_line.new.standing
           (no_bytes c.args.judge.now.kept (sym c.is_empty.ensures ∙ c.if-is_empty.true)) stands.due (takes (bs ++ c.args.bytes.now) whole);
     })

@@ -1,5 +1,5 @@
-use Rattle.report_judge.proofs.Sourcing.{none_read}
+use Rattle.txn_bytes.proofs.Sourcing.{none_read}
 use Rattle.report_judge.proofs.reading.check.Goals as goal
 
 pub returns-in_default-clause-err : goal.returns-in_default-clause-err
-returns-in_default-clause-err g c = none_read _ c.args.report.now
+returns-in_default-clause-err g c = none_read _ _ c.args.report.now

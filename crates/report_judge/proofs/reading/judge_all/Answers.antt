@@ -1,19 +1,38 @@
-use Rattle.std.proofs.Common.{◌≡◌, ◌≤◌, ◌++◌, take, length, ap, sym, arith}
-use Rattle.std.proofs.KnownBytes.{Consumes-trans}
-use Rattle.report_judge.proofs.Sourcing.{given_more, is_some, part_read, whole_read}
+use Rattle.std.proofs.Common.{◌≡◌, ◌≤◌, ℕ, List, [], ◌++◌, take, length, refl, ap, sym, arith}
+use Rattle.std.proofs.KnownBytes.{Consumes-nil, Consumes-trans}
+use Rattle.txn_bytes.proofs.Sourcing.{given_more, is_some, part_read, whole_read}
+use Rattle.report_judge.proofs.Judging.{verdict_early, verdict_whole, wants_first}
 use Rattle.report_judge.proofs.reading.judge_all.Goals as goal
 
 pub returns-in-Err-finish-clause-err : goal.returns-in-Err-finish-clause-err
 returns-in-Err-finish-clause-err g c =
     let i = c.loop-call.invariant in
-    whole_read _ c.loop-call._call _ _ _ i.2.0 _ i.2.3 i.2.1 c.in-Ok-eq0.ensures.asked
+    whole_read _ _ c.loop-call._call _ _ _ i.2.0 _ i.2.3 i.2.4 i.2.1 c.in-Ok-eq0.ensures.asked
     (ap (λ n. take n c.give.new.buf) c.in-Ok-eq0.field-0-test)
     c.in-Ok-eq0.ensures.bytes.0
+
+pub returns-in-Ok-finish-clause-ok : goal.returns-in-Ok-finish-clause-ok
+returns-in-Ok-finish-clause-ok g c =
+    let i = c.loop-call.invariant in
+    verdict_whole _ c.loop-call._call _ _ _ i.2.0 _ _ c.loop-call-test.true i.2.3 i.2.4 i.2.1 c.in-Ok-eq0.ensures.asked c.in-Ok-eq0.ensures.bytes.0
+    (ap (λ n. take n c.give.new.buf) c.in-Ok-eq0.field-0-test) (c.in-Ok-eq0.ensures.bytes.1 c.in-Ok-eq0.field-0-test (omega (arith, c.give.auto.buf, i.0)))
+    (c.in-Ok-finish.ensures i.2.0 i.2.2)
+
+pub returns-in-Some-clause-ok : goal.returns-in-Some-clause-ok
+returns-in-Some-clause-ok g c =
+    let i = c.loop-call.invariant in
+    let piece : List ℕ = take c.in-Ok.len c.give.new.buf in
+    verdict_early _ c.loop-call._call _ _ _ i.2.0 piece _ c.loop-call-test.true i.2.3 i.2.4 i.2.1 c.in-Ok.ensures.asked c.in-Ok.ensures.bytes.0
+    (is_some c.in-Ok.len piece c.in-Ok.ensures.bound.1 c.in-Ok.len-test.1)
+    (c.in-Some.ensures.settled (i.2.0 ++ piece) (c.in-Ok-take_bytes.ensures.stands i.2.0 i.2.2))
+
+pub loop-call-init : goal.loop-call-init
+loop-call-init g c = (omega arith, omega (arith, c.requires.line), ([], Consumes-nil _, c.requires.stands, (refl, refl), wants_first))
 
 pub returns-in-Err-take_bytes-clause-err : goal.returns-in-Err-take_bytes-clause-err
 returns-in-Err-take_bytes-clause-err g c =
     let i = c.loop-call.invariant in
-    part_read _ c.loop-call._call _ _ _ i.2.0 _ i.2.3 i.2.1 c.in-Ok.ensures.asked
+    part_read _ _ c.loop-call._call _ _ _ i.2.0 _ i.2.3 i.2.4 i.2.1 c.in-Ok.ensures.asked
     (is_some c.in-Ok.len (take c.in-Ok.len c.give.new.buf) c.in-Ok.ensures.bound.1 c.in-Ok.len-test.1)
     c.in-Ok.ensures.bytes.0
 
@@ -31,7 +50,8 @@ loop-call-preserved g c =
         i.2.0 ++ take n buf,
         Consumes-trans _ _ _ _ _ i.2.1 c.in-Ok.ensures.bytes.0,
         c.in-Ok-take_bytes.ensures.stands i.2.0 i.2.2,
-        given_more _ c.loop-call._call _ _ _ i.2.0 _ i.2.3 c.in-Ok.ensures.asked
+        given_more _ _ c.loop-call._call _ _ _ i.2.0 _ i.2.3 i.2.4 c.in-Ok.ensures.asked
             (is_some n (take n buf) c.in-Ok.ensures.bound.1 c.in-Ok.len-test.1),
+        c.in-None.ensures.wanted refl (i.2.0 ++ take n buf) (c.in-Ok-take_bytes.ensures.stands i.2.0 i.2.2),
       ),
     )

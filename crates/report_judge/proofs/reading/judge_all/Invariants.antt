@@ -1,7 +1,7 @@
 use Rattle.std.proofs.Common.{◌≡◌, ℕ, List, ◌+◌, ◌*◌, ◌≤◌, length}
 use Rattle.std.specs.Io.KnownBytes.{Consumes}
-use Rattle.report_judge.specs.Judging.{Stands}
-use Rattle.report_judge.specs.Sources.{HasGiven}
+use Rattle.txn_bytes.specs.Sources.{HasGiven}
+use Rattle.report_judge.specs.Judging.{Stands, WantsMore}
 use Rattle.report_judge.proofs.reading.judge_all.Given as goal
 
 abbrev pub invariant-loop-call : goal.invariant-loop-call
@@ -10,4 +10,5 @@ invariant-loop-call g l =
     × ((bs : List ℕ)
     × Consumes (g.R.Read.remaining l.initial.report) (g.R.Read.remaining l.report) bs
     × Stands bs l.judge
-    × HasGiven (record { remaining = g.R.Read.remaining; gives = g.R.Source.gives }) l._call l.initial.report l.report bs)
+    × HasGiven (record { remaining = g.R.Read.remaining; gives = g.R.Source.gives }) WantsMore l._call l.initial.report l.report bs
+    × WantsMore bs)

@@ -1,9 +1,10 @@
 use Rattle.std.proofs.Common.{◌≡◌, ◌+◌, ◌++◌, take, length, sym, subst, ap, inr, arith, List, ℕ}
 use Rattle.std.specs.Io.KnownBytes.{Consumes}
-use Rattle.report_judge.specs.Sources.{HasGiven}
+use Rattle.txn_bytes.specs.Sources.{HasGiven}
 use Rattle.std.proofs.KnownBytes.{Consumes-trans}
 use Rattle.std.proofs.lemmas.List.{length-append}
-use Rattle.report_judge.proofs.Sourcing.{given_more, is_some, part_read}
+use Rattle.txn_bytes.proofs.Sourcing.{given_more, is_some, part_read}
+use Rattle.tx_commands.specs.Texts.{IsShort}
 use Rattle.tx_commands.proofs.reading.read_within.Goals as goal
 
 pub returns-then-len-clause-err : goal.returns-then-len-clause-err
@@ -15,7 +16,7 @@ returns-then-len-clause-err g c =
     inr (record {
       calls = c.loop-call._call + 1;
       bytes = bytes;
-      given = given_more _ c.loop-call._call _ _ _ _ _ i.2.1 c.in-Ok.ensures.asked
+      given = given_more _ IsShort c.loop-call._call _ _ _ _ _ i.2.1 i.1 c.in-Ok.ensures.asked
           (is_some n piece c.in-Ok.ensures.bound.1 c.in-Ok.len-test.1);
       long = omega (arith, c.if-len.true, c.len.ensures, c.loop-call.text.ok.0, c.in-Ok.ensures.bound.1, length-append c.loop-call.text.items piece, i.1);
     })
@@ -23,7 +24,7 @@ returns-then-len-clause-err g c =
 pub returns-in-Err-extend_from_slice-clause-err : goal.returns-in-Err-extend_from_slice-clause-err
 returns-in-Err-extend_from_slice-clause-err g c =
     let i = c.loop-call.invariant in
-    part_read _ c.loop-call._call _ _ _ _ _ i.2.1 i.2.0 c.in-Ok.ensures.asked
+    part_read _ IsShort c.loop-call._call _ _ _ _ _ i.2.1 i.1 i.2.0 c.in-Ok.ensures.asked
     (is_some c.in-Ok.len (take c.in-Ok.len c.give.new.buf) c.in-Ok.ensures.bound.1 c.in-Ok.len-test.1)
     c.in-Ok.ensures.bytes.0
 
@@ -39,10 +40,10 @@ loop-call-preserved g c =
       omega (arith, c.if-len.false, c.len.ensures, c.loop-call.text.ok.0, c.in-Ok.ensures.bound.1, length-append c.loop-call.text.items piece, ap (λ (xs : List ℕ). length xs) same, i.1),
       subst
           (λ (xs : List ℕ). Consumes (g.R.Read.remaining c.args.from.now) (g.R.Read.remaining c.give.new.self) xs
-          × HasGiven (record { remaining = g.R.Read.remaining; gives = g.R.Source.gives }) (c.loop-call._call + 1) c.args.from.now c.give.new.self xs)
+          × HasGiven (record { remaining = g.R.Read.remaining; gives = g.R.Source.gives }) IsShort (c.loop-call._call + 1) c.args.from.now c.give.new.self xs)
           (sym same) (
             Consumes-trans _ _ _ _ _ i.2.0 c.in-Ok.ensures.bytes.0,
-            given_more _ c.loop-call._call _ _ _ _ _ i.2.1 c.in-Ok.ensures.asked
+            given_more _ IsShort c.loop-call._call _ _ _ _ _ i.2.1 i.1 c.in-Ok.ensures.asked
                 (is_some n piece c.in-Ok.ensures.bound.1 c.in-Ok.len-test.1),
           ),
     )

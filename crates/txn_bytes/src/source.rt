@@ -2,9 +2,13 @@
 ghost use Rattle.std.specs.Prelude.{◌<◌, length};
 ghost use Rattle.std.specs.Io.{ReadsAtMost};
 ghost use Rattle.std.specs.Io.KnownBytes.{ReadConsumes};
-ghost use Rattle.request_lines.specs.Sources.{given};
+ghost use Rattle.txn_bytes.specs.Sources.{given};
 
 use std::io::{ErrorKind, Read};
+
+/// How many calls of a reader it may take until its end has come. The longest report that is
+/// written, and the longest text that is read, has no more bytes.
+pub const MOST_READS: usize = 134_217_728;
 
 /// A reader answered an error.
 #[derive(Clone, Copy, Debug, PartialEq, Eq)]
@@ -19,7 +23,7 @@ pub struct ReadFault;
 /// that the reader gave, and that a fault which it tells is one that the reader answered.
 pub trait Source: Read {
     ghost use Rattle.std.specs.Prelude.{ℕ, List, Result};
-    ghost use Rattle.request_lines.specs.declared.source.ReadFault.{ReadFault};
+    ghost use Rattle.txn_bytes.specs.declared.source.ReadFault.{ReadFault};
 
     /// Asked in the first state for bytes, it gave these or answered an error, and was left in the
     /// second state. It gives none where it is at its end.
