@@ -33,7 +33,7 @@ use Rattle.sql_store.specs.Asked.{have_values, value_of, params_all}
 use Rattle.sql_store.specs.Laid.{put}
 use Rattle.sql_store.specs.Results.{results, both_schema}
 use Rattle.sql_store.specs.Table.{is_key, map_of, table_of, AreApart, IsReady, Makes}
-use Rattle.sql_store.specs.Writes.{MakesAll}
+use Rattle.sql_store.specs.inner.Writes.{MakesAll}
 use Rattle.sql_store.proofs.Texts.{insert_text, insert_is, insert_plain, rows_terms}
 use Rattle.sql_store.proofs.Creates.{went, same_value}
 use Rattle.sql_store.proofs.Putting.{row_of, cast_null, cast_int, key_is, same_key, denied, untaken}

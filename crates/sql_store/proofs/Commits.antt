@@ -10,7 +10,7 @@ use Rattle.durable_top.specs.Numbered.{Numbered, Commits, Follows}
 use Rattle.durable_top.specs.Numbers.{Numbers, renumbered}
 use Rattle.sql_store.specs.Asked.{Committed}
 use Rattle.sql_store.specs.Calls.{IfClean}
-use Rattle.sql_store.specs.Commit.{TriesCommit}
+use Rattle.sql_store.specs.inner.Commit.{TriesCommit}
 use Rattle.sql_store.specs.Stored.{IsCounted}
 use Rattle.sql_store.proofs.Steps.{on_ok_then}
 

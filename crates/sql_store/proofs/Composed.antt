@@ -9,7 +9,7 @@ use Rattle.sqlite.specs.Store.{Ghosts}
 use Rattle.txn_names.specs.declared.change.Change.{Change}
 use Rattle.durable_top.specs.Numbered.{overlay_numbered}
 use Rattle.sql_store.specs.Table.{map_of, table_of, IsReady}
-use Rattle.sql_store.specs.Writes.{MakesAll, IsStored}
+use Rattle.sql_store.specs.inner.Writes.{MakesAll, IsStored}
 
 pub keeps_then : (a b c : State) → KeepsCommit a b → KeepsCommit b c → KeepsCommit a c
 keeps_then a b c p q = record { was_open = λ h. p.was_open (q.was_open h); committed = λ h. q.committed h ∙ p.committed (q.was_open h) }

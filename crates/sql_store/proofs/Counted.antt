@@ -9,7 +9,7 @@ use Rattle.durable_top.specs.Numbered.{Numbered, numbers_of, overlay_numbered, l
 use Rattle.durable_top.specs.Numbers.{renumbered, IsTopIn}
 use Rattle.durable_top.proofs.Numbering.{greatest_from, numbers_after}
 use Rattle.sql_store.specs.Stored.{numbered, may_leave_numbered, IsKept, IsCounted}
-use Rattle.sql_store.specs.Writes.{Stores, IsStored}
+use Rattle.sql_store.specs.inner.Writes.{Stores, IsStored}
 
 pub follows_by : (number top : ℤ) (changes : List Change) (numbers : Map) (old new : Numbered) → IsTopIn numbers top → numbers ≡ numbers_of old
     → number ≡ top +ℤ pos 1 → number ≤ℤ last_number → new ≡ overlay_numbered number changes old → Follows changes old new

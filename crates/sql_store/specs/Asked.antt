@@ -1,5 +1,5 @@
 -- What a store asked of its connection, and what it was answered, whatever the database has.
-use Rattle.std.specs.Prelude.{◌≡◌, ◌⊎◌, ◌<◌, ◌≤◌, ℕ, ℤ, pos, Bool, false, true, List, [], ◌∷◌, ◌++◌, length, map, codes, Option, Some, None, is_some, is_none, ◌&&◌, unwrap_or, Result, Ok, Err, OnOk, IfErr, IsTrue}
+use Rattle.std.specs.Prelude.{◌≡◌, ◌⊎◌, ◌<◌, ◌≤◌, ℕ, ℤ, pos, Bool, false, true, List, [], ◌∷◌, ◌++◌, length, map, codes, Option, Some, None, is_some, is_none, ◌&&◌, unwrap_or, Result, Ok, Err, OnOk, IfErr, IfSome, IsTrue}
 use Rattle.std.specs.List.{list_all}
 use Rattle.sqlite.specs.declared.types.Value.TheVariants.{Text, Int}
 use Rattle.sqlite.specs.declared.error.Error.{Error}
@@ -10,7 +10,7 @@ use Rattle.sqlite.specs.State.{Shown, Shows, ExecutesInside, FailsToQuery}
 use Rattle.txn_names.specs.declared.change.Change.{Change}
 use Rattle.serial_spec.specs.Serial.{Map}
 use Rattle.durable_top.specs.declared.store.Row.{Row}
-use Rattle.sql_store.specs.Calls.{IfInside, ChangesNothing}
+use Rattle.sql_store.specs.Calls.{IfInside, ChangesNothing, ErrorHasReason}
 use Rattle.sql_store.specs.Faults.{breaks_rule, IsCaused}
 use Rattle.sql_store.specs.Inside.{AreNumbersOf, Steps}
 use Rattle.sql_store.specs.Load.{load_text, old_text}
@@ -126,6 +126,11 @@ module _ {S : Type 0} (g : Ghosts S) where
   abbrev pub StatementGives : List ℕ → Values → Held S → Held S → Error → Type 0
   StatementGives text params old new e = Answered text params old new (Err e)
 
+  -- The same where the error is told of only as a refusal, for this reason.
+  abbrev pub DoesUnless : (Held S → Held S → Type 0) → (Held S → Type 0)
+      → Held S → Held S → Result (Unit {0}) Error → Type 0
+  DoesUnless Did Why = Answers Did (ErrorHasReason Why)
+
   -- a call that executes one statement
   abbrev pub RunsStatement : List ℕ → Values → Held S → Held S → Result (Unit {0}) Error → Type 0
   RunsStatement text params = Answers (Executed text params) (StatementGives text params)
@@ -163,6 +168,15 @@ module _ {S : Type 0} (g : Ghosts S) where
       ⊎ (((breaks_rule e ≡ false) × Answered insert_text params old new (Err e))
       ⊎ ((next : Held S) × IsLeft params old next × Answered upsert_text params next new (Err e)))
 
+  -- a call that puts a row
+  abbrev pub RunsPut : Values → Held S → Held S → Result (Unit {0}) Error → Type 0
+  RunsPut params = Answers (PutsRow params) (PutGives params)
+
+  -- where the change gives a value, the statement that is likely to serve was tried first
+  abbrev pub TriesChange : Map → ℤ → Change → Held S → Held S → Type 0
+  TriesChange numbers number change old new = IfSome change.value (λ value.
+      TriesFirst (text_for numbers change.key) (params_for number change.key value) old new)
+
   -- the key was given its value under the number, or its row was deleted
   abbrev pub MakesChange : ℤ → List ℕ → Option ℤ → Held S → Held S → Type 0
   MakesChange number key None old new = Executed delete_text (Text key ∷ []) old new
@@ -172,6 +186,12 @@ module _ {S : Type 0} (g : Ghosts S) where
   abbrev pub FailsToChange : ℤ → List ℕ → Option ℤ → Held S → Held S → Error → Type 0
   FailsToChange number key None old new e = Answered delete_text (Text key ∷ []) old new (Err e)
   FailsToChange number key (Some value) old new e = PutGives (params_for number key value) old new e
+
+  -- a call that does so
+  abbrev pub RunsChange : ℤ → List ℕ → Option ℤ
+      → Held S → Held S → Result (Unit {0}) Error → Type 0
+  RunsChange number key value =
+      Answers (MakesChange number key value) (FailsToChange number key value)
 
   -- each of these changes was made by statements of its own, in turn
   abbrev pub MakesEach : ℤ → List Change → Held S → Held S → Type 0
@@ -189,6 +209,10 @@ module _ {S : Type 0} (g : Ghosts S) where
     pub last : Held S
     pub executed : MakesEach number before old last
     pub gives : FailsToChange number change.key change.value last new e
+
+  -- a call that makes them so
+  abbrev pub RunsEach : ℤ → List Change → Held S → Held S → Result (Unit {0}) Error → Type 0
+  RunsEach number changes = Answers (MakesEach number changes) (EachGives number changes)
 
   -- one insert that was to add the rows of all these changes was executed, and this was its answer
   abbrev pub AnsweredRows : ℤ → List Change → Held S → Held S → Result ℕ Error → Type 0
@@ -215,6 +239,10 @@ module _ {S : Type 0} (g : Ghosts S) where
       ((breaks_rule e ≡ false) × AnsweredRows number rows old new (Err e))
       ⊎ ((next : Held S) × AreLeft number rows old next × EachGives number rows next new e)
 
+  -- a call that makes them so
+  abbrev pub RunsRows : ℤ → List Change → Held S → Held S → Result (Unit {0}) Error → Type 0
+  RunsRows number rows = Answers (MakesRows number rows) (RowsGive number rows)
+
   -- a piece of the changes was made: one change, or several
   abbrev pub MakesPiece : ℤ → List Change → Held S → Held S → Type 0
   MakesPiece number piece old new =
@@ -223,6 +251,10 @@ module _ {S : Type 0} (g : Ghosts S) where
   abbrev pub PieceGives : ℤ → List Change → Held S → Held S → Error → Type 0
   PieceGives number piece old new e =
       ((length piece ≡ 1) × EachGives number piece old new e) ⊎ RowsGive number piece old new e
+
+  -- a call that makes a piece
+  abbrev pub RunsPiece : ℤ → List Change → Held S → Held S → Result (Unit {0}) Error → Type 0
+  RunsPiece number piece = Answers (MakesPiece number piece) (PieceGives number piece)
 
   abbrev pub MakesPieces : ℤ → List (List Change) → Held S → Held S → Type 0
   MakesPieces number [] old new = new ≡ old
@@ -246,6 +278,16 @@ module _ {S : Type 0} (g : Ghosts S) where
     pub left : Held S
     pub executed : ExecutedEach number before old last
     pub gives : PieceGives number piece last left e
+
+  -- a call that makes all changes
+  abbrev pub RunsAll : ℤ → List Change → Held S → Held S → Result (Unit {0}) Error → Type 0
+  RunsAll number changes =
+      Answers (ExecutedEach number changes) (λ old _ e. ChangeGives number changes old e)
+
+  -- a transaction was open, or a statement of a change in one that was begun gave the error
+  abbrev pub WriteGives : ℤ → List Change → Held S → Error → Type 0
+  WriteGives number changes old e =
+      IsTrue old.in_transaction ⊎ ChangeGives number changes (begun old) e
 
   -- the transaction was committed
   abbrev pub CommitsAll : Held S → Held S → Type 0

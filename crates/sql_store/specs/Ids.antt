@@ -1,6 +1,7 @@
 -- Rowids as a query shows them, one in a row.
 use Rattle.std.specs.Prelude.{◌≡◌}
 use Rattle.sqlite.specs.Effect.{Database}
+use Rattle.sqlite.specs.Query.{Query}
 use Rattle.sql_store.specs.Load.{ids_query, old_ids_query, IsAnswerOn}
 use Rattle.std.specs.Prelude.{ℤ, Bool, true, ◌&&◌, if◌then◌else◌, List, [], ◌∷◌, Option, Some, None, is_some}
 use Rattle.std.specs.Ordering.{is_lt, int_cmp}
@@ -24,6 +25,10 @@ id_after low r = next_id low (int_in (column r 0))
 abbrev pub rises : Option ℤ → List Row → Bool
 rises low [] = true
 rises low (r ∷ rows) = is_some (id_after low r) && rises (id_after low r) rows
+
+-- whether the rowids rise that this query shows
+abbrev pub IsDecidedBy : Query → Database → Bool → Type 0
+IsDecidedBy query db apart = (ids : List Row) × IsAnswerOn query db ids × (apart ≡ rises None ids)
 
 -- whether the rowids rise that queries show of both tables
 abbrev pub IsDecided : Database → Bool → Type 0

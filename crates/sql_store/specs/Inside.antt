@@ -16,7 +16,7 @@ use Rattle.sql_store.specs.Laid.{laid}
 use Rattle.sql_store.specs.Ids.{IsDecided, IsDecidedFirst}
 use Rattle.sql_store.specs.Load.{IsAnswerOn}
 use Rattle.sql_store.specs.Results.{no_schema, old_schema, both_schema, IsOurSchema}
-use Rattle.sql_store.specs.Table.{moved, map_of, table_of, AreApart, AreBothApart, IsReady, IsMoved}
+use Rattle.sql_store.specs.Table.{moved, map_of, table_of, AreApart, AreBothApart, IsReady, IsMoved, KeepsOldTree}
 
 -- nothing is committed, and a crash leaves what it could leave before
 pub record Steps (old new : State) : Type 0 where
@@ -40,6 +40,14 @@ pub record Selects (text : List ℕ) (query : Query) (old new : State)
   pub refused : HasCleanDisk new → IsTrue old.in_transaction
       → IfErr result (FailsToQuery text [] old new)
   pub shown : HasCleanDisk new → IfOk result (λ rows. Shown text [] old new rows.items)
+
+-- the old table is there, without rows
+abbrev pub MakesOldTable : Database → Database → Type 0
+MakesOldTable old new = (new.schema ≡ old_schema) × (new.trees 0 ≡ [])
+
+-- the new one is too, and the old one has the rows that it had
+abbrev pub MakesNewTable : Database → Database → Type 0
+MakesNewTable old new = (new.schema ≡ both_schema) × (new.trees 2 ≡ []) × KeepsOldTree old new
 
 -- both tables are there, and what was there is as it was
 pub record AreMade (old new : Database) : Type 0 where

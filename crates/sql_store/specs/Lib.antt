@@ -10,7 +10,6 @@ pub mod Calls
 pub mod Asked
 pub mod Refusals
 pub mod Inside
-pub mod Writes
 pub mod Opening
 pub mod Stored
-pub mod Commit
+pub mod inner

@@ -3,13 +3,18 @@ use Rattle.std.specs.Prelude.{◌≡◌, Bool, IsTrue}
 use Rattle.sqlite.specs.Effect.{Database}
 use Rattle.sqlite.specs.Held.{Held, state}
 use Rattle.sqlite.specs.State.{State, Survives}
+use Rattle.sqlite.specs.Steps.{over_memory, IsEmpty}
 use Rattle.sqlite.specs.Store.{Ghosts}
 use Rattle.sqlite.specs.Tree.{Trees}
+use Rattle.sqlite_trees.specs.declared.memory.MemStore.{MemStore}
+use Rattle.serial_spec.specs.Rows.{value_in}
 use Rattle.serial_spec.specs.Serial.{Map}
 use Rattle.sql_store.specs.Asked.{Made}
+use Rattle.sql_store.specs.Calls.{IfClean}
 use Rattle.sql_store.specs.Ids.{IsDecided, IsDecidedFirst}
-use Rattle.sql_store.specs.Inside.{IsOpened}
+use Rattle.sql_store.specs.Inside.{FoundOut, IsOpened}
 use Rattle.sql_store.specs.Results.{no_schema, old_schema, both_schema}
+use Rattle.sql_store.specs.Stored.{Stored}
 
 pub record Opens (old new : State) : Type 0 where
   pub was_open : IsTrue old.is_open
@@ -29,6 +34,11 @@ pub record IsDoubted (db : Database) (known : Bool) : Type 0 where
   pub both : db.schema ≡ both_schema → IsDecided db known
 
 module _ {S : Type 0} (g : Ghosts S) where
+  -- the opening found this out of what was committed, and committed it so
+  abbrev pub FindsOut : Bool → Map → Held S → Held S → Type 0
+  FindsOut is_apart numbers old new =
+      FoundOut is_apart numbers (state g old).committed (state g new).committed
+
   -- the opening is committed on this connection
   abbrev pub OpensDatabase : Held S → Held S → Type 0
   OpensDatabase old new = Opens (state g old) (state g new)
@@ -42,3 +52,13 @@ module _ {S : Type 0} (g : Ghosts S) where
   abbrev pub IsFound : Map → Held S → Bool → Type 0
   IsFound numbers new known =
       (found : Held S) × Made g numbers found new × IsDoubted (state g found).now known
+
+  -- so a store found its database, as long as the disk returns what was written
+  abbrev pub IsFoundStore : Stored S → Type 0
+  IsFoundStore s = IfClean g s.connection (IsFound (value_in s.numbers) s.connection s.is_known)
+
+-- the tables of a store were made in an empty database in memory
+abbrev pub IsMadeInMemory : Stored MemStore → Type 0
+IsMadeInMemory s =
+    (found : Held MemStore) × IsEmpty (state over_memory found)
+    × Made over_memory (value_in s.numbers) found s.connection

@@ -11,12 +11,11 @@ use Rattle.txn_names.specs.declared.key.KeyFault.{KeyFault}
 use Rattle.txn_names.specs.Reading.{key_of}
 use Rattle.serial_spec.specs.Rows.{IsRising}
 use Rattle.durable_top.specs.declared.store.Row.{Row}
-use Rattle.durable_top.specs.declared.store.StoreFault.TheVariants.{Refused}
 use Rattle.durable_top.specs.Numbered.{last_number}
 use Rattle.durable_top.specs.Store.{plain}
 use Rattle.sql_store.specs.Asked.{create_old_text, create_text, upsert_text, empty_text, params_of, begun, Executed, StatementGives, IsAnswered, QueryFails, Fetched, ChangeGives, MakesTables, ReadsOld, ReadsBoth, Finds, PutsEach}
 use Rattle.sql_store.specs.Calls.{ChangesNothing}
-use Rattle.sql_store.specs.Faults.{fault_of}
+use Rattle.sql_store.specs.Faults.{fault_of, IsRefusal}
 use Rattle.sql_store.specs.Load.{load_text, old_text, ids_text, old_ids_text}
 use Rattle.sql_store.specs.Reading.{told, seen, seen_old}
 use Rattle.sql_store.specs.Table.{int_in}
@@ -60,7 +59,7 @@ module _ {S : Type 0} (g : Ghosts S) where
   abbrev pub WasRefused : (Held S → Error → Type 0) → Held S → Type 0
   WasRefused Gives new =
       (left : Held S) × (e : Error)
-      × Gives left e × (fault_of e ≡ Refused) × ChangesNothing g left new
+      × Gives left e × IsRefusal (fault_of e) × ChangesNothing g left new
 
   -- this query gave the error
   abbrev pub QueryGives : List ℕ → Held S → Held S → Error → Type 0
@@ -90,12 +89,12 @@ module _ {S : Type 0} (g : Ghosts S) where
   abbrev pub StatementRefused : List ℕ → Values → Held S → Type 0
   StatementRefused text params old =
       (left : Held S) × (e : Error)
-      × StatementGives g text params old left e × (fault_of e ≡ Refused)
+      × StatementGives g text params old left e × IsRefusal (fault_of e)
 
   abbrev pub QueryRefused : List ℕ → Held S → Type 0
   QueryRefused text old =
       (left : Held S) × (e : Error)
-      × QueryFails g text old left e × (fault_of e ≡ Refused)
+      × QueryFails g text old left e × IsRefusal (fault_of e)
 
   -- a statement that makes a table was refused
   abbrev pub CannotMake : Held S → Type 0

@@ -75,6 +75,13 @@ pub record IsMoved (db : Database) : Type 0 where
   pub ready : IsReady db
   pub empty : db.trees 0 ≡ []
 
+-- the old table has the rows that it had, and the new one
+abbrev pub KeepsOldTree : Database → Database → Type 0
+KeepsOldTree old new = new.trees 0 ≡ old.trees 0
+
+abbrev pub KeepsNewTree : Database → Database → Type 0
+KeepsNewTree old new = new.trees 2 ≡ old.trees 2
+
 abbrev pub table_of : Database → Numbered
 table_of db = map_of (db.trees 2)
 
@@ -86,7 +93,7 @@ pub record Makes (key : List ℕ) (entry : Option (ℤ × ℤ)) (old new : State
   pub kept : KeepsCommit old new
   pub ready : IsReady old.now → IsReady new.now
   pub table : IsReady old.now → table_of new.now ≡ put (table_of old.now) key entry
-  pub others : IsReady old.now → new.now.trees 0 ≡ old.now.trees 0
+  pub others : IsReady old.now → KeepsOldTree old.now new.now
 
 -- while it is open, it has the two tables alone
 abbrev pub IsKnown : State → Type 0

@@ -19,8 +19,8 @@ impl<D: Disk + Drop> SqlStore<FileStore<D>> {
             AreClean D.Disk files.log files.db → IsCopied self.connection files) }
         ensures usable { IfOk result (λ files.
             IsTrue (D.Disk.is_usable files.log) × IsTrue (D.Disk.is_usable files.db)) }
-        ensures failed { IfErr result (λ left. IsClosed self.connection left.1
-            × (IsClean (view left.1) → FailsToClose self.connection left.1 left.0)) }
+        ensures failed { IfErr result (λ end. IsClosed self.connection end.1
+            × (IsClean (view end.1) → FailsToClose self.connection end.1 end.0)) }
     {
         self.into_connection().close_files()
     }

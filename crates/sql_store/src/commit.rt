@@ -1,8 +1,8 @@
 //! A commit under the number above the greatest.
 ghost use Rattle.std.specs.Prelude.{true, false, ◌≡◌, ◌<◌, ◌≤ℤ◌, ◌+ℤ◌, pos, length, OnOk, IsTrue, IsErrOf};
 ghost use Rattle.serial_spec.specs.Changes.{AreRising};
-ghost use Rattle.durable_top.specs.Numbered.{last_number, Follows, Commits};
-ghost use Rattle.sql_store.specs.Commit.{TriesCommit};
+ghost use Rattle.durable_top.specs.Numbered.{last_number, Follows};
+ghost use Rattle.sql_store.specs.inner.Commit.{TriesCommit, TriesCommitNext};
 ghost use Rattle.sql_store.specs.Stored.{IsKept, IfKept, KeepsTable, LeavesItself, LeavesNoOther};
 ghost use Rattle.sql_store.specs.Faults.{HasFailed};
 ghost use Rattle.sql_store.specs.Refusals.{CannotWrite, CannotCommit};
@@ -76,8 +76,8 @@ fn commit_counted<S: Alter>(
     changes: &[Change],
 ) -> Result<(), StoreFault>
     requires rising { AreRising changes.now }
-    ensures tried { TriesCommit S.Store (Commits changes.now) (numbers.old.top +ℤ pos 1) changes.now
-        numbers.old numbers.new conn.old conn.new result }
+    ensures tried { TriesCommitNext S.Store changes.now numbers.old numbers.new conn.old conn.new
+        result }
     ensures cause { FailedHasCause S.Store conn.old conn.new result }
     ensures reason { IfRefused S.Store conn.new result
         (CannotCommit S.Store numbers.old.top changes.now conn.old conn.new) }
@@ -101,8 +101,8 @@ pub(crate) fn commit_unless<S: Alter>(
 ) -> Result<(), StoreFault>
     requires rising { AreRising changes.now }
     ensures failed { IsTrue has_failed → IsErrOf result StoreFault.Failed × (conn.new ≡ conn.old) }
-    ensures tried { TriesCommit S.Store (Commits changes.now) (numbers.old.top +ℤ pos 1) changes.now
-        numbers.old numbers.new conn.old conn.new result }
+    ensures tried { TriesCommitNext S.Store changes.now numbers.old numbers.new conn.old conn.new
+        result }
     ensures cause { IfClean S.Store conn.new
         (has_failed ≡ false → IsErrOf result StoreFault.Failed
         → HasFailed S.Store conn.old conn.new) }

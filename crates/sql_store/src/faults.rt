@@ -1,6 +1,6 @@
 //! What an error of the database says of the store.
 ghost use Rattle.std.specs.Prelude.{◌≡◌, ◌⊎◌};
-ghost use Rattle.sql_store.specs.Faults.{breaks_rule, fault_of, HasFailed};
+ghost use Rattle.sql_store.specs.Faults.{breaks_rule, fault_of, HasFailed, IsRefusal};
 ghost use Rattle.sql_store.specs.Calls.{ChangesNothing, CommitsNothing, IfClean, SparesSettled, SurvivesAsBefore};
 
 use crate::statements::probe;
@@ -45,8 +45,7 @@ pub(crate) fn settle<S: Alter>(conn: &mut Connection<S>, fault: StoreFault) -> S
         (result ≡ StoreFault.Failed
         → (fault ≡ StoreFault.Failed) ⊎ HasFailed S.Store conn.old conn.new) }
     ensures refused { IfClean S.Store conn.new
-        (result ≡ StoreFault.Refused
-        → (fault ≡ StoreFault.Refused) × ChangesNothing S.Store conn.old conn.new) }
+        (IsRefusal result → IsRefusal fault × ChangesNothing S.Store conn.old conn.new) }
     ensures spared { SparesSettled S.Store conn.old conn.new }
 {
     match probe(conn) {

@@ -2,9 +2,8 @@
 ghost use Rattle.std.specs.Prelude.{◌≡◌, false, IfOk, IfErr, None, codes, Err};
 ghost use Rattle.serial_spec.specs.Rows.{value_in};
 ghost use Rattle.durable_top.specs.Numbers.{IsTopIn};
-ghost use Rattle.sqlite.specs.Files.{file_state, over_files};
-ghost use Rattle.sqlite.specs.State.{HasCleanDisk};
-ghost use Rattle.sql_store.specs.Opening.{IsFound};
+ghost use Rattle.sqlite.specs.Files.{over_files};
+ghost use Rattle.sql_store.specs.Opening.{IsFoundStore};
 
 use crate::store::SqlStore;
 use durable_top::{Row, StoreFault, TopStore};
@@ -44,9 +43,7 @@ impl DatabaseStore {
         ensures memory { path.now ≡ codes ":memory:" → result ≡ Err StoreFault.Refused }
         ensures faults { IfOk result (λ opened. opened.held.value.store.faults ≡ 0) }
         ensures sound { IfOk result (λ opened. opened.held.value.store.has_failed ≡ false) }
-        ensures doubted { IfOk result (λ opened. let store = opened.held.value.store in
-            HasCleanDisk (file_state store.connection)
-            → IsFound over_files (value_in store.numbers) store.connection store.is_known) }
+        ensures doubted { IfOk result (λ opened. IsFoundStore over_files opened.held.value.store) }
         ensures greatest { IfOk result (λ opened. let store = opened.held.value.store in
             IsTopIn (value_in store.numbers) store.top) }
         ensures limit { IfOk result (λ opened.

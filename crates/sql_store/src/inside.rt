@@ -1,19 +1,18 @@
 //! What the opening does inside its transaction.
-ghost use Rattle.std.specs.Prelude.{◌≡◌, ◌⊎◌, [], List, None, Err, OnOk, IfOk, IfErr, IsTrue, IsErrOf};
+ghost use Rattle.std.specs.Prelude.{◌≡◌, ◌⊎◌, [], Err, OnOk, IfOk, IfErr, IsTrue};
 ghost use Rattle.sqlite.specs.Held.{state};
-ghost use Rattle.sqlite.specs.Order.{Row as Shown};
 ghost use Rattle.serial_spec.specs.Rows.{IsRising, value_in};
 ghost use Rattle.durable_top.specs.Numbered.{AreNumbered, entries_in};
 ghost use Rattle.durable_top.specs.Store.{plain};
-ghost use Rattle.sql_store.specs.Asked.{Answers, MakesTables, ReadsOld, ReadsNew, ReadsBoth, Finds, PutsEach, MovesOver, MovesRows, SettlesInside, OpensInside, QueryFails};
-ghost use Rattle.sql_store.specs.Faults.{fault_of, IsCaused};
-ghost use Rattle.sql_store.specs.Ids.{rises, IsDecided};
+ghost use Rattle.sql_store.specs.Asked.{MakesTables, ReadsOld, ReadsNew, ReadsBoth, Finds, PutsEach, MovesOver, MovesRows, SettlesInside, OpensInside, QueryFails, DoesUnless};
+ghost use Rattle.sql_store.specs.Faults.{fault_of};
+ghost use Rattle.sql_store.specs.Ids.{IsDecided, IsDecidedBy};
 ghost use Rattle.sql_store.specs.Inside.{Steps, AreMade, AreRead, IsOpened, Settles, AreSorted, AreNumbersOf, FoundOut, AreSettled, IsLaidOver};
-ghost use Rattle.sql_store.specs.Load.{ids_text, ids_query, old_ids_text, old_ids_query, IsAnswerOn};
+ghost use Rattle.sql_store.specs.Load.{ids_text, ids_query, old_ids_text, old_ids_query};
 ghost use Rattle.sql_store.specs.Refusals.{CannotMake, CannotReadOld, CannotReadNew, CannotReadBoth, CannotAsk, CannotFind, PutRefused, CannotMoveOver, CannotMove, CannotSettle, CannotOpenInside};
 ghost use Rattle.sql_store.specs.Results.{both_schema};
-ghost use Rattle.sql_store.specs.Table.{map_of, moved, AreApart, IsReady, IsMoved, AreBothApart};
-ghost use Rattle.sql_store.specs.Calls.{Continues, ErrorHasCause, FaultHasCause, IfBoth, IfClean, IfInside, IsInside, OnlyReads, database, new_tree, old_tree};
+ghost use Rattle.sql_store.specs.Table.{map_of, moved, AreApart, IsReady, IsMoved, AreBothApart, KeepsOldTree};
+ghost use Rattle.sql_store.specs.Calls.{Continues, ErrorHasCause, FaultHasCause, IfClean, IfInside, IsInside, OnlyReads, ChangesApart, ChangesDatabase, ChangesOf, ChangesReady, ChangesWith, ErrorHasReason, ErrorInsideHasCause, FailsBy, Reads, RefusesFor, StaysInside, SucceedsBy, SucceedsWith, TellsOfBoth};
 
 use crate::faults::fault_of;
 use crate::reading::{are_apart, sorted, sorted_old};
@@ -29,11 +28,8 @@ use std::alloc::Global;
 pub(crate) fn make_tables<S: Alter>(tx: &mut Transaction<'_, S>) -> Result<(), Error>
     ensures same_reference { tx.new.conn.ghost_name ≡ tx.old.conn.ghost_name }
     ensures on { OnOk result (Continues S.Store tx.old.conn.now tx.new.conn.now) }
-    ensures made { IfInside S.Store tx.old.conn.now tx.new.conn.now
-        (OnOk result
-        (AreMade (database S.Store tx.old.conn.now) (database S.Store tx.new.conn.now))) }
-    ensures answers { Answers S.Store (MakesTables S.Store)
-        (λ old _ e. fault_of e ≡ StoreFault.Refused → CannotMake S.Store old)
+    ensures made { ChangesDatabase S.Store AreMade tx.old.conn.now tx.new.conn.now result }
+    ensures answers { DoesUnless S.Store (MakesTables S.Store) (CannotMake S.Store)
         tx.old.conn.now tx.new.conn.now result }
 {
     create_old(tx)?;
@@ -47,14 +43,14 @@ fn read_old<S: Alter>(tx: &mut Transaction<'_, S>, alloc: Global) -> Result<Vec<
     ensures on { OnOk result (Continues S.Store tx.old.conn.now tx.new.conn.now) }
     ensures rising { IfOk result (λ rows. IsRising (plain rows.items)) }
     ensures numbers { IfOk result (λ rows. AreNumbered rows.items) }
-    ensures rows { IfBoth S.Store tx.old.conn.now tx.new.conn.now
-        (IfOk result (λ rows. entries_in rows.items ≡ moved (old_tree S.Store tx.old.conn.now))) }
-    ensures none { IfBoth S.Store tx.old.conn.now tx.new.conn.now
-        (IfOk result (λ rows. rows.items ≡ [] → old_tree S.Store tx.old.conn.now ≡ [])) }
+    ensures rows { TellsOfBoth S.Store tx.old.conn.now tx.new.conn.now result
+        (λ db rows. entries_in rows.items ≡ moved (db.trees 0)) }
+    ensures none { TellsOfBoth S.Store tx.old.conn.now tx.new.conn.now result
+        (λ db rows. rows.items ≡ [] → db.trees 0 ≡ []) }
     ensures same { OnlyReads S.Store tx.old.conn.now tx.new.conn.now result }
     ensures cause { FaultHasCause S.Store tx.old.conn.now tx.new.conn.now result }
-    ensures refused { IfInside S.Store tx.old.conn.now tx.new.conn.now
-        (IsErrOf result StoreFault.Refused → CannotReadOld S.Store tx.old.conn.now) }
+    ensures refused { RefusesFor S.Store (CannotReadOld S.Store)
+        tx.old.conn.now tx.new.conn.now result }
     ensures asked { IfClean S.Store tx.new.conn.now
         (IfOk result (λ rows. ReadsOld S.Store tx.old.conn.now tx.new.conn.now rows.items)) }
 {
@@ -71,14 +67,14 @@ fn read_new<S: Alter>(tx: &mut Transaction<'_, S>, alloc: Global) -> Result<Vec<
     ensures on { OnOk result (Continues S.Store tx.old.conn.now tx.new.conn.now) }
     ensures rising { IfOk result (λ rows. IsRising (plain rows.items)) }
     ensures numbers { IfOk result (λ rows. AreNumbered rows.items) }
-    ensures rows { IfBoth S.Store tx.old.conn.now tx.new.conn.now
-        (IfOk result (λ rows. entries_in rows.items ≡ map_of (new_tree S.Store tx.old.conn.now))) }
-    ensures none { IfBoth S.Store tx.old.conn.now tx.new.conn.now
-        (IfOk result (λ rows. rows.items ≡ [] → new_tree S.Store tx.old.conn.now ≡ [])) }
+    ensures rows { TellsOfBoth S.Store tx.old.conn.now tx.new.conn.now result
+        (λ db rows. entries_in rows.items ≡ map_of (db.trees 2)) }
+    ensures none { TellsOfBoth S.Store tx.old.conn.now tx.new.conn.now result
+        (λ db rows. rows.items ≡ [] → db.trees 2 ≡ []) }
     ensures same { OnlyReads S.Store tx.old.conn.now tx.new.conn.now result }
     ensures cause { FaultHasCause S.Store tx.old.conn.now tx.new.conn.now result }
-    ensures refused { IfInside S.Store tx.old.conn.now tx.new.conn.now
-        (IsErrOf result StoreFault.Refused → CannotReadNew S.Store tx.old.conn.now) }
+    ensures refused { RefusesFor S.Store (CannotReadNew S.Store)
+        tx.old.conn.now tx.new.conn.now result }
     ensures asked { IfClean S.Store tx.new.conn.now
         (IfOk result (λ rows. ReadsNew S.Store tx.old.conn.now tx.new.conn.now rows.items)) }
 {
@@ -93,16 +89,14 @@ fn is_old_apart<S: Alter>(tx: &mut Transaction<'_, S>) -> Result<bool, Error>
     ensures same_reference { tx.new.conn.ghost_name ≡ tx.old.conn.ghost_name }
     ensures steps { Steps (state S.Store tx.old.conn.now) (state S.Store tx.new.conn.now) }
     ensures on { OnOk result (Continues S.Store tx.old.conn.now tx.new.conn.now) }
-    ensures apart { IfBoth S.Store tx.old.conn.now tx.new.conn.now
-        (IfOk result (λ apart. IsTrue apart → AreApart (old_tree S.Store tx.old.conn.now))) }
-    ensures decided { IfBoth S.Store tx.old.conn.now tx.new.conn.now
-        (IfOk result (λ apart.
-        (ids : List Shown) × IsAnswerOn old_ids_query (database S.Store tx.old.conn.now) ids
-        × (apart ≡ rises None ids))) }
+    ensures apart { TellsOfBoth S.Store tx.old.conn.now tx.new.conn.now result
+        (λ db apart. IsTrue apart → AreApart (db.trees 0)) }
+    ensures decided { TellsOfBoth S.Store tx.old.conn.now tx.new.conn.now result
+        (IsDecidedBy old_ids_query) }
     ensures same { OnlyReads S.Store tx.old.conn.now tx.new.conn.now result }
     ensures cause { ErrorHasCause S.Store tx.old.conn.now tx.new.conn.now result }
-    ensures refused { IfInside S.Store tx.old.conn.now tx.new.conn.now
-        (IfErr result (QueryFails S.Store old_ids_text tx.old.conn.now tx.new.conn.now)) }
+    ensures refused { FailsBy S.Store (QueryFails S.Store old_ids_text)
+        tx.old.conn.now tx.new.conn.now result }
 {
     let ids = select_old_ids(tx)?;
     Ok(are_apart(ids.as_slice()))
@@ -113,16 +107,14 @@ fn is_new_apart<S: Alter>(tx: &mut Transaction<'_, S>) -> Result<bool, Error>
     ensures same_reference { tx.new.conn.ghost_name ≡ tx.old.conn.ghost_name }
     ensures steps { Steps (state S.Store tx.old.conn.now) (state S.Store tx.new.conn.now) }
     ensures on { OnOk result (Continues S.Store tx.old.conn.now tx.new.conn.now) }
-    ensures apart { IfBoth S.Store tx.old.conn.now tx.new.conn.now
-        (IfOk result (λ apart. IsTrue apart → AreApart (new_tree S.Store tx.old.conn.now))) }
-    ensures decided { IfBoth S.Store tx.old.conn.now tx.new.conn.now
-        (IfOk result (λ apart.
-        (ids : List Shown) × IsAnswerOn ids_query (database S.Store tx.old.conn.now) ids
-        × (apart ≡ rises None ids))) }
+    ensures apart { TellsOfBoth S.Store tx.old.conn.now tx.new.conn.now result
+        (λ db apart. IsTrue apart → AreApart (db.trees 2)) }
+    ensures decided { TellsOfBoth S.Store tx.old.conn.now tx.new.conn.now result
+        (IsDecidedBy ids_query) }
     ensures same { OnlyReads S.Store tx.old.conn.now tx.new.conn.now result }
     ensures cause { ErrorHasCause S.Store tx.old.conn.now tx.new.conn.now result }
-    ensures refused { IfInside S.Store tx.old.conn.now tx.new.conn.now
-        (IfErr result (QueryFails S.Store ids_text tx.old.conn.now tx.new.conn.now)) }
+    ensures refused { FailsBy S.Store (QueryFails S.Store ids_text)
+        tx.old.conn.now tx.new.conn.now result }
 {
     let ids = select_ids(tx)?;
     Ok(are_apart(ids.as_slice()))
@@ -133,20 +125,13 @@ fn move_rows<S: Alter>(tx: &mut Transaction<'_, S>, rows: &[Row]) -> Result<(), 
     ensures same_reference { tx.new.conn.ghost_name ≡ tx.old.conn.ghost_name }
     ensures on { IfInside S.Store tx.old.conn.now tx.new.conn.now
         (OnOk result (IsInside S.Store tx.new.conn.now)) }
-    ensures ready { IfInside S.Store tx.old.conn.now tx.new.conn.now
-        (IsReady (database S.Store tx.old.conn.now)
-        → OnOk result (IsReady (database S.Store tx.new.conn.now))) }
-    ensures table { IfInside S.Store tx.old.conn.now tx.new.conn.now
-        (IsReady (database S.Store tx.old.conn.now)
-        → OnOk result
-        (IsLaidOver rows.now (database S.Store tx.old.conn.now)
-        (database S.Store tx.new.conn.now))) }
-    ensures others { IfInside S.Store tx.old.conn.now tx.new.conn.now
-        (IsReady (database S.Store tx.old.conn.now)
-        → OnOk result (old_tree S.Store tx.new.conn.now ≡ old_tree S.Store tx.old.conn.now)) }
-    ensures answers { Answers S.Store (PutsEach S.Store rows.now)
-        (λ old _ e. fault_of e ≡ StoreFault.Refused → PutRefused S.Store rows.now old)
+    ensures ready { ChangesReady S.Store (λ _ new. IsReady new)
         tx.old.conn.now tx.new.conn.now result }
+    ensures table { ChangesReady S.Store (IsLaidOver rows.now)
+        tx.old.conn.now tx.new.conn.now result }
+    ensures others { ChangesReady S.Store KeepsOldTree tx.old.conn.now tx.new.conn.now result }
+    ensures answers { DoesUnless S.Store (PutsEach S.Store rows.now)
+        (PutRefused S.Store rows.now) tx.old.conn.now tx.new.conn.now result }
 {
     let mut left = rows.len();
     while left > 0 {
@@ -162,17 +147,12 @@ fn move_over<S: Alter>(tx: &mut Transaction<'_, S>, rows: &[Row]) -> Result<(), 
     ensures same_reference { tx.new.conn.ghost_name ≡ tx.old.conn.ghost_name }
     ensures on { IfInside S.Store tx.old.conn.now tx.new.conn.now
         (OnOk result (IsInside S.Store tx.new.conn.now)) }
-    ensures moved { IfInside S.Store tx.old.conn.now tx.new.conn.now
-        (IsReady (database S.Store tx.old.conn.now) → AreApart (old_tree S.Store tx.old.conn.now)
-        → OnOk result (IsMoved (database S.Store tx.new.conn.now))) }
-    ensures table { IfInside S.Store tx.old.conn.now tx.new.conn.now
-        (IsReady (database S.Store tx.old.conn.now)
-        → OnOk result
-        (IsLaidOver rows.now (database S.Store tx.old.conn.now)
-        (database S.Store tx.new.conn.now))) }
-    ensures answers { Answers S.Store (MovesOver S.Store rows.now)
-        (λ old _ e. fault_of e ≡ StoreFault.Refused → CannotMoveOver S.Store rows.now old)
+    ensures moved { ChangesApart S.Store (λ _ new. IsMoved new)
         tx.old.conn.now tx.new.conn.now result }
+    ensures table { ChangesReady S.Store (IsLaidOver rows.now)
+        tx.old.conn.now tx.new.conn.now result }
+    ensures answers { DoesUnless S.Store (MovesOver S.Store rows.now)
+        (CannotMoveOver S.Store rows.now) tx.old.conn.now tx.new.conn.now result }
 {
     move_rows(tx, rows)?;
     empty(tx)
@@ -188,16 +168,13 @@ pub(crate) fn settle_rows<S: Alter>(
     ensures steps { Steps (state S.Store tx.old.conn.now) (state S.Store tx.new.conn.now) }
     ensures on { IfInside S.Store tx.old.conn.now tx.new.conn.now
         (OnOk result (IsInside S.Store tx.new.conn.now)) }
-    ensures settled { IfInside S.Store tx.old.conn.now tx.new.conn.now
-        (IsReady (database S.Store tx.old.conn.now) → AreApart (old_tree S.Store tx.old.conn.now)
-        → OnOk result
-        (Settles old.now new.now (database S.Store tx.old.conn.now)
-        (database S.Store tx.new.conn.now))) }
+    ensures settled { ChangesApart S.Store (Settles old.now new.now)
+        tx.old.conn.now tx.new.conn.now result }
     ensures cause { FaultHasCause S.Store tx.old.conn.now tx.new.conn.now result }
-    ensures refused { IfInside S.Store tx.old.conn.now tx.new.conn.now
-        (IsErrOf result StoreFault.Refused → CannotMove S.Store old.now new.now tx.old.conn.now) }
-    ensures asked { IfInside S.Store tx.old.conn.now tx.new.conn.now
-        (OnOk result (MovesRows S.Store old.now new.now tx.old.conn.now tx.new.conn.now)) }
+    ensures refused { RefusesFor S.Store (CannotMove S.Store old.now new.now)
+        tx.old.conn.now tx.new.conn.now result }
+    ensures asked { SucceedsBy S.Store (MovesRows S.Store old.now new.now)
+        tx.old.conn.now tx.new.conn.now result }
 {
     if old.is_empty() {
         return Ok(());
@@ -217,15 +194,13 @@ fn are_both_apart<S: Alter>(tx: &mut Transaction<'_, S>) -> Result<bool, Error>
     ensures same_reference { tx.new.conn.ghost_name ≡ tx.old.conn.ghost_name }
     ensures steps { Steps (state S.Store tx.old.conn.now) (state S.Store tx.new.conn.now) }
     ensures on { OnOk result (Continues S.Store tx.old.conn.now tx.new.conn.now) }
-    ensures apart { IfBoth S.Store tx.old.conn.now tx.new.conn.now
-        (IfOk result (λ apart. IsTrue apart → AreBothApart (database S.Store tx.old.conn.now))) }
-    ensures decided { IfBoth S.Store tx.old.conn.now tx.new.conn.now
-        (IfOk result (IsDecided (database S.Store tx.old.conn.now))) }
+    ensures apart { TellsOfBoth S.Store tx.old.conn.now tx.new.conn.now result
+        (λ db apart. IsTrue apart → AreBothApart db) }
+    ensures decided { TellsOfBoth S.Store tx.old.conn.now tx.new.conn.now result IsDecided }
     ensures same { OnlyReads S.Store tx.old.conn.now tx.new.conn.now result }
-    ensures cause { IfInside S.Store tx.old.conn.now tx.new.conn.now
-        (IfErr result (IsCaused (state S.Store tx.old.conn.now) (state S.Store tx.new.conn.now))) }
-    ensures refused { IfInside S.Store tx.old.conn.now tx.new.conn.now
-        (IfErr result (λ e. fault_of e ≡ StoreFault.Refused → CannotAsk S.Store tx.old.conn.now)) }
+    ensures cause { ErrorInsideHasCause S.Store tx.old.conn.now tx.new.conn.now result }
+    ensures refused { FailsBy S.Store (ErrorHasReason (CannotAsk S.Store))
+        tx.old.conn.now tx.new.conn.now result }
 {
     let is_old_apart = is_old_apart(tx)?;
     let is_new_apart = is_new_apart(tx)?;
@@ -258,16 +233,14 @@ fn read_both<S: Alter>(
     ensures on { OnOk result (Continues S.Store tx.old.conn.now tx.new.conn.now) }
     ensures old { IfOk result (λ read. AreSorted read.0.items) }
     ensures new { IfOk result (λ read. AreSorted read.1.items) }
-    ensures read { IfBoth S.Store tx.old.conn.now tx.new.conn.now
-        (IfOk result (λ read.
-        AreRead read.0.items read.1.items (database S.Store tx.old.conn.now))) }
+    ensures read { TellsOfBoth S.Store tx.old.conn.now tx.new.conn.now result
+        (λ db read. AreRead read.0.items read.1.items db) }
     ensures same { OnlyReads S.Store tx.old.conn.now tx.new.conn.now result }
     ensures cause { FaultHasCause S.Store tx.old.conn.now tx.new.conn.now result }
-    ensures refused { IfInside S.Store tx.old.conn.now tx.new.conn.now
-        (IsErrOf result StoreFault.Refused → CannotReadBoth S.Store tx.old.conn.now) }
-    ensures asked { IfClean S.Store tx.new.conn.now
-        (IfOk result (λ read.
-        ReadsBoth S.Store tx.old.conn.now tx.new.conn.now read.0.items read.1.items)) }
+    ensures refused { RefusesFor S.Store (CannotReadBoth S.Store)
+        tx.old.conn.now tx.new.conn.now result }
+    ensures asked { Reads S.Store tx.old.conn.now tx.new.conn.now result
+        (λ old new read. ReadsBoth S.Store old new read.0.items read.1.items) }
 {
     let old = read_old(tx, alloc)?;
     let new = read_new(tx, alloc)?;
@@ -282,21 +255,18 @@ fn find<S: Alter>(tx: &mut Transaction<'_, S>, alloc: Global) -> Result<Found, S
     ensures on { OnOk result (Continues S.Store tx.old.conn.now tx.new.conn.now) }
     ensures old { IfOk result (λ found. AreSorted found.old.items) }
     ensures new { IfOk result (λ found. AreSorted found.new.items) }
-    ensures read { IfBoth S.Store tx.old.conn.now tx.new.conn.now
-        (IfOk result (λ found.
-        AreRead found.old.items found.new.items (database S.Store tx.old.conn.now))) }
-    ensures apart { IfBoth S.Store tx.old.conn.now tx.new.conn.now
-        (IfOk result (λ found.
-        IsTrue found.is_apart → AreBothApart (database S.Store tx.old.conn.now))) }
-    ensures decided { IfBoth S.Store tx.old.conn.now tx.new.conn.now
-        (IfOk result (λ found. IsDecided (database S.Store tx.old.conn.now) found.is_apart)) }
+    ensures read { TellsOfBoth S.Store tx.old.conn.now tx.new.conn.now result
+        (λ db found. AreRead found.old.items found.new.items db) }
+    ensures apart { TellsOfBoth S.Store tx.old.conn.now tx.new.conn.now result
+        (λ db found. IsTrue found.is_apart → AreBothApart db) }
+    ensures decided { TellsOfBoth S.Store tx.old.conn.now tx.new.conn.now result
+        (λ db found. IsDecided db found.is_apart) }
     ensures same { OnlyReads S.Store tx.old.conn.now tx.new.conn.now result }
     ensures cause { FaultHasCause S.Store tx.old.conn.now tx.new.conn.now result }
-    ensures refused { IfInside S.Store tx.old.conn.now tx.new.conn.now
-        (IsErrOf result StoreFault.Refused → CannotFind S.Store tx.old.conn.now) }
-    ensures asked { IfClean S.Store tx.new.conn.now
-        (IfOk result (λ found.
-        Finds S.Store tx.old.conn.now tx.new.conn.now found.old.items found.new.items)) }
+    ensures refused { RefusesFor S.Store (CannotFind S.Store)
+        tx.old.conn.now tx.new.conn.now result }
+    ensures asked { Reads S.Store tx.old.conn.now tx.new.conn.now result
+        (λ old new read. Finds S.Store old new read.old.items read.new.items) }
 {
     let (old, new) = read_both(tx, alloc)?;
     match are_both_apart(tx) {
@@ -332,22 +302,17 @@ fn settle_found<S: Alter>(
     ensures steps { Steps (state S.Store tx.old.conn.now) (state S.Store tx.new.conn.now) }
     ensures on { IfInside S.Store tx.old.conn.now tx.new.conn.now
         (OnOk result (IsInside S.Store tx.new.conn.now)) }
-    ensures settled { IfInside S.Store tx.old.conn.now tx.new.conn.now
-        (IsReady (database S.Store tx.old.conn.now) → AreApart (old_tree S.Store tx.old.conn.now)
-        → OnOk result
-        (Settles found.now.old.items found.now.new.items (database S.Store tx.old.conn.now)
-        (database S.Store tx.new.conn.now))) }
+    ensures settled { ChangesApart S.Store (Settles found.now.old.items found.now.new.items)
+        tx.old.conn.now tx.new.conn.now result }
     ensures apart { IfOk result (λ opened. opened.is_apart ≡ found.now.is_apart) }
     ensures numbered { IfOk result (λ opened.
         AreNumbersOf found.now.old.items found.now.new.items (value_in opened.numbers.rows)) }
     ensures cause { FaultHasCause S.Store tx.old.conn.now tx.new.conn.now result }
-    ensures refused { IfInside S.Store tx.old.conn.now tx.new.conn.now
-        (IsErrOf result StoreFault.Refused
-        → CannotMove S.Store found.now.old.items found.now.new.items tx.old.conn.now) }
-    ensures asked { IfInside S.Store tx.old.conn.now tx.new.conn.now
-        (OnOk result
-        (MovesRows S.Store found.now.old.items found.now.new.items
-        tx.old.conn.now tx.new.conn.now)) }
+    ensures refused { RefusesFor S.Store
+        (CannotMove S.Store found.now.old.items found.now.new.items)
+        tx.old.conn.now tx.new.conn.now result }
+    ensures asked { SucceedsBy S.Store (MovesRows S.Store found.now.old.items found.now.new.items)
+        tx.old.conn.now tx.new.conn.now result }
 {
     let numbers = table_numbers(alloc, &found.old, &found.new)?;
     settle_rows(tx, &found.old, &found.new)?;
@@ -367,21 +332,15 @@ fn find_and_settle<S: Alter>(
     ensures steps { Steps (state S.Store tx.old.conn.now) (state S.Store tx.new.conn.now) }
     ensures on { IfInside S.Store tx.old.conn.now tx.new.conn.now
         (OnOk result (IsInside S.Store tx.new.conn.now)) }
-    ensures settled { IfInside S.Store tx.old.conn.now tx.new.conn.now
-        (IfOk result (λ opened.
-        AreSettled opened.is_apart (value_in opened.numbers.rows) (database S.Store tx.old.conn.now)
-        (database S.Store tx.new.conn.now))) }
-    ensures stays { IfInside S.Store tx.old.conn.now tx.new.conn.now
-        (OnOk result
-        ((database S.Store tx.old.conn.now).schema ≡ both_schema
-        → old_tree S.Store tx.old.conn.now ≡ []
-        → database S.Store tx.new.conn.now ≡ database S.Store tx.old.conn.now)) }
+    ensures settled { ChangesWith S.Store tx.old.conn.now tx.new.conn.now result
+        (λ it. AreSettled it.is_apart (value_in it.numbers.rows)) }
+    ensures stays { ChangesOf S.Store both_schema (λ old new. old.trees 0 ≡ [] → new ≡ old)
+        tx.old.conn.now tx.new.conn.now result }
     ensures cause { FaultHasCause S.Store tx.old.conn.now tx.new.conn.now result }
-    ensures refused { IfInside S.Store tx.old.conn.now tx.new.conn.now
-        (IsErrOf result StoreFault.Refused → CannotSettle S.Store tx.old.conn.now) }
-    ensures asked { IfInside S.Store tx.old.conn.now tx.new.conn.now
-        (IfOk result (λ opened.
-        SettlesInside S.Store (value_in opened.numbers.rows) tx.old.conn.now tx.new.conn.now)) }
+    ensures refused { RefusesFor S.Store (CannotSettle S.Store)
+        tx.old.conn.now tx.new.conn.now result }
+    ensures asked { SucceedsWith S.Store tx.old.conn.now tx.new.conn.now result
+        (λ it. SettlesInside S.Store (value_in it.numbers.rows)) }
 {
     let found = find(tx, alloc)?;
     settle_found(tx, alloc, &found)
@@ -395,22 +354,15 @@ pub(crate) fn open_inside<S: Alter>(
 ) -> Result<Opened, StoreFault>
     ensures same_reference { tx.new.conn.ghost_name ≡ tx.old.conn.ghost_name }
     ensures steps { Steps (state S.Store tx.old.conn.now) (state S.Store tx.new.conn.now) }
-    ensures on { IfInside S.Store tx.old.conn.now tx.new.conn.now
-        (OnOk result
-        (IsInside S.Store tx.new.conn.now × IsTrue (state S.Store tx.old.conn.now).is_open)) }
-    ensures opened { IfInside S.Store tx.old.conn.now tx.new.conn.now
-        (OnOk result
-        (IsOpened (database S.Store tx.old.conn.now) (database S.Store tx.new.conn.now))) }
-    ensures found { IfInside S.Store tx.old.conn.now tx.new.conn.now
-        (IfOk result (λ opened.
-        FoundOut opened.is_apart (value_in opened.numbers.rows) (database S.Store tx.old.conn.now)
-        (database S.Store tx.new.conn.now))) }
+    ensures on { SucceedsBy S.Store (StaysInside S.Store) tx.old.conn.now tx.new.conn.now result }
+    ensures opened { ChangesDatabase S.Store IsOpened tx.old.conn.now tx.new.conn.now result }
+    ensures found { ChangesWith S.Store tx.old.conn.now tx.new.conn.now result
+        (λ it. FoundOut it.is_apart (value_in it.numbers.rows)) }
     ensures cause { FaultHasCause S.Store tx.old.conn.now tx.new.conn.now result }
-    ensures refused { IfInside S.Store tx.old.conn.now tx.new.conn.now
-        (IsErrOf result StoreFault.Refused → CannotOpenInside S.Store tx.old.conn.now) }
-    ensures asked { IfInside S.Store tx.old.conn.now tx.new.conn.now
-        (IfOk result (λ opened.
-        OpensInside S.Store (value_in opened.numbers.rows) tx.old.conn.now tx.new.conn.now)) }
+    ensures refused { RefusesFor S.Store (CannotOpenInside S.Store)
+        tx.old.conn.now tx.new.conn.now result }
+    ensures asked { SucceedsWith S.Store tx.old.conn.now tx.new.conn.now result
+        (λ it. OpensInside S.Store (value_in it.numbers.rows)) }
 {
     match make_tables(tx) {
         Ok(()) => find_and_settle(tx, alloc),

@@ -1,5 +1,5 @@
 //! The table, read by one query.
-ghost use Rattle.std.specs.Prelude.{◌≡◌, IfOk, IfErr, IsTrue};
+ghost use Rattle.std.specs.Prelude.{◌≡◌, IfOk, IsTrue};
 ghost use Rattle.sqlite.specs.Held.{state};
 ghost use Rattle.serial_spec.specs.Rows.{IsRising};
 ghost use Rattle.durable_top.specs.Numbered.{AreNumbered, entries_in};
@@ -9,7 +9,7 @@ ghost use Rattle.sql_store.specs.Table.{table_of};
 ghost use Rattle.sql_store.specs.Faults.{fault_of};
 ghost use Rattle.sql_store.specs.Refusals.{QueryGives, CannotLoad};
 ghost use Rattle.sql_store.specs.Asked.{Fetched, Loaded};
-ghost use Rattle.sql_store.specs.Calls.{CommitsNothing, ErrorHasCause, FailedHasCause, IfClean, IfKnown, IfRefused, OnlyReads, SparesSettled, SurvivesAsBefore, UnlessFailed, database};
+ghost use Rattle.sql_store.specs.Calls.{CommitsNothing, ErrorHasCause, FailedHasCause, IfClean, IfKnown, IfRefused, OnlyReads, SparesSettled, SurvivesAsBefore, UnlessFailed, database, IfErrorRefuses};
 
 use crate::faults::{fault_of, settle};
 use crate::reading::sorted;
@@ -28,9 +28,8 @@ fn fetch<S: Alter>(conn: &mut Connection<S>) -> Result<Vec<sqlite::Row>, Error>
     ensures cause { ErrorHasCause S.Store conn.old conn.new result }
     ensures asked { IfClean S.Store conn.new
         (IfOk result (λ rows. Fetched S.Store conn.old conn.new rows.items)) }
-    ensures refused { IfClean S.Store conn.new
-        (IfErr result (λ e.
-        fault_of e ≡ StoreFault.Refused → QueryGives S.Store load_text conn.old conn.new e)) }
+    ensures refused { IfErrorRefuses S.Store conn.new result
+        (QueryGives S.Store load_text conn.old conn.new) }
     ensures spared { SparesSettled S.Store conn.old conn.new }
 {
     probe(conn)?;

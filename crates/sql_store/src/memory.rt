@@ -2,10 +2,9 @@
 ghost use Rattle.std.specs.Prelude.{◌≡◌, ℕ, List, None, false, IfOk, if◌then◌else◌};
 ghost use Rattle.serial_spec.specs.Rows.{value_in};
 ghost use Rattle.durable_top.specs.Numbers.{IsTopIn};
-ghost use Rattle.sqlite.specs.Held.{Held, state};
-ghost use Rattle.sqlite.specs.Steps.{over_memory, IsEmpty};
-ghost use Rattle.sql_store.specs.Asked.{Made};
+ghost use Rattle.sqlite.specs.Steps.{over_memory};
 ghost use Rattle.sql_store.specs.Stored.{numbered, table, may_leave, may_leave_numbered, SqlLoads, SqlCommits};
+ghost use Rattle.sql_store.specs.Opening.{IsMadeInMemory};
 
 use crate::store::SqlStore;
 use durable_top::{Row, StoreFault, TopStore};
@@ -43,9 +42,7 @@ impl MemoryStore {
     pub fn new(alloc: Global) -> Result<MemoryStore, NoMemory>
         ensures empty { IfOk result (λ store. (k : List ℕ)
             → numbered over_memory store.connection k ≡ None) }
-        ensures made { IfOk result (λ store.
-            (found : Held MemStore) × IsEmpty (state over_memory found)
-            × Made over_memory (value_in store.numbers) found store.connection) }
+        ensures made { IfOk result IsMadeInMemory }
         ensures greatest { IfOk result (λ store. IsTopIn (value_in store.numbers) store.top) }
         ensures limit { IfOk result (λ store. store.connection.step_limit ≡ None) }
         ensures faults { IfOk result (λ store. store.faults ≡ 0) }

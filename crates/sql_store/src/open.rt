@@ -1,17 +1,16 @@
 //! How a database is made ready.
-ghost use Rattle.std.specs.Prelude.{◌≡◌, ◌≤◌, ◌⊎◌, ◌||◌, ◌&&◌, IfOk, IfErr, IsTrue, IsErrOf, OnOk, OnErr, [], false, true, Err};
+ghost use Rattle.std.specs.Prelude.{◌≡◌, ◌≤◌, ◌⊎◌, ◌||◌, ◌&&◌, IfOk, IfErr, IsTrue, IsErrOf, OnOk, OnErr, [], true, Err};
 ghost use Rattle.sqlite.specs.Held.{state};
 ghost use Rattle.serial_spec.specs.Rows.{value_in};
 ghost use Rattle.sql_store.specs.Asked.{Made, begun};
 ghost use Rattle.sql_store.specs.Faults.{IsMeant};
 ghost use Rattle.sql_store.specs.Ids.{IsDecided, IsDecidedFirst};
-ghost use Rattle.sql_store.specs.Inside.{FoundOut};
-ghost use Rattle.sql_store.specs.Opening.{IsDoubted, OpensDatabase, SurvivesOpening};
+ghost use Rattle.sql_store.specs.Opening.{IsDoubted, OpensDatabase, SurvivesOpening, FindsOut};
 ghost use Rattle.sql_store.specs.Refusals.{CannotOpenInside, CannotOpen};
 ghost use Rattle.sql_store.specs.Results.{no_schema, old_schema, IsOurSchema};
 ghost use Rattle.sql_store.specs.Table.{map_of};
 ghost use Rattle.sql_store.specs.Stored.{numbered, IsKept, IsCounted};
-ghost use Rattle.sql_store.specs.Calls.{CommitsNothing, FailedHasCause, IfBoth, IfClean, IfRefused, IsInside, SeesCommitted, SparesDatabase, StaysOpen, database};
+ghost use Rattle.sql_store.specs.Calls.{CommitsNothing, FailedHasCause, IfBoth, IfClean, IfRefused, IsInside, SeesCommitted, SparesDatabase, StaysOpen, database, IfSchema, IsOutside, TellsOf};
 
 use crate::faults::{fault_of, settle};
 use crate::inside::{Opened, open_inside};
@@ -23,14 +22,13 @@ use std::alloc::Global;
 
 // Makes the tables where they are missing and moves the rows of the old one, in one transaction.
 fn open_tables<S: Alter>(conn: &mut Connection<S>, alloc: Global) -> Result<Opened, StoreFault>
-    requires outside { (state S.Store conn.old).in_transaction ≡ false }
+    requires outside { IsOutside S.Store conn.old }
     requires settled { SeesCommitted S.Store conn.old }
     ensures opened { IfClean S.Store conn.new
         (OnOk result (OpensDatabase S.Store conn.old conn.new)) }
     ensures found { IfClean S.Store conn.new
-        (IfOk result (λ opened.
-        FoundOut opened.is_apart (value_in opened.numbers.rows) (state S.Store conn.old).committed
-        (state S.Store conn.new).committed)) }
+        (IfOk result (λ it.
+        FindsOut S.Store it.is_apart (value_in it.numbers.rows) conn.old conn.new)) }
     ensures kept { IfClean S.Store conn.new
         (OnErr result (CommitsNothing S.Store conn.old conn.new)) }
     ensures survives { SurvivesOpening S.Store conn.old conn.new }
@@ -89,16 +87,14 @@ pub(crate) fn prepare<S: Alter>(
         → IfOk result (λ ready. IsTrue ready.is_known) }
     ensures decided { IfBoth S.Store conn.old conn.new
         (IfOk result (λ ready. IsDecided (database S.Store conn.old) ready.is_known)) }
-    ensures decided_first { IfClean S.Store conn.new
-        ((database S.Store conn.old).schema ≡ old_schema
-        → IfOk result (λ ready. IsDecidedFirst (database S.Store conn.old) ready.is_known)) }
+    ensures decided_first { TellsOf S.Store old_schema conn.old conn.new result
+        (λ db ready. IsDecidedFirst db ready.is_known) }
     ensures opened { IfClean S.Store conn.new
         (OnOk result (OpensDatabase S.Store conn.old conn.new)) }
     ensures busy { IsInside S.Store conn.old
         → (result ≡ Err StoreFault.Refused) × (conn.new ≡ conn.old) }
     ensures open { IfClean S.Store conn.new
-        ((state S.Store conn.old).in_transaction ≡ false
-        → IfErr result (λ fault. StaysOpen S.Store fault conn.new)) }
+        (IsOutside S.Store conn.old → IfErr result (λ fault. StaysOpen S.Store fault conn.new)) }
     ensures same { IfClean S.Store conn.new
         (OnErr result (CommitsNothing S.Store conn.old conn.new)) }
     ensures survives { SurvivesOpening S.Store conn.old conn.new }
@@ -108,9 +104,8 @@ pub(crate) fn prepare<S: Alter>(
     ensures refused { IfRefused S.Store conn.new result (CannotOpen S.Store conn.old) }
     ensures made { IfClean S.Store conn.new
         (IfOk result (λ ready. Made S.Store (value_in ready.numbers.rows) conn.old conn.new)) }
-    ensures empty { IfClean S.Store conn.new
-        ((database S.Store conn.old).schema ≡ no_schema
-        → OnOk result (numbered S.Store conn.new ≡ map_of [])) }
+    ensures empty { IfSchema S.Store no_schema conn.old conn.new
+        (OnOk result (numbered S.Store conn.new ≡ map_of [])) }
     ensures doubted { IfClean S.Store conn.new
         (IfOk result (λ ready. IsDoubted (database S.Store conn.old) ready.is_known)) }
 {

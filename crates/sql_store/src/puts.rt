@@ -1,12 +1,10 @@
 //! A row is put by the statement that is likely to serve, and by the upsert where that one leaves
 //! it.
-ghost use Rattle.std.specs.Prelude.{◌≡◌, Some, OnOk, IfErr, IsTrue};
+ghost use Rattle.std.specs.Prelude.{◌≡◌, Some, IfErr, IsTrue};
 ghost use Rattle.sqlite.specs.Values.{bound};
 ghost use Rattle.sqlite.specs.declared.types.Value.TheVariants.{Text, Int};
-ghost use Rattle.sqlite.specs.Held.{state};
-ghost use Rattle.sql_store.specs.Table.{Makes};
-ghost use Rattle.sql_store.specs.Asked.{Answers, update_text, insert_text, first_text, params_of, Answered, PutsRow, PutGives, TriesFirst};
-ghost use Rattle.sql_store.specs.Calls.{IfInside, SurvivesAsBefore};
+ghost use Rattle.sql_store.specs.Asked.{update_text, insert_text, first_text, params_of, Answered, TriesFirst, RunsPut};
+ghost use Rattle.sql_store.specs.Calls.{SurvivesAsBefore, MakesEntry, RunsInside, TriesInside};
 
 use crate::faults::breaks_rule;
 use crate::statements::{of_row, put};
@@ -17,8 +15,8 @@ use sqlite::{Alter, Error, Transaction};
 // it met.
 fn update<S: Alter>(tx: &mut Transaction<'_, S>, row: &Row) -> Result<usize, Error>
     ensures same_reference { tx.new.conn.ghost_name ≡ tx.old.conn.ghost_name }
-    ensures runs { IfInside S.Store tx.old.conn.now tx.new.conn.now (Answered S.Store
-        update_text (params_of row.now) tx.old.conn.now tx.new.conn.now result) }
+    ensures runs { RunsInside S.Store (Answered S.Store update_text (params_of row.now))
+        tx.old.conn.now tx.new.conn.now result }
     ensures survives { SurvivesAsBefore S.Store tx.old.conn.now tx.new.conn.now }
 {
     tx.execute(
@@ -30,8 +28,8 @@ fn update<S: Alter>(tx: &mut Transaction<'_, S>, row: &Row) -> Result<usize, Err
 // Adds the row. Where its key has one already, that is refused.
 fn insert<S: Alter>(tx: &mut Transaction<'_, S>, row: &Row) -> Result<usize, Error>
     ensures same_reference { tx.new.conn.ghost_name ≡ tx.old.conn.ghost_name }
-    ensures runs { IfInside S.Store tx.old.conn.now tx.new.conn.now (Answered S.Store
-        insert_text (params_of row.now) tx.old.conn.now tx.new.conn.now result) }
+    ensures runs { RunsInside S.Store (Answered S.Store insert_text (params_of row.now))
+        tx.old.conn.now tx.new.conn.now result }
     ensures survives { SurvivesAsBefore S.Store tx.old.conn.now tx.new.conn.now }
 {
     tx.execute(
@@ -43,11 +41,9 @@ fn insert<S: Alter>(tx: &mut Transaction<'_, S>, row: &Row) -> Result<usize, Err
 // Puts the row of a key that is likely to have one.
 fn put_known<S: Alter>(tx: &mut Transaction<'_, S>, row: &Row) -> Result<(), Error>
     ensures same_reference { tx.new.conn.ghost_name ≡ tx.old.conn.ghost_name }
-    ensures answers { Answers S.Store (PutsRow S.Store (params_of row.now))
-        (PutGives S.Store (params_of row.now)) tx.old.conn.now tx.new.conn.now result }
-    ensures first { IfInside S.Store tx.old.conn.now tx.new.conn.now
-        (TriesFirst S.Store update_text (params_of row.now)
-        tx.old.conn.now tx.new.conn.now) }
+    ensures answers { RunsPut S.Store (params_of row.now) tx.old.conn.now tx.new.conn.now result }
+    ensures first { TriesInside S.Store (TriesFirst S.Store update_text (params_of row.now))
+        tx.old.conn.now tx.new.conn.now }
 {
     let count = update(tx, row)?;
     let is_left = count == 0;
@@ -57,11 +53,9 @@ fn put_known<S: Alter>(tx: &mut Transaction<'_, S>, row: &Row) -> Result<(), Err
 // Puts the row of a key that is likely to have none.
 fn put_new<S: Alter>(tx: &mut Transaction<'_, S>, row: &Row) -> Result<(), Error>
     ensures same_reference { tx.new.conn.ghost_name ≡ tx.old.conn.ghost_name }
-    ensures answers { Answers S.Store (PutsRow S.Store (params_of row.now))
-        (PutGives S.Store (params_of row.now)) tx.old.conn.now tx.new.conn.now result }
-    ensures first { IfInside S.Store tx.old.conn.now tx.new.conn.now
-        (TriesFirst S.Store insert_text (params_of row.now)
-        tx.old.conn.now tx.new.conn.now) }
+    ensures answers { RunsPut S.Store (params_of row.now) tx.old.conn.now tx.new.conn.now result }
+    ensures first { TriesInside S.Store (TriesFirst S.Store insert_text (params_of row.now))
+        tx.old.conn.now tx.new.conn.now }
 {
     match insert(tx, row) {
         Ok(_) => Ok(()),
@@ -83,14 +77,12 @@ pub(crate) fn put_either<S: Alter>(
     row: &Row,
 ) -> Result<(), Error>
     ensures same_reference { tx.new.conn.ghost_name ≡ tx.old.conn.ghost_name }
-    ensures made { IfInside S.Store tx.old.conn.now tx.new.conn.now
-        (OnOk result (Makes row.now.key (Some (row.now.value, row.now.commit))
-        (state S.Store tx.old.conn.now) (state S.Store tx.new.conn.now))) }
-    ensures answers { Answers S.Store (PutsRow S.Store (params_of row.now))
-        (PutGives S.Store (params_of row.now)) tx.old.conn.now tx.new.conn.now result }
-    ensures first { IfInside S.Store tx.old.conn.now tx.new.conn.now
-        (TriesFirst S.Store (first_text is_likely) (params_of row.now)
-        tx.old.conn.now tx.new.conn.now) }
+    ensures made { MakesEntry S.Store row.now.key (Some (row.now.value, row.now.commit))
+        tx.old.conn.now tx.new.conn.now result }
+    ensures answers { RunsPut S.Store (params_of row.now) tx.old.conn.now tx.new.conn.now result }
+    ensures first { TriesInside S.Store
+        (TriesFirst S.Store (first_text is_likely) (params_of row.now))
+        tx.old.conn.now tx.new.conn.now }
 {
     if is_likely {
         put_known(tx, row)

@@ -2,7 +2,7 @@
 ghost use Rattle.std.specs.Prelude.{◌≡◌, ◌*◌, length, IsTrue};
 ghost use Rattle.sqlite.specs.Values.{bound};
 ghost use Rattle.sql_store.specs.Asked.{value_of, params_all, AreRows, AnsweredRows};
-ghost use Rattle.sql_store.specs.Calls.{IfInside, SurvivesAsBefore};
+ghost use Rattle.sql_store.specs.Calls.{SurvivesAsBefore, RunsInside};
 
 use sqlite::types::ValueRef;
 use sqlite::{Alter, Error, Transaction};
@@ -38,8 +38,8 @@ pub(crate) fn insert_rows<S: Alter>(
 ) -> Result<usize, Error>
     requires rows { AreRows rows.now }
     ensures same_reference { tx.new.conn.ghost_name ≡ tx.old.conn.ghost_name }
-    ensures runs { IfInside S.Store tx.old.conn.now tx.new.conn.now
-        (AnsweredRows S.Store number rows.now tx.old.conn.now tx.new.conn.now result) }
+    ensures runs { RunsInside S.Store (AnsweredRows S.Store number rows.now)
+        tx.old.conn.now tx.new.conn.now result }
     ensures survives { SurvivesAsBefore S.Store tx.old.conn.now tx.new.conn.now }
 {
     if rows.len() == 16 {

@@ -5,11 +5,11 @@ ghost use Rattle.sqlite.specs.declared.types.Value.TheVariants.{Text, Int};
 ghost use Rattle.sqlite.specs.Held.{state};
 ghost use Rattle.sql_store.specs.Results.{both_schema, old_schema, no_schema};
 ghost use Rattle.sql_store.specs.Load.{load_text, load_query, old_text, old_query, ids_text, ids_query, old_ids_text, old_ids_query, IsAnswerOn};
-ghost use Rattle.sql_store.specs.Table.{Makes, AreApart};
-ghost use Rattle.sql_store.specs.Inside.{Selects};
+ghost use Rattle.sql_store.specs.Table.{AreApart, KeepsNewTree};
+ghost use Rattle.sql_store.specs.Inside.{Selects, MakesNewTable, MakesOldTable};
 ghost use Rattle.sql_store.specs.Faults.{fault_of, HasFailed};
 ghost use Rattle.sql_store.specs.Asked.{RunsStatement, create_old_text, create_text, upsert_text, delete_text, empty_text, params_of, IsAnswered, QueryFails};
-ghost use Rattle.sql_store.specs.Calls.{CommitsNothing, Continues, ErrorHasCause, IfBoth, IfClean, IfInside, OnlyReads, SparesSettled, SurvivesAsBefore, database, new_tree, old_tree};
+ghost use Rattle.sql_store.specs.Calls.{CommitsNothing, Continues, ErrorHasCause, IfBoth, IfClean, OnlyReads, SparesSettled, SurvivesAsBefore, database, ChangesOf, MakesEntry};
 
 use durable_top::{Row, StoreFault};
 use sqlite::types::ValueRef;
@@ -36,9 +36,7 @@ pub(crate) fn of_row(row: &Row) -> [ValueRef<'_>; 3]
 /// Takes the row of the key away, if there is one.
 pub(crate) fn remove<S: Alter>(tx: &mut Transaction<'_, S>, key: &Key) -> Result<(), Error>
     ensures same_reference { tx.new.conn.ghost_name ≡ tx.old.conn.ghost_name }
-    ensures made { IfInside S.Store tx.old.conn.now tx.new.conn.now
-        (OnOk result (Makes key.now None
-        (state S.Store tx.old.conn.now) (state S.Store tx.new.conn.now))) }
+    ensures made { MakesEntry S.Store key.now None tx.old.conn.now tx.new.conn.now result }
     ensures answers { RunsStatement S.Store delete_text (Text key.now ∷ [])
         tx.old.conn.now tx.new.conn.now result }
 {
@@ -49,9 +47,8 @@ pub(crate) fn remove<S: Alter>(tx: &mut Transaction<'_, S>, key: &Key) -> Result
 /// Gives the key of the row its value and its number, whether or not it has one.
 pub(crate) fn put<S: Alter>(tx: &mut Transaction<'_, S>, row: &Row) -> Result<(), Error>
     ensures same_reference { tx.new.conn.ghost_name ≡ tx.old.conn.ghost_name }
-    ensures made { IfInside S.Store tx.old.conn.now tx.new.conn.now
-        (OnOk result (Makes row.now.key (Some (row.now.value, row.now.commit))
-        (state S.Store tx.old.conn.now) (state S.Store tx.new.conn.now))) }
+    ensures made { MakesEntry S.Store row.now.key (Some (row.now.value, row.now.commit))
+        tx.old.conn.now tx.new.conn.now result }
     ensures answers { RunsStatement S.Store upsert_text (params_of row.now)
         tx.old.conn.now tx.new.conn.now result }
 {
@@ -66,18 +63,12 @@ pub(crate) fn put<S: Alter>(tx: &mut Transaction<'_, S>, row: &Row) -> Result<()
 pub(crate) fn empty<S: Alter>(tx: &mut Transaction<'_, S>) -> Result<(), Error>
     ensures same_reference { tx.new.conn.ghost_name ≡ tx.old.conn.ghost_name }
     ensures on { OnOk result (Continues S.Store tx.old.conn.now tx.new.conn.now) }
-    ensures schema { IfInside S.Store tx.old.conn.now tx.new.conn.now
-        (OnOk result
-        ((database S.Store tx.old.conn.now).schema ≡ both_schema
-        → (database S.Store tx.new.conn.now).schema ≡ both_schema)) }
-    ensures others { IfInside S.Store tx.old.conn.now tx.new.conn.now
-        (OnOk result
-        ((database S.Store tx.old.conn.now).schema ≡ both_schema
-        → new_tree S.Store tx.new.conn.now ≡ new_tree S.Store tx.old.conn.now)) }
-    ensures gone { IfInside S.Store tx.old.conn.now tx.new.conn.now
-        (OnOk result
-        ((database S.Store tx.old.conn.now).schema ≡ both_schema
-        → AreApart (old_tree S.Store tx.old.conn.now) → old_tree S.Store tx.new.conn.now ≡ [])) }
+    ensures schema { ChangesOf S.Store both_schema (λ _ new. new.schema ≡ both_schema)
+        tx.old.conn.now tx.new.conn.now result }
+    ensures others { ChangesOf S.Store both_schema KeepsNewTree
+        tx.old.conn.now tx.new.conn.now result }
+    ensures gone { ChangesOf S.Store both_schema (λ old new. AreApart (old.trees 0) → new.trees 0 ≡
+        []) tx.old.conn.now tx.new.conn.now result }
     ensures answers { RunsStatement S.Store empty_text ([]) tx.old.conn.now tx.new.conn.now result }
 {
     tx.execute("DELETE FROM results", &[])?;
@@ -88,19 +79,12 @@ pub(crate) fn empty<S: Alter>(tx: &mut Transaction<'_, S>) -> Result<(), Error>
 pub(crate) fn create_old<S: Alter>(tx: &mut Transaction<'_, S>) -> Result<(), Error>
     ensures same_reference { tx.new.conn.ghost_name ≡ tx.old.conn.ghost_name }
     ensures on { OnOk result (Continues S.Store tx.old.conn.now tx.new.conn.now) }
-    ensures made { IfInside S.Store tx.old.conn.now tx.new.conn.now
-        (OnOk result
-        ((database S.Store tx.old.conn.now).schema ≡ no_schema
-        → ((database S.Store tx.new.conn.now).schema ≡ old_schema)
-        × (old_tree S.Store tx.new.conn.now ≡ []))) }
-    ensures first { IfInside S.Store tx.old.conn.now tx.new.conn.now
-        (OnOk result
-        ((database S.Store tx.old.conn.now).schema ≡ old_schema
-        → database S.Store tx.new.conn.now ≡ database S.Store tx.old.conn.now)) }
-    ensures both { IfInside S.Store tx.old.conn.now tx.new.conn.now
-        (OnOk result
-        ((database S.Store tx.old.conn.now).schema ≡ both_schema
-        → database S.Store tx.new.conn.now ≡ database S.Store tx.old.conn.now)) }
+    ensures made { ChangesOf S.Store no_schema MakesOldTable
+        tx.old.conn.now tx.new.conn.now result }
+    ensures first { ChangesOf S.Store old_schema (λ old new. new ≡ old)
+        tx.old.conn.now tx.new.conn.now result }
+    ensures both { ChangesOf S.Store both_schema (λ old new. new ≡ old)
+        tx.old.conn.now tx.new.conn.now result }
     ensures answers { RunsStatement S.Store create_old_text ([])
         tx.old.conn.now tx.new.conn.now result }
 {
@@ -115,16 +99,10 @@ pub(crate) fn create_old<S: Alter>(tx: &mut Transaction<'_, S>) -> Result<(), Er
 pub(crate) fn create<S: Alter>(tx: &mut Transaction<'_, S>) -> Result<(), Error>
     ensures same_reference { tx.new.conn.ghost_name ≡ tx.old.conn.ghost_name }
     ensures on { OnOk result (Continues S.Store tx.old.conn.now tx.new.conn.now) }
-    ensures made { IfInside S.Store tx.old.conn.now tx.new.conn.now
-        (OnOk result
-        ((database S.Store tx.old.conn.now).schema ≡ old_schema
-        → ((database S.Store tx.new.conn.now).schema ≡ both_schema)
-        × (new_tree S.Store tx.new.conn.now ≡ [])
-        × (old_tree S.Store tx.new.conn.now ≡ old_tree S.Store tx.old.conn.now))) }
-    ensures both { IfInside S.Store tx.old.conn.now tx.new.conn.now
-        (OnOk result
-        ((database S.Store tx.old.conn.now).schema ≡ both_schema
-        → database S.Store tx.new.conn.now ≡ database S.Store tx.old.conn.now)) }
+    ensures made { ChangesOf S.Store old_schema MakesNewTable
+        tx.old.conn.now tx.new.conn.now result }
+    ensures both { ChangesOf S.Store both_schema (λ old new. new ≡ old)
+        tx.old.conn.now tx.new.conn.now result }
     ensures answers { RunsStatement S.Store create_text ([])
         tx.old.conn.now tx.new.conn.now result }
 {

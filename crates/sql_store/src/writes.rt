@@ -1,15 +1,14 @@
 //! Changes of the table in one transaction.
-ghost use Rattle.std.specs.Prelude.{◌≡◌, ◌<◌, ◌≤◌, ◌⊎◌, length, min, take, false, true, Some, None, is_some, OnOk, OnErr, IfErr, IfSome, IsTrue, IsErrOf};
+ghost use Rattle.std.specs.Prelude.{◌≡◌, ◌<◌, ◌≤◌, length, min, take, true, Some, None, is_some, OnOk, OnErr, IfErr, IsTrue, IsErrOf};
 ghost use Rattle.std.specs.List.{prefix_len};
 ghost use Rattle.serial_spec.specs.Rows.{value_in};
 ghost use Rattle.sqlite.specs.Held.{state};
 ghost use Rattle.durable_top.specs.Numbered.{under};
-ghost use Rattle.sql_store.specs.Table.{Makes, IsReady};
-ghost use Rattle.sql_store.specs.Writes.{MakesAll, StoresChanges, SurvivesChanges};
+ghost use Rattle.sql_store.specs.inner.Writes.{StoresChanges, SurvivesChanges, MakesReady};
 ghost use Rattle.sql_store.specs.Faults.{fault_of};
-ghost use Rattle.sql_store.specs.Asked.{Answers, is_new, have_values, AreRows, IsPiece, IsPieceLen, MakesChange, FailsToChange, MakesEach, EachGives, MakesRows, RowsGive, MakesPiece, PieceGives, ExecutedEach, ChangeGives, Transacted, Committed, begun, TriesFirst, params_for, text_for};
+ghost use Rattle.sql_store.specs.Asked.{is_new, have_values, AreRows, IsPiece, IsPieceLen, ChangeGives, Transacted, Committed, begun, RunsAll, RunsChange, RunsEach, RunsPiece, RunsRows, TriesChange, WriteGives};
 ghost use Rattle.sql_store.specs.Refusals.{CannotWrite};
-ghost use Rattle.sql_store.specs.Calls.{CommitsNothing, ErrorHasCause, FailedHasCause, IfClean, IfInside, IfRefused, IsInside, SeesCommitted, SparesAtFault, SparesDatabase, StaysOpen, database};
+ghost use Rattle.sql_store.specs.Calls.{CommitsNothing, ErrorHasCause, FailedHasCause, IfClean, IfRefused, IsInside, SeesCommitted, SparesAtFault, SparesDatabase, StaysOpen, IfErrorRefuses, IsOutside, MakesEntry, TriesInside};
 
 use crate::faults::{breaks_rule, fault_of, settle};
 use crate::puts::put_either;
@@ -73,16 +72,13 @@ fn make<S: Alter>(
     change: &Change,
 ) -> Result<(), Error>
     ensures same_reference { tx.new.conn.ghost_name ≡ tx.old.conn.ghost_name }
-    ensures made { IfInside S.Store tx.old.conn.now tx.new.conn.now
-        (OnOk result (Makes change.now.key (under number change.now.value)
-        (state S.Store tx.old.conn.now) (state S.Store tx.new.conn.now))) }
-    ensures answers { Answers S.Store (MakesChange S.Store number change.now.key change.now.value)
-        (FailsToChange S.Store number change.now.key change.now.value)
+    ensures made { MakesEntry S.Store change.now.key (under number change.now.value)
         tx.old.conn.now tx.new.conn.now result }
-    ensures first { IfInside S.Store tx.old.conn.now tx.new.conn.now
-        (IfSome change.now.value (λ value.
-        TriesFirst S.Store (text_for (value_in numbers.now.rows) change.now.key)
-        (params_for number change.now.key value) tx.old.conn.now tx.new.conn.now)) }
+    ensures answers { RunsChange S.Store number change.now.key change.now.value
+        tx.old.conn.now tx.new.conn.now result }
+    ensures first { TriesInside S.Store
+        (TriesChange S.Store (value_in numbers.now.rows) number change.now)
+        tx.old.conn.now tx.new.conn.now }
 {
     match change.value {
         Some(value) => put_either(
@@ -106,8 +102,7 @@ fn make_each<S: Alter>(
     changes: &[Change],
 ) -> Result<(), Error>
     ensures same_reference { tx.new.conn.ghost_name ≡ tx.old.conn.ghost_name }
-    ensures answers { Answers S.Store (MakesEach S.Store number changes.now)
-        (EachGives S.Store number changes.now) tx.old.conn.now tx.new.conn.now result }
+    ensures answers { RunsEach S.Store number changes.now tx.old.conn.now tx.new.conn.now result }
 {
     for change in changes {
         make(tx, numbers, number, change)?;
@@ -125,8 +120,7 @@ fn make_rows<S: Alter>(
 ) -> Result<(), Error>
     requires rows { AreRows rows.now }
     ensures same_reference { tx.new.conn.ghost_name ≡ tx.old.conn.ghost_name }
-    ensures answers { Answers S.Store (MakesRows S.Store number rows.now)
-        (RowsGive S.Store number rows.now) tx.old.conn.now tx.new.conn.now result }
+    ensures answers { RunsRows S.Store number rows.now tx.old.conn.now tx.new.conn.now result }
 {
     match insert_rows(tx, number, rows) {
         Ok(_) => Ok(()),
@@ -149,8 +143,7 @@ fn make_piece<S: Alter>(
 ) -> Result<(), Error>
     requires piece { IsPiece piece.now }
     ensures same_reference { tx.new.conn.ghost_name ≡ tx.old.conn.ghost_name }
-    ensures answers { Answers S.Store (MakesPiece S.Store number piece.now)
-        (PieceGives S.Store number piece.now) tx.old.conn.now tx.new.conn.now result }
+    ensures answers { RunsPiece S.Store number piece.now tx.old.conn.now tx.new.conn.now result }
 {
     if piece.len() == 1 {
         make_each(tx, numbers, number, piece)
@@ -169,17 +162,12 @@ fn make_all<S: Alter>(
     requires inside { IsInside S.Store tx.old.conn.now }
     ensures same_reference { tx.new.conn.ghost_name ≡ tx.old.conn.ghost_name }
     ensures made { IfClean S.Store tx.new.conn.now
-        (IsReady (database S.Store tx.old.conn.now)
-        → OnOk result
-        (MakesAll number changes.now (state S.Store tx.old.conn.now)
-        (state S.Store tx.new.conn.now))) }
+        (MakesReady S.Store number changes.now tx.old.conn.now tx.new.conn.now result) }
     ensures opened { IfClean S.Store tx.new.conn.now
         (OnOk result (0 < length changes.now → IsTrue (state S.Store tx.old.conn.now).is_open)) }
     ensures inside { IfClean S.Store tx.new.conn.now
         (OnOk result (IsInside S.Store tx.new.conn.now)) }
-    ensures answers { Answers S.Store (ExecutedEach S.Store number changes.now)
-        (λ old _ e. ChangeGives S.Store number changes.now old e)
-        tx.old.conn.now tx.new.conn.now result }
+    ensures answers { RunsAll S.Store number changes.now tx.old.conn.now tx.new.conn.now result }
 {
     let mut place = 0;
     let mut fresh = 0;
@@ -200,7 +188,7 @@ fn commit_some<S: Alter>(
     number: i64,
     changes: &[Change],
 ) -> Result<(), Error>
-    requires outside { (state S.Store conn.old).in_transaction ≡ false }
+    requires outside { IsOutside S.Store conn.old }
     requires settled { SeesCommitted S.Store conn.old }
     requires some { 0 < length changes.now }
     ensures stored { IfClean S.Store conn.new
@@ -211,10 +199,8 @@ fn commit_some<S: Alter>(
     ensures spared { IfClean S.Store conn.new
         (OnErr result (SparesDatabase S.Store conn.old conn.new)) }
     ensures cause { ErrorHasCause S.Store conn.old conn.new result }
-    ensures refused { IfClean S.Store conn.new
-        (IfErr result (λ e.
-        fault_of e ≡ StoreFault.Refused
-        → ChangeGives S.Store number changes.now (begun conn.old) e)) }
+    ensures refused { IfErrorRefuses S.Store conn.new result
+        (ChangeGives S.Store number changes.now (begun conn.old)) }
     ensures asked { IfClean S.Store conn.new
         (OnOk result (Transacted S.Store number changes.now conn.old conn.new)) }
 {
@@ -238,11 +224,8 @@ pub(crate) fn write_all<S: Alter>(
     ensures survives { SurvivesChanges S.Store number changes.now conn.old conn.new }
     ensures spared { SparesAtFault S.Store conn.old conn.new result }
     ensures cause { ErrorHasCause S.Store conn.old conn.new result }
-    ensures refused { IfClean S.Store conn.new
-        (IfErr result (λ e.
-        fault_of e ≡ StoreFault.Refused
-        → IsTrue conn.old.in_transaction
-        ⊎ ChangeGives S.Store number changes.now (begun conn.old) e)) }
+    ensures refused { IfErrorRefuses S.Store conn.new result
+        (WriteGives S.Store number changes.now conn.old) }
     ensures asked { IfClean S.Store conn.new
         (OnOk result (Committed S.Store number changes.now conn.old conn.new)) }
 {

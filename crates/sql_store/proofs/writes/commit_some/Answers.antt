@@ -5,7 +5,7 @@ use Rattle.sqlite.specs.Held.{state}
 use Rattle.sqlite.proofs.StateLemmas.{survives_then}
 use Rattle.sqlite.proofs.Callers.{survives_begin}
 use Rattle.sql_store.specs.Table.{IsReady}
-use Rattle.sql_store.specs.Writes.{IsStored}
+use Rattle.sql_store.specs.inner.Writes.{IsStored}
 use Rattle.sql_store.proofs.Composed.{stored_by}
 use Rattle.sql_store.proofs.Steps.{on_ok_then}
 use Rattle.sql_store.specs.Asked.{Transacted}

@@ -4,7 +4,7 @@ use Rattle.sqlite.specs.State.{HasCleanDisk}
 use Rattle.durable_top.specs.declared.store.StoreFault.TheVariants.{Refused}
 use Rattle.sqlite.specs.Held.{state}
 use Rattle.sqlite.proofs.StateLemmas.{survives_then}
-use Rattle.sql_store.specs.Writes.{IsStored}
+use Rattle.sql_store.specs.inner.Writes.{IsStored}
 use Rattle.sql_store.proofs.Spared.{spares_then}
 use Rattle.sql_store.proofs.writes.store_changes.Goals as goal
 

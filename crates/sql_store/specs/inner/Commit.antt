@@ -1,11 +1,11 @@
 -- What the functions that make a commit say alike.
-use Rattle.std.specs.Prelude.{◌≡◌, ℤ, List, Result, true, IfErr, OnOk, OnErr}
+use Rattle.std.specs.Prelude.{◌≡◌, ◌+ℤ◌, ℤ, pos, List, Result, true, IfErr, OnOk, OnErr}
 use Rattle.sqlite.specs.Held.{Held}
 use Rattle.sqlite.specs.Store.{Ghosts}
 use Rattle.txn_names.specs.declared.change.Change.{Change}
 use Rattle.serial_spec.specs.Rows.{value_in}
 use Rattle.durable_top.specs.declared.store.StoreFault.{StoreFault}
-use Rattle.durable_top.specs.Numbered.{Numbered}
+use Rattle.durable_top.specs.Numbered.{Commits, Numbered}
 use Rattle.durable_top.specs.Numbers.{Numbers, renumbered}
 use Rattle.sql_store.specs.Asked.{Committed}
 use Rattle.sql_store.specs.Calls.{CommitsNothing, IfClean, KeepsDoubt, KeepsLimit, KeepsOpen, SparesAtFault}
@@ -38,3 +38,9 @@ module _ {S : Type 0} (g : Ghosts S) where
     pub numbers : OnOk result
         (value_in after.rows ≡ renumbered number changes (value_in before.rows))
     pub stays : OnErr result ((after.rows ≡ before.rows) × (after.top ≡ before.top))
+
+  -- the same under the number above the greatest
+  abbrev pub TriesCommitNext : List Change → Numbers → Numbers → Held S → Held S
+      → Result (Unit {0}) StoreFault → Type 0
+  TriesCommitNext changes before after old new result =
+      TriesCommit (Commits changes) (before.top +ℤ pos 1) changes before after old new result
