@@ -1,4 +1,7 @@
+pub mod Sides
 pub mod Worlds
-pub mod Programs
+pub mod Stores
 pub mod Texts
+pub mod Begun
+pub mod Programs
 pub mod Lives

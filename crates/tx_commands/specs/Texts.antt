@@ -28,20 +28,16 @@ module _ {R : Type 0} (r : Reader R) (old new : R) where
   HasTextCause NoMemory = IsPartRead r IsShort old new
   HasTextCause Unread = IsUnread r IsShort old new ⊎ IsTooLong
 
-  -- it gave some bytes, or a whole text
-  abbrev pub IsReadSoFar : Type 0
-  IsReadSoFar = IsPartRead r IsShort old new ⊎ ((text : List ℕ) × IsWholeText text)
-
 -- the surroundings were asked for the file at this path and gave it, and reading took it from one
 -- state to another so
-pub record HasFile {H T P : Type 0} (h : surroundings.Ghosts H T P) (host_old host_new : H)
+pub record HasFile {H T P N : Type 0} (h : surroundings.Ghosts H T P N) (host_old host_new : H)
     (path : List ℕ) (IsTaken : T → T → Type 0) : Type 0 where
   pub file : T
   pub found : h.finds host_old host_new path (Ok file)
   pub end : T
   pub taken : IsTaken file end
 
-module _ {H T P : Type 0} (h : surroundings.Ghosts H T P) (r : Reader T)
+module _ {H T P N : Type 0} (h : surroundings.Ghosts H T P N) (r : Reader T)
     (host_old host_new : H) (path : List ℕ) where
   -- why there is no text from this path
   abbrev pub HasUnfoundCause : TextFault → Type 0

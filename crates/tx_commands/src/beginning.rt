@@ -1,63 +1,77 @@
-//! What a run of a text begins with: the text, and a store in memory or over a database.
-ghost use Rattle.std.specs.Prelude.{◌≡◌, IfErr, IfOk, OnErr, OnOk, None, Some};
+//! What a run begins and ends with: the text of a file, and a store in memory or over a database.
+ghost use Rattle.std.specs.Prelude.{◌≡◌, IfErr, IfOk, OnErr, OnOk};
+ghost use Rattle.std.specs.Option.{option_copied};
 ghost use Rattle.program_words.specs.declared.status.TheConstants.{FAILED};
 ghost use Rattle.program_words.specs.Tellings.{HasFaultLine};
-ghost use Rattle.tx_commands.specs.Programs.{HasNoRows, HasNotBegun, IsBegunOver};
-ghost use Rattle.tx_commands.specs.Texts.{HasFile, IsWholeText};
+ghost use Rattle.tx_commands.specs.Begun.{HasNotBegun, IsBegun};
+ghost use Rattle.tx_commands.specs.Stores.{IsClosed, IsOpened, IsStoreless};
 
 use crate::host::Surroundings;
 use crate::reading::{TextFault, text_at};
+use crate::store::{EitherStore, database_left};
 use durable_top::TopStore;
 use program_words::{Fault, tell};
-use sql_store::MemoryStore;
 use std::alloc::Global;
-use txn_bytes::Sink;
+use txn_bytes::{Sink, Source};
 
-/// The text of this file, and a store in memory without rows. The file is read first. Where there
-/// is none of the two that is told, and the error is the exit status.
-#[tactic(auto, using(crate::proofs::Ran::read_in_part))]
-pub fn begin_empty<H: Surroundings, E: Sink>(
+/// A store over the database at the path, which is made where there is none, or else one in memory
+/// without rows. Where there is no store that is told, and the error is the exit status.
+pub(crate) fn open_store<H: Surroundings, E: Sink>(
     host: &mut H,
     alloc: Global,
-    file: &str,
+    database: Option<&str>,
     err: &mut E,
-) -> Result<(Vec<u8>, MemoryStore), u8>
-    ensures read { IfOk result (λ begun. HasFile H.Surroundings host.old host.new file.now
-        (λ old new. IsWholeText H.Text.Source old new begun.0.items)) }
-    ensures empty { IfOk result (λ begun. HasNoRows ⟦<MemoryStore as TopStore>⟧ begun.1) }
+) -> Result<EitherStore<H::Memory, H::Store>, u8>
+    ensures ok { IfOk result (λ store. IsOpened H.Surroundings
+        host.old host.new H.Memory.TopStore (option_copied database.entry) store) }
     ensures silent { OnOk result (err.new ≡ err.old) }
-    ensures err { OnErr result (HasNotBegun H.Surroundings H.Text.Source E.Sink
-        host.old host.new err.old err.new file.now None) }
+    ensures err { OnErr result (IsStoreless H.Surroundings
+        host.old host.new E.Sink err.old err.new (option_copied database.entry)) }
     ensures told { OnErr result (HasFaultLine E.Sink err.old err.new) }
     ensures status { IfErr result (λ status. status ≡ FAILED) }
 {
-    let text = match text_at(host, alloc, file) {
-        Ok(text) => text,
-        Err(TextFault::NoMemory) => return Err(tell(err, Fault::NoMemory)),
-        Err(TextFault::Unread) => return Err(tell(err, Fault::CannotRead(file))),
-    };
-    match MemoryStore::new(alloc) {
-        Ok(store) => Ok((text, store)),
-        Err(_) => Err(tell(err, Fault::NoMemory)),
+    match database {
+        Some(path) => match host.open(path) {
+            Ok(store) => Ok(EitherStore::Database(store)),
+            Err(_) => Err(tell(err, Fault::CannotOpen)),
+        },
+        None => match H::in_memory(alloc) {
+            Ok(store) => Ok(EitherStore::Memory(store)),
+            Err(_) => Err(tell(err, Fault::NoMemory)),
+        },
     }
 }
 
-/// The text of this file, and a store over the database at this path, which is made where there is
-/// none. The file is read first. Where there is none of the two that is told, and the error is the
-/// exit status.
-#[tactic(auto, using(crate::proofs::Ran::read_in_part))]
-pub fn begin_over<H: Surroundings, E: Sink>(
+/// Closes the database at the path with what is left of its store. A store in memory is let go.
+pub fn close_store<H: Surroundings>(
+    host: &mut H,
+    database: Option<&str>,
+    left: Option<EitherStore<H::Memory, H::Store>>,
+)
+    ensures { IsClosed H.Surroundings host.old host.new (option_copied database.entry) left }
+{
+    let store = database_left(left);
+    match database {
+        Some(path) => host.close(path, store),
+        None => drop(store),
+    }
+}
+
+/// The text of this file, and a store over the database at the path, which is made where there is
+/// none, or else one in memory without rows. The file is read first. Where there is none of the two
+/// that is told, and the error is the exit status.
+pub fn begin<H: Surroundings, E: Sink>(
     host: &mut H,
     alloc: Global,
     file: &str,
-    path: &str,
+    database: Option<&str>,
     err: &mut E,
-) -> Result<(Vec<u8>, H::Store), u8>
-    ensures ok { IfOk result (λ begun. IsBegunOver H.Surroundings H.Text.Source
-        host.old host.new file.now path.now begun.0.items begun.1) }
+) -> Result<(Vec<u8>, EitherStore<H::Memory, H::Store>), u8>
+    ensures ok { IfOk result (λ begun. IsBegun H.Surroundings H.Text.Source H.Memory.TopStore
+        host.old host.new file.now (option_copied database.entry) begun.0.items begun.1) }
     ensures silent { OnOk result (err.new ≡ err.old) }
     ensures err { OnErr result (HasNotBegun H.Surroundings H.Text.Source E.Sink
-        host.old host.new err.old err.new file.now (Some path.now)) }
+        host.old host.new err.old err.new file.now (option_copied database.entry)) }
     ensures told { OnErr result (HasFaultLine E.Sink err.old err.new) }
     ensures status { IfErr result (λ status. status ≡ FAILED) }
 {
@@ -66,8 +80,8 @@ pub fn begin_over<H: Surroundings, E: Sink>(
         Err(TextFault::NoMemory) => return Err(tell(err, Fault::NoMemory)),
         Err(TextFault::Unread) => return Err(tell(err, Fault::CannotRead(file))),
     };
-    match host.open(path) {
+    match open_store(host, alloc, database, err) {
         Ok(store) => Ok((text, store)),
-        Err(_) => Err(tell(err, Fault::CannotOpen)),
+        Err(status) => Err(status),
     }
 }

@@ -1,18 +1,17 @@
 //! The verdict on a report that stands in a file, on standard output.
-ghost use Rattle.std.specs.Prelude.{◌≡◌, ◌≤◌, ◌⊎◌, false, IsTrue};
+ghost use Rattle.std.specs.Prelude.{◌≡◌, ◌≤◌, false, IsTrue};
 ghost use Rattle.program_words.specs.declared.status.TheConstants.{DONE, FAILED};
 ghost use Rattle.report_text.specs.Verdicts.{spelled_verdict};
-ghost use Rattle.program_words.specs.Tellings.{Accounts, IsGiven, IsUngiven};
-ghost use Rattle.tx_commands.specs.Programs.{IsCondemned, IsPassed, IsUnpassed};
-ghost use Rattle.tx_commands.specs.Worlds.{state, world};
+ghost use Rattle.program_words.specs.Tellings.{IsGiven, IsUngiven};
+ghost use Rattle.tx_commands.specs.Programs.{AccountsFor, IsPassed, IsUnpassed};
+ghost use Rattle.tx_commands.specs.Worlds.{state};
 
 use crate::host::Surroundings;
-use durable_top::TopStore;
+use crate::setting::Setting;
 use program_words::{DONE, FAILED, Fault, finish, tell};
 use report_check::Verdict;
 use report_judge::{CheckFault, check};
 use report_text::write_verdict;
-use sql_store::MemoryStore;
 use std::alloc::Global;
 use txn_bytes::{ReadFault, Sink};
 
@@ -42,19 +41,12 @@ pub fn judge<H: Surroundings, W: Sink, E: Sink>(
     out: &mut W,
     err: &mut E,
 ) -> u8
-    ensures done { result ≡ DONE →
-        IsPassed (world H.Surroundings H.Text.Source H.Store.TopStore
-        ⟦<MemoryStore as TopStore>⟧ W.Sink E.Sink)
+    ensures done { result ≡ DONE → IsPassed ⟦<(H, W, E) as Setting>⟧.world
         (state host.old out.old err.old) (state host.new out.new err.new) file.now }
-    ensures failed { result ≡ FAILED →
-        IsUnpassed (world H.Surroundings H.Text.Source H.Store.TopStore
-        ⟦<MemoryStore as TopStore>⟧ W.Sink E.Sink)
+    ensures failed { result ≡ FAILED → IsUnpassed ⟦<(H, W, E) as Setting>⟧.world
         (state host.old out.old err.old) (state host.new out.new err.new) file.now }
-    ensures accounts { (result ≡ FAILED) ×
-        IsCondemned (world H.Surroundings H.Text.Source H.Store.TopStore
-        ⟦<MemoryStore as TopStore>⟧ W.Sink E.Sink)
-        (state host.old out.old err.old) (state host.new out.new err.new) file.now
-        ⊎ Accounts W.Sink E.Sink out.new err.old err.new result }
+    ensures accounts { AccountsFor ⟦<(H, W, E) as Setting>⟧.world
+        (state host.old out.old err.old) (state host.new out.new err.new) file.now result }
     ensures status { result ≤ FAILED }
 {
     let mut report = match host.find(file) {

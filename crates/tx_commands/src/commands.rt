@@ -1,18 +1,14 @@
 //! The command that replays a text: by a list of attempts, and then in rounds.
 ghost use Rattle.std.specs.Prelude.{◌≡◌, ◌≤◌};
-ghost use Rattle.std.specs.Option.{option_copied};
 ghost use Rattle.program_words.specs.declared.status.TheConstants.{DONE, FAILED};
-ghost use Rattle.program_words.specs.Schedules.{attempts_of};
 ghost use Rattle.program_words.specs.Tellings.{Accounts};
-ghost use Rattle.session_runs.specs.Ways.{Scheduled};
-ghost use Rattle.tx_commands.specs.Programs.{MissesReplay, Prints};
-ghost use Rattle.tx_commands.specs.Worlds.{state, world};
+ghost use Rattle.tx_commands.specs.Programs.{Replays, ReplaysNot};
+ghost use Rattle.tx_commands.specs.Worlds.{state};
 
 use crate::host::Surroundings;
 use crate::running::replay_text;
-use durable_top::TopStore;
+use crate::setting::Setting;
 use program_words::{Fault, attempts_of, tell};
-use sql_store::MemoryStore;
 use std::alloc::Global;
 use txn_bytes::Sink;
 
@@ -29,17 +25,12 @@ pub fn replay<H: Surroundings, W: Sink, E: Sink>(
     out: &mut W,
     err: &mut E,
 ) -> u8
-    ensures done { result ≡ DONE →
-        Prints (world H.Surroundings H.Text.Source H.Store.TopStore
-        ⟦<MemoryStore as TopStore>⟧ W.Sink E.Sink)
+    ensures done { result ≡ DONE → Replays ⟦<(H, W, E) as Setting>⟧.world
         (state host.old out.old err.old) (state host.new out.new err.new)
-        file.now (Scheduled (attempts_of (option_copied list.entry)))
-        (option_copied database.entry) }
-    ensures failed { result ≡ FAILED →
-        MissesReplay (world H.Surroundings H.Text.Source H.Store.TopStore
-        ⟦<MemoryStore as TopStore>⟧ W.Sink E.Sink)
+        file.now list.entry database.entry }
+    ensures failed { result ≡ FAILED → ReplaysNot ⟦<(H, W, E) as Setting>⟧.world
         (state host.old out.old err.old) (state host.new out.new err.new)
-        file.now (option_copied list.entry) (option_copied database.entry) }
+        file.now list.entry database.entry }
     ensures accounts { Accounts W.Sink E.Sink out.new err.old err.new result }
     ensures status { result ≤ FAILED }
 {

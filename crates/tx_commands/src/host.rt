@@ -1,8 +1,9 @@
 //! What the program asks of the machine that it runs on: files by their paths, and databases.
-ghost use Rattle.std.specs.Prelude.{◌≡◌};
+ghost use Rattle.std.specs.Prelude.{◌≡◌, ℕ, List, None, IfOk};
 
 use durable_top::{StoreFault, TopStore};
-use sql_store::DatabaseStore;
+use sql_store::{DatabaseStore, MemoryStore};
+use std::alloc::{AllocError, Global};
 use std::fs::{self, File};
 use std::rt::HostRuntime;
 use txn_bytes::{ReadFault, Source};
@@ -26,6 +27,9 @@ pub trait Surroundings {
     /// A store over a database.
     type Store: TopStore + Send;
 
+    /// A store in memory.
+    type Memory: TopStore + Send;
+
     /// Asked in the first state for the file at this path, they gave this answer and were left in
     /// the second state.
     ghost finds: { Self → Self → List ℕ → Result Self.Text ReadFault → Type 0 };
@@ -45,6 +49,10 @@ pub trait Surroundings {
     /// A store over the database at this path, which is made where there is none.
     fn open(&mut self, path: &str) -> Result<Self::Store, StoreFault>
         ensures asked { opens self.old self.new path.now result };
+
+    /// A store in memory, without rows. The surroundings are not asked for it.
+    fn in_memory(alloc: Global) -> Result<Self::Memory, AllocError>
+        ensures empty { IfOk result (λ store. (k : List ℕ) → Self.Memory.table store k ≡ None) };
 
     /// Copies what the log beside the database holds into its file, by the store that is left.
     /// Where none is left the database is opened once more for it. Where this fails the file and
@@ -71,6 +79,8 @@ impl Surroundings for Machine<'_> {
 
     type Store = DatabaseStore;
 
+    type Memory = MemoryStore;
+
     ghost finds = { λ old new path answer. Unit {0} };
 
     ghost opens = { λ old new path answer. Unit {0} };
@@ -86,6 +96,13 @@ impl Surroundings for Machine<'_> {
 
     fn open(&mut self, path: &str) -> Result<DatabaseStore, StoreFault> {
         DatabaseStore::open(self.rt, path)
+    }
+
+    fn in_memory(alloc: Global) -> Result<MemoryStore, AllocError>
+        ensures empty { IfOk result (λ store.
+            (k : List ℕ) → ⟦<MemoryStore as TopStore>⟧.table store k ≡ None) }
+    {
+        MemoryStore::new(alloc)
     }
 
     fn close(&mut self, path: &str, left: Option<DatabaseStore>)

@@ -10,11 +10,15 @@ mod listing;
 mod living;
 mod reading;
 mod running;
+mod setting;
+mod store;
 
-pub use beginning::{begin_empty, begin_over};
+pub use beginning::{begin, close_store};
 pub use checking::judge;
 pub use commands::replay;
 pub use host::{Machine, Surroundings};
 pub use listing::list;
 pub use living::live;
 pub use reading::{LONGEST_TEXT, TextFault};
+pub use setting::Setting;
+pub use store::EitherStore;

@@ -3,13 +3,12 @@ ghost use Rattle.std.specs.Prelude.{◌≡◌, ◌≤◌};
 ghost use Rattle.program_words.specs.declared.status.TheConstants.{DONE, FAILED};
 ghost use Rattle.program_words.specs.Tellings.{Accounts};
 ghost use Rattle.tx_commands.specs.Programs.{Lists, ListsNot};
-ghost use Rattle.tx_commands.specs.Worlds.{state, world};
+ghost use Rattle.tx_commands.specs.Worlds.{state};
 
+use crate::beginning::{close_store, open_store};
 use crate::host::Surroundings;
-use durable_top::TopStore;
-use program_words::{Fault, tell};
+use crate::setting::Setting;
 use session_runs::list_rows;
-use sql_store::MemoryStore;
 use std::alloc::Global;
 use txn_bytes::Sink;
 
@@ -23,21 +22,18 @@ pub fn list<H: Surroundings, W: Sink, E: Sink>(
     out: &mut W,
     err: &mut E,
 ) -> u8
-    ensures done { result ≡ DONE →
-        Lists (world H.Surroundings H.Text.Source H.Store.TopStore
-        ⟦<MemoryStore as TopStore>⟧ W.Sink E.Sink)
+    ensures done { result ≡ DONE → Lists ⟦<(H, W, E) as Setting>⟧.world
         (state host.old out.old err.old) (state host.new out.new err.new) path.now }
-    ensures failed { result ≡ FAILED →
-        ListsNot (world H.Surroundings H.Text.Source H.Store.TopStore
-        ⟦<MemoryStore as TopStore>⟧ W.Sink E.Sink)
+    ensures failed { result ≡ FAILED → ListsNot ⟦<(H, W, E) as Setting>⟧.world
         (state host.old out.old err.old) (state host.new out.new err.new) path.now }
     ensures accounts { Accounts W.Sink E.Sink out.new err.old err.new result }
     ensures status { result ≤ FAILED }
 {
-    let Ok(mut store) = host.open(path) else {
-        return tell(err, Fault::CannotOpen);
+    let mut store = match open_store(host, alloc, Some(path), err) {
+        Ok(store) => store,
+        Err(status) => return status,
     };
     let status = list_rows(alloc, &mut store, out, err);
-    host.close(path, Some(store));
+    close_store(host, Some(path), Some(store));
     status
 }
