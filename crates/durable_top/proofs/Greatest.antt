@@ -9,7 +9,7 @@ use Rattle.std.specs.List.{AllByRecursion}
 use Rattle.std.specs.Option.{option_map}
 use Rattle.std.specs.Ordering.{nat_cmp, is_eq}
 use Rattle.txn_names.specs.Path.{label_eq}
-use Rattle.txn_names.proofs.Names.{label_eq_self, same_label}
+use Rattle.txn_names.proofs.Exports.{label_eq_self, same_label}
 use Rattle.txn_names.specs.declared.change.Change.{Change}
 use Rattle.serial_spec.specs.Changes.{change_at, AreRising}
 use Rattle.serial_spec.specs.History.{or_else}

@@ -4,3 +4,4 @@ pub mod Greatest
 pub mod Numbering
 pub mod Entries
 pub mod Settled
+pub mod Exports

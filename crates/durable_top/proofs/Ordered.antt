@@ -6,7 +6,7 @@ use Rattle.std.specs.Ordering.{nat_cmp, is_ge}
 use Rattle.std.specs.declared.cmp.Ordering.{Ordering}
 use Rattle.std.specs.declared.cmp.Ordering.TheVariants.{Less, Equal, Greater}
 use Rattle.serial_spec.specs.Rows.{IsRising}
-use Rattle.serial_spec.proofs.Ordered.{above_all}
+use Rattle.serial_spec.proofs.Exports.{above_all}
 use Rattle.durable_top.specs.declared.store.Row.{Row}
 use Rattle.durable_top.specs.Store.{plain}
 

@@ -8,7 +8,7 @@ use Rattle.std.specs.List.{list_any, AllByRecursion}
 use Rattle.std.specs.Ordering.{nat_cmp, match_ordering}
 use Rattle.std.specs.declared.cmp.Ordering.TheVariants.{Less}
 use Rattle.txn_names.specs.Path.{label_eq}
-use Rattle.txn_names.proofs.Names.{label_eq_self, same_label}
+use Rattle.txn_names.proofs.Exports.{label_eq_self, same_label}
 use Rattle.txn_names.specs.declared.change.Change.{Change}
 use Rattle.serial_spec.specs.History.{or_else}
 use Rattle.serial_spec.specs.Rows.{AreRisingKeys}
@@ -18,8 +18,8 @@ use Rattle.serial_spec.specs.declared.target.Target.TheVariants.{Key}
 use Rattle.serial_spec.specs.Locks.{is_exclusive}
 use Rattle.inherit.specs.LocksAndVersions.{LocksAndVersions, modes_of}
 use Rattle.inherit.specs.Changes.{writes}
-use Rattle.version_stack.proofs.Base.{any_append}
-use Rattle.serial_spec.proofs.Ordered.{on_ordering, above_all, turned, same_key}
+use Rattle.version_stack.proofs.Exports.{any_append}
+use Rattle.serial_spec.proofs.Exports.{on_ordering, above_all, turned, same_key}
 
 -- ---- a key put among others in its place
 

@@ -3,7 +3,7 @@ use Rattle.std.proofs.Common.{◌≡◌, ℕ, Bool, true, false, ◌&&◌, ◌||
 use Rattle.std.specs.Prelude.{length}
 use Rattle.std.specs.List.{position}
 use Rattle.std.proofs.lemmas.Bool.{eq-eqb, false≢true}
-use Rattle.txn_names.proofs.Names.{label_eq_self}
+use Rattle.txn_names.proofs.Exports.{label_eq_self}
 use Rattle.lock_table.specs.Locked.{with_place, with_childs}
 use Rattle.txn_names.specs.Path.{Path, label_eq, path_eq, parent}
 use Rattle.txn_tree.specs.States.{States, names}

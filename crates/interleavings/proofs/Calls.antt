@@ -11,7 +11,7 @@ use Rattle.serial_spec.specs.History.{Name, History}
 use Rattle.serial_spec.specs.Waits.{Quiet, same_line, wait_of}
 use Rattle.serial_spec.specs.Allowed.{answer}
 use Rattle.txn_history.specs.Lines.{IsFree, IsWaitOf, accessor}
-use Rattle.txn_history.proofs.Tests.{clash}
+use Rattle.txn_history.proofs.Exports.{clash}
 use Rattle.durable_top.specs.declared.store.TopStore.{Ghosts}
 use Rattle.manager_core.specs.declared.outcome.Outcome.{Outcome}
 use Rattle.manager_core.specs.declared.outcome.Outcome.TheVariants.{Waits}
@@ -21,7 +21,7 @@ use Rattle.manager_core.specs.Asked.{IsLater}
 use Rattle.manager_core.specs.Sound.{IsSound}
 use Rattle.manager_core.specs.Calls.{Added, Answered, Committed, Retried, WaitsOn}
 use Rattle.manager_core.specs.Parking.{Awaited, Awaits, IsKeptOut, NobodyWaits}
-use Rattle.manager_core.proofs.Waits.{same_by}
+use Rattle.manager_core.proofs.Exports.{same_by}
 use Rattle.interleavings.specs.Trails.{EntryAsks, Trail}
 use Rattle.interleavings.specs.Attempts.{Attempts, GoesOn}
 use Rattle.interleavings.proofs.Trails.{committed_asks, trail_more, trail_one, trail_victims}

@@ -7,7 +7,7 @@ use Rattle.serial_spec.specs.Serial.{stored}
 use Rattle.serial_spec.specs.Interleaving.{Session, AllAnswered, IsInterleaving, IsFinished}
 use Rattle.serial_spec.specs.Follows.{Steps, Rounds, AfterClose}
 use Rattle.txn_history.specs.Turns.{IsUnderWay}
-use Rattle.txn_history.proofs.Following.{close_finishes}
+use Rattle.txn_history.proofs.Exports.{close_finishes}
 use Rattle.durable_top.specs.declared.store.TopStore.{Ghosts}
 use Rattle.durable_top.specs.Numbered.{Numbered, entries_in}
 use Rattle.durable_top.specs.Store.{counted}

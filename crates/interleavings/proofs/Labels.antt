@@ -4,7 +4,7 @@ use Rattle.std.proofs.lemmas.Bool.{false≢true}
 use Rattle.std.proofs.lemmas.List.{map-append, take_all}
 use Rattle.std.proofs.lemmas.Option.{slice_get_within, slice_get_cases}
 use Rattle.serial_spec.specs.Interleaving.{Session}
-use Rattle.serial_spec.proofs.Taking.{take_next}
+use Rattle.serial_spec.proofs.Exports.{take_next}
 use Rattle.session_text.specs.Texts.{label_at}
 
 abbrev label_of : Session → List ℕ

@@ -10,3 +10,4 @@ pub mod Strays
 pub mod Labels
 pub mod Reported
 pub mod Opened
+pub mod Exports

@@ -17,9 +17,7 @@ use Rattle.session_text.specs.Texts.{line_at}
 use Rattle.session_text.specs.Grammar.{IsSession, IsText}
 use Rattle.txn_history.specs.Turns.{IsUnderWay}
 use Rattle.txn_history.specs.Lines.{IsFree, IsWaitOf}
-use Rattle.txn_history.proofs.Theorems.{legal_allowed}
-use Rattle.txn_history.proofs.NextLines.{next_is_free}
-use Rattle.txn_history.proofs.Following.{step_keeps, stuck_keeps}
+use Rattle.txn_history.proofs.Exports.{legal_allowed, next_is_free, step_keeps, stuck_keeps}
 use Rattle.durable_top.specs.declared.store.TopStore.{Ghosts}
 use Rattle.manager_core.specs.declared.outcome.Outcome.{Outcome}
 use Rattle.manager_core.specs.declared.outcome.Outcome.TheVariants.{Waits}

@@ -4,7 +4,7 @@ use Rattle.serial_spec.specs.Rows.{IsRising, value_in}
 use Rattle.durable_top.specs.declared.store.TopStore.{Ghosts}
 use Rattle.manager_core.specs.State.{State}
 use Rattle.manager_core.specs.Opening.{HasGivenFew, IsOpened}
-use Rattle.manager_core.proofs.Opening.{as_many}
+use Rattle.manager_core.proofs.Exports.{as_many}
 
 pub given_few : {S : Type 0} (g : Ghosts S) (store : S) (m : State S) → IsOpened g store m → HasGivenFew g store
 given_few g store m opened = record {

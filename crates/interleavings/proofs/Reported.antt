@@ -4,7 +4,7 @@ use Rattle.std.specs.Prelude.{IsFalse}
 use Rattle.std.specs.List.{AllByRecursion}
 use Rattle.serial_spec.specs.History.{is_live}
 use Rattle.serial_spec.specs.Rows.{IsRising}
-use Rattle.txn_history.proofs.Theorems.{finished_correctness, table_correctness, table_few, legal_allowed}
+use Rattle.txn_history.proofs.Exports.{finished_correctness, table_correctness, table_few, legal_allowed}
 use Rattle.durable_top.specs.declared.store.TopStore.{Ghosts}
 use Rattle.manager_core.specs.State.{State}
 use Rattle.manager_core.specs.Opening.{most_rows}

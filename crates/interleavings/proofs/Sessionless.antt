@@ -13,7 +13,7 @@ use Rattle.serial_spec.specs.Interleaving.{IsInTurn, IsInterleaving, Session}
 use Rattle.serial_spec.specs.Legal.{IsAbortOf, Legal, MayStand, first_live}
 use Rattle.serial_spec.specs.Rows.{Rows}
 use Rattle.txn_history.specs.Turns.{IsUnderWay}
-use Rattle.txn_history.proofs.Causes.{abort_of}
+use Rattle.txn_history.proofs.Exports.{abort_of}
 use Rattle.manager_core.specs.Calls.{Closed}
 use Rattle.manager_core.specs.State.{State}
 

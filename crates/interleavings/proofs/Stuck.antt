@@ -12,10 +12,7 @@ use Rattle.serial_spec.specs.Interleaving.{Session, lines_of, answered, next_eve
 use Rattle.serial_spec.specs.Follows.{NoneGivesUp, StepOfEach}
 use Rattle.txn_history.specs.Turns.{IsUnderWay, pending_in}
 use Rattle.txn_history.specs.Lines.{CanGiveUp}
-use Rattle.txn_history.proofs.Rounds.{steps_move}
-use Rattle.txn_history.proofs.Tests.{clash}
-use Rattle.txn_history.proofs.Theorems.{legal_allowed}
-use Rattle.txn_history.proofs.NextLines.{next_can_give_up}
+use Rattle.txn_history.proofs.Exports.{steps_move, clash, legal_allowed, next_can_give_up}
 use Rattle.manager_core.specs.Parking.{IsKeptOut}
 use Rattle.interleavings.specs.Turning.{IsDue, IsFirstOpen, SomeGoesOn, has_answer, can_go_on, next_number}
 

@@ -6,7 +6,7 @@ use Rattle.std.specs.Result.{result_ok}
 use Rattle.std.specs.Str.{bytes_eq}
 use Rattle.txn_names.specs.Text.{spelled_name}
 use Rattle.txn_names.specs.Reading.{name_of}
-use Rattle.txn_names.proofs.ReadBack.{name_of-spelled, read_is_name}
+use Rattle.txn_names.proofs.Exports.{name_of-spelled, read_is_name}
 use Rattle.serial_spec.specs.declared.operation.Reply.TheVariants.{Ok as Fine, Value, Absent, New, Overflow}
 use Rattle.serial_spec.specs.declared.entry.Refusal.TheVariants.{Orphan}
 use Rattle.serial_spec.specs.declared.entry.Answer.{Answer}

@@ -9,7 +9,7 @@ use Rattle.std.proofs.Math.Seq.{drop-append_seam, take-append_seam}
 use Rattle.txn_names.specs.Path.{Path}
 use Rattle.txn_names.specs.Text.{IsLabel, IsName, is_label_byte, spelled_name}
 use Rattle.txn_names.specs.Reading.{label_of, name_of}
-use Rattle.txn_names.proofs.ReadBack.{name_of-spelled, read_is_name}
+use Rattle.txn_names.proofs.Exports.{name_of-spelled, read_is_name}
 use Rattle.serial_spec.specs.declared.limits.TheConstants.{MOST_LINES}
 use Rattle.serial_spec.specs.declared.entry.Answer.{Answer}
 use Rattle.serial_spec.specs.declared.event.Event.{Event}

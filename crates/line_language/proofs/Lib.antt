@@ -14,3 +14,4 @@ pub mod Parts
 pub mod Rows
 pub mod Answering
 pub mod Entries
+pub mod Exports

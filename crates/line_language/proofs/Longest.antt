@@ -6,7 +6,7 @@ use Rattle.std.proofs.lemmas.Bool.{ltb-true}
 use Rattle.std.proofs.lemmas.Fmt.{length-decimal-le}
 use Rattle.txn_names.specs.Path.{Path}
 use Rattle.txn_names.specs.Text.{IsName, IsKey, spelled_name}
-use Rattle.txn_names.proofs.Lengths.{length-name}
+use Rattle.txn_names.proofs.Exports.{length-name}
 use Rattle.serial_spec.specs.Operations.{is_i64}
 use Rattle.serial_spec.specs.declared.operation.Reply.TheVariants.{Value, New}
 use Rattle.serial_spec.specs.declared.entry.Refusal.TheVariants.{Orphan}

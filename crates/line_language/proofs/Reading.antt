@@ -12,7 +12,7 @@ use Rattle.txn_names.specs.Text.{IsName, IsKey, IsLabel, is_key_byte, is_label_b
 use Rattle.txn_names.specs.Reading.{name_of, key_of, label_of}
 use Rattle.txn_names.specs.declared.key.KeyFault.TheVariants as key
 use Rattle.txn_names.specs.declared.label.LabelFault.TheVariants as label
-use Rattle.txn_names.proofs.ReadBack.{name_of-spelled, read_is_name}
+use Rattle.txn_names.proofs.Exports.{name_of-spelled, read_is_name}
 use Rattle.serial_spec.specs.Operations.{is_i64}
 use Rattle.line_language.specs.Printing.{spelled_event, spelled_number, spelled_when, with_number}
 use Rattle.line_language.specs.Verbs.{IsOp, operand, operation_of, with_operand, word}

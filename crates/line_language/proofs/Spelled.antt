@@ -10,7 +10,7 @@ use Rattle.txn_names.specs.Groups.{IsGroup}
 use Rattle.txn_names.specs.Text.{IsName, IsKey, is_label_byte, is_key_byte, spelled_name}
 use Rattle.txn_names.specs.Reading.{pieces, is_empty, is_name_byte}
 use Rattle.txn_names.specs.declared.name.NameFault.TheVariants as name
-use Rattle.txn_names.proofs.ReadBack.{name_of-spelled}
+use Rattle.txn_names.proofs.Exports.{name_of-spelled}
 use Rattle.serial_spec.specs.Operations.{is_i64}
 use Rattle.line_language.specs.Printing.{spelled_event, spelled_number, spelled_when, with_number}
 use Rattle.line_language.specs.Verbs.{operand, word}

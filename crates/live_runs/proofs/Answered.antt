@@ -9,7 +9,7 @@ use Rattle.serial_spec.specs.Interleaving.{Session}
 use Rattle.line_language.specs.Report.{spelled_history}
 use Rattle.session_text.specs.Growing.{place_of}
 use Rattle.growing_sessions.specs.Growing.{Extends, labels_in}
-use Rattle.growing_sessions.proofs.Lines.{growths_join, line_extends, session_extends}
+use Rattle.growing_sessions.proofs.Exports.{growths_join, line_extends, session_extends}
 use Rattle.durable_top.specs.declared.store.TopStore.{Ghosts}
 use Rattle.interleavings.specs.Scheduled.{Stands}
 use Rattle.interleavings.specs.Turning.{Turning}

@@ -3,13 +3,13 @@ use Rattle.std.proofs.Common.{◌≡◌, ℕ, List, [], ◌∷◌, Option, Some,
 use Rattle.std.proofs.lemmas.Option.{none-some}
 use Rattle.std.specs.Io.KnownBytes.{Appends}
 use Rattle.txn_bytes.specs.Written.{Writer}
-use Rattle.txn_bytes.proofs.Appending.{then}
+use Rattle.txn_bytes.proofs.Exports.{then}
 use Rattle.line_language.specs.declared.fault.LineKind.{LineKind}
 use Rattle.line_language.specs.declared.fault.LineKind.TheVariants as kind
 use Rattle.durable_top.specs.declared.store.TopStore.{Ghosts}
 use Rattle.interleavings.specs.Attempts.{GoesOn}
 use Rattle.interleavings.specs.Turning.{Turning}
-use Rattle.interleavings.proofs.Schedules.{on_same, on_still}
+use Rattle.interleavings.proofs.Exports.{on_same, on_still}
 use Rattle.txn_bytes.specs.Sources.{Reader}
 use Rattle.request_lines.specs.declared.lines.Taken.{Taken}
 use Rattle.request_lines.specs.declared.lines.Taken.TheVariants.{Whole, Long, Cut, End}

@@ -2,7 +2,7 @@
 use Rattle.std.proofs.Common.{◌≡◌, ◌+◌, inr, Some, refl, sym, ap, subst, ◌∙◌, arith}
 use Rattle.std.specs.Io.KnownBytes.{Appends}
 use Rattle.txn_bytes.specs.Written.{Writer}
-use Rattle.txn_bytes.proofs.Appending.{then}
+use Rattle.txn_bytes.proofs.Exports.{then}
 use Rattle.serial_spec.specs.Interleaving.{IsFinished, IsInterleaving}
 use Rattle.serial_spec.specs.History.{History}
 use Rattle.serial_spec.specs.Rows.{Rows, value_in}
@@ -16,10 +16,8 @@ use Rattle.interleavings.specs.Runs.{WasAsked}
 use Rattle.interleavings.specs.Told.{Told}
 use Rattle.interleavings.specs.Trails.{Trail}
 use Rattle.interleavings.specs.Turning.{Turning}
-use Rattle.interleavings.proofs.Closed.{numbered_from}
-use Rattle.interleavings.proofs.Schedules.{on_still}
-use Rattle.interleavings.proofs.Trails.{trail_more}
-use Rattle.report_text.proofs.Accepted.{accepted}
+use Rattle.interleavings.proofs.Exports.{numbered_from, on_still, trail_more}
+use Rattle.report_text.proofs.Exports.{accepted}
 use Rattle.txn_bytes.specs.Sources.{Reader}
 use Rattle.live_runs.specs.Hearing.{HearsAll, Moment, begun_of, holds_nothing, moment, sessions_heard}
 use Rattle.live_runs.specs.declared.fault.LiveFault.{LiveFault}

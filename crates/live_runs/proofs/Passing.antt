@@ -3,7 +3,7 @@ use Rattle.std.proofs.Common.{ℕ, List, inl, inr, Result, Ok, Err, OnOk, OnErr}
 use Rattle.std.specs.Io.KnownBytes.{Appends, Keeps}
 use Rattle.txn_bytes.specs.Written.{AppendsFront, IsStopped, Writer}
 use Rattle.txn_bytes.specs.declared.sink.WriteFault.{WriteFault}
-use Rattle.txn_bytes.proofs.Appending.{kept}
+use Rattle.txn_bytes.proofs.Exports.{kept}
 use Rattle.live_runs.specs.Showing.{IsShown, IsUnshown}
 
 module _ {W : Type 0} (w : Writer W) where

@@ -9,14 +9,13 @@ use Rattle.line_language.specs.Report.{line, spelled_entry, spelled_history, spe
 use Rattle.serial_spec.specs.Rows.{Rows}
 use Rattle.durable_top.specs.declared.store.TopStore.{Ghosts}
 use Rattle.growing_sessions.specs.Growing.{Extends, labels_in}
-use Rattle.growing_sessions.proofs.Spelled.{history_reads_same}
+use Rattle.growing_sessions.proofs.Exports.{history_reads_same}
 use Rattle.interleavings.specs.Attempts.{GoesOn}
 use Rattle.interleavings.specs.Scheduled.{Goes, RunsOut}
 use Rattle.interleavings.specs.Told.{Told}
 use Rattle.interleavings.specs.Trails.{Trail}
 use Rattle.interleavings.specs.Turning.{Turning}
-use Rattle.interleavings.proofs.Schedules.{goes_still}
-use Rattle.interleavings.proofs.Trails.{trail_more}
+use Rattle.interleavings.proofs.Exports.{goes_still, trail_more}
 use Rattle.report_text.specs.Lines.{ending_text, opening_text}
 use Rattle.report_text.specs.Lines.{spelled_report}
 use Rattle.live_runs.specs.Hearing.{begun_of}

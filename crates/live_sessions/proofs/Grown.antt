@@ -7,11 +7,9 @@ use Rattle.serial_spec.specs.Interleaving.{Session, answered, lines_of}
 use Rattle.line_language.specs.declared.fault.LineKind.TheVariants as kind
 use Rattle.session_text.specs.Growing.{place_of, with_line_of}
 use Rattle.session_text.specs.Texts.{with_header}
-use Rattle.session_text.proofs.Growing.{same_count}
-use Rattle.session_text.proofs.Places.{places_found}
+use Rattle.session_text.proofs.Exports.{same_count, places_found}
 use Rattle.growing_sessions.specs.Growing.{IsOpenEnded, labels_in}
-use Rattle.growing_sessions.proofs.Growth.{growth_keeps, new_session_unanswered}
-use Rattle.growing_sessions.proofs.Lines.{line_extends, session_extends}
+use Rattle.growing_sessions.proofs.Exports.{growth_keeps, new_session_unanswered, line_extends, session_extends}
 use Rattle.manager_core.specs.State.{State}
 use Rattle.interleavings.specs.Progressing.{Going, AreUnderWay}
 use Rattle.live_sessions.specs.Requested.{fault_at}

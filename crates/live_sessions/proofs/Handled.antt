@@ -5,7 +5,7 @@ use Rattle.serial_spec.specs.History.{History}
 use Rattle.serial_spec.specs.Rows.{Rows}
 use Rattle.serial_spec.specs.Interleaving.{Session}
 use Rattle.growing_sessions.specs.Growing.{IsOpenEnded, labels_in}
-use Rattle.growing_sessions.proofs.Growth.{round_stays_open, step_stays_open}
+use Rattle.growing_sessions.proofs.Exports.{round_stays_open, step_stays_open}
 use Rattle.durable_top.specs.declared.store.TopStore.{Ghosts}
 use Rattle.manager_core.specs.State.{State}
 use Rattle.manager_core.specs.Sound.{IsSound}
@@ -15,7 +15,7 @@ use Rattle.interleavings.specs.Progressing.{Going, AreUnderWay, turning}
 use Rattle.interleavings.specs.Scheduled.{Goes, Settles, Stands, StepsOfAll}
 use Rattle.interleavings.specs.Turning.{IsStart, Turning, Stepped, NoneGoesOn}
 use Rattle.interleavings.specs.declared.turns.Turn.{Turn}
-use Rattle.interleavings.proofs.Schedules.{goes_still, on_same}
+use Rattle.interleavings.proofs.Exports.{goes_still, on_same}
 use Rattle.live_sessions.specs.Handling.{Attempted, BreaksAt, Grows, IsLive}
 use Rattle.live_sessions.specs.Requested.{number_of, with_request}
 

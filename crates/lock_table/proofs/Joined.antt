@@ -3,7 +3,7 @@ use Rattle.std.proofs.Common.{◌≡◌, ℕ, nat_eq, true, ◌⊎◌, inl, inr,
 use Rattle.std.specs.Prelude.{insert}
 use Rattle.std.specs.List.{list_any}
 use Rattle.std.proofs.lemmas.Bool.{or_cases, or_left, or_right, eqb-true}
-use Rattle.txn_cells.proofs.ByKey.{any-insert}
+use Rattle.txn_cells.proofs.Exports.{any-insert}
 use Rattle.lock_table.specs.Targeted.{IsAmong, IsJoined}
 
 -- no more

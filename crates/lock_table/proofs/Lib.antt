@@ -8,3 +8,4 @@ pub mod Summers
 pub mod Found
 pub mod Listed
 mod Bare
+pub mod Exports

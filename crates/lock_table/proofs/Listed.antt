@@ -3,11 +3,10 @@ use Rattle.std.proofs.Common.{◌≡◌, ◌<◌, ℕ, Bool, true, false, ◌&&�
 use Rattle.std.proofs.lemmas.Bool.{and_from, cases_lt, false_from_ne_true, false≢true, ne_eqb}
 use Rattle.std.proofs.lemmas.List.{length-take-le, take_all}
 use Rattle.txn_names.specs.Groups.{IsGroupBefore, has}
-use Rattle.txn_names.proofs.Groups.{dot_behind, same_front}
-use Rattle.txn_names.proofs.Names.{on_test, same_label}
+use Rattle.txn_names.proofs.Exports.{dot_behind, same_front, on_test, same_label}
 use Rattle.txn_cells.specs.Cells as cells
 use Rattle.txn_cells.specs.Kept.{cells_in}
-use Rattle.txn_cells.proofs.Reserving.{nothing_there}
+use Rattle.txn_cells.proofs.Exports.{nothing_there}
 use Rattle.std.specs.Map.{lookup}
 use Rattle.txn_names.specs.Path.{label_eq}
 use Rattle.serial_spec.specs.declared.operation.Kind.{Kind}

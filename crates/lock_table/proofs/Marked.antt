@@ -4,7 +4,7 @@ use Rattle.std.specs.Prelude.{nat_lt}
 use Rattle.std.proofs.lemmas.Bool.{false≢true, and_parts, and_from, lt-ltb, or_cases, or_left, or_right}
 use Rattle.txn_names.specs.Path.{label_eq}
 use Rattle.txn_names.specs.Groups.{has}
-use Rattle.txn_names.proofs.Names.{on_test, same_label, label_eq_self}
+use Rattle.txn_names.proofs.Exports.{on_test, same_label, label_eq_self}
 use Rattle.serial_spec.specs.declared.mode.Mode.{Mode}
 use Rattle.serial_spec.specs.declared.mode.Mode.TheVariants as mode
 use Rattle.serial_spec.specs.Locks.{greater, is_exclusive}

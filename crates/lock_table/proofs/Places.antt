@@ -4,7 +4,7 @@ use Rattle.std.specs.Prelude.{nat_lt}
 use Rattle.std.proofs.lemmas.Bool.{and_parts, and_from, or_cases, or_left, or_right, eqb-true, eq-eqb, lt-ltb}
 use Rattle.txn_names.specs.Path.{label_eq}
 use Rattle.txn_names.specs.Groups.{has}
-use Rattle.txn_names.proofs.Names.{label_eq_self, same_label}
+use Rattle.txn_names.proofs.Exports.{label_eq_self, same_label}
 use Rattle.txn_cells.specs.Cells.{with_childs, with_place}
 use Rattle.serial_spec.specs.declared.operation.Kind.{Kind}
 use Rattle.serial_spec.specs.declared.operation.Kind.TheVariants.{Write}

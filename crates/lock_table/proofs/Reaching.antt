@@ -4,8 +4,7 @@ use Rattle.std.specs.Prelude.{nat_lt}
 use Rattle.std.proofs.lemmas.Bool.{false≢true, and_parts, and_from, false_from_ne_true, not-true, not_from_false, lt-ltb, ltb-true}
 use Rattle.txn_names.specs.Path.{label_eq}
 use Rattle.txn_names.specs.Groups.{has}
-use Rattle.txn_names.proofs.Names.{on_test, on_label, same_label, label_eq_self}
-use Rattle.txn_names.proofs.Groups.{dot_behind, same_front}
+use Rattle.txn_names.proofs.Exports.{on_test, on_label, same_label, label_eq_self, dot_behind, same_front}
 use Rattle.txn_tree.specs.States.{States}
 use Rattle.serial_spec.specs.declared.operation.Kind.{Kind}
 use Rattle.serial_spec.specs.declared.operation.Kind.TheVariants.{Read, Write}

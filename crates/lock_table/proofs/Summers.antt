@@ -2,7 +2,7 @@
 use Rattle.std.proofs.Common.{◌≡◌, ◌<◌, ◌≤◌, ℕ, ◌+◌, true, ◌⊎◌, inl, inr, List, length, take, sym, ap, ◌∙◌, arith}
 use Rattle.std.proofs.lemmas.Bool.{cases_eq}
 use Rattle.txn_names.specs.Groups.{has}
-use Rattle.txn_names.proofs.Groups.{dot_behind, same_front}
+use Rattle.txn_names.proofs.Exports.{dot_behind, same_front}
 use Rattle.txn_tree.specs.States.{States}
 use Rattle.serial_spec.specs.declared.operation.Kind.TheVariants.{Write}
 use Rattle.lock_table.specs.Locked as one

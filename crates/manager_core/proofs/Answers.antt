@@ -20,10 +20,7 @@ use Rattle.serial_spec.specs.Rows.{Rows, value_in}
 use Rattle.serial_spec.specs.Legal.{AreAllowed}
 use Rattle.serial_spec.specs.Allowed.{Allowed, most_transactions, answer, has_waited, cause_at_begin, cause_at_end, cause_at_access, cause_at_commit}
 use Rattle.serial_spec.specs.Causes.{when}
-use Rattle.txn_history.proofs.Activity.{acts_active}
-use Rattle.txn_history.proofs.OwnLines.{line_self}
-use Rattle.txn_history.proofs.Causes.{neither, acts_at_end}
-use Rattle.txn_history.proofs.Theorems.{wait_holds}
+use Rattle.txn_history.proofs.Exports.{acts_active, line_self, neither, acts_at_end, wait_holds}
 use Rattle.serial_spec.specs.Waits.{is_waits, same_line}
 use Rattle.manager_core.specs.declared.outcome.Outcome.{Outcome}
 use Rattle.manager_core.specs.declared.outcome.Outcome.TheVariants as made

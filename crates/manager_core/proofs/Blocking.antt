@@ -6,7 +6,7 @@ use Rattle.std.proofs.lemmas.Map.Entries.{length-keys_of}
 use Rattle.txn_tree.specs.States.{States, names}
 use Rattle.serial_spec.specs.History.{Name, History, begun}
 use Rattle.manager_core.specs.Kept.{IsTreeOf}
-use Rattle.txn_history.proofs.Reversed.{any_reversed}
+use Rattle.txn_history.proofs.Exports.{any_reversed}
 
 -- whoever passes among the names in order of beginning has begun, and the other way about
 pub any_named : (p : Name → Bool) (h : History) (states : States) → IsTreeOf h states → list_any p (names states) ≡ list_any p (begun h)

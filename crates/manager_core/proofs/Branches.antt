@@ -4,7 +4,7 @@ use Rattle.std.specs.Cmp.{both_ways}
 use Rattle.std.proofs.lemmas.Bool.{cases_lt, false≢true, ltb-true, lt-ltb}
 use Rattle.std.proofs.lemmas.List.{length-take-le}
 use Rattle.txn_names.specs.Path.{Path, is_front, meet}
-use Rattle.txn_names.proofs.Names.{is_front-take, is_front-trans, label_eq_self, length-front, meet-greatest, meet-le, take-front, take-meet}
+use Rattle.txn_names.proofs.Exports.{is_front-take, is_front-trans, label_eq_self, length-front, meet-greatest, meet-le, take-front, take-meet}
 use Rattle.serial_spec.specs.Waits.{branch_of}
 
 fronts_of : (j k : ℕ) (b : Path) → j ≤ k → is_front (take j b) (take k b) ≡ true

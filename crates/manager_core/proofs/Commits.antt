@@ -2,12 +2,12 @@
 use Rattle.std.proofs.Common.{◌≡◌, ℕ, zero, suc, nat_lt, ℤ, ◌+◌, ◌<◌, Bool, true, false, ◌&&◌, cond, List, [], ◌∷◌, length, Option, Some, None, refl, sym, ap, subst, ◌∙◌, arith}
 use Rattle.std.proofs.lemmas.Bool.{false≢true, lt-ltb}
 use Rattle.std.proofs.lemmas.List.Sums.{sum_by-cons}
-use Rattle.txn_names.proofs.Names.{label_eq_self}
+use Rattle.txn_names.proofs.Exports.{label_eq_self}
 use Rattle.txn_names.specs.declared.change.Change.{Change}
 use Rattle.txn_tree.specs.States.{States, names}
 use Rattle.txn_tree.specs.Asked.{IsNumberOf, IsRootless, is_live_child_in, live_children_of}
 use Rattle.txn_tree.specs.Numbered.{is_active_at, is_active_named, live_children_at, live_children_named}
-use Rattle.txn_tree.proofs.Children.{any_counted}
+use Rattle.txn_tree.proofs.Exports.{any_counted}
 use Rattle.inherit.specs.LocksAndVersions.{IsParent}
 use Rattle.serial_spec.specs.declared.entry.By.{By}
 use Rattle.serial_spec.specs.declared.operation.Reply.TheVariants.{Ok}
@@ -31,13 +31,12 @@ use Rattle.serial_spec.specs.Rows.{Rows, value_in}
 use Rattle.serial_spec.specs.Changes.{change_at, overlay, IsChanges}
 use Rattle.serial_spec.specs.Allowed.{cause_at_commit, asks_store, has_live_child, waits_elsewhere, writes}
 use Rattle.serial_spec.specs.Legal.{AreAllowed}
-use Rattle.txn_history.proofs.Causes.{neither, not_when}
-use Rattle.txn_history.proofs.Theorems.{changes_made, writes_somewhere}
+use Rattle.txn_history.proofs.Exports.{neither, not_when, changes_made, writes_somewhere}
 use Rattle.durable_top.specs.declared.store.TopStore.{Ghosts}
 use Rattle.manager_core.specs.declared.manager.AtOpening.{AtOpening}
 use Rattle.durable_top.specs.Numbered.{entries_in, values_of}
 use Rattle.durable_top.specs.Store.{counted, plain}
-use Rattle.durable_top.proofs.Numbering.{values_in_rows}
+use Rattle.durable_top.proofs.Exports.{values_in_rows}
 use Rattle.manager_core.specs.State.{entry}
 use Rattle.manager_core.specs.Lines.{IsFree}
 use Rattle.manager_core.specs.Kept.{AreWaitsOf, IsKept, IsTreeOf}

@@ -3,7 +3,7 @@ use Rattle.std.proofs.Common.{◌≡◌, ℕ, zero, suc, Bool, true, false, cond
 use Rattle.std.specs.Prelude.{slice_get}
 use Rattle.std.proofs.lemmas.Bool.{false≢true}
 use Rattle.txn_names.specs.Path.{path_eq, is_front, parent}
-use Rattle.txn_names.proofs.Names.{on_test, same_path, path_eq_self, is_front-parent}
+use Rattle.txn_names.proofs.Exports.{on_test, same_path, path_eq_self, is_front-parent}
 use Rattle.txn_tree.specs.States.{States, names}
 use Rattle.txn_tree.specs.Asked.{is_name, IsNumberOf}
 use Rattle.txn_cells.specs.Cells.{is_it}
@@ -14,7 +14,7 @@ use Rattle.serial_spec.specs.History.{Name, History, Effect, Begins, Accesses, C
 use Rattle.serial_spec.specs.Rows.{Rows}
 use Rattle.serial_spec.specs.Legal.{AreAllowed}
 use Rattle.txn_history.specs.Steps.{acts_next, Before}
-use Rattle.txn_history.proofs.Theorems.{active_after, before_each, ancestors_act}
+use Rattle.txn_history.proofs.Exports.{active_after, before_each, ancestors_act}
 use Rattle.manager_core.specs.Kept.{content_of}
 use Rattle.manager_core.specs.Tables.{IsParentNumber, is_below}
 use Rattle.manager_core.proofs.Locks.{name_at}

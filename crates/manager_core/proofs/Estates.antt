@@ -22,7 +22,7 @@ use Rattle.serial_spec.specs.Values.{last_left, leaves_at}
 use Rattle.serial_spec.specs.Rows.{Rows}
 use Rattle.serial_spec.specs.Legal.{AreAllowed}
 use Rattle.txn_history.specs.Steps.{held_next, retained_next, left_next}
-use Rattle.txn_history.proofs.Theorems.{locks_after, left_after, foot_is_greater, nothing_before}
+use Rattle.txn_history.proofs.Exports.{locks_after, left_after, foot_is_greater, nothing_before}
 use Rattle.manager_core.specs.Kept.{IsEstateOf, content_of, lock_at, left_at}
 use Rattle.manager_core.specs.Tables.{Tabled, AbortsIn, AccessesIn, IsParentNumber, is_below}
 use Rattle.manager_core.proofs.Contents.{IsTold, value_next, content_nothing, content_raised, content_merged, content_dropped, content_begun}

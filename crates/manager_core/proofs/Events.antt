@@ -1,7 +1,7 @@
 -- The event by which something is asked of a transaction: what the definitions say of it, whatever is asked.
 use Rattle.std.proofs.Common.{◌≡◌, ℕ, true, false, ◌⊎◌, inl, inr, List, Option, Some, unwrap_or, refl, sym, ap, ◌∙◌}
 use Rattle.txn_names.specs.Path.{path_eq}
-use Rattle.txn_names.proofs.Names.{path_eq_self}
+use Rattle.txn_names.proofs.Exports.{path_eq_self}
 use Rattle.serial_spec.specs.declared.target.Asked.{Asked}
 use Rattle.serial_spec.specs.declared.target.Asked.TheVariants.{At, Over}
 use Rattle.serial_spec.specs.declared.operation.Op.{Op}

@@ -7,8 +7,7 @@ use Rattle.serial_spec.specs.declared.entry.Answer.{Answer}
 use Rattle.serial_spec.specs.declared.entry.Entry.{Entry}
 use Rattle.serial_spec.specs.Rows.{Rows, value_in}
 use Rattle.serial_spec.specs.History.{History, effect_of}
-use Rattle.txn_history.proofs.Theorems.{table_correctness}
-use Rattle.txn_history.proofs.Theorems as theorems
+use Rattle.txn_history.proofs.Exports.{table_correctness, serial_correctness}
 use Rattle.durable_top.specs.declared.store.TopStore.{Ghosts}
 use Rattle.manager_core.specs.declared.manager.AtOpening.{AtOpening}
 use Rattle.manager_core.specs.State.{State, entry}
@@ -27,7 +26,7 @@ sound g m tables settled table =
       rising = kept.rising;
       legal = settled.legal;
       quiet = settled.quiet;
-      right = theorems.serial_correctness m.rows m.history kept.allowed;
+      right = serial_correctness m.rows m.history kept.allowed;
       root = (table_correctness m.rows m.history kept.allowed).0;
       stored = λ k. ap (λ (rs : Rows). value_in rs k) table ∙ kept.are.current k;
       backed = subst (λ (rs : Rows). IsBacked g m.history rs m.opened m.store) (sym table) kept.backed;

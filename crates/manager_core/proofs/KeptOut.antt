@@ -40,12 +40,11 @@ use Rattle.manager_core.proofs.Pairing.{tell_waits}
 use Rattle.wait_cycles.specs.Waiting.{wait_in, wait_of as kept_wait}
 use Rattle.wait_cycles.specs.declared.waits.Wait.{Wait}
 use Rattle.manager_core.specs.Tables.{Tabled, cause_in}
-use Rattle.txn_history.proofs.Lists.{any-find}
+use Rattle.txn_history.proofs.Exports.{any-find, waits_kept}
 use Rattle.manager_core.proofs.Events.{access_by_at, answer_at, is_wait, may_give_up, own_wait, same_asked}
 use Rattle.manager_core.proofs.Lasting.{is_open}
 use Rattle.manager_core.proofs.Trees.{same_at_end}
 use Rattle.manager_core.proofs.Waits.{same_by}
-use Rattle.txn_history.proofs.Waiting.{waits_kept}
 use Rattle.manager_core.proofs.Retrying.{IsWaiting, waiting_is}
 
 -- ---- conditions

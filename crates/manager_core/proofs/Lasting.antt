@@ -4,7 +4,7 @@ use Rattle.std.proofs.lemmas.Bool.{false≢true, and_parts, and_from, and_right,
 use Rattle.std.proofs.lemmas.Map.Views.{any-filter_same}
 use Rattle.std.specs.List.{list_any}
 use Rattle.txn_names.specs.Path.{path_eq, is_front}
-use Rattle.txn_names.proofs.Names.{on_test, same_path, path_eq_self}
+use Rattle.txn_names.proofs.Exports.{on_test, same_path, path_eq_self}
 use Rattle.serial_spec.specs.declared.target.Asked.{Asked}
 use Rattle.serial_spec.specs.declared.entry.By.{By}
 use Rattle.serial_spec.specs.declared.entry.By.TheVariants.{Line, Victim, Close}
@@ -18,9 +18,7 @@ use Rattle.serial_spec.specs.Allowed.{is_other_line, waits_elsewhere}
 use Rattle.serial_spec.specs.Rows.{Rows}
 use Rattle.serial_spec.specs.Legal.{AreAllowed}
 use Rattle.txn_history.specs.Steps.{acts_next, unless_by, Before}
-use Rattle.txn_history.proofs.Tests.{clash}
-use Rattle.txn_history.proofs.Lists.{any_cases, any-filter, any-find, found_passes}
-use Rattle.txn_history.proofs.Theorems.{active_after, wait_after, before_each}
+use Rattle.txn_history.proofs.Exports.{clash, any_cases, any-filter, any-find, found_passes, active_after, wait_after, before_each}
 use Rattle.manager_core.specs.State.{entry}
 use Rattle.manager_core.specs.Lines.{entries_of, accessor, waits_no_more, IsRetried, IsFree}
 use Rattle.manager_core.proofs.Events.{accesses_at, waits_at}

@@ -36,3 +36,4 @@ pub mod Suspects
 pub mod Victims
 pub mod Settled
 pub mod Asking
+pub mod Exports

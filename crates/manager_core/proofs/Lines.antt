@@ -1,7 +1,7 @@
 -- A line without an entry.
 use Rattle.std.proofs.Common.{◌≡◌, Bool, false, cond, ◌||◌, List, [], ◌∷◌, filter, refl}
 use Rattle.std.specs.List.{list_any}
-use Rattle.txn_names.proofs.Names.{on_test}
+use Rattle.txn_names.proofs.Exports.{on_test}
 
 -- where nothing is kept none passes
 pub filtered_none : {X : Type 0} (p : X → Bool) (xs : List X) → filter p xs ≡ [] → list_any p xs ≡ false

@@ -5,16 +5,15 @@ use Rattle.std.specs.List.{list_any, range_with_len}
 use Rattle.std.specs.Cmp.{both_ways}
 use Rattle.std.proofs.lemmas.Bool.{false≢true, true≢false, false_from_ne_true, eq-eqb, and_from, and_parts, not-true, not_from_false}
 use Rattle.std.proofs.lemmas.Option.{slice_get_within}
-use Rattle.lock_table.proofs.Lists.{any_in_range, witness}
+use Rattle.lock_table.proofs.Exports.{any_in_range, witness}
 use Rattle.txn_names.specs.Path.{parent, path_eq}
-use Rattle.txn_names.proofs.Names.{same_path}
+use Rattle.txn_names.proofs.Exports.{same_path}
 use Rattle.txn_tree.specs.States.{IsTree, States, names, status_in, is_absent as is_absent_state}
 use Rattle.txn_tree.specs.declared.status.Status.{Status as State}
 use Rattle.txn_tree.specs.declared.status.Status.TheVariants as state
 use Rattle.txn_tree.specs.Asked.{is_name, is_absent_in, IsNumberOf}
 use Rattle.txn_tree.specs.Numbered.{is_parent_of}
-use Rattle.txn_tree.proofs.Numbers.{number_at}
-use Rattle.txn_tree.proofs.Places.{found_at}
+use Rattle.txn_tree.proofs.Exports.{number_at, found_at}
 use Rattle.lock_table.specs.declared.modes.Modes.{Modes}
 use Rattle.lock_table.specs.ByAsked.{BlocksAsked, MayAsk}
 use Rattle.lock_table.specs.Inherited.{free, whole}
@@ -31,7 +30,7 @@ use Rattle.serial_spec.specs.declared.target.Asked.{Asked}
 use Rattle.serial_spec.specs.declared.target.Target.{Target}
 use Rattle.serial_spec.specs.Targets.{kind_of, target}
 use Rattle.serial_spec.specs.Locks.{conflicts, foot, is_blocker, is_blocked, reach}
-use Rattle.txn_history.proofs.Theorems.{foot_is_greater, reach_is_some}
+use Rattle.txn_history.proofs.Exports.{foot_is_greater, reach_is_some}
 use Rattle.serial_spec.specs.Rows.{Rows}
 use Rattle.manager_core.specs.Kept.{AreTablesOf, IsTreeOf, lock_at, content_of}
 use Rattle.txn_tree.specs.Statuses.{status_of}

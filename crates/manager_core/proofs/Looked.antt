@@ -6,8 +6,7 @@ use Rattle.std.proofs.lemmas.Bool.{eq-eqb, eqb-true, false≢true, true≢false}
 use Rattle.txn_names.specs.Path.{path_eq}
 use Rattle.txn_tree.specs.States.{States, names}
 use Rattle.txn_tree.specs.Asked.{IsNumberOf}
-use Rattle.txn_tree.proofs.Numbers.{number_at}
-use Rattle.txn_tree.proofs.Places.{found_at, get_front}
+use Rattle.txn_tree.proofs.Exports.{number_at, found_at, get_front}
 use Rattle.serial_spec.specs.declared.mode.Mode.{Mode}
 use Rattle.serial_spec.specs.declared.mode.Mode.TheVariants as mode
 use Rattle.serial_spec.specs.declared.operation.Kind.{Kind}

@@ -7,7 +7,7 @@ use Rattle.std.proofs.lemmas.List.Folds.{list_any-append}
 use Rattle.std.proofs.lemmas.Map.Keys.{IsDistinct-head, IsDistinct-tail}
 use Rattle.std.proofs.lemmas.List.{reverse-append, length-reverse}
 use Rattle.txn_names.specs.Path.{is_front, meet, path_eq}
-use Rattle.txn_names.proofs.Names.{on_path, on_test, path_eq_self, same_path}
+use Rattle.txn_names.proofs.Exports.{on_path, on_test, path_eq_self, same_path}
 use Rattle.txn_tree.specs.States.{States, names}
 use Rattle.serial_spec.specs.declared.entry.Entry.{Entry}
 use Rattle.serial_spec.specs.declared.event.Event.{Event}
@@ -20,15 +20,13 @@ use Rattle.serial_spec.specs.Locks.{conflicts, is_blocker, reach}
 use Rattle.serial_spec.specs.Rows.{Rows}
 use Rattle.serial_spec.specs.Legal.{AreAllowed}
 use Rattle.serial_spec.specs.Waits.{accesses, blocks_event, branch_of, number, number_in, open_waits, wait_of as wait_by, waits_by, waits_for}
-use Rattle.txn_history.proofs.Begun.{any_begun}
-use Rattle.txn_history.proofs.Lists.{any-find, found_passes}
-use Rattle.txn_history.proofs.Waiting.{waits_as, waits_kept}
+use Rattle.txn_history.proofs.Exports.{any_begun, any-find, found_passes, waits_as, waits_kept}
 use Rattle.wait_cycles.specs.Agreement.{Agree, AreWaits}
-use Rattle.wait_cycles.proofs.Agreement.{cycles_agree}
+use Rattle.wait_cycles.proofs.Exports.{cycles_agree}
 use Rattle.wait_cycles.specs.Cycles.{Pairs, waits_in}
 use Rattle.wait_cycles.specs.Waiting.{AreOnce, Waiting, wait_of}
 use Rattle.wait_cycles.specs.declared.waits.Wait.{Wait}
-use Rattle.txn_tree.proofs.Places.{get_front, get_pushed}
+use Rattle.txn_tree.proofs.Exports.{get_front, get_pushed}
 use Rattle.manager_core.specs.Kept.{AreTablesOf, wait_of_any}
 use Rattle.wait_graph.specs.Edges.{Keeps, is_beside, is_held_up, is_in_branch, edges_of, edges_from, waits_for_in}
 use Rattle.manager_core.specs.Tables.{Tabled, wait_by as kept_by, wait_for}
@@ -37,7 +35,7 @@ use Rattle.manager_core.proofs.Branches.{in_branch}
 use Rattle.manager_core.proofs.Lasting.{is_open}
 use Rattle.manager_core.proofs.Events.{blocks_at}
 use Rattle.manager_core.proofs.Locks.{any_numbered, keeps_as, keeps_by}
-use Rattle.wait_graph.proofs.Passing.{any_got}
+use Rattle.wait_graph.proofs.Exports.{any_got}
 
 -- ---- numbers
 

@@ -2,7 +2,7 @@
 use Rattle.std.proofs.Common.{◌≡◌, Bool, true, false, not, cond, ◌==◌, [], ◌∷◌, filter, find, Option, Some, None, unwrap_or, inl, inr, refl, sym, ap, subst, ◌∙◌}
 use Rattle.std.proofs.lemmas.Bool.{false≢true, and_from, eq-eqb}
 use Rattle.std.specs.List.{list_any}
-use Rattle.txn_names.proofs.Names.{on_test, same_path}
+use Rattle.txn_names.proofs.Exports.{on_test, same_path}
 use Rattle.serial_spec.specs.declared.target.Asked.{Asked}
 use Rattle.serial_spec.specs.declared.operation.Reply.TheVariants.{Ok}
 use Rattle.serial_spec.specs.declared.entry.By.{By}
@@ -17,7 +17,7 @@ use Rattle.serial_spec.specs.Waits.{same_line, is_waits, open_waits, accesses, w
 use Rattle.serial_spec.specs.Rows.{Rows}
 use Rattle.serial_spec.specs.Allowed.{has_waited}
 use Rattle.serial_spec.specs.Legal.{AreAllowed, MayCome, IsAbortOf}
-use Rattle.txn_history.proofs.Lists.{none-filter, any-find}
+use Rattle.txn_history.proofs.Exports.{none-filter, any-find}
 use Rattle.manager_core.specs.declared.outcome.Outcome.{Outcome}
 use Rattle.manager_core.specs.declared.outcome.Outcome.TheVariants as made
 use Rattle.manager_core.specs.declared.accessing.Attempt.TheVariants as attempt

@@ -6,12 +6,12 @@ use Rattle.std.specs.Map.{lookup}
 use Rattle.std.proofs.lemmas.Bool.{false≢true}
 use Rattle.std.proofs.lemmas.Iterator.Adapters.{position_from-zero}
 use Rattle.txn_names.specs.Path.{Path, path_eq, is_front}
-use Rattle.txn_names.proofs.Names.{on_test, same_path, label_eq_self}
+use Rattle.txn_names.proofs.Exports.{on_test, same_path, label_eq_self}
 use Rattle.txn_tree.specs.declared.status.Status.{Status}
 use Rattle.txn_tree.specs.declared.status.Status.TheVariants.{Absent}
 use Rattle.txn_tree.specs.States.{States, names, is_absent}
 use Rattle.txn_tree.specs.Asked.{is_absent_in, IsNumberOf}
-use Rattle.txn_cells.proofs.Reserving.{found_by_key}
+use Rattle.txn_cells.proofs.Exports.{found_by_key}
 use Rattle.version_stack.specs.Seen.{left_at as left_at_number, left_by, seen_by, seen_in}
 use Rattle.inherit.specs.LocksAndVersions.{base_of}
 use Rattle.serial_spec.specs.History.{Name, History, is_active}
@@ -19,8 +19,8 @@ use Rattle.serial_spec.specs.Items.{items}
 use Rattle.serial_spec.specs.Values.{last_left, seen_of, seen}
 use Rattle.serial_spec.specs.Rows.{Rows, value_in}
 use Rattle.serial_spec.specs.Legal.{AreAllowed}
-use Rattle.serial_spec.proofs.Seen.{seen_of-same}
-use Rattle.txn_history.proofs.Theorems.{ancestors_act, value_stored}
+use Rattle.serial_spec.proofs.Exports.{seen_of-same}
+use Rattle.txn_history.proofs.Exports.{ancestors_act, value_stored}
 use Rattle.manager_core.specs.Kept.{AreTablesOf, content_of, left_at}
 use Rattle.manager_core.specs.Tables.{Tabled}
 use Rattle.manager_core.proofs.Locks.{name_at, present}

@@ -11,7 +11,7 @@ use Rattle.serial_spec.specs.Waits.{Quiet}
 use Rattle.serial_spec.specs.Rows.{Rows}
 use Rattle.serial_spec.specs.Legal.{AreAllowed}
 use Rattle.txn_history.specs.Laws.{may_add_pair}
-use Rattle.txn_history.proofs.Theorems.{legal_next, lone_quiet, quiet_stays}
+use Rattle.txn_history.proofs.Exports.{legal_next, lone_quiet, quiet_stays}
 use Rattle.durable_top.specs.declared.store.TopStore.{Ghosts}
 use Rattle.manager_core.specs.declared.manager.AtOpening.{AtOpening}
 use Rattle.manager_core.specs.Kept.{IsKept, IsSettled}

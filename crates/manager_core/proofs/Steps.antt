@@ -4,7 +4,7 @@ use Rattle.std.proofs.lemmas.Bool.{false≢true}
 use Rattle.std.proofs.lemmas.List.{reverse-append}
 use Rattle.txn_names.specs.Path.{path_eq}
 use Rattle.txn_tree.specs.States.{States, names, status_in}
-use Rattle.txn_tree.proofs.Statuses.{status_set}
+use Rattle.txn_tree.proofs.Exports.{status_set}
 use Rattle.txn_tree.specs.declared.status.Status.{Status as State}
 use Rattle.txn_tree.specs.declared.status.Status.TheVariants as state
 use Rattle.orphans.specs.Marked.{Marked, is_marked}
@@ -15,7 +15,7 @@ use Rattle.serial_spec.specs.Rows.{Rows, value_in}
 use Rattle.serial_spec.specs.Legal.{AreAllowed}
 use Rattle.txn_history.specs.Steps.{sets_status}
 use Rattle.txn_history.specs.Laws.{table_next}
-use Rattle.txn_history.proofs.Theorems.{status_after, table_after}
+use Rattle.txn_history.proofs.Exports.{status_after, table_after}
 use Rattle.manager_core.specs.Kept.{IsTreeOf, AreMarksOf}
 use Rattle.txn_tree.specs.Statuses.{status_of}
 

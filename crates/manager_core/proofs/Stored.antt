@@ -22,7 +22,7 @@ use Rattle.serial_spec.specs.Rows.{Rows, value_in}
 use Rattle.serial_spec.specs.Changes.{IsChanges, overlay}
 use Rattle.serial_spec.specs.Legal.{AreAllowed}
 use Rattle.serial_spec.specs.Allowed.{cause_at_commit}
-use Rattle.txn_history.proofs.Theorems.{changes_made, foot_is_greater, seen_after_commit, seen_by_parent, value_stored}
+use Rattle.txn_history.proofs.Exports.{changes_made, foot_is_greater, seen_after_commit, seen_by_parent, value_stored}
 use Rattle.manager_core.specs.State.{entry}
 use Rattle.manager_core.specs.Lines.{IsLine}
 use Rattle.manager_core.specs.Kept.{AreTablesOf, content_of, lock_at, left_at}

@@ -13,10 +13,10 @@ use Rattle.serial_spec.specs.Rows.{Rows, value_in}
 use Rattle.serial_spec.specs.Changes.{IsChanges, change_at, overlay}
 use Rattle.serial_spec.specs.Legal.{AreAllowed, is_top_level}
 use Rattle.txn_history.specs.Laws.{table_next}
-use Rattle.txn_history.proofs.Theorems.{changes_made}
+use Rattle.txn_history.proofs.Exports.{changes_made}
 use Rattle.durable_top.specs.Numbered.{Numbered, values_of, entry_or, overlay_numbered}
 use Rattle.durable_top.specs.Numbered.{Commits as MakesNumbered}
-use Rattle.durable_top.proofs.Numbering.{one_greatest, values_committed}
+use Rattle.durable_top.proofs.Exports.{one_greatest, values_committed}
 use Rattle.manager_core.specs.State.{entry}
 use Rattle.manager_core.specs.StoredNumbers.{commits_top, EntryMakes, IsNumberedAfter, NumberedValues, NumberedOnce}
 use Rattle.manager_core.proofs.Steps.{table_same}

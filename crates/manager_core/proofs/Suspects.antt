@@ -4,7 +4,7 @@ use Rattle.std.specs.Prelude.{map, slice_get}
 use Rattle.std.specs.List.{IsDistinct, list_any}
 use Rattle.std.proofs.lemmas.Bool.{eq-eqb, or_cases, and_from, and_parts, eqb-true, false≢true, false_from_ne_true, not-true, or_left, or_right}
 use Rattle.txn_names.specs.Path.{is_front, path_eq}
-use Rattle.txn_names.proofs.Names.{path_eq_self, same_path}
+use Rattle.txn_names.proofs.Exports.{path_eq_self, same_path}
 use Rattle.txn_tree.specs.States.{States, names}
 use Rattle.txn_tree.specs.Asked.{IsNumberOf, is_absent_in, is_name}
 use Rattle.serial_spec.specs.declared.entry.Answer.TheVariants.{Done, Waits, Refused}
@@ -20,12 +20,11 @@ use Rattle.serial_spec.specs.Locks.{conflicts, is_blocker, reach}
 use Rattle.serial_spec.specs.Rows.{Rows}
 use Rattle.serial_spec.specs.Legal.{AreAllowed}
 use Rattle.serial_spec.specs.Waits.{IsVictim, OnCycle, Quiet, WaitInTurn, branch_of, number, wait_of as wait_by, waits_by, waits_for}
-use Rattle.txn_history.proofs.Theorems.{access_adds_at_key, quiet_stays, wait_makes_own}
+use Rattle.txn_history.proofs.Exports.{access_adds_at_key, quiet_stays, wait_makes_own}
 use Rattle.wait_cycles.specs.Agreement.{AreWaits}
 use Rattle.wait_cycles.specs.Cycles.{IsCycle, is_member}
 use Rattle.wait_cycles.specs.Waiting.{AreOnce, wait_of}
-use Rattle.wait_cycles.proofs.Agreement.{cycles_agree, numbered_cycle}
-use Rattle.wait_cycles.proofs.Lists.{member_here}
+use Rattle.wait_cycles.proofs.Exports.{cycles_agree, numbered_cycle, member_here}
 use Rattle.wait_cycles.specs.declared.waits.Wait.{Wait}
 use Rattle.manager_core.specs.Kept.{AreTablesOf}
 use Rattle.wait_graph.specs.Edges.{ByLocks, Keeps, is_beside, is_beside_it, is_in_branch, edges_among, waits_by_way_of}
@@ -37,7 +36,7 @@ use Rattle.manager_core.proofs.Branches.{in_branch}
 use Rattle.manager_core.proofs.KeptOut.{no_wait_at}
 use Rattle.manager_core.proofs.Events.{accesses_own, done_at, refused_adds_none, same_asked}
 use Rattle.manager_core.proofs.Locks.{keeps_as, keeps_by, name_at, present, tells}
-use Rattle.wait_graph.proofs.Passing.{any_got}
+use Rattle.wait_graph.proofs.Exports.{any_got}
 use Rattle.manager_core.proofs.Pairing.{are_waits, tell_waits}
 use Rattle.manager_core.proofs.Victims.{in_turn_acts}
 use Rattle.txn_history.specs.Laws.{QuietBut}

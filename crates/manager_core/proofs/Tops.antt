@@ -5,7 +5,7 @@ use Rattle.std.specs.List.{list_any}
 use Rattle.std.proofs.lemmas.Bool.{false≢true, and_parts, or_parts, false_from_ne_true}
 use Rattle.std.proofs.lemmas.List.{reverse-append, append_assoc, append-nil}
 use Rattle.txn_names.specs.Path.{path_eq}
-use Rattle.txn_names.proofs.Names.{path_eq_self, on_test}
+use Rattle.txn_names.proofs.Exports.{path_eq_self, on_test}
 use Rattle.txn_tree.specs.States.{States, names, status_in, is_live as is_live_state}
 use Rattle.txn_tree.specs.Asked.{is_live_in}
 use Rattle.txn_tree.specs.declared.status.Status.{Status as State}
@@ -15,8 +15,7 @@ use Rattle.serial_spec.specs.Rows.{Rows}
 use Rattle.serial_spec.specs.Legal.{AreAllowed, Legal, is_top_level, first_live}
 use Rattle.serial_spec.specs.Interleaving.{closing}
 use Rattle.serial_spec.specs.Waits.{Quiet}
-use Rattle.txn_history.proofs.Theorems.{legal_allowed, legal_next, quiet_stays}
-use Rattle.txn_history.proofs.Begun.{any_begun}
+use Rattle.txn_history.proofs.Exports.{legal_allowed, legal_next, quiet_stays, any_begun}
 use Rattle.durable_top.specs.declared.store.TopStore.{Ghosts}
 use Rattle.manager_core.specs.declared.manager.AtOpening.{AtOpening}
 use Rattle.manager_core.specs.Sound.{IsBacked}
@@ -29,7 +28,7 @@ use Rattle.manager_core.proofs.Kept.{backed_over}
 use Rattle.manager_core.proofs.Tabled.{tables_aborted}
 use Rattle.manager_core.proofs.Lasting.{unless_close, wait_aborted}
 use Rattle.manager_core.proofs.WaitTables.{waits_dropped}
-use Rattle.wait_graph.proofs.Passing.{any_next}
+use Rattle.wait_graph.proofs.Exports.{any_next}
 use Rattle.manager_core.proofs.Named.{counted_at}
 use Rattle.manager_core.proofs.Blocking.{any_named, all_named}
 

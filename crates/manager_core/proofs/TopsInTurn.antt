@@ -7,12 +7,12 @@ use Rattle.std.proofs.lemmas.List.Sums.{sum_by-cons}
 use Rattle.std.proofs.lemmas.Option.{slice_get_within}
 use Rattle.txn_names.specs.Path.{Path, path_eq, parent}
 use Rattle.txn_names.specs.Text.{IsName}
-use Rattle.txn_names.proofs.Names.{length-parent, same_path}
+use Rattle.txn_names.proofs.Exports.{length-parent, same_path}
 use Rattle.txn_tree.specs.States.{States, IsTree, names}
 use Rattle.txn_tree.specs.Asked.{is_live_child_in, is_live_in, live_children_of}
 use Rattle.txn_tree.specs.Numbered.{is_parent_of}
 use Rattle.txn_tree.specs.Siblings.{IsFirst, IsNext, is_sibling_at, is_top_at}
-use Rattle.txn_tree.proofs.Subtrees.{siblings_are_tops}
+use Rattle.txn_tree.proofs.Exports.{siblings_are_tops}
 use Rattle.serial_spec.specs.History.{History}
 use Rattle.serial_spec.specs.Rows.{Rows}
 use Rattle.serial_spec.specs.Legal.{is_top_level}

@@ -6,8 +6,8 @@ use Rattle.std.proofs.lemmas.Map.Entries.{length-keys_of}
 use Rattle.std.specs.List.{list_any}
 use Rattle.txn_names.specs.Path.{path_eq, parent, top_of}
 use Rattle.txn_tree.specs.States.{States, names, status_in}
-use Rattle.txn_tree.proofs.Statuses.{absent_as, live_as, committed_as, is_aborted_status, aborted_as, aborted_by, absent_by}
-use Rattle.txn_names.proofs.Tops.{top_as}
+use Rattle.txn_tree.proofs.Exports.{absent_as, live_as, committed_as, is_aborted_status, aborted_as, aborted_by, absent_by}
+use Rattle.txn_names.proofs.Exports.{top_as}
 use Rattle.txn_tree.specs.Asked.{is_absent_in, is_active_in, is_live_in, has_committed_in, has_aborted_in, top_aborted_in, is_live_child_in}
 use Rattle.txn_tree.specs.Causes as tree
 use Rattle.txn_tree.specs.declared.status.Status.{Status as State}
@@ -17,11 +17,10 @@ use Rattle.serial_spec.specs.History.{Name, History, Status, Absent, Live, Commi
 use Rattle.serial_spec.specs.Rows.{Rows}
 use Rattle.serial_spec.specs.Legal.{AreAllowed}
 use Rattle.serial_spec.specs.Allowed.{has_live_child, cause_at_begin, cause_at_end}
-use Rattle.txn_history.proofs.Theorems.{ended_begun}
+use Rattle.txn_history.proofs.Exports.{ended_begun, any_reversed}
 use Rattle.manager_core.specs.Kept.{IsTreeOf, AreMarksOf, AreTablesOf}
 use Rattle.txn_tree.specs.Statuses.{status_of}
 use Rattle.manager_core.specs.Tables.{Tabled, cause_in}
-use Rattle.txn_history.proofs.Reversed.{any_reversed}
 
 -- ---- topmost fronts
 

@@ -4,7 +4,7 @@ use Rattle.std.specs.Prelude.{slice_get, option_map}
 use Rattle.std.proofs.lemmas.Bool.{false≢true, not-true, true_from_ne_false, and_from, and_parts, or_cases}
 use Rattle.std.specs.List.{list_any}
 use Rattle.txn_names.specs.Path.{path_eq}
-use Rattle.txn_names.proofs.Names.{is_front_self, same_path}
+use Rattle.txn_names.proofs.Exports.{is_front_self, same_path}
 use Rattle.txn_tree.specs.States.{States, names}
 use Rattle.txn_tree.specs.Causes as tree
 use Rattle.serial_spec.specs.declared.entry.By.{By}
@@ -32,7 +32,7 @@ use Rattle.manager_core.proofs.Trees.{same_at_abort}
 use Rattle.manager_core.proofs.Facts.{backed_next}
 use Rattle.txn_history.specs.Recorded.{Recorded}
 use Rattle.txn_history.specs.Steps.{unless_by}
-use Rattle.txn_history.proofs.Activity.{active_acts, acts_active}
+use Rattle.txn_history.proofs.Exports.{active_acts, acts_active}
 use Rattle.manager_core.proofs.Lasting.{wait_aborted}
 use Rattle.manager_core.proofs.WaitTables.{waits_dropped}
 use Rattle.manager_core.proofs.Tabled.{tables_aborted}

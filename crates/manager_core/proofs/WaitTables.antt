@@ -16,7 +16,7 @@ use Rattle.serial_spec.specs.History.{Name, History, event_of}
 use Rattle.serial_spec.specs.Waits.{accesses, same_line, wait_of}
 use Rattle.serial_spec.specs.Allowed.{cause_at_access, is_other_line, waits_elsewhere}
 use Rattle.serial_spec.specs.Rows.{Rows}
-use Rattle.txn_history.proofs.Causes.{neither, not_when}
+use Rattle.txn_history.proofs.Exports.{neither, not_when}
 use Rattle.manager_core.specs.declared.accessing.Attempt.{Attempt}
 use Rattle.manager_core.specs.declared.accessing.Attempt.TheVariants.{Answered, Waits, Refused}
 use Rattle.manager_core.specs.Kept.{AreWaitsOf, wait_of_any}

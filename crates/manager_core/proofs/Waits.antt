@@ -4,7 +4,7 @@ use Rattle.std.specs.Cmp.{both_ways}
 use Rattle.std.proofs.lemmas.Bool.{false≢true, and_parts, and_from, and_left, or_parts, or_from, or_left, or_right, not-true, not_from_false, eqb-true, eq-eqb}
 use Rattle.std.proofs.lemmas.Map.Views.{any-filter_same}
 use Rattle.std.specs.List.{list_any}
-use Rattle.txn_names.proofs.Names.{on_test}
+use Rattle.txn_names.proofs.Exports.{on_test}
 use Rattle.serial_spec.specs.declared.target.Asked.{Asked}
 use Rattle.serial_spec.specs.declared.entry.By.{By}
 use Rattle.serial_spec.specs.declared.entry.By.TheVariants.{Line, Victim, Close}
@@ -13,8 +13,7 @@ use Rattle.serial_spec.specs.declared.entry.Entry.{Entry}
 use Rattle.serial_spec.specs.History.{Name, History, event_of, is_active}
 use Rattle.serial_spec.specs.Waits.{same_line, is_waits, open_waits, accesses, wait_of}
 use Rattle.serial_spec.specs.Allowed.{has_waited}
-use Rattle.txn_history.proofs.Tests.{clash}
-use Rattle.txn_history.proofs.Lists.{any_cases}
+use Rattle.txn_history.proofs.Exports.{clash, any_cases}
 use Rattle.manager_core.specs.Lines.{entries_of, OnlyWaits, IsRetried, IsFree, waits_no_more}
 use Rattle.manager_core.proofs.Events.{accesses_own, accessor_at}
 use Rattle.manager_core.proofs.Lines.{filtered_none}

@@ -3,7 +3,7 @@ use Rattle.std.proofs.Common.{◌≡◌, ◌<◌, ◌≤◌, ◌+◌, ℕ, zero,
 use Rattle.std.proofs.lemmas.Bool.{cases_lt}
 use Rattle.std.specs.List.{list_any}
 use Rattle.txn_names.specs.Path.{Path, path_eq, top_of}
-use Rattle.txn_names.proofs.Tops.{first_passes, none_passes}
+use Rattle.txn_names.proofs.Exports.{first_passes, none_passes}
 
 -- no front of fewer than n labels passes, the empty one left aside
 abbrev pub NoneBelow : (Path → Bool) → Path → ℕ → Type 0

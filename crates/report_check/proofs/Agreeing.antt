@@ -1,6 +1,6 @@
 -- Bytes have one verdict: each pass is a function of what was read, and a map has one list of rows in byte order.
 use Rattle.std.proofs.Common.{◌≡◌, ℕ, Option, Some, None, Result, Ok, Err, sym, ap, ◌∙◌}
-use Rattle.serial_spec.proofs.Ordered.{rows_by_map}
+use Rattle.serial_spec.proofs.Exports.{rows_by_map}
 use Rattle.report_check.specs.Passing.{Read, read}
 use Rattle.report_check.specs.Verdicts.{IsCompared, IsJudged, IsRun, compared, first_wrong}
 use Rattle.report_check.specs.Laws.{VerdictsAgree}

@@ -7,12 +7,12 @@ use Rattle.std.specs.Ordering.{int_eq}
 use Rattle.std.proofs.lemmas.Bool.{and_from, not_from_false, or_parts}
 use Rattle.std.proofs.lemmas.Bool.Decides.{Decides-int_eq}
 use Rattle.txn_names.specs.Path.{label_eq}
-use Rattle.txn_names.proofs.Names.{label_eq_self, on_test}
+use Rattle.txn_names.proofs.Exports.{label_eq_self, on_test}
 use Rattle.line_language.specs.Report.{line}
 use Rattle.serial_spec.specs.Rows.{Rows, value_in}
 use Rattle.line_language.specs.Steps as steps
 use Rattle.line_language.specs.Words.{cut_at}
-use Rattle.line_language.proofs.Bytes.{Lacks, cut_behind, cut_some}
+use Rattle.line_language.proofs.Exports.{Lacks, cut_behind, cut_some}
 use Rattle.report_check.specs.Laws.{FaultsStay, ServedIsAccepted, ended_lines}
 use Rattle.report_check.specs.Passing.{Read, has_ended, next, read_from, unread}
 use Rattle.report_check.specs.Verdicts.{IsJudged, IsRun, compared}

@@ -3,11 +3,11 @@ use Rattle.std.proofs.Common.{◌≡◌, ◌⊎◌, inl, inr, ℕ, ◌<◌, List
 use Rattle.std.specs.Prelude.{◌||◌, ◌&&◌}
 use Rattle.std.proofs.lemmas.Bool.{and_parts, not-true, or_cases, or_right, true≢false}
 use Rattle.txn_names.specs.Path.{path_eq, parent}
-use Rattle.txn_names.proofs.Names.{same_path, path_eq_self}
+use Rattle.txn_names.proofs.Exports.{same_path, path_eq_self}
 use Rattle.serial_spec.specs.declared.entry.Entry.{Entry}
 use Rattle.serial_spec.specs.History.{History, Name, Effect, Begins, Accesses, Commits, Aborts, Nothing, Absent, Live, Committed, Aborted, effect, has_aborted, has_begun, has_committed, is_absent, status, is_abort, is_active, is_begin, is_commit, is_live, is_live_status, is_orphan}
 use Rattle.serial_spec.specs.Allowed.{has_live_child}
-use Rattle.txn_history.proofs.Begun.{none_begun}
+use Rattle.txn_history.proofs.Exports.{none_begun}
 use Rattle.report_check.specs.Passing.{may_do}
 
 pub record IsGrown (h : History) : Type 0 where

@@ -6,3 +6,4 @@ pub mod Few
 pub mod Sound
 pub mod Faults
 pub mod Naming
+pub mod Exports

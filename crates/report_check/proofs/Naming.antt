@@ -6,14 +6,14 @@ use Rattle.std.specs.Ordering.{int_eq}
 use Rattle.std.proofs.lemmas.Bool.{and_from, true≢false}
 use Rattle.std.proofs.lemmas.Bool.Decides.{Decides-int_eq, nat_tests}
 use Rattle.txn_names.specs.Path.{label_eq, path_eq, parent}
-use Rattle.txn_names.proofs.Names.{label_eq_self, on_test}
+use Rattle.txn_names.proofs.Exports.{label_eq_self, on_test}
 use Rattle.serial_spec.specs.declared.entry.Entry.{Entry}
 use Rattle.serial_spec.specs.Flat.{same_reply}
 use Rattle.serial_spec.specs.History.{History, Name, Effect, Begins, Accesses, Commits, Aborts, Nothing, effect}
 use Rattle.serial_spec.specs.Items.{items}
 use Rattle.serial_spec.specs.Rows.{Rows, value_in}
 use Rattle.serial_spec.specs.Serial.{Map, Replies, reply_at}
-use Rattle.serial_spec.proofs.FirstWrong.{same_reply-Decides}
+use Rattle.serial_spec.proofs.Exports.{same_reply-Decides}
 use Rattle.report_check.specs.Naming.{AccessesAreTold, IsAtRow, IsFirstDifferent, IsFirstWrong, IsTold, IsWrong, NamesTheReply, NamesTheRow}
 use Rattle.report_check.specs.Passing.{Read}
 use Rattle.report_check.specs.Serving.{PlacedAccess, accesses_of, least, map_behind, or_least, with_access, wrong_lines}

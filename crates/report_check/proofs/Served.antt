@@ -7,7 +7,7 @@ use Rattle.serial_spec.specs.History.{History, Name, Effect, Begins, Accesses, C
 use Rattle.serial_spec.specs.Items.{Items, Access, Block, items, with_item}
 use Rattle.serial_spec.specs.Serial.{Map, Replies, after_asked, map_after, reply_at}
 use Rattle.serial_spec.specs.Flat.{same_reply}
-use Rattle.serial_spec.proofs.FirstWrong.{same_reply-Decides}
+use Rattle.serial_spec.proofs.Exports.{same_reply-Decides}
 use Rattle.report_check.specs.Serving.{PlacedAccess, accesses_of, least, map_behind, with_access, wrong_lines}
 use Rattle.report_check.specs.Laws.{AccessesAreItems}
 

@@ -12,7 +12,7 @@ use Rattle.std.specs.declared.cmp.Ordering.{Ordering}
 use Rattle.std.specs.declared.cmp.Ordering.TheVariants.{Less, Equal, Greater}
 use Rattle.std.proofs.lemmas.Bool.Decides.{Decides-int_eq, nat_tests}
 use Rattle.txn_names.specs.Path.{label_eq, parent}
-use Rattle.txn_names.proofs.Names.{on_test, same_label}
+use Rattle.txn_names.proofs.Exports.{on_test, same_label}
 use Rattle.serial_spec.specs.declared.limits.TheConstants.{MOST_ROWS, MOST_SESSIONS}
 use Rattle.serial_spec.specs.declared.entry.By.TheVariants as by
 use Rattle.serial_spec.specs.declared.entry.Answer.{Answer}
@@ -28,18 +28,15 @@ use Rattle.serial_spec.specs.Places.{is_below}
 use Rattle.line_language.specs.Printing.{spelled_event}
 use Rattle.serial_spec.specs.Rows.{IsRising, Rows, value_in}
 use Rattle.serial_spec.specs.Waits.{is_waits}
-use Rattle.serial_spec.proofs.Ordered.{above_all}
+use Rattle.serial_spec.proofs.Exports.{above_all}
 use Rattle.line_language.specs.Events.{IsEvent}
 use Rattle.line_language.specs.Words.{cut_at}
-use Rattle.line_language.proofs.Reading.{bind_ok, is_word, pick}
-use Rattle.txn_history.proofs.Begun.{none_begun}
-use Rattle.txn_history.proofs.StatusTests.{status_committed}
-use Rattle.txn_history.proofs.Tops.{top_by_parent}
+use Rattle.line_language.proofs.Exports.{bind_ok, is_word, pick, entries_read_back}
+use Rattle.txn_history.proofs.Exports.{none_begun, status_committed, top_by_parent}
 use Rattle.line_language.specs.Entries.{IsReportEntry}
 use Rattle.line_language.specs.Reading.{entry_of, row_of}
 use Rattle.line_language.specs.declared.entry.ReportEntry.{ReportEntry}
 use Rattle.line_language.specs.declared.entry.ReportEntry.TheVariants as told
-use Rattle.line_language.proofs.Entries.{entries_read_back}
 use Rattle.report_check.specs.Laws.{AreInOrder, IsInOrder, IsServed, YesIsSound}
 use Rattle.report_check.specs.Passing.{Part, Start, Opening, Entries, Final, Ended, Read, at_part, entry_in, entry_next, final_next, goes_on, has_ended, is_close, is_in_time, is_next, is_past, may_add_row, may_close, may_do, may_end, may_follow, middle_next, next, next_at, none_waits, opening_next, read, read_from, session_of, unread, waiting, with_entry, with_opening, with_row}
 use Rattle.report_check.specs.Serving.{map_behind}

@@ -10,7 +10,7 @@ use Rattle.std.proofs.lemmas.Bool.{and_parts, eqb-true}
 use Rattle.std.proofs.lemmas.Option.{unwrap_or-slice_get}
 use Rattle.std.proofs.lemmas.List.Quantifiers.{position-Some}
 use Rattle.txn_names.specs.Path.{label_eq}
-use Rattle.txn_names.proofs.Names.{same_label}
+use Rattle.txn_names.proofs.Exports.{same_label}
 use Rattle.serial_spec.specs.declared.entry.By.{By}
 use Rattle.serial_spec.specs.declared.entry.By.TheVariants as by
 use Rattle.serial_spec.specs.declared.entry.Entry.{Entry}
@@ -19,14 +19,11 @@ use Rattle.line_language.specs.Printing.{spelled_answer, spelled_event, spelled_
 use Rattle.line_language.specs.Report.{line, report, spelled_entry, spelled_history, spelled_rows}
 use Rattle.serial_spec.specs.Rows.{Rows}
 use Rattle.line_language.specs.Words.{cut_at}
-use Rattle.line_language.proofs.Bytes.{joined_cut}
-use Rattle.line_language.proofs.Reading.{bind_ok, is_word, pick}
+use Rattle.line_language.proofs.Exports.{joined_cut, bind_ok, is_word, pick, entries_read_back, rows_read_back}
 use Rattle.line_language.specs.Entries.{spelled_report_entry}
 use Rattle.line_language.specs.Reading.{entry_of, row_of}
 use Rattle.line_language.specs.declared.entry.ReportEntry.{ReportEntry}
 use Rattle.line_language.specs.declared.entry.ReportEntry.TheVariants as told
-use Rattle.line_language.proofs.Entries.{entries_read_back}
-use Rattle.line_language.proofs.Rows.{rows_read_back}
 use Rattle.report_check.specs.Passing.{Part, Start, Opening, Entries, Final, Ended, Read, at_part, entry_in, entry_next, final_next, has_ended, labels_after, may_add_row, may_end, may_follow, middle_next, next, next_at, opening_next, read, read_from, unread, with_entry, with_label, with_opening, with_row}
 
 -- ---- the text so far

@@ -5,10 +5,10 @@ use Rattle.std.specs.List.{list_any}
 use Rattle.std.specs.Map.{keys_of}
 use Rattle.std.proofs.lemmas.Bool.{false≢true, lt-ltb, le-ltb}
 use Rattle.txn_names.specs.Path.{parent, path_eq}
-use Rattle.txn_names.proofs.Names.{parent-cons}
+use Rattle.txn_names.proofs.Exports.{parent-cons}
 use Rattle.txn_tree.specs.States.{States, names}
 use Rattle.txn_tree.specs.Asked.{is_live_child_in, live_children_of}
-use Rattle.txn_tree.proofs.Children.{any_counted}
+use Rattle.txn_tree.proofs.Exports.{any_counted}
 use Rattle.serial_spec.specs.declared.limits.TheConstants.{MOST_SESSIONS}
 use Rattle.serial_spec.specs.declared.entry.Entry.{Entry}
 use Rattle.serial_spec.specs.declared.event.Event.{Event}
@@ -22,7 +22,7 @@ use Rattle.serial_spec.specs.declared.target.Asked.TheVariants.{At, Over}
 use Rattle.serial_spec.specs.History.{Name, History, Effect, Aborts, Nothing, begun, effect_of, event_of, has_begun, is_live, or_else}
 use Rattle.serial_spec.specs.Interleaving.{answered, closing, victim}
 use Rattle.serial_spec.specs.Legal.{first_live, is_top_level}
-use Rattle.txn_history.proofs.Begun.{any_begun, some_begun}
+use Rattle.txn_history.proofs.Exports.{any_begun, some_begun}
 use Rattle.line_language.specs.declared.entry.ReportEntry.TheVariants as told
 use Rattle.report_check.specs.Passing.{Read, entry_in, goes_on, is_close, may_do, may_follow, waiting, with_label}
 use Rattle.report_tables.specs.Spoken.{AreSessionsOf, IsNumberOf, Tells, line_entry}
@@ -30,8 +30,7 @@ use Rattle.report_tables.specs.Told.{AreTransactionsOf, Comes, IsTreeOf}
 use Rattle.report_tables.specs.Valued.{value_at}
 use Rattle.report_tables.specs.Chained.{Known, known_by}
 use Rattle.report_tables.specs.declared.transactions.Transactions.{Transactions}
-use Rattle.report_tables.proofs.Doing.{done_idle}
-use Rattle.report_tables.proofs.Trees.{same_children}
+use Rattle.report_tables.proofs.Exports.{done_idle, same_children}
 use Rattle.report_judge.specs.Kept.{Follows, IsKept, is_access, is_done_ok, known}
 use Rattle.report_judge.specs.declared.seen.Seen.{Seen}
 

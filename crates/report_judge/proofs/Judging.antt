@@ -5,9 +5,9 @@ use Rattle.std.proofs.lemmas.Bool.{and_parts, eqb-true}
 use Rattle.std.specs.Io.KnownBytes.{Consumes, IsAtEnd}
 use Rattle.std.proofs.KnownBytes.{Consumes-trans}
 use Rattle.txn_bytes.specs.Sources.{HasGiven, Reader}
-use Rattle.txn_bytes.proofs.Sourcing.{given_more}
+use Rattle.txn_bytes.proofs.Exports.{given_more}
 use Rattle.line_language.specs.Words.{cut_at}
-use Rattle.line_language.proofs.Bytes.{Lacks-append, cut_behind, cut_lacking}
+use Rattle.line_language.proofs.Exports.{Lacks-append, cut_behind, cut_lacking}
 use Rattle.report_check.specs.Passing.{Read, Part, Start, Opening, Entries, Final, Ended, has_ended, next, read, read_from, unread}
 use Rattle.report_check.specs.Verdicts.{HasVerdict, IsJudged, IsRun, first_wrong}
 use Rattle.report_check.specs.declared.verdict.Verdict.{Verdict}

@@ -8,14 +8,10 @@ use Rattle.std.proofs.lemmas.Slice.Eq.{bytes_eq-Decides}
 use Rattle.line_language.specs.Printing.{spelled_number}
 use Rattle.line_language.specs.Steps.{◌>>=◌}
 use Rattle.line_language.specs.Words.{before, behind, cut_at}
-use Rattle.line_language.proofs.Bytes.{Lacks-append, cut_behind, cut_lacking, cut_some}
-use Rattle.line_language.proofs.Reading.{pick}
-use Rattle.line_language.proofs.Longest.{entry_short, length-number}
+use Rattle.line_language.proofs.Exports.{Lacks-append, cut_behind, cut_lacking, cut_some, pick, entry_short, length-number, entries_read_back, rows_read_back}
 use Rattle.line_language.specs.Reading.{entry_of, row_of}
 use Rattle.line_language.specs.declared.entry.ReportEntry.{ReportEntry}
 use Rattle.line_language.specs.declared.entry.ReportEntry.TheVariants as told
-use Rattle.line_language.proofs.Entries.{entries_read_back}
-use Rattle.line_language.proofs.Rows.{rows_read_back}
 use Rattle.report_check.specs.Passing.{Part, Start, Opening, Entries, Final, Ended, Read, at_part, entry_in, entry_next, final_next, has_ended, may_add_row, may_end, may_follow, middle_next, next, next_at, opening_next, read_from, with_entry, with_opening, with_row}
 use Rattle.report_judge.specs.Judging.{IsLine}
 use Rattle.report_judge.specs.Kept.{line_of, lines_before}

@@ -9,10 +9,10 @@ use Rattle.std.specs.Cmp.Lexicographic.{slice_cmp, nat_list_eq_equiv, texts_ties
 use Rattle.std.specs.declared.cmp.Ordering.TheVariants.{Less}
 use Rattle.std.proofs.lemmas.List.{reverse-reverse}
 use Rattle.txn_names.specs.Path.{label_eq}
-use Rattle.txn_names.proofs.Names.{same_label}
+use Rattle.txn_names.proofs.Exports.{same_label}
 use Rattle.serial_spec.specs.Rows.{AreRisingKeys, IsRising, Rows, value_in}
 use Rattle.serial_spec.specs.Serial.{Map}
-use Rattle.serial_spec.proofs.Ordered.{above_all, none_above, on_ordering, turned}
+use Rattle.serial_spec.proofs.Exports.{above_all, none_above, on_ordering, turned}
 use Rattle.report_check.specs.Passing.{Read, Ended}
 use Rattle.report_check.specs.Serving.{least, map_behind, wrong_lines}
 use Rattle.report_check.specs.Verdicts.{IsRun, compared, first_wrong, served}

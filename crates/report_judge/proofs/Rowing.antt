@@ -12,7 +12,7 @@ use Rattle.std.proofs.lemmas.Cmp.{nat_list_cmp_total}
 use Rattle.txn_names.specs.Path.{label_eq}
 use Rattle.serial_spec.specs.declared.limits.TheConstants.{MOST_ROWS}
 use Rattle.serial_spec.specs.Rows.{IsRising, Rows, value_in}
-use Rattle.session_text.proofs.Growth.{all_pushed}
+use Rattle.session_text.proofs.Exports.{all_pushed}
 use Rattle.report_check.specs.Passing.{is_past, may_add_row}
 use Rattle.report_tables.specs.Valued.{joined, value_at}
 use Rattle.report_judge.specs.Kept.{is_past_key, may_come, opened}

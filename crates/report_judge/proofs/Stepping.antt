@@ -7,7 +7,7 @@ use Rattle.serial_spec.specs.Rows.{Rows}
 use Rattle.line_language.specs.declared.entry.ReportEntry.{ReportEntry}
 use Rattle.line_language.specs.Entries.{IsReportEntry}
 use Rattle.line_language.specs.Reading.{entry_of}
-use Rattle.line_language.proofs.Entries.{entries_read_back}
+use Rattle.line_language.proofs.Exports.{entries_read_back}
 use Rattle.report_check.specs.Passing.{Part, Start, Opening, Entries, Final, Ended, Read, at_part, entry_in, entry_next, may_add_row, may_end, may_follow, none_waits, unread, with_entry, with_opening, with_row}
 use Rattle.txn_tree.specs.Asked.{live_children_of}
 use Rattle.report_tables.specs.Chained.{Known}

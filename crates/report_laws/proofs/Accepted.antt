@@ -19,16 +19,15 @@ use Rattle.serial_spec.specs.Rows.{Rows, value_in}
 use Rattle.serial_spec.specs.Serial.{Runs}
 use Rattle.session_text.specs.Grammar.{IsText}
 use Rattle.line_language.specs.Words.{cut_at}
-use Rattle.line_language.proofs.Bytes.{Lacks}
-use Rattle.txn_history.proofs.Theorems.{legal_allowed}
+use Rattle.line_language.proofs.Exports.{Lacks, entries_read_back}
+use Rattle.txn_history.proofs.Exports.{legal_allowed}
 use Rattle.line_language.specs.Entries.{IsReportEntry}
 use Rattle.line_language.specs.declared.entry.ReportEntry.{ReportEntry}
 use Rattle.line_language.specs.declared.entry.ReportEntry.TheVariants as told
-use Rattle.line_language.proofs.Entries.{entries_read_back}
 use Rattle.report_check.specs.Passing.{Part, Opening, Entries, Final, Ended, Read, at_part, entry_in, may_end, may_follow, none_waits, read, read_from, session_of, unread, waiting}
 use Rattle.report_check.specs.Verdicts.{HasVerdict}
 use Rattle.report_check.specs.declared.verdict.Verdict.TheVariants.{Yes}
-use Rattle.report_check.proofs.Faults.{served_is_accepted}
+use Rattle.report_check.proofs.Exports.{served_is_accepted}
 use Rattle.report_laws.specs.Laws.{AnswersMayStand, EveryReportIsAccepted, ReportsTellTheSame, entries_told, told_by}
 use Rattle.report_laws.specs.Whole.{IsRow, IsWhole}
 use Rattle.report_laws.proofs.Answers.{allowed_fits}

@@ -3,7 +3,7 @@ use Rattle.std.proofs.Common.{◌≡◌, ℕ, ℤ, List, [], ◌∷◌, true, fa
 use Rattle.std.specs.Prelude.{◌||◌, length, nat_le, option_map}
 use Rattle.txn_names.specs.Path.{parent, top_of}
 use Rattle.txn_names.specs.Text.{IsName}
-use Rattle.txn_names.proofs.Names.{on_test, same_path}
+use Rattle.txn_names.proofs.Exports.{on_test, same_path}
 use Rattle.serial_spec.specs.declared.entry.By.{By}
 use Rattle.serial_spec.specs.declared.entry.Answer.{Answer}
 use Rattle.serial_spec.specs.declared.entry.Answer.TheVariants.{Done, Waits, Stuck, Refused}
@@ -27,13 +27,10 @@ use Rattle.serial_spec.specs.Allowed.{Allowed, answer, answer_to_access, asks_st
 use Rattle.serial_spec.specs.Causes.{when, why_orphaned}
 use Rattle.serial_spec.specs.Legal.{AreAllowed}
 use Rattle.line_language.specs.Events.{IsEvent}
-use Rattle.txn_history.proofs.Activity.{acts_active}
-use Rattle.txn_history.proofs.Causes.{acts_at_end, neither}
-use Rattle.txn_history.proofs.Tests.{clash}
-use Rattle.txn_history.proofs.Theorems.{value_seen}
+use Rattle.txn_history.proofs.Exports.{acts_active, acts_at_end, neither, clash, value_seen}
 use Rattle.line_language.specs.Answers.{may_answer}
 use Rattle.line_language.specs.Entries.{IsAnswer}
-use Rattle.line_language.proofs.Operations.{reply_fits as reply_is}
+use Rattle.line_language.proofs.Exports.{reply_fits as reply_is}
 use Rattle.report_laws.proofs.Values.{AreEvents, HasRows, after_rows, chain_ops}
 
 -- ---- names in a history

@@ -5,7 +5,7 @@ use Rattle.std.proofs.lemmas.Bool.{and_from, and_parts, leb-false, lt-ltb, not_f
 use mathlib.Core.Bool.{Bool-set}
 use mathlib.Core.Logic.{∥∥₁_elim}
 use Rattle.txn_names.specs.Path.{parent}
-use Rattle.txn_names.proofs.Names.{on_test}
+use Rattle.txn_names.proofs.Exports.{on_test}
 use Rattle.serial_spec.specs.declared.limits.TheConstants.{MOST_TRANSACTIONS}
 use Rattle.serial_spec.specs.declared.entry.By.{By}
 use Rattle.serial_spec.specs.declared.entry.By.TheVariants as by
@@ -21,9 +21,7 @@ use Rattle.serial_spec.specs.Waits.{IsVictim, OnCycle, WaitInTurn, accesses, ope
 use Rattle.serial_spec.specs.Allowed.{Allowed, cause_at_begin, has_live_child}
 use Rattle.serial_spec.specs.Causes.{when, why_orphaned}
 use Rattle.serial_spec.specs.Legal.{IsAbortOf, MayCome, first_live, is_top_level}
-use Rattle.txn_history.proofs.Activity.{acts_active}
-use Rattle.txn_history.proofs.Causes.{Sound, abort_of, acts_at_end, done_not_refused, neither, not_refused, not_when, sound}
-use Rattle.txn_history.proofs.Tests.{clash}
+use Rattle.txn_history.proofs.Exports.{acts_active, Sound, abort_of, acts_at_end, done_not_refused, neither, not_refused, not_when, sound, clash}
 use Rattle.report_check.specs.Passing.{may_close, may_do}
 
 -- ---- who is aborted by the manager acts

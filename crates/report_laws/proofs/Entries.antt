@@ -20,9 +20,7 @@ use Rattle.serial_spec.specs.Legal.{AreAllowed, IsAbortOf, first_live}
 use Rattle.serial_spec.specs.Interleaving.{IsInTurn, IsInterleaving, Session, answered, lines_of, next_event}
 use Rattle.line_language.specs.Events.{IsEvent}
 use Rattle.session_text.specs.Grammar.{IsSession, IsText}
-use Rattle.txn_history.proofs.Causes.{abort_of}
-use Rattle.txn_history.proofs.Ends.{AbortOf}
-use Rattle.txn_history.proofs.Statuses.{told}
+use Rattle.txn_history.proofs.Exports.{abort_of, AbortOf, told}
 use Rattle.line_language.specs.Entries.{IsReportEntry, spelled_report_entry}
 use Rattle.report_laws.specs.Laws.{told_by}
 use Rattle.report_laws.proofs.Answers.{allowed_fits, begun_named}

@@ -7,7 +7,7 @@ use Rattle.std.proofs.lemmas.Cmp.{nat_list_eq_equiv}
 use Rattle.std.proofs.lemmas.List.{length-map}
 use Rattle.std.proofs.lemmas.Map.Made.{length-le_from_is_member}
 use Rattle.txn_names.specs.Path.{label_eq}
-use Rattle.txn_names.proofs.Names.{label_eq_self}
+use Rattle.txn_names.proofs.Exports.{label_eq_self}
 use Rattle.serial_spec.specs.declared.limits.TheConstants.{MOST_SESSIONS}
 use Rattle.serial_spec.specs.declared.entry.By.{By}
 use Rattle.serial_spec.specs.declared.entry.By.TheVariants as by
@@ -23,9 +23,7 @@ use Rattle.serial_spec.specs.Waits.{IsVictim}
 use Rattle.serial_spec.specs.Legal.{IsAbortOf, Legal, MayCome, first_live}
 use Rattle.serial_spec.specs.Interleaving.{IsInTurn, IsInterleaving, Session}
 use Rattle.session_text.specs.Grammar.{AreApart, IsText, is_taken}
-use Rattle.txn_history.proofs.Causes.{abort_of}
-use Rattle.txn_history.proofs.Tests.{clash}
-use Rattle.txn_history.proofs.Theorems.{legal_allowed}
+use Rattle.txn_history.proofs.Exports.{abort_of, clash, legal_allowed}
 use Rattle.report_check.specs.Passing.{entry_in, goes_on, is_in_time, is_next, labels_after, may_close, may_follow, session_of}
 use Rattle.report_laws.specs.Laws.{told_by}
 use Rattle.report_laws.proofs.Doing.{may_close_next, may_do_next}

@@ -9,3 +9,4 @@ pub mod Following
 pub mod Reading
 pub mod Lines
 pub mod Accepted
+pub mod Exports

@@ -14,8 +14,7 @@ use Rattle.line_language.specs.Printing.{spelled_answer, spelled_event, spelled_
 use Rattle.line_language.specs.Report.{line, report, spelled_entry, spelled_history, spelled_rows}
 use Rattle.serial_spec.specs.Rows.{Rows}
 use Rattle.line_language.specs.Words.{cut_at}
-use Rattle.line_language.proofs.Bytes.{Lacks, Lacks-append, Lacks-from_all, cut_behind}
-use Rattle.line_language.proofs.Spelled.{decimal_lacks, event_lacks, line_feed}
+use Rattle.line_language.proofs.Exports.{Lacks, Lacks-append, Lacks-from_all, cut_behind, decimal_lacks, event_lacks, line_feed}
 use Rattle.line_language.specs.Entries.{IsAnswer, IsReportEntry, spelled_report_entry}
 use Rattle.line_language.specs.declared.entry.ReportEntry.{ReportEntry}
 use Rattle.line_language.specs.declared.entry.ReportEntry.TheVariants.{Line, Victim, Close}

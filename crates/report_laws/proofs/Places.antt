@@ -7,7 +7,7 @@ use Rattle.std.proofs.lemmas.Bool.Decides.{nat_tests}
 use Rattle.std.proofs.lemmas.Cmp.{nat_list_eq_equiv}
 use Rattle.std.proofs.lemmas.Map.Keys.{IsDistinct-push}
 use Rattle.txn_names.specs.Path.{label_eq}
-use Rattle.txn_names.proofs.Names.{label_eq_self, on_label, on_test}
+use Rattle.txn_names.proofs.Exports.{label_eq_self, on_label, on_test}
 use Rattle.report_check.specs.Passing.{session_of, with_label}
 
 abbrev Labels : Type 0

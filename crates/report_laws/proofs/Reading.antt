@@ -9,21 +9,17 @@ use Rattle.std.specs.Ordering.{is_lt}
 use Rattle.std.proofs.lemmas.Bool.{and_from, lt-ltb, ltb-true}
 use Rattle.txn_names.specs.Text.{IsKey, is_key_byte}
 use Rattle.txn_names.specs.Reading.{label_of}
-use Rattle.txn_names.proofs.Names.{on_test}
+use Rattle.txn_names.proofs.Exports.{on_test}
 use Rattle.serial_spec.specs.declared.limits.TheConstants.{MOST_ROWS}
 use Rattle.serial_spec.specs.Operations.{is_i64}
 use Rattle.line_language.specs.Printing.{spelled_number}
 use Rattle.serial_spec.specs.Rows.{IsRising, Rows}
 use Rattle.line_language.specs.Words.{before, behind}
 use Rattle.line_language.specs.Steps as steps
-use Rattle.line_language.proofs.Bytes.{Lacks, Lacks-append, Lacks-from_all}
-use Rattle.line_language.proofs.Reading.{is_word}
-use Rattle.line_language.proofs.Spelled.{IsGap, decimal_lacks, space}
+use Rattle.line_language.proofs.Exports.{Lacks, Lacks-append, Lacks-from_all, is_word, IsGap, decimal_lacks, space, before_lacking, rows_read_back}
 use Rattle.line_language.specs.Numbers.{number_of}
 use Rattle.line_language.specs.Reading.{◌>>=◌, abort_of, count_of, entry_of, line_entry_of, row_of, star_entry_of, told_of}
 use Rattle.line_language.specs.declared.entry.ReportEntry.{ReportEntry}
-use Rattle.line_language.proofs.Parts.{before_lacking}
-use Rattle.line_language.proofs.Rows.{rows_read_back}
 use Rattle.report_check.specs.Passing.{Part, Start, Opening, Entries, Final, Ended, Read, at_part, entry_in, entry_next, final_next, is_past, may_add_row, may_end, may_follow, middle_next, next, next_at, opening_next, read_from, with_entry}
 use Rattle.report_laws.specs.Whole.{IsRow}
 

@@ -4,7 +4,7 @@ use Rattle.std.specs.Prelude.{◌&&◌, ◌||◌, Option, nat_lt, length, is_som
 use Rattle.std.specs.List.{list_any, AllByRecursion}
 use Rattle.std.proofs.lemmas.Bool.{eq-eqb, eqb-true}
 use Rattle.txn_names.specs.Path.{path_eq, parent}
-use Rattle.txn_names.proofs.Names.{on_test}
+use Rattle.txn_names.proofs.Exports.{on_test}
 use Rattle.serial_spec.specs.declared.limits.TheConstants.{MOST_TRANSACTIONS}
 use Rattle.serial_spec.specs.declared.entry.By.{By}
 use Rattle.serial_spec.specs.declared.entry.By.TheVariants as by
@@ -17,7 +17,7 @@ use Rattle.serial_spec.specs.Waits.{is_waits}
 use Rattle.serial_spec.specs.Allowed.{has_live_child}
 use Rattle.serial_spec.specs.Legal.{first_live, is_top_level}
 use Rattle.serial_spec.specs.Interleaving.{answered, is_answer_in}
-use Rattle.txn_history.proofs.Tests.{clash}
+use Rattle.txn_history.proofs.Exports.{clash}
 use Rattle.report_check.specs.Passing.{is_close, may_do, waiting, waiting_by}
 
 -- the entry of the session with the other number

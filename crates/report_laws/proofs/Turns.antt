@@ -6,7 +6,7 @@ use Rattle.std.specs.Str.{bytes_eq}
 use Rattle.std.proofs.lemmas.Bool.{and_from, eq-eqb, eqb-true, or_left, or_right}
 use mathlib.Core.Bool.{Bool-set}
 use mathlib.Core.Logic.{∥∥₁_elim}
-use Rattle.txn_names.proofs.Names.{label_eq_self, on_test}
+use Rattle.txn_names.proofs.Exports.{label_eq_self, on_test}
 use Rattle.serial_spec.specs.declared.entry.By.{By}
 use Rattle.serial_spec.specs.declared.entry.By.TheVariants as by
 use Rattle.serial_spec.specs.declared.entry.Answer.{Answer}
@@ -21,9 +21,7 @@ use Rattle.serial_spec.specs.Allowed.{has_waited}
 use Rattle.serial_spec.specs.Legal.{AreAllowed, IsAbortOf, Legal, MayStand, first_live}
 use Rattle.serial_spec.specs.Interleaving.{AllAnswered, FitsMoment, IsInTurn, IsInterleaving, Session, answered, is_answer_in, lines_of, next_event, next_line}
 use Rattle.txn_history.specs.Laws.{may_add_pair}
-use Rattle.txn_history.proofs.Causes.{abort_of}
-use Rattle.txn_history.proofs.Tests.{clash}
-use Rattle.txn_history.proofs.Theorems.{legal_allowed, quiet_stays}
+use Rattle.txn_history.proofs.Exports.{abort_of, clash, legal_allowed, quiet_stays}
 use Rattle.report_check.specs.Passing.{goes_on, is_close, is_in_time, waiting, waiting_by}
 
 abbrev pub with_parts : By → Event → Answer → Entry

@@ -3,7 +3,7 @@ use Rattle.std.proofs.Common.{◌≡◌, ℕ, ℤ, List, [], ◌∷◌, true, co
 use Rattle.std.specs.List.{AllByRecursion}
 use Rattle.txn_names.specs.Path.{parent, path_eq}
 use Rattle.txn_names.specs.Text.{IsKey}
-use Rattle.txn_names.proofs.Names.{label_eq_self, on_label, on_test}
+use Rattle.txn_names.proofs.Exports.{label_eq_self, on_label, on_test}
 use Rattle.serial_spec.specs.declared.operation.Op.{Op}
 use Rattle.serial_spec.specs.declared.operation.Reply.TheVariants.{Ok}
 use Rattle.serial_spec.specs.declared.target.Asked.{Asked}
@@ -17,10 +17,10 @@ use Rattle.serial_spec.specs.History.{History, Name, Effect, Begins, Accesses, C
 use Rattle.serial_spec.specs.Items.{Items, None as NoItems, Access as Accessed, Block, after, chain, chain_of, items, with_item}
 use Rattle.serial_spec.specs.Rows.{IsRising, Rows, value_in}
 use Rattle.serial_spec.specs.Serial.{Map, map_after, put}
-use Rattle.serial_spec.proofs.Ordered.{none_above}
+use Rattle.serial_spec.proofs.Exports.{none_above}
 use Rattle.line_language.specs.Events.{IsEvent}
 use Rattle.line_language.specs.Verbs.{IsOp}
-use Rattle.line_language.proofs.Operations.{left_is}
+use Rattle.line_language.proofs.Exports.{left_is}
 use Rattle.report_laws.specs.Whole.{IsRow}
 
 -- each key with a value is a row

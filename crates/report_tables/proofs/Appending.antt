@@ -7,15 +7,13 @@ use Rattle.std.proofs.lemmas.List.{reverse-append}
 use Rattle.std.proofs.lemmas.Option.{slice_get_within}
 use Rattle.txn_names.specs.Path.{parent, path_eq}
 use Rattle.txn_names.specs.Text.{IsName}
-use Rattle.txn_names.proofs.Names.{length-parent, on_path, path_eq_self}
+use Rattle.txn_names.proofs.Exports.{length-parent, on_path, path_eq_self}
 use Rattle.txn_tree.specs.Linked.{update_at}
 use Rattle.txn_tree.specs.States.{IsTree, States, names, status_in, is_absent, is_live}
 use Rattle.txn_tree.specs.Asked.{is_absent_in, is_live_in}
 use Rattle.txn_tree.specs.declared.status.Status.{Status as State}
 use Rattle.txn_tree.specs.declared.status.Status.TheVariants as state
-use Rattle.txn_tree.proofs.Links.{some_label}
-use Rattle.txn_tree.proofs.Places.{get_last, get_pushed, get_updated, length_updated, one_place}
-use Rattle.txn_tree.proofs.Under.{absent_nowhere}
+use Rattle.txn_tree.proofs.Exports.{some_label, get_last, get_pushed, get_updated, length_updated, one_place, absent_nowhere}
 use Rattle.serial_spec.specs.declared.entry.Entry.{Entry}
 use Rattle.serial_spec.specs.declared.target.Asked.{Asked}
 use Rattle.serial_spec.specs.declared.operation.Reply.{Reply}

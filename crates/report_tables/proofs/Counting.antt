@@ -9,11 +9,11 @@ use Rattle.indexmap.specs.IndexMap.{set_value_at}
 use Rattle.txn_names.specs.Path.{label_eq}
 use Rattle.txn_names.specs.Groups.{has}
 use Rattle.txn_names.specs.Text.{IsKey}
-use Rattle.txn_names.proofs.Names.{on_test}
+use Rattle.txn_names.proofs.Exports.{on_test}
 use Rattle.serial_spec.specs.Operations.{amount}
 use Rattle.serial_spec.specs.Serial.{Map, put}
 use Rattle.serial_spec.specs.Sums.{sum_in}
-use Rattle.serial_spec.proofs.Sums.{sum_in-else, sum_in-put}
+use Rattle.serial_spec.proofs.Exports.{sum_in-else, sum_in-put}
 use Rattle.report_tables.specs.Tallied.{AreCounted, AreNamed, AreTallied, HaveRoom, IsFine, IsSmall, IsValue, Sums, by_key, raised}
 use Rattle.report_tables.specs.Valued.{Values, value_at}
 use Rattle.report_tables.proofs.Running.{value_here, value_put}

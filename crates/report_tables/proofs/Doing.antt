@@ -5,16 +5,14 @@ use Rattle.std.proofs.lemmas.Bool.{false≢true, and_parts, and_from, false_from
 use Rattle.std.proofs.lemmas.Bool.Decides.{nat_tests}
 use Rattle.txn_names.specs.Path.{is_front, parent, path_eq}
 use Rattle.txn_names.specs.Text.{IsName}
-use Rattle.txn_names.proofs.Names.{is_front-parent, is_front-trans, is_front_self}
+use Rattle.txn_names.proofs.Exports.{is_front-parent, is_front-trans, is_front_self}
 use Rattle.txn_tree.specs.States.{IsTree, States, names, status_in, is_absent as is_absent_state, is_live as is_live_state, is_committed as is_committed_state, is_aborted as is_aborted_state}
 use Rattle.txn_tree.specs.Asked.{is_absent_in, is_active_in, is_live_in, is_live_child_in, live_children_of, has_aborted_in, top_aborted_in}
 use Rattle.txn_tree.specs.Causes.{cause_at_begin}
 use Rattle.txn_tree.specs.declared.status.Status.{Status as State}
 use Rattle.txn_tree.specs.declared.status.Status.TheVariants as state
 use Rattle.txn_tree.specs.Linked.{update_at}
-use Rattle.txn_tree.proofs.Changes.{keys-push}
-use Rattle.txn_tree.proofs.Children.{any_counted}
-use Rattle.txn_tree.proofs.Orphans.{active_parts, front_last}
+use Rattle.txn_tree.proofs.Exports.{keys-push, any_counted, active_parts, front_last}
 use Rattle.serial_spec.specs.declared.limits.TheConstants.{MOST_TRANSACTIONS}
 use Rattle.serial_spec.specs.declared.entry.Entry.{Entry}
 use Rattle.serial_spec.specs.declared.target.Asked.{Asked}
@@ -24,7 +22,7 @@ use Rattle.serial_spec.specs.Causes.{when}
 use Rattle.serial_spec.specs.History.{Name, History, Begins, Accesses, Commits, Aborts, Nothing, Absent, Live, Committed, Aborted, begun, effect, has_aborted, has_begun, has_committed, is_absent, is_active, is_live, is_live_status, or_else, status}
 use Rattle.report_check.specs.Passing.{may_do}
 use Rattle.report_check.specs.Serving.{accesses_of, with_access}
-use Rattle.report_check.proofs.Grown.{IsGrown, IsNamed, grown_more}
+use Rattle.report_check.proofs.Exports.{IsGrown, IsNamed, grown_more}
 use Rattle.report_tables.specs.Told.{AreChainsOf, AreTransactionsOf, IsTreeOf, places}
 use Rattle.report_tables.specs.declared.transactions.Transactions.{Transactions}
 use Rattle.report_tables.specs.Chained.{Asks, Known, chain_in, joined, led, no_chain, one_access}

@@ -3,7 +3,7 @@ use Rattle.std.proofs.Common.{◌≡◌, ℕ, zero, suc, ◌<◌, ◌≤◌, tru
 use Rattle.std.specs.Prelude.{slice_get}
 use Rattle.std.specs.Option.{option_or}
 use Rattle.txn_tree.specs.Linked.{update_at}
-use Rattle.txn_tree.proofs.Places.{get_front}
+use Rattle.txn_tree.proofs.Exports.{get_front}
 use Rattle.report_check.specs.Serving.{PlacedAccess}
 use Rattle.serial_spec.specs.declared.target.Asked.{Asked}
 use Rattle.serial_spec.specs.declared.target.Asked.TheVariants as asked

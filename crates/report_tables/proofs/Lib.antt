@@ -10,3 +10,4 @@ pub mod Tallying
 pub mod Matching
 pub mod Trees
 pub mod Walking
+pub mod Exports

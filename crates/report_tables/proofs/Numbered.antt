@@ -6,8 +6,8 @@ use Rattle.std.proofs.lemmas.List.Quantifiers.{position-Some}
 use Rattle.std.proofs.lemmas.Option.{slice_get-get_or}
 use Rattle.std.proofs.lemmas.Map.Entries.{length-keys_of}
 use Rattle.txn_names.specs.Path.{label_eq}
-use Rattle.txn_names.proofs.Names.{same_label}
-use Rattle.txn_tree.proofs.Places.{get_last}
+use Rattle.txn_names.proofs.Exports.{same_label}
+use Rattle.txn_tree.proofs.Exports.{get_last}
 use Rattle.report_tables.specs.Valued.{Values, joined, value_at}
 
 -- who is found at a place stands there

@@ -8,8 +8,8 @@ use Rattle.std.proofs.lemmas.Bool.{false≢true}
 use Rattle.std.proofs.lemmas.Map.Entries.{lookup_from_place}
 use Rattle.indexmap.specs.IndexMap.{set_value_at}
 use Rattle.txn_names.specs.Path.{label_eq}
-use Rattle.txn_names.proofs.Names.{same_label}
-use Rattle.txn_history.proofs.Reversed.{newest}
+use Rattle.txn_names.proofs.Exports.{same_label}
+use Rattle.txn_history.proofs.Exports.{newest}
 use Rattle.serial_spec.specs.Flat.{same_reply}
 use Rattle.serial_spec.specs.Serial.{Map, after_asked, reply_at}
 use Rattle.report_check.specs.Serving.{PlacedAccess, least, map_behind, or_least, wrong_lines}

@@ -10,7 +10,7 @@ use Rattle.std.proofs.lemmas.Option.{slice_get_within}
 use Rattle.std.proofs.lemmas.Map.Entries.{length-keys_of}
 use Rattle.indexmap.specs.IndexMap.{set_value_at}
 use Rattle.txn_names.specs.Path.{label_eq}
-use Rattle.txn_tree.proofs.Places.{get_pushed}
+use Rattle.txn_tree.proofs.Exports.{get_pushed}
 use Rattle.serial_spec.specs.declared.limits.TheConstants.{MOST_SESSIONS}
 use Rattle.serial_spec.specs.declared.entry.Entry.{Entry}
 use Rattle.serial_spec.specs.declared.event.Event.{Event}
@@ -21,7 +21,7 @@ use Rattle.line_language.specs.Printing.{spelled_event}
 use Rattle.serial_spec.specs.Waits.{is_waits}
 use Rattle.line_language.specs.Events.{IsEvent}
 use Rattle.line_language.specs.Commands.{event_of}
-use Rattle.line_language.proofs.Spelled.{event_again}
+use Rattle.line_language.proofs.Exports.{event_again}
 use Rattle.report_check.specs.Passing.{goes_on, none_waits, session_of, waiting, with_label}
 use Rattle.report_tables.specs.Spoken.{AreSessionsOf, IsNumberOf, IsSessionOf, line_entry, told_session}
 use Rattle.report_tables.specs.declared.sessions.Session.{Session}

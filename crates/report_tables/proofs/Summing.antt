@@ -9,12 +9,12 @@ use Rattle.std.proofs.lemmas.Int.{ints}
 use Rattle.txn_names.specs.Path.{label_eq}
 use Rattle.txn_names.specs.Groups.{has}
 use Rattle.txn_names.specs.Text.{IsKey}
-use Rattle.txn_names.proofs.Names.{on_test}
+use Rattle.txn_names.proofs.Exports.{on_test}
 use Rattle.serial_spec.specs.Operations.{amount}
 use Rattle.serial_spec.specs.Rows.{value_in}
 use Rattle.serial_spec.specs.Serial.{Map, put}
 use Rattle.serial_spec.specs.Sums.{sum_in}
-use Rattle.serial_spec.proofs.Sums.{sum_in-cong, sum_in-else, sum_in-put, sum_in-rows}
+use Rattle.serial_spec.proofs.Exports.{sum_in-cong, sum_in-else, sum_in-put, sum_in-rows}
 use Rattle.report_tables.specs.Valued.{Values, joined, value_at}
 
 -- what a key with this value adds to the sum of the group

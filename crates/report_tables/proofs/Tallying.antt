@@ -11,8 +11,7 @@ use Rattle.std.proofs.lemmas.Int.{ints, to_z-of_z}
 use Rattle.indexmap.specs.IndexMap.{set_value_at}
 use Rattle.txn_names.specs.Path.{label_eq}
 use Rattle.txn_names.specs.Groups.{IsGroupBefore, has}
-use Rattle.txn_names.proofs.Groups.{dot_behind}
-use Rattle.txn_names.proofs.Names.{label_eq_self, on_label, on_test, same_label}
+use Rattle.txn_names.proofs.Exports.{dot_behind, label_eq_self, on_label, on_test, same_label}
 use Rattle.report_tables.specs.Tallied.{AreNamed, HaveRoom, IsSmall, Sums, at_group, by_key, raised}
 
 -- ---- as the code adds

@@ -5,10 +5,9 @@ use Rattle.std.proofs.lemmas.List.{reverse-append, length-reverse}
 use Rattle.std.proofs.lemmas.Map.Entries.{length-keys_of}
 use Rattle.std.specs.List.{list_any}
 use Rattle.txn_names.specs.Path.{path_eq, parent, top_of}
-use Rattle.txn_names.proofs.Names.{on_test, on_path, same_path, is_front_self}
+use Rattle.txn_names.proofs.Exports.{on_test, on_path, same_path, is_front_self, top_as}
 use Rattle.txn_tree.specs.States.{States, names, status_in}
-use Rattle.txn_tree.proofs.Statuses.{absent_as, live_as, is_aborted_status, aborted_as, aborted_by, status_set}
-use Rattle.txn_names.proofs.Tops.{top_as}
+use Rattle.txn_tree.proofs.Exports.{absent_as, live_as, is_aborted_status, aborted_as, aborted_by, status_set}
 use Rattle.txn_tree.specs.Asked.{is_absent_in, is_active_in, is_live_in, has_aborted_in, top_aborted_in, is_live_child_in}
 use Rattle.txn_tree.specs.declared.status.Status.{Status as State}
 use Rattle.txn_tree.specs.declared.status.Status.TheVariants as state
@@ -17,9 +16,7 @@ use Rattle.serial_spec.specs.declared.target.Asked.{Asked}
 use Rattle.serial_spec.specs.History.{Name, History, Effect, Begins, Accesses, Commits, Aborts, Nothing, effect, Status, Absent, Live, Committed, Aborted, status, is_absent, is_active, is_begin, is_commit, is_abort, is_live, is_live_status, top_aborted, begun, begun_by, has_begun, has_aborted, has_committed}
 use Rattle.serial_spec.specs.Allowed.{has_live_child}
 use Rattle.txn_history.specs.Steps.{sets_status}
-use Rattle.txn_history.proofs.Activity.{ActsAs, acting, active_acts}
-use Rattle.txn_history.proofs.StatusTests.{status_by, absent_not_begun}
-use Rattle.txn_history.proofs.Reversed.{any_reversed}
+use Rattle.txn_history.proofs.Exports.{ActsAs, acting, active_acts, status_by, absent_not_begun, any_reversed}
 use Rattle.report_check.specs.Passing.{may_do}
 use Rattle.report_tables.specs.Told.{IsEnded, IsTreeOf}
 use Rattle.txn_tree.specs.Statuses.{status_of}

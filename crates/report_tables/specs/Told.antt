@@ -8,7 +8,7 @@ use Rattle.serial_spec.specs.declared.entry.Entry.{Entry}
 use Rattle.serial_spec.specs.History.{Name, History, Effect, effect, status, begun, has_begun, has_committed, has_aborted}
 use Rattle.report_check.specs.Passing.{may_do}
 use Rattle.report_check.specs.Serving.{accesses_of}
-use Rattle.report_check.proofs.Grown.{IsGrown}
+use Rattle.report_check.proofs.Exports.{IsGrown}
 use Rattle.report_tables.specs.Chained.{Holds, Known}
 use Rattle.report_tables.specs.declared.chains.Access.{Access}
 use Rattle.report_tables.specs.declared.chains.Chain.{Chain}

@@ -10,7 +10,7 @@ use Rattle.interleavings.specs.Told.{Told}
 use Rattle.report_check.specs.Verdicts.{HasVerdict}
 use Rattle.report_check.specs.declared.verdict.Verdict.TheVariants.{Yes}
 use Rattle.report_laws.specs.Whole.{IsRow, IsWhole}
-use Rattle.report_laws.proofs.Accepted.{every_report_is_accepted}
+use Rattle.report_laws.proofs.Exports.{every_report_is_accepted}
 
 rows_are : (rows : Rows) → AllByRecursion IsSpelledRow rows → AllByRecursion IsRow rows
 rows_are [] all = tt

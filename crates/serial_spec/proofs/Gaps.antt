@@ -9,7 +9,7 @@ use Rattle.std.proofs.lemmas.Bool.{false≢true}
 use Rattle.std.proofs.lemmas.List.{append_assoc, length-append, length-take-le, take-append-le, take-append-drop, drop_more, take-take, take-set-le, set-append_left, drop-set-lt, drop_at, drop-set, drop-append-le, drop-take}
 use Rattle.txn_names.specs.Path.{label_eq}
 use Rattle.txn_names.specs.declared.change.Change.{Change}
-use Rattle.txn_names.proofs.Names.{same_label, on_test}
+use Rattle.txn_names.proofs.Exports.{same_label, on_test}
 use Rattle.serial_spec.specs.Changes.{AreRising, change_at, overlay}
 use Rattle.serial_spec.specs.History.{or_else}
 use Rattle.serial_spec.specs.Values.{value_or}

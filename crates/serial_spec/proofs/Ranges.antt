@@ -6,7 +6,7 @@ use Rattle.std.proofs.lemmas.Bool.{eq-eqb, false≢true, ltb-true}
 use Rattle.std.proofs.lemmas.Int.{ints}
 use Rattle.std.proofs.lemmas.Cmp.{nat_list_cmp_total}
 use Rattle.std.specs.List.{AllByRecursion, fold}
-use Rattle.txn_names.proofs.Names.{on_test}
+use Rattle.txn_names.proofs.Exports.{on_test}
 use Rattle.serial_spec.specs.Rows.{Rows, IsRising}
 use Rattle.serial_spec.specs.Places.{is_below, part, rank}
 use Rattle.std.specs.Ordering.{nat_cmp, is_lt, ordering_then}

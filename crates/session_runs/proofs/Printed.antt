@@ -3,7 +3,7 @@ use Rattle.std.proofs.Common.{◌≡◌, ◌≤◌, ℕ, List, Option, Some, sym
 use Rattle.std.specs.Prelude.{◌≢◌, Result, Ok, Err, IfErr, IfOk, IsNone}
 use Rattle.std.specs.Io.KnownBytes.{Keeps}
 use Rattle.txn_bytes.specs.Written.{Writer}
-use Rattle.txn_bytes.proofs.Appending.{kept}
+use Rattle.txn_bytes.proofs.Exports.{kept}
 use Rattle.durable_top.specs.declared.store.TopStore.{Ghosts}
 use Rattle.report_text.specs.Lines.{spelled_report}
 use Rattle.program_words.specs.Faults.{IsSaid, spelled_fault}

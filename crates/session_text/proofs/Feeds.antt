@@ -9,7 +9,7 @@ use Rattle.session_text.specs.declared.fault.TextFault.TheVariants as fault
 use Rattle.line_language.specs.Steps.{◌>>=◌}
 use Rattle.session_text.specs.Texts.{Read, Tells, at_line, read_from, with_bytes}
 use Rattle.line_language.specs.Words.{cut_at}
-use Rattle.line_language.proofs.Bytes.{cut_some, joined_cut}
+use Rattle.line_language.proofs.Exports.{cut_some, joined_cut}
 
 -- bytes without a line feed
 pub no_feed : (n : ℕ) (ss : List Session) (rest p : List ℕ) → (length rest ≡ 0 → ⊥) → cut_at 10 rest ≡ p ∷ [] → read_from n ss (cut_at 10 rest) ≡ Err (n, kind.End)

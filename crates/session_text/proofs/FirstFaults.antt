@@ -13,9 +13,8 @@ use Rattle.line_language.specs.Steps.{◌>>=◌, unless}
 use Rattle.session_text.specs.Texts.{Read, grown, misplaced, line_of, with_line, with_bytes, at_line, read_from}
 use Rattle.line_language.specs.Words.{cut_at}
 use Rattle.session_text.proofs.Adding.{some_placed}
-use Rattle.line_language.proofs.Bytes.{joined_cut}
+use Rattle.line_language.proofs.Exports.{joined_cut, bind_ok}
 use Rattle.session_text.proofs.Growth.{longer, parted, with_line-last}
-use Rattle.line_language.proofs.Reading.{bind_ok}
 use Rattle.session_text.proofs.WholeTexts.{with_bytes_reads, faultless, empty}
 
 -- ---- parts have none of the bytes at which they were cut

@@ -7,7 +7,7 @@ use Rattle.std.proofs.lemmas.Bool.{or_parts, or_from, leb-false}
 use Rattle.std.proofs.lemmas.Bool.Decides.{nat_tests}
 use Rattle.txn_names.specs.Path.{label_eq}
 use Rattle.txn_names.specs.Text.{IsLabel}
-use Rattle.txn_names.proofs.Names.{label_eq_self, same_label}
+use Rattle.txn_names.proofs.Exports.{label_eq_self, same_label}
 use Rattle.serial_spec.specs.Interleaving.{Session}
 use Rattle.serial_spec.specs.declared.event.Event.{Event}
 use Rattle.line_language.specs.declared.fault.LineKind.TheVariants as kind

@@ -7,7 +7,7 @@ use Rattle.std.proofs.lemmas.Slice.Eq.{bytes_eq-Decides}
 use Rattle.line_language.specs.Commands.{Words}
 use Rattle.session_text.specs.Texts.{command_of, line_by, line_of}
 use Rattle.line_language.specs.Words.{cut_at}
-use Rattle.line_language.proofs.Bytes.{cut_some, joined_cut}
+use Rattle.line_language.proofs.Exports.{cut_some, joined_cut}
 
 -- the third byte of a header
 abbrev pub HasThird : List ℕ → Type 0

@@ -9,3 +9,4 @@ pub mod Places
 pub mod Growing
 pub mod Requests
 pub mod Headers
+pub mod Exports

@@ -4,7 +4,7 @@ use Rattle.std.specs.Prelude.{position, option_map, IsFalse}
 use Rattle.std.specs.List.{position_or_len}
 use Rattle.std.proofs.lemmas.Bool.{or_from, ltb-true, ltb-false, lt-ltb, le-ltb}
 use Rattle.txn_names.specs.Path.{label_eq}
-use Rattle.txn_names.proofs.Names.{same_label}
+use Rattle.txn_names.proofs.Exports.{same_label}
 use Rattle.serial_spec.specs.Interleaving.{Session}
 use Rattle.session_text.specs.Grammar.{is_taken}
 use Rattle.session_text.specs.Growing.{place_of, PlacesFound}

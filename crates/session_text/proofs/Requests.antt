@@ -13,9 +13,7 @@ use Rattle.session_text.specs.Requests.{unconditional, request_by, request_of, I
 use Rattle.line_language.specs.Steps.{◌>>=◌}
 use Rattle.line_language.specs.Commands.{label_in}
 use Rattle.line_language.specs.Words.{before, behind}
-use Rattle.line_language.proofs.Bytes.{Lacks}
-use Rattle.line_language.proofs.Reading.{bind_ok, ok_or_ok, same_ok, pick, not_word, label_reads, label_again, event_reads}
-use Rattle.line_language.proofs.Spelled.{space, label_lacks, event_again}
+use Rattle.line_language.proofs.Exports.{Lacks, bind_ok, ok_or_ok, same_ok, pick, not_word, label_reads, label_again, event_reads, space, label_lacks, event_again}
 
 -- ---- what stands before a byte and behind it
 

@@ -9,7 +9,7 @@ use Rattle.txn_names.specs.Text.{IsLabel}
 use Rattle.line_language.specs.Printing.{spelled_event}
 use Rattle.line_language.specs.declared.lengths.TheConstants.{MOST_WORD}
 use Rattle.line_language.specs.Verbs.{operand, word}
-use Rattle.line_language.proofs.Operations.{word_length}
+use Rattle.line_language.proofs.Exports.{word_length, Lacks, Lacks-append, cut_lacking, cut_behind, joined_cut, bind_ok, same_ok, pick, not_word, is_word, one_reads, label_reads, label_again, event_reads, access_operands, words_of, space, line_feed, label_lacks, cut_event, event_again, event_lacks}
 use Rattle.serial_spec.specs.declared.event.Event.{Event}
 use Rattle.serial_spec.specs.declared.event.Event.TheVariants.{Begin, Access, Sum, Commit, Abort, After}
 use Rattle.line_language.specs.declared.fault.LineKind.TheVariants as kind
@@ -20,9 +20,6 @@ use Rattle.line_language.specs.Steps.{◌>>=◌}
 use Rattle.session_text.specs.Texts.{IsTextLine, labelled, header_of, line_by, line_of}
 use Rattle.line_language.specs.Commands.{label_in}
 use Rattle.line_language.specs.Words.{cut_at}
-use Rattle.line_language.proofs.Bytes.{Lacks, Lacks-append, cut_lacking, cut_behind, joined_cut}
-use Rattle.line_language.proofs.Reading.{bind_ok, same_ok, pick, not_word, is_word, one_reads, label_reads, label_again, event_reads, access_operands, words_of}
-use Rattle.line_language.proofs.Spelled.{space, line_feed, label_lacks, cut_event, event_again, event_lacks}
 
 abbrev pub spelled_line : TextLine → List ℕ
 spelled_line (Header l) = codes "session " ++ l

@@ -14,10 +14,9 @@ use Rattle.session_text.specs.Grammar.{IsSession, IsText, spelled_lines, spelled
 use Rattle.line_language.specs.Steps.{◌>>=◌, unless}
 use Rattle.session_text.specs.Texts.{IsTextLine, with_line, grown, misplaced, with_bytes, at_line, read_from, sessions_of, Read, line_of}
 use Rattle.line_language.specs.Words.{cut_at}
-use Rattle.line_language.proofs.Bytes.{cut_behind, cut_some, joined_cut}
+use Rattle.line_language.proofs.Exports.{cut_behind, cut_some, joined_cut, bind_ok}
 use Rattle.session_text.proofs.Growth.{longer, open_lines-last, with_line-last, parted, all_front, all_at, apart_front, last_apart, text_with_header, text_with_line}
 use Rattle.session_text.proofs.Adding.{some_placed}
-use Rattle.line_language.proofs.Reading.{bind_ok}
 use Rattle.session_text.proofs.TextLines.{spelled_line, line_reads, line_again, line_lacks}
 
 -- ---- spelling grows with the sessions

@@ -8,7 +8,7 @@ use Rattle.serial_spec.specs.Interleaving.{Session, lines_of}
 use Rattle.std.specs.List.{AllByRecursion}
 use Rattle.session_text.specs.Grammar.{IsSession, IsText}
 use Rattle.session_text.specs.Texts.{label_at, line_at}
-use Rattle.interleavings.proofs.Numbers.{line_of_number, short, unsome}
+use Rattle.interleavings.proofs.Exports.{line_of_number, short, unsome}
 use Rattle.shared_book.proofs.Lists.{same_lists}
 
 pub line_within : (ss : List Session) (s l : ℕ) (e : Event) → IsText ss → 1 ≤ l → Some e ≡ line_at ss s l → l ≤ 1024

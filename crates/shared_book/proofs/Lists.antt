@@ -2,7 +2,7 @@
 use Rattle.std.proofs.Common.{◌≡◌, ℕ, zero, suc, ◌<◌, List, [], ◌∷◌, Some, None, is_some, refl, sym, ap, ◌∙◌, arith}
 use Rattle.std.proofs.lemmas.Option.{none-some}
 use Rattle.std.specs.Prelude.{slice_get}
-use Rattle.interleavings.proofs.Numbers.{unsome}
+use Rattle.interleavings.proofs.Exports.{unsome}
 
 -- they have the same at each place before n, and nothing at n
 pub same_lists : {X : Type 0} (xs ys : List X) (n : ℕ) → ((i : ℕ) → i < n → slice_get xs i ≡ slice_get ys i) → slice_get xs n ≡ None → slice_get ys n ≡ None → xs ≡ ys

@@ -7,7 +7,7 @@ use Rattle.txn_names.specs.declared.change.Change.{Change}
 use Rattle.serial_spec.specs.Serial.{Map}
 use Rattle.durable_top.specs.Numbered.{Numbered, numbers_of, overlay_numbered, last_number, Follows}
 use Rattle.durable_top.specs.Numbers.{renumbered, IsTopIn}
-use Rattle.durable_top.proofs.Numbering.{greatest_from, numbers_after}
+use Rattle.durable_top.proofs.Exports.{greatest_from, numbers_after}
 use Rattle.sql_store.specs.Stored.{numbered, may_leave_numbered, IsKept, IsCounted}
 use Rattle.sql_store.specs.inner.Writes.{Stores, IsStored}
 

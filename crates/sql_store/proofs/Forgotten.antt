@@ -12,7 +12,7 @@ use Rattle.serial_spec.specs.Serial.{Map}
 use Rattle.durable_top.specs.declared.store.Row.{Row}
 use Rattle.durable_top.specs.Numbered.{Numbered, values_of, entries_in, Commits}
 use Rattle.durable_top.specs.Store.{plain}
-use Rattle.durable_top.proofs.Numbering.{values_in_rows, values_committed}
+use Rattle.durable_top.proofs.Exports.{values_in_rows, values_committed}
 use Rattle.sql_store.specs.Calls.{SurvivesAsBefore}
 use Rattle.sql_store.specs.Table.{map_of}
 use Rattle.sql_store.specs.Stored.{numbered, table, may_leave, may_leave_numbered}

@@ -28,3 +28,4 @@ pub mod Moving
 pub mod Opens
 pub mod Doubts
 pub mod Crossing
+pub mod Exports

@@ -15,7 +15,7 @@ use Rattle.sqlite_sql.specs.Term.{Env}
 use Rattle.sqlite_rules.specs.Lists.{Has}
 use Rattle.sqlite_rules.proofs.ListLemmas.{all_has}
 use Rattle.txn_names.specs.Path.{label_eq}
-use Rattle.txn_names.proofs.Names.{same_label}
+use Rattle.txn_names.proofs.Exports.{same_label}
 use Rattle.durable_top.specs.declared.store.Row.{Row}
 use Rattle.serial_spec.specs.Rows.{IsRising}
 use Rattle.durable_top.specs.Store.{plain}

@@ -8,7 +8,7 @@ use Rattle.std.proofs.lemmas.List.Sorted.{length_permutation}
 use Rattle.sqlite.specs.Effect.{Database}
 use Rattle.sqlite.specs.Order.{Row as Shown}
 use Rattle.txn_names.specs.Path.{label_eq}
-use Rattle.txn_names.proofs.Names.{label_eq_self}
+use Rattle.txn_names.proofs.Exports.{label_eq_self}
 use Rattle.serial_spec.specs.Serial.{Map}
 use Rattle.durable_top.specs.declared.store.Row.{Row}
 use Rattle.durable_top.specs.Numbered.{Numbered, numbers_of, entries_in}

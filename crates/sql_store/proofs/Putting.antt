@@ -24,7 +24,7 @@ use Rattle.sqlite_rules.specs.Lists.{Has}
 use Rattle.sqlite_rules.proofs.ListLemmas.{all_has, some_from, has_filtered, has_kept}
 use Rattle.sqlite_rules.proofs.TableLemmas.{has_put, put_all_keeps}
 use Rattle.sql_store.specs.Laid.{put}
-use Rattle.txn_names.proofs.Names.{same_label}
+use Rattle.txn_names.proofs.Exports.{same_label}
 use Rattle.sql_store.specs.Results.{results, both_schema}
 use Rattle.sql_store.specs.Table.{is_key, id_of, map_of, AreApart}
 use Rattle.sql_store.proofs.Again.{put_again}

@@ -20,7 +20,7 @@ use Rattle.sqlite_rules.specs.Lists.{Has}
 use Rattle.sqlite_rules.proofs.ListLemmas.{all_has, all_from, some_has, some_from, has_filtered, has_kept, has_contained, contains_had}
 use Rattle.sqlite_rules.proofs.TableLemmas.{put_has}
 use Rattle.txn_names.specs.Path.{label_eq}
-use Rattle.txn_names.proofs.Names.{same_label}
+use Rattle.txn_names.proofs.Exports.{same_label}
 use Rattle.sql_store.specs.Laid.{put}
 use Rattle.sql_store.specs.Table.{is_key, entry_of, id_of, map_of, AreApart}
 

@@ -5,7 +5,7 @@ use Rattle.txn_bytes.specs.Written.{Writer}
 use Rattle.program_words.specs.Faults.{IsSaid, spelled_fault}
 use Rattle.program_words.specs.Tellings.{Accounts, HasUsageLine}
 use Rattle.program_words.specs.declared.fault.Fault.TheVariants.{NoMemory}
-use Rattle.program_words.proofs.Told.{fault_accounts, misuse_accounts}
+use Rattle.program_words.proofs.Exports.{fault_accounts, misuse_accounts}
 
 -- the status of words that are no command line, or that memory did not suffice for
 pub refused_accounts : {W E : Type 0} (w : Writer W) (e : Writer E) (new : W) (err_old err_new : E)

@@ -4,11 +4,11 @@ use Rattle.std.specs.Prelude.{slice_get, IfSome}
 use Rattle.std.proofs.lemmas.Bool.{false≢true, eq-eqb}
 use Rattle.std.proofs.lemmas.Option.{slice_get_within}
 use Rattle.txn_names.specs.Path.{Path}
-use Rattle.txn_names.proofs.Names.{is_front_self}
+use Rattle.txn_names.proofs.Exports.{is_front_self}
 use Rattle.txn_tree.specs.States.{States, names}
 use Rattle.txn_tree.specs.Numbered.{is_front_of, is_parent_of, is_under}
 use Rattle.txn_tree.specs.Siblings.{HasBranches, IsBefore, IsFirst, IsNext, is_child_at, is_sibling_at}
-use Rattle.txn_tree.proofs.Subtrees.{child_under, under-trans, siblings_are_children, subtree, none_before_first, before_next}
+use Rattle.txn_tree.proofs.Exports.{child_under, under-trans, siblings_are_children, subtree, none_before_first, before_next}
 use Rattle.txn_cells.specs.Kept.{Table, content, has_place}
 use Rattle.txn_cells.proofs.Puts.{on_number}
 

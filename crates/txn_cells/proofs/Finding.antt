@@ -13,7 +13,7 @@ use Rattle.std.proofs.lemmas.Map.Entries.{length-keys_of, lookup_from_place}
 use Rattle.std.proofs.lemmas.Option.{slice_get-get_or, slice_get_within}
 use Rattle.indexmap.specs.IndexMap.{IndexMap, insert_entry}
 use Rattle.indexmap.proofs.CallerLemmas.{insert_entry-new}
-use Rattle.serial_spec.proofs.Taking.{take_next}
+use Rattle.serial_spec.proofs.Exports.{take_next}
 use Rattle.txn_cells.specs.Kept.{AreHolders, Held, IsChangedAt, content_of, holds}
 use Rattle.txn_cells.proofs.ByKey.{any-insert, any-taken, any_at, distinct, none_before, rising_without}
 use Rattle.txn_cells.proofs.Holding.{put_holds, set_holds, taken_holds}

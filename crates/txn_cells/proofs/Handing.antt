@@ -4,7 +4,7 @@ use Rattle.std.specs.Prelude.{IfSome, IsFalse, IsTrue}
 use Rattle.std.specs.List.{list_any}
 use Rattle.std.proofs.lemmas.Bool.{eq-eqb}
 use Rattle.txn_names.specs.Path.{label_eq}
-use Rattle.txn_names.proofs.Names.{on_label, on_test}
+use Rattle.txn_names.proofs.Exports.{on_label, on_test}
 use Rattle.txn_cells.specs.Cells.{handed_up, is_it, merged}
 use Rattle.txn_cells.proofs.Puts.{on_number}
 use Rattle.txn_cells.proofs.Reserving.{among_more}

@@ -14,3 +14,4 @@ pub mod Reserving
 mod Seen
 mod Viewed
 mod Zipped
+pub mod Exports

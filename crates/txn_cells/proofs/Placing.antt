@@ -13,7 +13,7 @@ use Rattle.std.proofs.lemmas.List.Quantifiers.{position-Some}
 use Rattle.indexmap.specs.IndexMap.{IndexMap, IsUnique, with_value_at}
 use Rattle.indexmap.proofs.CallerLemmas.{keys-with_value_at, updates-with_value_at}
 use Rattle.txn_names.specs.Path.{label_eq}
-use Rattle.txn_names.proofs.Names.{same_label}
+use Rattle.txn_names.proofs.Exports.{same_label}
 use Rattle.txn_cells.proofs.Puts.{cond-both, cond_same, each-put}
 use Rattle.txn_cells.specs.Kept.{AreAt, ArePlaced, AtKeys, Held, Listed, Lists, StayAt, content_of, held_at, keys_at, listed_at}
 

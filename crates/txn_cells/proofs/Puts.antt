@@ -4,7 +4,7 @@ use Rattle.std.specs.Prelude.{IsSome, Result, Ok, Err, OnErr, OnOk, is_err}
 use Rattle.std.specs.Map.{lookup}
 use Rattle.std.proofs.lemmas.Bool.{eqb-true, false≢true}
 use Rattle.txn_names.specs.Path.{label_eq}
-use Rattle.txn_names.proofs.Names.{on_test, on_label}
+use Rattle.txn_names.proofs.Exports.{on_test, on_label}
 use Rattle.txn_cells.specs.Kept.{AtKeys, Held, content_kept, content_of, place_kept, held_at, holds}
 
 pub on_number : (a b : ℕ) (P : Bool → Type 0) → (a ≡ b → P true) → (nat_eq a b ≡ false → P false) → P (nat_eq a b)

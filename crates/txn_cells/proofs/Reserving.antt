@@ -8,7 +8,7 @@ use Rattle.std.proofs.lemmas.Bool.{false≢true, or_cases, or_left, or_right, an
 use Rattle.std.proofs.lemmas.List.Folds.{list_any-append}
 use Rattle.std.proofs.lemmas.Cmp.{nat_list_eq_equiv}
 use Rattle.txn_names.specs.Path.{label_eq}
-use Rattle.txn_names.proofs.Names.{label_eq_self}
+use Rattle.txn_names.proofs.Exports.{label_eq_self}
 use Rattle.txn_cells.specs.Cells.{IsTowards, with_childs, with_place}
 
 -- a look-up finds what stands under one of the keys

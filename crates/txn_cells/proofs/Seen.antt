@@ -5,7 +5,7 @@ use Rattle.std.specs.List.{list_any}
 use Rattle.std.specs.Map.{lookup, keys_of}
 use Rattle.std.proofs.lemmas.Bool.{eq-eqb, eqb-true, ne_eqb}
 use Rattle.txn_names.specs.Path.{label_eq}
-use Rattle.txn_names.proofs.Names.{on_label}
+use Rattle.txn_names.proofs.Exports.{on_label}
 use Rattle.txn_cells.specs.Cells.{IsTowards, with_childs, with_place}
 use Rattle.txn_cells.specs.Kept.{AreListed, AtKeys, Lists, busy_in, cells_in, cells_of, content, content_kept, has_place, held_at, keys_at, nothing, place_kept, seen, seen_from}
 use Rattle.txn_cells.proofs.Puts.{none_from}

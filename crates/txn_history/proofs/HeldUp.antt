@@ -6,7 +6,7 @@ use Rattle.std.proofs.lemmas.Bool.{false≢true, true≢false, and_parts, and_ri
 use Rattle.std.specs.Prelude.{IsTrue}
 use Rattle.std.specs.List.{list_any}
 use Rattle.txn_names.specs.Path.{label_eq, path_eq, top_of}
-use Rattle.txn_names.proofs.Names.{on_test}
+use Rattle.txn_names.proofs.Exports.{on_test}
 use Rattle.serial_spec.specs.declared.event.Event.{Event}
 use Rattle.serial_spec.specs.declared.event.Event.TheVariants.{Begin, Access, Sum, Commit, Abort, After}
 use Rattle.serial_spec.specs.declared.event.When.{When}

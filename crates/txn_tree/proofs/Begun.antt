@@ -7,7 +7,7 @@ use Rattle.std.proofs.lemmas.List.Sums.{count_by-le-length}
 use Rattle.std.proofs.lemmas.Map.Entries.{length-keys_of}
 use Rattle.txn_names.specs.Path.{Path, path_eq, parent}
 use Rattle.txn_names.specs.Text.{IsName}
-use Rattle.txn_names.proofs.Names.{same_path, path_eq-from}
+use Rattle.txn_names.proofs.Exports.{same_path, path_eq-from}
 use Rattle.serial_spec.specs.Allowed.{most_transactions}
 use Rattle.txn_tree.specs.declared.node.Children.{Children}
 use Rattle.txn_tree.specs.declared.node.Node.{Node}

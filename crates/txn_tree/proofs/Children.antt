@@ -6,7 +6,7 @@ use Rattle.std.proofs.lemmas.Bool.{lt-ltb, le-ltb}
 use Rattle.std.proofs.lemmas.Bool.Decides.{nat_tests}
 use Rattle.std.proofs.lemmas.List.Sums.{sum_by-cons}
 use Rattle.txn_names.specs.Path.{Path, path_eq, is_front, parent}
-use Rattle.txn_names.proofs.Names.{same_path, path_eq-from, is_front-parent, take-front}
+use Rattle.txn_names.proofs.Exports.{same_path, path_eq-from, is_front-parent, take-front}
 use Rattle.serial_spec.specs.History.{or_else}
 use Rattle.serial_spec.specs.Causes.{when}
 use Rattle.serial_spec.specs.declared.entry.Refusal.TheVariants.{Children}

@@ -4,7 +4,7 @@ use Rattle.std.specs.Prelude.{slice_get}
 use Rattle.std.proofs.lemmas.Bool.{false≢true}
 use Rattle.std.proofs.lemmas.Bool.{lt-ltb}
 use Rattle.txn_names.specs.Path.{Path, parent}
-use Rattle.txn_names.proofs.Names.{same_path}
+use Rattle.txn_names.proofs.Exports.{same_path}
 use Rattle.txn_tree.specs.States.{States, names, is_live}
 use Rattle.txn_tree.specs.Asked.{is_active_in, is_live_in, is_orphan_in}
 use Rattle.txn_tree.specs.Numbered.{IsUpward, has_parent, is_active_at, is_active_named, is_parent_of, status_at, status_named}

@@ -8,7 +8,7 @@ use Rattle.std.proofs.Math.Seq.{take-length}
 use Rattle.std.proofs.lemmas.Map.Entries.{length-keys_of}
 use Rattle.std.proofs.lemmas.Option.{slice_get_within}
 use Rattle.txn_names.specs.Path.{Path, path_eq, is_front, parent}
-use Rattle.txn_names.proofs.Names.{same_path, path_eq-from, is_front_self, is_front-trans, is_front-parent, not_front-parent, child_towards}
+use Rattle.txn_names.proofs.Exports.{same_path, path_eq-from, is_front_self, is_front-trans, is_front-parent, not_front-parent, child_towards}
 use Rattle.serial_spec.specs.Allowed.{most_transactions}
 use Rattle.txn_tree.specs.declared.node.Children.{Children}
 use Rattle.txn_tree.specs.declared.node.Node.{Node}

@@ -20,3 +20,4 @@ pub mod Siblings
 pub mod Tops
 pub mod Under
 pub mod Written
+pub mod Exports

@@ -12,7 +12,7 @@ use Rattle.std.proofs.lemmas.Map.Keys.{apart_from_distinct}
 use Rattle.std.proofs.lemmas.Map.Views.{IfSome-lookup_from_All}
 use Rattle.txn_names.specs.Path.{Path, path_eq}
 use Rattle.txn_names.specs.Text.{IsName}
-use Rattle.txn_names.proofs.Names.{same_path, path_eq-from}
+use Rattle.txn_names.proofs.Exports.{same_path, path_eq-from}
 use Rattle.txn_tree.specs.declared.status.Status.{Status}
 use Rattle.txn_tree.specs.declared.status.Status.TheVariants.{Absent}
 use Rattle.txn_tree.specs.States.{States, IsTree, names, is_absent}

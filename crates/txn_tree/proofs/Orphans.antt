@@ -4,7 +4,7 @@ use Rattle.std.specs.Prelude.{slice_get}
 use Rattle.std.specs.Map.{lookup}
 use Rattle.std.proofs.lemmas.Bool.{false≢true, and_parts, and_from, not-true}
 use Rattle.txn_names.specs.Path.{Path, path_eq, is_front, parent, top_of}
-use Rattle.txn_names.proofs.Names.{same_path, path_eq-from, parent-cons, length-parent, front_cases}
+use Rattle.txn_names.proofs.Exports.{same_path, path_eq-from, parent-cons, length-parent, front_cases}
 use Rattle.txn_tree.specs.declared.status.Status.{Status}
 use Rattle.txn_tree.specs.declared.status.Status.TheVariants.{Absent, Live, Committed, Aborted}
 use Rattle.txn_tree.specs.States.{States, names, status_in, is_absent, is_live, is_committed, is_aborted}

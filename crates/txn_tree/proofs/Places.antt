@@ -8,7 +8,7 @@ use Rattle.std.proofs.lemmas.Option.{slice_get_within, slice_get-get_or, get_or_
 use Rattle.std.proofs.lemmas.List.Sums.{position_or_len_is}
 use Rattle.std.proofs.lemmas.Map.Keys.{apart_from_distinct}
 use Rattle.txn_names.specs.Path.{Path, path_eq}
-use Rattle.txn_names.proofs.Names.{same_path, path_eq-from}
+use Rattle.txn_names.proofs.Exports.{same_path, path_eq-from}
 use Rattle.txn_tree.specs.declared.node.Node.{Node}
 use Rattle.txn_tree.specs.declared.node.Children.{Children}
 use Rattle.txn_tree.specs.Linked.{below, children_in, followed, update_at, with_below, with_children, with_next}

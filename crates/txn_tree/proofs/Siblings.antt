@@ -5,7 +5,7 @@ use Rattle.std.proofs.lemmas.Bool.{false≢true}
 use Rattle.std.proofs.lemmas.Option.{slice_get_past, slice_get_cases}
 use Rattle.std.proofs.lemmas.Map.Entries.{length-keys_of}
 use Rattle.txn_names.specs.Path.{Path, path_eq, is_front, parent}
-use Rattle.txn_names.proofs.Names.{same_path, path_eq-from, length-parent, take-front, front_cases, child_towards}
+use Rattle.txn_names.proofs.Exports.{same_path, path_eq-from, length-parent, take-front, front_cases, child_towards}
 use Rattle.txn_tree.specs.declared.node.Children.{Children}
 use Rattle.txn_tree.specs.declared.node.Node.{Node}
 use Rattle.txn_tree.specs.States.{States, IsTree, names}

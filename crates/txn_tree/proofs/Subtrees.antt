@@ -3,7 +3,7 @@ use Rattle.std.proofs.Common.{◌≡◌, ℕ, ◌<◌, nat_eq, Bool, true, false
 use Rattle.std.specs.Prelude.{slice_get}
 use Rattle.std.proofs.lemmas.Bool.{cases_lt, false≢true, eqb-true, eq-eqb}
 use Rattle.txn_names.specs.Path.{Path, is_front, parent}
-use Rattle.txn_names.proofs.Names.{same_path, is_front_self, is_front-trans, is_front-parent}
+use Rattle.txn_names.proofs.Exports.{same_path, is_front_self, is_front-trans, is_front-parent}
 use Rattle.txn_tree.specs.States.{States, names}
 use Rattle.txn_tree.specs.Numbered.{is_front_of, is_parent_of, is_under}
 use Rattle.txn_tree.specs.Siblings.{HasBranches, IsBefore, IsFirst, IsNext, is_child_at, is_sibling_at, is_sibling_of, is_top_at}

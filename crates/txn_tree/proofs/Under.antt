@@ -6,7 +6,7 @@ use Rattle.std.proofs.lemmas.Bool.{false≢true, and_parts}
 use Rattle.std.proofs.lemmas.Map.Entries.{lookup_head, lookup_tail}
 use Rattle.txn_names.specs.Path.{Path, path_eq, label_eq, is_front, parent}
 use Rattle.txn_names.specs.Text.{IsName}
-use Rattle.txn_names.proofs.Names.{same_label, label_eq_self, path_eq-from, is_front_self, front_cases}
+use Rattle.txn_names.proofs.Exports.{same_label, label_eq_self, path_eq-from, is_front_self, front_cases}
 use Rattle.txn_tree.specs.declared.node.Children.{Children}
 use Rattle.txn_tree.specs.declared.node.Node.{Node}
 use Rattle.txn_tree.specs.States.{States, IsTree, names}

@@ -6,7 +6,7 @@ use Rattle.std.specs.Map.{lookup, set_value}
 use Rattle.std.proofs.lemmas.Bool.{false≢true}
 use Rattle.indexmap.specs.IndexMap.{set_value_at}
 use Rattle.txn_names.specs.Path.{Path, path_eq}
-use Rattle.txn_names.proofs.Names.{same_path, path_eq-from}
+use Rattle.txn_names.proofs.Exports.{same_path, path_eq-from}
 use Rattle.txn_tree.specs.declared.status.Status.{Status}
 use Rattle.txn_tree.specs.declared.status.Status.TheVariants.{Absent, Live}
 use Rattle.txn_tree.specs.States.{States, IsTree, names, status_in}

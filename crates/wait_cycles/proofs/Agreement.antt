@@ -4,7 +4,7 @@ use Rattle.std.specs.Prelude.{slice_get}
 use Rattle.std.specs.List.{list_any}
 use Rattle.std.proofs.lemmas.Bool.{false≢true, eqb-true, eq-eqb, or_cases, or_left, or_right, and_parts, and_from, not-true}
 use Rattle.txn_names.specs.Path.{path_eq}
-use Rattle.txn_names.proofs.Names.{path_eq_self, same_path}
+use Rattle.txn_names.proofs.Exports.{path_eq_self, same_path}
 use Rattle.serial_spec.specs.History.{Name, History}
 use Rattle.serial_spec.specs.Waits.{OnCycle, number, waits_for}
 use Rattle.serial_spec.specs.Waits as by_name

@@ -7,7 +7,7 @@ use Rattle.std.proofs.lemmas.List.{length-append}
 use Rattle.wait_cycles.specs.declared.trail.Reached.{Reached}
 use Rattle.wait_cycles.specs.Cycles.{Pairs, waits_in, is_member, is_distinct}
 use Rattle.wait_cycles.specs.Trails.{ComesFrom, IsAt, IsFound, IsLonger, nodes, open_pairs}
-use Rattle.txn_tree.proofs.Places.{get_front, get_pushed}
+use Rattle.txn_tree.proofs.Exports.{get_front, get_pushed}
 use Rattle.wait_cycles.proofs.Lists.{few_pass, any-map, distinct_push, map_append, member_append, pushed_member, one_less}
 
 -- ---- pairs

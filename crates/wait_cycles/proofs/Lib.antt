@@ -9,3 +9,4 @@ pub mod Sorted
 pub mod Kept
 pub mod Listed
 pub mod Stored
+pub mod Exports

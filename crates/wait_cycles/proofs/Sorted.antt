@@ -10,7 +10,7 @@ use Rattle.wait_cycles.specs.declared.trail.Reached.{Reached}
 use Rattle.wait_cycles.specs.Cycles.{Pairs, IsCycle, IsGreatest, WaitInTurn, is_member, waits_in}
 use Rattle.wait_cycles.specs.Sorted.{ArePartedAt, AreRising, AreSorted, IsAwaited, up_to}
 use Rattle.wait_cycles.specs.Trails.{Covers, IsFound, IsLastReached, nodes}
-use Rattle.txn_tree.proofs.Places.{get_front}
+use Rattle.txn_tree.proofs.Exports.{get_front}
 use Rattle.wait_cycles.proofs.Lists.{any-map, map_append, member_append, member_here, place_of, pushed_member}
 use Rattle.wait_cycles.proofs.Found.{pair_of, waits_by_pair}
 use Rattle.wait_cycles.proofs.Tops.{greatest_of, waited_for}

@@ -5,7 +5,7 @@ use Rattle.std.specs.Prelude.{slice_get, IfNone, IfSome}
 use Rattle.std.specs.List.{list_any}
 use Rattle.std.proofs.lemmas.Bool.{eq-eqb, eqb-true, false≢true, true≢false}
 use Rattle.std.proofs.lemmas.List.Folds.{list_any-append}
-use Rattle.serial_spec.proofs.Taking.{take_next}
+use Rattle.serial_spec.proofs.Exports.{take_next}
 use Rattle.txn_tree.specs.States.{States}
 use Rattle.wait_cycles.specs.Cycles.{IsCycle, IsLastOn, Pairs, WaitInTurn, waits_in}
 use Rattle.wait_cycles.specs.Waiting.{wait_in}

@@ -6,15 +6,15 @@ use Rattle.std.specs.List.{list_any}
 use Rattle.std.proofs.lemmas.Bool.{and_parts, eqb-true, eq-eqb, false≢true, false_from_ne_true, ltb-true, or_right}
 use Rattle.std.proofs.lemmas.Option.{none-some}
 use Rattle.txn_names.specs.Path.{Path, is_front, label_eq, meet}
-use Rattle.txn_names.proofs.Names.{label_eq_self, same_label}
+use Rattle.txn_names.proofs.Exports.{label_eq_self, same_label}
 use Rattle.txn_tree.specs.States.{States, names}
 use Rattle.txn_tree.specs.Numbered.{is_front_of}
 use Rattle.lock_table.specs.Blocking.{numbers}
-use Rattle.lock_table.proofs.Lists.{any_in_range, witness}
+use Rattle.lock_table.proofs.Exports.{any_in_range, witness}
 use Rattle.serial_spec.specs.declared.target.Target.{Target}
 use Rattle.serial_spec.specs.Targets.{meets, target}
 use Rattle.wait_cycles.specs.declared.waits.Wait.{Wait}
-use Rattle.serial_spec.proofs.Taking.{take_next}
+use Rattle.serial_spec.proofs.Exports.{take_next}
 use Rattle.wait_cycles.specs.Waiting.{wait_in}
 use Rattle.wait_graph.specs.Edges.{Keeps, AreOwnBranches, IsAlone, IsNobodysWay, IsOwnBranch, is_beside, is_beside_it, is_held_up, is_in_branch, waits_by_way_of, waits_for_in}
 use Rattle.wait_graph.proofs.HeldUp.{holder_begun, open_holds_nobody}

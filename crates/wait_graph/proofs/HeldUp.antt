@@ -13,8 +13,8 @@ use Rattle.lock_table.specs.Targeted.{AreListed, Reaches, Targeted, is_listed, l
 use Rattle.serial_spec.specs.declared.target.Target.{Target}
 use Rattle.serial_spec.specs.Targets.{kind_of, target}
 use Rattle.txn_names.specs.Path.{Path}
-use Rattle.lock_table.proofs.Lists.{any_in_range, any_of_those, witness}
-use Rattle.serial_spec.proofs.Taking.{take_next}
+use Rattle.lock_table.proofs.Exports.{any_in_range, any_of_those, witness}
+use Rattle.serial_spec.proofs.Exports.{take_next}
 use Rattle.wait_cycles.specs.declared.waits.Wait.{Wait}
 use Rattle.wait_graph.specs.Edges.{AreLockers, Keeps, Tells, is_beside, is_held_up, is_in_branch, edges_of, edges_from, waits_for_in}
 

@@ -4,3 +4,4 @@ pub mod Alone
 pub mod OwnBranches
 pub mod Alike
 pub mod Walking
+pub mod Exports

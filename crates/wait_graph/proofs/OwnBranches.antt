@@ -3,7 +3,7 @@ use Rattle.std.proofs.Common.{◌≡◌, ℕ, ◌+◌, ◌<◌, nat_eq, Bool, tr
 use Rattle.std.specs.Prelude.{slice_get}
 use Rattle.std.proofs.lemmas.Bool.{eq-eqb, eqb-true, false≢true, ltb-true}
 use Rattle.txn_names.specs.Path.{Path, is_front, meet}
-use Rattle.txn_names.proofs.Names.{is_front-take, meet-le, take-meet}
+use Rattle.txn_names.proofs.Exports.{is_front-take, meet-le, take-meet}
 use Rattle.txn_tree.specs.States.{States, names}
 use Rattle.txn_tree.specs.Siblings.{HasBranches, IsFirst, is_child_at}
 use Rattle.txn_tree.specs.Numbered.{is_front_of, is_under}

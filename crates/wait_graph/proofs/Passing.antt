@@ -5,7 +5,7 @@ use Rattle.std.specs.List.{list_any}
 use Rattle.std.proofs.lemmas.Bool.{false≢true, or_left, or_right}
 use Rattle.std.proofs.lemmas.List.Folds.{list_any_more}
 use Rattle.std.proofs.lemmas.Option.{get_or_from_slice_get, slice_get_within}
-use Rattle.serial_spec.proofs.Taking.{take_past}
+use Rattle.serial_spec.proofs.Exports.{take_past}
 use Rattle.wait_cycles.specs.declared.waits.Wait.{Wait}
 use Rattle.wait_graph.specs.Edges.{passes}
 

@@ -7,14 +7,12 @@ use Rattle.std.proofs.lemmas.List.Sums.{count_by-le-length, sum_by-set}
 use Rattle.std.proofs.Math.Nat.{mul-le-mul_right, suc-mul}
 use Rattle.std.proofs.lemmas.Option.{none-some, same_Some, slice_get_within}
 use Rattle.std.proofs.Math.ListN.{set}
-use Rattle.txn_tree.proofs.Places.{get_front}
+use Rattle.txn_tree.proofs.Exports.{get_front}
 use Rattle.txn_tree.specs.States.{States}
 use Rattle.wait_cycles.specs.Cycles.{Pairs, IsCycle, IsLastOn, WaitInTurn, is_member, waits_in}
 use Rattle.wait_cycles.specs.Waiting.{AreOnce, StandsAt, Waiting, wait_in, wait_of}
 use Rattle.wait_cycles.specs.declared.waits.Wait.{Wait}
-use Rattle.wait_cycles.proofs.Agreement.{begun_there}
-use Rattle.wait_cycles.proofs.Found.{pair_of, waits_by_pair}
-use Rattle.wait_cycles.proofs.Listed.{found_of, place_of}
+use Rattle.wait_cycles.proofs.Exports.{begun_there, pair_of, waits_by_pair, found_of, place_of}
 use Rattle.wait_graph.specs.Edges.{AreAlike, Keeps, edges_among, edges_of, edges_from, waits_for_in}
 use Rattle.wait_graph.specs.Walks.{AreGoneOn, AreListed, HasMoreOf, IsLastThrough, IsLonger, IsOnNoCycle, IsWayOf, unmarked}
 use Rattle.wait_graph.proofs.Alike.{joined, with_tells}

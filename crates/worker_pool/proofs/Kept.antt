@@ -7,7 +7,7 @@ use Rattle.interleavings.specs.declared.turns.Turn.{Turn}
 use Rattle.interleavings.specs.declared.turns.Turn.TheVariants.{Answered, Parked, OutOfTurn}
 use Rattle.interleavings.specs.Turning.{Turning, Unstuck}
 use Rattle.interleavings.specs.Scheduled.{Goes}
-use Rattle.interleavings.proofs.Schedules.{goes_same, goes_still}
+use Rattle.interleavings.proofs.Exports.{goes_same, goes_still}
 use Rattle.shared_book.specs.Attempting.{Attempted}
 use Rattle.worker_pool.specs.Openings.{HasGoneOn, IsAsOpened, IsKept}
 

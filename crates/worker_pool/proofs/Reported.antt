@@ -10,8 +10,7 @@ use Rattle.manager_core.specs.Sound.{store_refusals}
 use Rattle.interleavings.specs.Told.{Told}
 use Rattle.interleavings.specs.Turning.{Turning, IsClosed, IsStart}
 use Rattle.interleavings.specs.Scheduled.{Goes, LetsGo}
-use Rattle.interleavings.proofs.Closed.{broken_off, numbered_from, was_asked}
-use Rattle.interleavings.proofs.Opened.{given_few}
+use Rattle.interleavings.proofs.Exports.{broken_off, numbered_from, was_asked, given_few}
 use Rattle.manager_core.specs.declared.outcome.OpenFault.{OpenFault}
 use Rattle.interleavings.specs.declared.served.ServeFault.{ServeFault}
 use Rattle.interleavings.specs.declared.served.ServeFault.TheVariants.{NoMemory, Open, Thread}

@@ -1,5 +1,5 @@
 use denote.Param.Send.{sendable}
-use Rattle.sql_store.proofs.Crossing.{database_send}
+use Rattle.sql_store.proofs.Exports.{database_send}
 use Rattle.tx_server.proofs.main.Goals as goal
 
 pub start-requires-send-H-Store : goal.start-requires-send-H-Store

@@ -1,6 +1,6 @@
 use Rattle.std.proofs.Common.{take, get_or}
 use Rattle.std.proofs.lemmas.Option.{slice_get-get_or}
-use Rattle.serial_spec.proofs.Taking.{take_next}
+use Rattle.serial_spec.proofs.Exports.{take_next}
 use Rattle.interleavings.proofs.Schedules.{list_more, list_none}
 use Rattle.interleavings.proofs.schedule.run_list.Goals as goal
 

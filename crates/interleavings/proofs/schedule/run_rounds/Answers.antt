@@ -1,5 +1,4 @@
-use Rattle.txn_history.proofs.Rounds.{round_adds}
-use Rattle.txn_history.proofs.Tests.{clash}
+use Rattle.txn_history.proofs.Exports.{round_adds, clash}
 use Rattle.interleavings.proofs.Schedules.{goes_err, goes_still, rounds_all, rounds_more, rounds_none}
 use Rattle.interleavings.proofs.schedule.run_rounds.Goals as goal
 

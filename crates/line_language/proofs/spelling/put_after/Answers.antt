@@ -1,5 +1,5 @@
 use Rattle.std.proofs.Common.{[], ◌∷◌}
-use Rattle.txn_bytes.proofs.Appending.{front_of, on_err, then, then_front, then_on_err}
+use Rattle.txn_bytes.proofs.Exports.{front_of, on_err, then, then_front, then_on_err}
 use Rattle.line_language.proofs.spelling.put_after.Goals as goal
 
 pub returns-in_err-put_named-clause-err : goal.returns-in_err-put_named-clause-err

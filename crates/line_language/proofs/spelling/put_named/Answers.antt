@@ -1,4 +1,4 @@
-use Rattle.txn_bytes.proofs.Appending.{front_of, on_err, then_on_err}
+use Rattle.txn_bytes.proofs.Exports.{front_of, on_err, then_on_err}
 use Rattle.line_language.proofs.spelling.put_named.Goals as goal
 
 pub returns-in_err-put-clause-err : goal.returns-in_err-put-clause-err

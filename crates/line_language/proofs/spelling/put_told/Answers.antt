@@ -1,6 +1,6 @@
 use Rattle.std.proofs.Common.{SFits, w64, rules}
 use Rattle.std.proofs.lemmas.Int.{to_z-of_z}
-use Rattle.txn_bytes.proofs.Appending.{front_of, on_err, then_on_err}
+use Rattle.txn_bytes.proofs.Exports.{front_of, on_err, then_on_err}
 use Rattle.line_language.proofs.spelling.put_told.Goals as goal
 
 pub returns-in_err-put-clause-err : goal.returns-in_err-put-clause-err

@@ -1,7 +1,7 @@
 use Rattle.std.proofs.Common.{[], ◌∷◌}
 use Rattle.std.proofs.Common.{SFits, w64, rules}
 use Rattle.std.proofs.lemmas.Int.{to_z-of_z}
-use Rattle.txn_bytes.proofs.Appending.{front_of, on_err, then, then_front, then_on_err, then_on_ok}
+use Rattle.txn_bytes.proofs.Exports.{front_of, on_err, then, then_front, then_on_err, then_on_ok}
 use Rattle.line_language.proofs.spelling.put_valued.Goals as goal
 
 pub returns-in_err-put_keyed-clause-err : goal.returns-in_err-put_keyed-clause-err

@@ -1,7 +1,7 @@
 use Rattle.std.proofs.Common.{◌++◌, subst}
 use Rattle.std.specs.Io.KnownBytes.{Appends}
 use Rattle.txn_bytes.specs.Written.{AppendsFront}
-use Rattle.txn_bytes.proofs.Appending.{front_of, then, then_front}
+use Rattle.txn_bytes.proofs.Exports.{front_of, then, then_front}
 use Rattle.line_language.specs.Report.{spelled_history}
 use Rattle.report_text.specs.Lines.{ending_text}
 use Rattle.live_runs.specs.Showing.{entries_behind}

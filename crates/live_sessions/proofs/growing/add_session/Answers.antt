@@ -1,4 +1,4 @@
-use Rattle.session_text.proofs.Places.{places_found}
+use Rattle.session_text.proofs.Exports.{places_found}
 use Rattle.live_sessions.proofs.Grown.{header_way_of}
 use Rattle.live_sessions.proofs.growing.add_session.Goals as goal
 

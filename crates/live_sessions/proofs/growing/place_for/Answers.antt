@@ -1,5 +1,5 @@
 use Rattle.std.proofs.Common.{sym, ◌∙◌}
-use Rattle.session_text.proofs.Places.{places_found}
+use Rattle.session_text.proofs.Exports.{places_found}
 use Rattle.live_sessions.proofs.Grown.{new_room}
 use Rattle.live_sessions.proofs.growing.place_for.Goals as goal
 

@@ -1,6 +1,6 @@
 use Rattle.std.proofs.Common.{suc, is_some, sym, ap, ◌∙◌, arith}
 use Rattle.serial_spec.specs.Interleaving.{answered}
-use Rattle.interleavings.proofs.Numbers.{unsome}
+use Rattle.interleavings.proofs.Exports.{unsome}
 use Rattle.live_sessions.proofs.Grown.{next_there, tells_full, tells_room, tells_turn}
 use Rattle.live_sessions.proofs.growing.refusal.Goals as goal
 

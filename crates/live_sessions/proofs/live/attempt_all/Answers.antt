@@ -1,6 +1,6 @@
 use Rattle.std.proofs.Common.{subst, sym}
 use Rattle.interleavings.specs.Scheduled.{Goes}
-use Rattle.interleavings.proofs.Schedules.{goes_err, goes_partly_err, goes_same}
+use Rattle.interleavings.proofs.Exports.{goes_err, goes_partly_err, goes_same}
 use Rattle.live_sessions.proofs.Handled.{attempted_ok}
 use Rattle.live_sessions.proofs.live.attempt_all.Goals as goal
 

@@ -1,5 +1,5 @@
 use Rattle.std.proofs.Common.{rules, ◌≡◌, ◌<◌, ◌≤◌, true, length, IsOk, List, ℕ, subst, sym, arith}
-use Rattle.txn_names.proofs.Groups.{dot_behind}
+use Rattle.txn_names.proofs.Exports.{dot_behind}
 use Rattle.lock_table.specs.Locked as one
 use Rattle.lock_table.proofs.groups.make_marks.Goals as goal
 

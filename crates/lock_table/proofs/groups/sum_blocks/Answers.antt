@@ -1,6 +1,6 @@
 use Rattle.std.proofs.Common.{◌≤◌, length, sym, ◌∙◌, true≢false, arith, rules}
 use Rattle.std.proofs.lemmas.Bool.{false≢true}
-use Rattle.txn_names.proofs.Groups.{dot_behind}
+use Rattle.txn_names.proofs.Exports.{dot_behind}
 use Rattle.lock_table.proofs.Bare.{no_sum_blocks}
 use Rattle.lock_table.proofs.groups.sum_blocks.Goals as goal
 

@@ -1,5 +1,5 @@
 use Rattle.std.proofs.Common.{◌≤◌, length, refl, arith, rules}
-use Rattle.txn_names.proofs.Groups.{dot_behind}
+use Rattle.txn_names.proofs.Exports.{dot_behind}
 use Rattle.serial_spec.specs.declared.operation.Kind.TheVariants.{Write}
 use Rattle.lock_table.proofs.Reaching.{none_blocks}
 use Rattle.lock_table.proofs.groups.sums_let.Goals as goal

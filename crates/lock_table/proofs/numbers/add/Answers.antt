@@ -4,7 +4,7 @@ use Rattle.std.specs.List.Sorted.{IsStrictlyIncreasing}
 use Rattle.std.proofs.lemmas.Bool.{ltb-true, ltb-false}
 use Rattle.std.proofs.lemmas.List.Sorted.{IsPartitionPoint-from_clause, IsPartitionedBy-ltb}
 use Rattle.std.proofs.lemmas.Map.Keys.{sorted_from_strictly_increasing, non_decreasing_from_sorted}
-use Rattle.txn_cells.proofs.ByKey.{contained, rising_insert}
+use Rattle.txn_cells.proofs.Exports.{contained, rising_insert}
 use Rattle.lock_table.specs.Targeted.{IsJoined}
 use Rattle.lock_table.proofs.Joined.{joined_insert}
 use Rattle.lock_table.proofs.numbers.add.Goals as goal

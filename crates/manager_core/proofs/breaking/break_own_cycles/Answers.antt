@@ -1,6 +1,6 @@
 use Rattle.std.proofs.Common.{◌≤◌, length, refl, ◌∙◌, arith}
 use Rattle.serial_spec.specs.Interleaving.{victim}
-use Rattle.txn_history.proofs.Theorems.{own_stays}
+use Rattle.txn_history.proofs.Exports.{own_stays}
 use Rattle.manager_core.proofs.Victims.{breaking_one, broken, fewer_pairs, victim_counts}
 use Rattle.manager_core.proofs.breaking.break_own_cycles.Goals as goal
 

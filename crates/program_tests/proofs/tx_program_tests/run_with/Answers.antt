@@ -1,5 +1,5 @@
 use denote.Param.Send.{sendable}
-use Rattle.sql_store.proofs.Crossing.{database_send}
+use Rattle.sql_store.proofs.Exports.{database_send}
 use Rattle.program_tests.proofs.tx_program_tests.run_with.Goals as goal
 
 pub tx_main-status-requires-send-H-Store : goal.tx_main-status-requires-send-H-Store

@@ -1,4 +1,4 @@
-use Rattle.txn_bytes.proofs.Appending.{cut_before, handed_on, puts_then}
+use Rattle.txn_bytes.proofs.Exports.{cut_before, handed_on, puts_then}
 use Rattle.program_words.proofs.telling.put_fault.Goals as goal
 
 pub returns-in_err-put_cause : goal.returns-in_err-put_cause

@@ -1,4 +1,4 @@
-use Rattle.txn_bytes.proofs.Sourcing.{none_read}
+use Rattle.txn_bytes.proofs.Exports.{none_read}
 use Rattle.report_judge.proofs.reading.check.Goals as goal
 
 pub returns-in_default-clause-err : goal.returns-in_default-clause-err

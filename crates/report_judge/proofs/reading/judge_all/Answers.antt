@@ -1,6 +1,6 @@
 use Rattle.std.proofs.Common.{◌≡◌, ◌≤◌, ℕ, List, [], ◌++◌, take, length, refl, ap, sym, arith}
 use Rattle.std.proofs.KnownBytes.{Consumes-nil, Consumes-trans}
-use Rattle.txn_bytes.proofs.Sourcing.{given_more, is_some, part_read, whole_read}
+use Rattle.txn_bytes.proofs.Exports.{given_more, is_some, part_read, whole_read}
 use Rattle.report_judge.proofs.Judging.{verdict_early, verdict_whole, wants_first}
 use Rattle.report_judge.proofs.reading.judge_all.Goals as goal
 

@@ -3,8 +3,7 @@ use Rattle.std.specs.Map.{keys_of}
 use Rattle.serial_spec.specs.declared.target.Asked.TheVariants.{At}
 use Rattle.report_tables.specs.Chained.{known_by}
 use Rattle.report_tables.specs.Told.{AreTransactionsOf}
-use Rattle.report_tables.proofs.Doing.{roomy}
-use Rattle.report_tables.proofs.Leading.{keys_grown}
+use Rattle.report_tables.proofs.Exports.{roomy, keys_grown}
 use Rattle.report_judge.proofs.Following.{on_ok}
 use Rattle.report_judge.proofs.seen.take_access.Goals as goal
 

@@ -3,8 +3,7 @@ use Rattle.std.specs.Map.{keys_of}
 use Rattle.serial_spec.specs.declared.target.Asked.TheVariants.{Over}
 use Rattle.report_tables.specs.Chained.{known_by}
 use Rattle.report_tables.specs.Told.{AreTransactionsOf}
-use Rattle.report_tables.proofs.Doing.{roomy}
-use Rattle.report_tables.proofs.Leading.{groups_grown}
+use Rattle.report_tables.proofs.Exports.{roomy, groups_grown}
 use Rattle.report_judge.proofs.Following.{on_ok}
 use Rattle.report_judge.proofs.seen.take_sum.Goals as goal
 

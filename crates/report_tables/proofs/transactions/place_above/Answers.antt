@@ -1,7 +1,7 @@
 use Rattle.std.proofs.Common.{◌≡◌, suc, Some, unwrap_or, sym, ap, ◌∙◌, arith}
 use Rattle.std.specs.Prelude.{slice_get}
 use Rattle.txn_names.specs.Path.{parent}
-use Rattle.txn_tree.proofs.Siblings.{child_parts}
+use Rattle.txn_tree.proofs.Exports.{child_parts}
 use Rattle.report_tables.specs.Told.{places}
 use Rattle.report_tables.proofs.transactions.place_above.Goals as goal
 

@@ -1,5 +1,5 @@
 use Rattle.std.proofs.Common.{[], ◌∷◌}
-use Rattle.txn_bytes.proofs.Appending.{front_of, on_err, then_on_err}
+use Rattle.txn_bytes.proofs.Exports.{front_of, on_err, then_on_err}
 use Rattle.report_text.proofs.entries.put_entry_parts.Goals as goal
 
 pub returns-in_err-put_entry-clause-err : goal.returns-in_err-put_entry-clause-err

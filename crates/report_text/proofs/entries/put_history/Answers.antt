@@ -1,6 +1,6 @@
 use Rattle.std.proofs.Common.{◌+◌, List, ℕ, drop, reverse, subst}
 use Rattle.txn_bytes.specs.Written.{AppendsFront}
-use Rattle.txn_bytes.proofs.Appending.{front_of, on_err, then, then_front}
+use Rattle.txn_bytes.proofs.Exports.{front_of, on_err, then, then_front}
 use Rattle.serial_spec.specs.declared.entry.Entry.{Entry}
 use Rattle.line_language.specs.Report.{spelled_history}
 use Rattle.report_text.specs.Lines.{entry_line}

@@ -1,6 +1,6 @@
 use Rattle.std.proofs.Common.{[], ◌∷◌, SFits, w64, rules}
 use Rattle.std.proofs.lemmas.Int.{to_z-of_z}
-use Rattle.txn_bytes.proofs.Appending.{front_of, on_err, then_on_err}
+use Rattle.txn_bytes.proofs.Exports.{front_of, on_err, then_on_err}
 use Rattle.report_text.proofs.entries.put_row_parts.Goals as goal
 
 pub returns-in_err-put_row-clause-err : goal.returns-in_err-put_row-clause-err

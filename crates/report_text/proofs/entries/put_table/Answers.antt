@@ -1,7 +1,7 @@
 use Rattle.std.proofs.Common.{◌+◌, ℕ, drop, subst}
 use Rattle.std.specs.Prelude.{slice_get}
 use Rattle.txn_bytes.specs.Written.{AppendsFront}
-use Rattle.txn_bytes.proofs.Appending.{front_of, on_err, then, then_front}
+use Rattle.txn_bytes.proofs.Exports.{front_of, on_err, then, then_front}
 use Rattle.serial_spec.specs.Rows.{Rows}
 use Rattle.line_language.specs.Report.{spelled_rows}
 use Rattle.report_text.specs.Lines.{row_lines}

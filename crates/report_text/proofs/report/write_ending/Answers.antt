@@ -1,7 +1,7 @@
 use Rattle.std.proofs.Common.{List, ℕ, ◌++◌}
 use Rattle.std.specs.Prelude.{codes}
 use Rattle.line_language.specs.Report.{line, spelled_rows}
-use Rattle.txn_bytes.proofs.Appending.{front_of, on_err, then, then_front, then_on_err}
+use Rattle.txn_bytes.proofs.Exports.{front_of, on_err, then, then_front, then_on_err}
 use Rattle.report_text.proofs.report.write_ending.Goals as goal
 
 pub returns-in_err-put-clause-err : goal.returns-in_err-put-clause-err

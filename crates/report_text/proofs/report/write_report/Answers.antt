@@ -2,7 +2,7 @@ use Rattle.std.proofs.Common.{◌≡◌, List, ℕ, ◌++◌, ap, sym, subst, �
 use Rattle.std.specs.Prelude.{codes}
 use Rattle.line_language.specs.Report.{line, spelled_history, spelled_rows}
 use Rattle.txn_bytes.specs.Written.{AppendsFront}
-use Rattle.txn_bytes.proofs.Appending.{front_of, on_err, then, then_front, then_on_err}
+use Rattle.txn_bytes.proofs.Exports.{front_of, on_err, then, then_front, then_on_err}
 use Rattle.report_text.proofs.Accepted.{accepted, on_ok}
 use Rattle.report_text.proofs.report.write_report.Goals as goal
 

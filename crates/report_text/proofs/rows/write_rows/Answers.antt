@@ -1,6 +1,6 @@
 use Rattle.std.proofs.Common.{◌+◌, List, ℕ, drop, subst}
 use Rattle.txn_bytes.specs.Written.{AppendsFront}
-use Rattle.txn_bytes.proofs.Appending.{front_of, on_err, then, then_front}
+use Rattle.txn_bytes.proofs.Exports.{front_of, on_err, then, then_front}
 use Rattle.line_language.specs.Report.{line}
 use Rattle.durable_top.specs.declared.store.Row.{Row}
 use Rattle.report_text.specs.Rows.{numbered_row, numbered_rows}

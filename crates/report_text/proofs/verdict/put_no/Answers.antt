@@ -1,6 +1,6 @@
 use Rattle.std.proofs.Common.{[], ◌∷◌, ◌++◌}
 use Rattle.std.specs.Prelude.{codes, decimal}
-use Rattle.txn_bytes.proofs.Appending.{front_of, on_err, then, then_front, then_on_err}
+use Rattle.txn_bytes.proofs.Exports.{front_of, on_err, then, then_front, then_on_err}
 use Rattle.report_text.proofs.verdict.put_no.Goals as goal
 
 pub returns-in_err-put-clause-err : goal.returns-in_err-put-clause-err

@@ -1,4 +1,4 @@
-use Rattle.program_words.proofs.Told.{if_ok}
+use Rattle.program_words.proofs.Exports.{if_ok}
 use Rattle.session_runs.proofs.ends.end_run.Goals as goal
 
 pub returns-in-Ok-clause-unflushed : goal.returns-in-Ok-clause-unflushed

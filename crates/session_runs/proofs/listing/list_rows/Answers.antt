@@ -1,5 +1,5 @@
 use Rattle.program_words.specs.declared.fault.Fault.TheVariants.{CannotOpen}
-use Rattle.program_words.proofs.Told.{fault_accounts}
+use Rattle.program_words.proofs.Exports.{fault_accounts}
 use Rattle.session_runs.proofs.listing.list_rows.Goals as goal
 
 pub returns-in-Err-clause-accounts : goal.returns-in-Err-clause-accounts

@@ -1,5 +1,5 @@
 use Rattle.program_words.specs.declared.fault.Fault.TheVariants.{CannotWrite}
-use Rattle.program_words.proofs.Told.{fault_accounts, finish_accounts}
+use Rattle.program_words.proofs.Exports.{fault_accounts, finish_accounts}
 use Rattle.session_runs.proofs.listing.print_rows.Goals as goal
 
 pub returns-in-Ok-clause-accounts : goal.returns-in-Ok-clause-accounts

@@ -1,6 +1,6 @@
 use Rattle.std.proofs.Common.{inr, refl}
 use Rattle.program_words.specs.declared.fault.Fault.TheVariants.{CannotRead, CannotWrite, NoMemory}
-use Rattle.program_words.proofs.Told.{fault_accounts}
+use Rattle.program_words.proofs.Exports.{fault_accounts}
 use Rattle.tx_commands.proofs.checking.judge.Goals as goal
 
 pub returns-in-Err-clause-accounts : goal.returns-in-Err-clause-accounts

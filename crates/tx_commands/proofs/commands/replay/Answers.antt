@@ -1,6 +1,6 @@
 use Rattle.std.proofs.Common.{◌∙◌, inl}
 use Rattle.program_words.specs.declared.fault.Fault.TheVariants.{NoMemory}
-use Rattle.program_words.proofs.Told.{fault_accounts}
+use Rattle.program_words.proofs.Exports.{fault_accounts}
 use Rattle.tx_commands.proofs.commands.replay.Goals as goal
 
 pub returns-in-Ok-clause-done : goal.returns-in-Ok-clause-done

@@ -3,7 +3,7 @@ use Rattle.std.specs.Io.KnownBytes.{Consumes}
 use Rattle.txn_bytes.specs.Sources.{HasGiven}
 use Rattle.std.proofs.KnownBytes.{Consumes-trans}
 use Rattle.std.proofs.lemmas.List.{length-append}
-use Rattle.txn_bytes.proofs.Sourcing.{given_more, is_some, part_read}
+use Rattle.txn_bytes.proofs.Exports.{given_more, is_some, part_read}
 use Rattle.tx_commands.specs.Texts.{IsShort}
 use Rattle.tx_commands.proofs.reading.read_within.Goals as goal
 

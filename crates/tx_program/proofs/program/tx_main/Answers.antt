@@ -2,7 +2,7 @@ use Rattle.std.proofs.Common.{inl, inr}
 use Rattle.std.specs.Prelude.{codes}
 use Rattle.command_line.specs.declared.task.Task.TheVariants.{Alone}
 use Rattle.program_words.specs.declared.fault.Fault.TheVariants.{NoMemory}
-use Rattle.program_words.proofs.Told.{fault_accounts, misuse_accounts}
+use Rattle.program_words.proofs.Exports.{fault_accounts, misuse_accounts}
 use Rattle.tx_program.proofs.Refused.{refused_accounts}
 use Rattle.tx_program.proofs.Tasks.{for_some}
 use Rattle.tx_program.proofs.program.tx_main.Goals as goal

@@ -1,6 +1,6 @@
 use Rattle.std.proofs.Common.{◌≡◌, Result, Err, OnErr, inl, inr, subst, sym}
 use Rattle.std.specs.Prelude.{codes}
-use Rattle.program_words.proofs.Told.{misuse_accounts}
+use Rattle.program_words.proofs.Exports.{misuse_accounts}
 use Rattle.tx_program.proofs.starting.start.Goals as goal
 
 on_err : {T F Q : Type 0} (r : Result T F) (f : F) → r ≡ Err f → Q → OnErr r Q

@@ -3,7 +3,7 @@ use Rattle.std.specs.Prelude.{IsOk, slice_get}
 use Rattle.std.specs.Map.{keys_of}
 use Rattle.std.proofs.lemmas.List.{take_all}
 use Rattle.std.proofs.lemmas.Map.Entries.{length-keys_of}
-use Rattle.serial_spec.proofs.Taking.{take_next, take_past}
+use Rattle.serial_spec.proofs.Exports.{take_next, take_past}
 use Rattle.txn_cells.specs.Kept.{Listed, keys_at, listed_at, place_kept}
 use Rattle.txn_cells.proofs.Placing.{at_in, key_listed, none_listed}
 use Rattle.txn_cells.proofs.Puts.{at_err}

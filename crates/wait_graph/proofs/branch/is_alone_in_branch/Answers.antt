@@ -1,5 +1,5 @@
 use Rattle.std.proofs.Common.{ap, not, sym, ◌∙◌, arith}
-use Rattle.txn_names.proofs.Names.{meet-le}
+use Rattle.txn_names.proofs.Exports.{meet-le}
 use Rattle.txn_tree.specs.Siblings.{is_child_at}
 use Rattle.wait_graph.proofs.OwnBranches.{none_first, own_above, own_leaf}
 use Rattle.wait_graph.proofs.branch.is_alone_in_branch.Goals as goal

@@ -3,7 +3,7 @@ use Rattle.std.specs.Prelude.{slice_get}
 use Rattle.std.proofs.lemmas.List.{append_assoc, append-nil}
 use Rattle.wait_cycles.specs.declared.waits.Wait.{Wait}
 use Rattle.wait_graph.specs.Edges.{Keeps, edges_from, waits_for_in}
-use Rattle.serial_spec.proofs.Taking.{take_past}
+use Rattle.serial_spec.proofs.Exports.{take_past}
 use Rattle.wait_graph.proofs.HeldUp.{edges_more}
 use Rattle.wait_graph.proofs.Walking.{longer_pushed}
 use Rattle.wait_graph.proofs.edges.add_edges_to_waiting.Goals as goal

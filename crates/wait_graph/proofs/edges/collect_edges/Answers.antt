@@ -1,6 +1,6 @@
 use Rattle.std.proofs.Common.{◌≡◌, ℕ, ◌+◌, ◌*◌, List, length, sym, ap, ◌∙◌, add-one, arith}
 use Rattle.std.proofs.Math.Nat.{suc-mul}
-use Rattle.serial_spec.proofs.Taking.{take_past}
+use Rattle.serial_spec.proofs.Exports.{take_past}
 use Rattle.wait_cycles.specs.declared.waits.Wait.{Wait}
 use Rattle.wait_graph.specs.Edges.{edges_of}
 use Rattle.wait_cycles.specs.Cycles.{waits_in}

@@ -1,5 +1,5 @@
 use Rattle.std.specs.Prelude.{codes}
-use Rattle.program_words.proofs.Told.{misuse_accounts}
+use Rattle.program_words.proofs.Exports.{misuse_accounts}
 use Rattle.worker_commands.proofs.commands.run.Goals as goal
 
 pub returns-in-None-clause-accounts : goal.returns-in-None-clause-accounts

@@ -1,4 +1,4 @@
-use Rattle.session_runs.proofs.Printed.{done, missed, run_accounts}
+use Rattle.session_runs.proofs.Exports.{done, missed, run_accounts}
 use Rattle.worker_runs.proofs.reporting.serve_over.Goals as goal
 
 pub returns-clause-done : goal.returns-clause-done

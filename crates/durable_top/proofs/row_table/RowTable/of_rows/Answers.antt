@@ -1,7 +1,7 @@
 use Rattle.std.proofs.Common.{ap, subst, sym, ◌∙◌}
 use Rattle.serial_spec.specs.Rows.{value_in}
 use Rattle.serial_spec.specs.Serial.{Map}
-use Rattle.serial_spec.proofs.Ordered.{rows_by_map}
+use Rattle.serial_spec.proofs.Exports.{rows_by_map}
 use Rattle.durable_top.specs.Store.{plain}
 use Rattle.durable_top.specs.Joined.{joined, HaveSameKeys}
 use Rattle.durable_top.specs.Numbered.{values_of, entries_in}

@@ -2,8 +2,7 @@ use Rattle.std.proofs.Common.{sym, subst, arith}
 use Rattle.serial_spec.specs.declared.entry.By.TheVariants.{Line}
 use Rattle.serial_spec.specs.Interleaving.{MustGiveUp}
 use Rattle.txn_history.specs.Lines.{CanGiveUp}
-use Rattle.txn_history.proofs.Theorems.{legal_allowed}
-use Rattle.txn_history.proofs.NextLines.{next_can_give_up}
+use Rattle.txn_history.proofs.Exports.{legal_allowed, next_can_give_up}
 use Rattle.interleavings.specs.Turning.{IsDue}
 use Rattle.interleavings.proofs.Numbers.{number_fits, unstuck, unstuck_none}
 use Rattle.interleavings.proofs.turns.Turns.stuck.Goals as goal

@@ -6,7 +6,7 @@ use Rattle.txn_names.specs.Path.{Path}
 use Rattle.txn_tree.specs.States.{States, names}
 use Rattle.txn_tree.specs.Asked.{IsNumberOf, is_live_child_in}
 use Rattle.txn_tree.specs.Numbered.{live_children_at, live_children_named}
-use Rattle.txn_tree.proofs.Children.{any_counted}
+use Rattle.txn_tree.proofs.Exports.{any_counted}
 use Rattle.manager_core.proofs.Causes.{commit_by_end, commit_cause}
 use Rattle.manager_core.proofs.Locks.{name_at}
 use Rattle.manager_core.proofs.tables.Tables.number_at_commit.Goals as goal

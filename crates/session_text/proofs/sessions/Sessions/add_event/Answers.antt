@@ -1,6 +1,6 @@
 use Rattle.std.proofs.Common.{◌≡◌, ◌-◌, List, [], ◌∷◌, ◌++◌, length, rules, None, refl, sym, ap, subst, ◌∙◌}
 use Rattle.std.proofs.Math.ListN.{set}
-use Rattle.txn_bytes.proofs.Appending.{on_err}
+use Rattle.txn_bytes.proofs.Exports.{on_err}
 use Rattle.serial_spec.specs.Interleaving.{Session}
 use Rattle.session_text.specs.Grammar.{IsText}
 use Rattle.session_text.specs.Texts.{Command, misplaced, with_line}

@@ -1,6 +1,6 @@
 use Rattle.std.proofs.Common.{◌≡◌, ◌<◌, List, length, slice_get, sym, ap, subst, ◌∙◌}
 use Rattle.std.proofs.Math.ListN.{set}
-use Rattle.txn_bytes.proofs.Appending.{on_err}
+use Rattle.txn_bytes.proofs.Exports.{on_err}
 use Rattle.serial_spec.specs.Interleaving.{Session, lines_of}
 use Rattle.session_text.specs.Grammar.{IsText}
 use Rattle.session_text.specs.Growing.{with_line_of}

@@ -8,7 +8,7 @@ use Rattle.sql_store.specs.Refusals.{CannotCommit}
 use Rattle.sql_store.specs.Stored.{Stored, may_leave, may_leave_numbered, numbered, table}
 use Rattle.sql_store.proofs.Doubts.{no_doubt}
 use Rattle.sql_store.proofs.Forgotten.{crash_forgotten, settled_forgotten}
-use Rattle.durable_top.proofs.Numbering.{values_committed}
+use Rattle.durable_top.proofs.Exports.{values_committed}
 use Rattle.sql_store.proofs.Steps.{on_ok_then, on_ok_both}
 use Rattle.sql_store.proofs.store.SqlStoreTopStore.commit.Goals as goal
 

@@ -3,7 +3,7 @@ use Rattle.std.specs.Prelude.{slice_get}
 use Rattle.std.specs.Map.{keys_of}
 use Rattle.std.proofs.lemmas.List.{take_all}
 use Rattle.std.proofs.lemmas.Map.Entries.{length-keys_of}
-use Rattle.serial_spec.proofs.Taking.{take_next, take_past}
+use Rattle.serial_spec.proofs.Exports.{take_next, take_past}
 use Rattle.txn_cells.specs.Kept.{content_kept, place_kept}
 use Rattle.txn_cells.proofs.Handing.{contents_next, parents_there, places_next}
 use Rattle.txn_cells.proofs.Placing.{at_in, key_listed, none_listed}

@@ -1,5 +1,5 @@
 use Rattle.std.proofs.Common.{List, ℕ, Some, ap, sym, ◌∙◌}
-use Rattle.txn_names.proofs.Names.{same_label}
+use Rattle.txn_names.proofs.Exports.{same_label}
 use Rattle.txn_cells.specs.Kept.{Held}
 use Rattle.txn_cells.proofs.Placing.{key_listed}
 use Rattle.txn_cells.proofs.places.Places.remembered.Goals as goal

@@ -1,6 +1,6 @@
 use Rattle.std.proofs.Common.{ap, sym, ◌∙◌}
 use Rattle.serial_spec.specs.Serial.{Map}
-use Rattle.serial_spec.proofs.Ordered.{rows_by_map}
+use Rattle.serial_spec.proofs.Exports.{rows_by_map}
 use Rattle.version_stack.proofs.versions.Versions.hand_up_changes.Goals as goal
 
 pub returns-clause-base : goal.returns-clause-base
