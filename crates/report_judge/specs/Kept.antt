@@ -1,5 +1,5 @@
 -- What is kept of the lines of a report that were read, and that it is what they said.
-use Rattle.std.specs.Prelude.{◌≡◌, ℕ, ℤ, ◌+◌, Bool, true, false, List, [], ◌∷◌, ◌++◌, ◌&&◌, nat_lt, length, map, Option, Some, None}
+use Rattle.std.specs.Prelude.{◌≡◌, ℕ, ℤ, ◌+◌, Bool, true, false, List, [], ◌∷◌, ◌++◌, ◌&&◌, if◌then◌else◌, nat_lt, length, map, Option, Some, None}
 use Rattle.std.specs.List.{list_any}
 use Rattle.std.specs.Map.{keys_of}
 use Rattle.serial_spec.specs.declared.operation.Reply.TheVariants.{Ok}
@@ -11,7 +11,7 @@ use Rattle.serial_spec.specs.declared.limits.TheConstants.{MOST_ROWS}
 use Rattle.serial_spec.specs.Places.{is_below}
 use Rattle.serial_spec.specs.Rows.{IsRising, Rows, value_in}
 use Rattle.line_language.specs.declared.entry.ReportEntry.{ReportEntry}
-use Rattle.report_check.specs.Passing.{Part, Start, Opening, Entries, Final, Ended, Read, entry_in, is_close, may_add_row, may_follow, with_entry}
+use Rattle.report_check.specs.Passing.{Part, Start, Opening, Entries, Final, Ended, Read, entry_in, is_close, may_add_row, may_follow, with_entry, with_opening, with_row}
 use Rattle.report_tables.specs.Chained.{Known, known_by}
 use Rattle.report_tables.specs.Spoken.{AreSessionsOf}
 use Rattle.report_tables.specs.Told.{AreTransactionsOf}
@@ -99,6 +99,27 @@ abbrev pub IsMiddle : Part → Type 0
 IsMiddle Opening = Unit {0}
 IsMiddle Entries = Unit {0}
 IsMiddle p = ⊥
+
+-- an entry comes at this line, behind what is kept, where its parts are such as are read
+abbrev pub FollowsAt : Type 0 → ℕ → ReportEntry → Seen → Seen → Bool → Type 0
+FollowsAt IsRead at x old new ok = (r : Read) → IsKept r old
+    → at ≡ 2 + length r.opening + length r.history → IsRead → Follows ok r x new
+
+-- a line comes behind what is seen of the opening rows or of the entries, and is read so
+abbrev pub StepsInMiddle : ℕ → (Read → Option Read) → Seen → Seen → Bool → Type 0
+StepsInMiddle at next old new ok = (r : Read) → IsSeen r old → IsMiddle r.part → at ≡ line_of r
+    → Steps ok (next r) new
+
+-- one comes behind what is seen of this part
+abbrev pub StepsIn : Part → (Read → Option Read) → Seen → Seen → Bool → Type 0
+StepsIn part next old new ok = (r : Read) → IsSeen r old → r.part ≡ part → Steps ok (next r) new
+
+-- an opening row, or a final one, with this key and value, if it may come next
+abbrev pub opening_row : List ℕ → ℤ → Read → Option Read
+opening_row k v r = if may_add_row r.opening k then Some (with_opening r (k, v)) else None
+
+abbrev pub final_row : List ℕ → ℤ → Read → Option Read
+final_row k v r = if may_add_row r.table k then Some (with_row r (k, v)) else None
 
 -- ---- rows
 

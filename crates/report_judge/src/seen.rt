@@ -1,6 +1,6 @@
 //! The first pass: the lines of a report one by one, each of which may stand where it stands.
 
-ghost use Rattle.std.specs.Prelude.{◌≡◌, ◌∷◌, ◌+◌, ◌-◌, ℕ, ℤ, List, codes, length, option_map, slice_get, suc, false, true, None, Some, if◌then◌else◌, IfOk, OnOk};
+ghost use Rattle.std.specs.Prelude.{◌≡◌, ◌∷◌, ◌+◌, ◌-◌, ℕ, List, codes, length, option_map, slice_get, suc, false, true, None, Some, if◌then◌else◌, IfOk, OnOk};
 ghost use Rattle.std.specs.Str.{bytes_eq};
 ghost use Rattle.indexmap.specs.IndexMap.{index_map_len, keys};
 ghost use Rattle.serial_spec.specs.History.{Accesses, History, effect_of};
@@ -9,8 +9,8 @@ ghost use Rattle.serial_spec.specs.Rows.{IsRising, Rows};
 ghost use Rattle.line_language.specs.Events.{IsEvent};
 ghost use Rattle.line_language.specs.Entries.{IsReportEntry};
 ghost use Rattle.line_language.specs.Reading.{entry_of, row_of};
-ghost use Rattle.report_check.specs.Passing.{Ended, Final, Opening, Read, Start, at_part, entry_next, has_ended, may_add_row, may_end, middle_next, next, next_at, opening_next, unread, with_opening, with_row};
-ghost use Rattle.report_judge.specs.Kept.{AddsRow, Follows, IsKept, IsMiddle, IsSeen, Opens, Steps, is_access, is_done_ok, line_of, may_come, opened, part_of};
+ghost use Rattle.report_check.specs.Passing.{Ended, Final, Opening, Read, Start, at_part, entry_next, has_ended, may_end, middle_next, next, next_at, opening_next, unread};
+ghost use Rattle.report_judge.specs.Kept.{AddsRow, Follows, FollowsAt, IsKept, IsMiddle, IsSeen, Opens, Steps, StepsIn, StepsInMiddle, final_row, is_access, is_done_ok, line_of, may_come, opened, opening_row, part_of};
 ghost use Rattle.serial_spec.specs.declared.target.Asked.TheVariants.{At, Over};
 ghost use Rattle.report_tables.specs.Chained.{Known, known_by};
 ghost use Rattle.report_tables.specs.Told.{AreTransactionsOf, Comes};
@@ -113,6 +113,7 @@ fn last_named(values: &Values) -> Option<Key>
 
 // An opening row, if it may come next.
 fn add_opening(values: &mut Values, key: &Key, value: i64) -> Result<bool, NoMemory>
+    // Wide: it is over all rows that the values may be of.
     ensures { IfOk result (λ ok. (rows : Rows) → values.old.entries ≡ opened rows → IsRising rows
         → Opens ok rows key.now value values.new.entries) }
 {
@@ -162,6 +163,7 @@ fn take_access(
     op: Op,
     reply: Reply,
 ) -> Result<bool, NoMemory>
+    // Wide: it is over every history that the transactions may be of.
     ensures effect { IfOk result (λ ok. (base : ℕ) (groups : List (List ℕ)) (h : History)
         → AreTransactionsOf base (known_by (keys values.old) groups) h transactions.old
         → line ≡ base + suc (length h) → Comes ok h (Accesses name.now (At key.now op) reply)
@@ -189,6 +191,7 @@ fn take_sum(
     group: &Group,
     reply: Reply,
 ) -> Result<bool, NoMemory>
+    // Wide: it is over every history that the transactions may be of.
     ensures { IfOk result (λ ok. (base : ℕ) (ks : List (List ℕ)) (h : History)
         → AreTransactionsOf base (known_by ks (keys groups.old)) h transactions.old
         → line ≡ base + suc (length h) → Comes ok h (Accesses name.now (Over group.now) reply)
@@ -213,6 +216,7 @@ fn take_effect(
     event: &Event,
     answer: &Answer,
 ) -> Result<bool, NoMemory>
+    // Wide: it is over every history that the transactions may be of.
     ensures effect { IfOk result (λ ok. (base : ℕ) (h : History)
         → AreTransactionsOf base (known_by (keys values.old) (keys groups.old)) h transactions.old
         → line ≡ base + suc (length h) → Comes ok h (effect_of event.now answer.now)
@@ -240,6 +244,7 @@ fn take_end(
     event: &Event,
     answer: &Answer,
 ) -> Result<bool, NoMemory>
+    // Wide: it is over every history that the transactions may be of.
     ensures { IfOk result (λ ok. (base : ℕ) (known : Known) (h : History)
         → AreTransactionsOf base known h transactions.old → is_access event.now ≡ false
         → Comes ok h (effect_of event.now answer.now)
@@ -267,10 +272,8 @@ fn take_answer(
     event: &Event,
     answer: &Answer,
 ) -> Result<bool, NoMemory>
-    ensures kept { IfOk result (λ ok.
-        (r : Read) → IsKept r seen.old → at ≡ 2 + length r.opening + length r.history
-        → IsEvent event.now
-        → Follows ok r (ReportEntry.Line label.now line event.now answer.now) seen.new) }
+    ensures kept { IfOk result (FollowsAt (IsEvent event.now) at
+        (ReportEntry.Line label.now line event.now answer.now) seen.old seen.new) }
     ensures part { seen.new.part ≡ seen.old.part }
 {
     if seen.closing {
@@ -310,9 +313,7 @@ fn take_close(seen: &mut Seen, name: &Name) -> bool
 }
 
 fn take_entry(seen: &mut Seen, at: usize, entry: &ReportEntry) -> Result<bool, NoMemory>
-    ensures kept { IfOk result (λ ok.
-        (r : Read) → IsKept r seen.old → at ≡ 2 + length r.opening + length r.history
-        → IsReportEntry entry.now → Follows ok r entry.now seen.new) }
+    ensures kept { IfOk result (FollowsAt (IsReportEntry entry.now) at entry.now seen.old seen.new) }
     ensures part { seen.new.part ≡ seen.old.part }
 {
     match entry {
@@ -329,8 +330,8 @@ fn take_entry(seen: &mut Seen, at: usize, entry: &ReportEntry) -> Result<bool, N
 
 // The line of an entry.
 fn take_told(seen: &mut Seen, at: usize, bytes: &[u8]) -> Result<bool, NoMemory>
-    ensures { IfOk result (λ ok. (r : Read) → IsSeen r seen.old → IsMiddle r.part → at ≡ line_of r
-        → Steps ok (entry_next r (entry_of bytes.now)) seen.new) }
+    ensures { IfOk result
+        (StepsInMiddle at (λ r. entry_next r (entry_of bytes.now)) seen.old seen.new) }
 {
     seen.part = Part::Entries;
     let mut entry = None;
@@ -353,8 +354,8 @@ fn take_table(seen: &mut Seen) -> bool
 
 // An entry, or the line `table`.
 fn take_middle(seen: &mut Seen, at: usize, bytes: &[u8]) -> Result<bool, NoMemory>
-    ensures { IfOk result (λ ok. (r : Read) → IsSeen r seen.old → IsMiddle r.part → at ≡ line_of r
-        → Steps ok (middle_next r bytes.now) seen.new) }
+    ensures { IfOk result
+        (StepsInMiddle at (λ r. middle_next r bytes.now) seen.old seen.new) }
 {
     if bytes == b"table".as_slice() {
         Ok(take_table(seen))
@@ -380,16 +381,15 @@ fn take_start(seen: &mut Seen, bytes: &[u8]) -> bool
 
 // An opening row.
 fn take_row(seen: &mut Seen, key: &Key, value: i64) -> Result<bool, NoMemory>
-    ensures { IfOk result (λ ok. (r : Read) → IsSeen r seen.old → r.part ≡ Opening
-        → Steps ok
-        (if may_add_row r.opening key.now then Some (with_opening r (key.now, value)) else None)
-        seen.new) }
+    ensures { IfOk result
+        (StepsIn Opening (opening_row key.now value) seen.old seen.new) }
 {
     add_opening(&mut seen.values, key, value)
 }
 
 // An opening row, or what may stand behind the opening rows.
 fn take_opening(seen: &mut Seen, at: usize, bytes: &[u8]) -> Result<bool, NoMemory>
+    // Wide: it is of the opening rows and of the number of the line.
     ensures { IfOk result (λ ok. (r : Read) → IsSeen r seen.old → r.part ≡ Opening → at ≡ line_of r
         → Steps ok (opening_next r bytes.now (row_of bytes.now)) seen.new) }
 {
@@ -409,10 +409,7 @@ fn take_last(seen: &mut Seen) -> bool
 
 // A final row.
 fn take_final_row(seen: &mut Seen, key: &Key, value: i64) -> Result<bool, NoMemory>
-    ensures { IfOk result (λ ok. (r : Read) → IsSeen r seen.old → r.part ≡ Final
-        → Steps ok
-        (if may_add_row r.table key.now then Some (with_row r (key.now, value)) else None)
-        seen.new) }
+    ensures { IfOk result (StepsIn Final (final_row key.now value) seen.old seen.new) }
 {
     add_final(&mut seen.table, key, value)
 }

@@ -94,9 +94,11 @@ fn take_line<R: Source>(
     line: &mut Kept,
     input: &mut R,
 ) -> Result<Taken, ReadFault>
+    // Wide: a line has two parts, before and after.
     ensures ok { IfOk result (Takes R.Source input.old input.new
         (record { held = piece.old; kept = line.old.kept })
         (record { held = piece.new; kept = line.new.kept })) }
+    // Wide: a line has two parts, before and after.
     ensures err { OnErr result (Stops R.Source input.old input.new
         (record { held = piece.old; kept = line.old.kept })
         (record { held = piece.new; kept = line.new.kept })) }

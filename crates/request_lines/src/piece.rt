@@ -90,6 +90,7 @@ impl Piece {
     /// Hands the line what stands before the first line feed, and takes the line feed too. With
     /// none the line gets all. The result is whether there was one.
     pub(crate) fn hand_over(&mut self, line: &mut Kept) -> bool
+        // Wide: two cases of equal weight.
         ensures { MatchBool result
             (EndsLine self.old self.new line.old line.new)
             (IsLine self.old × (self.new ≡ []) × Adds self.old line.old line.new) }

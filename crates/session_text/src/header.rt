@@ -18,6 +18,7 @@ fn label_in(word: &[u8]) -> Result<Label, LineKind>
 /// The words behind the first, where a line is a header. A line whose third byte is not that of a
 /// header is not cut.
 pub(crate) fn words_of_header(bytes: &[u8]) -> Option<Option<&[u8]>>
+    // Wide: two cases of equal weight.
     ensures { MatchOption result (line_of bytes.now ≡ command_of bytes.now)
         (λ words. line_of bytes.now ≡ header_of (parts_left 32 (option_copied words))) }
 {

@@ -65,6 +65,7 @@ impl<const N: usize> Bytes<N> {
     /// did.
     #[inline(always)]
     pub fn extend(&mut self, more: &[u8]) -> bool
+        // Wide: two cases of equal weight.
         ensures { MatchBool result
             ((length self.old + length more.now ≤ N) × (self.new ≡ self.old ++ more.now))
             ((N < length self.old + length more.now) × (self.new ≡ self.old)) }
