@@ -59,9 +59,11 @@ fn hear_next<R: Source, S: TopStore, W: Sink, E: Sink>(
     out: &mut W,
     err: &mut E,
 ) -> Result<(Live<S>, bool), (LiveFault, S)>
+    // Wide: the moment before the turn and the one behind it, each of its five parts.
     ensures ok { IfOk result (λ r. HearsNext R.Source S.TopStore W.Sink E.Sink line
         (moment input.old lines.old live out.old err.old)
         (moment input.new lines.new r.0 out.new err.new) r.1) }
+    // Wide: the moment before the turn, and what a fault leaves of it.
     ensures err { IfErr result (λ end. HasHearingFault R.Source S.TopStore W.Sink E.Sink
         (moment input.old lines.old live out.old err.old) input.new out.new end.1 end.0) }
     ensures untold { OnErr result (err.new ≡ err.old) }
@@ -95,8 +97,10 @@ pub(crate) fn hear_all<R: Source, S: TopStore, W: Sink, E: Sink>(
     out: &mut W,
     err: &mut E,
 ) -> Result<Live<S>, (LiveFault, S)>
+    // Wide: the first moment, and what is left at the end of the input.
     ensures ok { IfOk result (λ last. HearsAll R.Source S.TopStore W.Sink E.Sink
         (moment input.old holds_nothing live out.old err.old) input.new last out.new err.new) }
+    // Wide: the first moment, and what a fault leaves.
     ensures err { IfErr result (λ end. BreaksHearing R.Source S.TopStore W.Sink E.Sink
         (moment input.old holds_nothing live out.old err.old)
         input.new out.new err.new end.1 end.0) }

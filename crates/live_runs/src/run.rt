@@ -58,8 +58,10 @@ fn run_live<R: Source, S: TopStore, W: Sink, E: Sink>(
     out: &mut W,
     err: &mut E,
 ) -> Result<S, (LiveFault, Option<S>)>
+    // Wide: the reader, the store and the two writers, before the run and behind it.
     ensures ok { IfOk result (λ left. IsLived R.Source S.TopStore W.Sink E.Sink
         store input.old input.new out.old out.new err.old err.new left) }
+    // Wide: the same, of a fault.
     ensures err { IfErr result (λ end. HasLiveCause R.Source S.TopStore W.Sink E.Sink
         store input.old input.new out.old out.new err.old err.new end.1 end.0) }
 {
@@ -91,9 +93,11 @@ pub fn live_over<R: Source, S: TopStore, W: Sink, E: Sink>(
     out: &mut W,
     err: &mut E,
 ) -> Ended<S>
+    // Wide: the reader, the store and the two writers, before the run and behind it.
     ensures done { result.status ≡ DONE → IsSomeAnd result.left (λ left.
         IsLived R.Source S.TopStore W.Sink E.Sink
         store input.old input.new out.old out.new err.old err.new left) }
+    // Wide: the same.
     ensures failed { result.status ≡ FAILED →
         IsUnlived R.Source S.TopStore W.Sink E.Sink
         store input.old input.new out.old out.new err.old err.new result.left }

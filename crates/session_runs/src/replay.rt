@@ -34,9 +34,11 @@ pub fn replay_text<S: TopStore, W: Sink>(
     store: S,
     out: &mut W,
 ) -> Result<S, ReplayFault>
+    // Wide: the bytes of the output before and behind, the text, the way and the store.
     ensures ok { IfOk result (λ left.
         IsReplayed S.TopStore (W.contents out.old) (W.contents out.new)
         text.now (Scheduled schedule.now) store left) }
+    // Wide: the same, of a fault.
     ensures err { IfErr result (λ fault.
         HasReplayCause S.TopStore (W.contents out.old) (W.contents out.new)
         text.now (Scheduled schedule.now) store fault) }

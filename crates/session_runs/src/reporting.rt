@@ -24,9 +24,11 @@ pub fn replay_over<S: TopStore, W: Sink, E: Sink>(
     out: &mut W,
     err: &mut E,
 ) -> Ended<S>
+    // Wide: the two writers, the text, the way and the store, before the run and behind it.
     ensures done { result.status ≡ DONE
         → IsPrinted S.TopStore (W.contents out.old) (W.contents out.new)
         text.now (Scheduled schedule.now) store result.left }
+    // Wide: the same, with what the error writer was asked.
     ensures undone { result.status ≢ DONE
         → IsMissed S.TopStore W.Sink E.Sink out.old out.new err.old err.new
         text.now (Scheduled schedule.now) store result.left }

@@ -33,6 +33,7 @@ pub fn serve_over<R: Threads + Wait + Clock + Sync, S: TopStore + Send, W: Sink,
     ensures done { result.status ≡ DONE
         → IsPrinted S.TopStore (W.contents out.old) (W.contents out.new)
         text.now ByWorkers store result.left }
+    // Wide: the two writers, the text, the way and the store, before the run and behind it.
     ensures undone { result.status ≢ DONE
         → IsMissed S.TopStore W.Sink E.Sink out.old out.new err.old err.new
         text.now ByWorkers store result.left }
