@@ -1,5 +1,4 @@
 -- What proofs of other crates may cite. Each other module of this folder is private.
-
 -- What holds of all items and of one more holds of all of the longer list.
 pub use Rattle.session_text.proofs.Growth.{all_pushed}
 -- A session is found by its label at its place.

@@ -1,5 +1,4 @@
 -- What proofs of other crates may cite. Each other module of this folder is private.
-
 -- Where one part was cut off, a beginning of it and of what was to come is written.
 pub use Rattle.txn_bytes.proofs.Appending.{cut_before}
 -- Bytes that were written are a proper beginning where more was to come.
