@@ -104,8 +104,15 @@ commit_other h by t o e = other_than_store o _ (no_store_at_commit h by t) e
 -- a cause that is found is the answer
 refused_allowed : (rows : Rows) (h : History) (by : By) (e : Event) (r : Refusal) → is_store_refusal (Refused r) ≡ false → answer rows h by e ≡ Some (Refused r)
     → Allowed rows h by e (Refused r)
+refused_allowed rows h by e Unknown n a = a
+refused_allowed rows h by e Used n a = a
+refused_allowed rows h by e NoParent n a = a
+refused_allowed rows h by e HasCommitted n a = a
+refused_allowed rows h by e (Orphan t) n a = a
+refused_allowed rows h by e Children n a = a
+refused_allowed rows h by e Waiting n a = a
+refused_allowed rows h by e Full n a = a
 refused_allowed rows h by e Store n a = absurd (false≢true (sym n))
-refused_allowed rows h by e r n a = a
 
 -- ---- begins, commits and aborts
 

@@ -106,8 +106,15 @@ some_due opening h (l ∷ m ∷ ls) changes one are asks none = absurd (omega (a
 
 -- only done and refused by the store are of the store
 pub of_store : (r : Refusal) → is_of_store (made.Refused r) ≡ is_store_refusal (Refused r)
+of_store Unknown = refl
+of_store Used = refl
+of_store NoParent = refl
+of_store HasCommitted = refl
+of_store (Orphan t) = refl
+of_store Children = refl
+of_store Waiting = refl
+of_store Full = refl
 of_store Store = refl
-of_store r = refl
 
 pub not_first : (a b : Bool) → a ≡ false → a && b ≡ true → ⊥
 not_first true b e both = false≢true (sym e)
