@@ -1,5 +1,5 @@
 -- Sessions under way over a manager, as contracts see them, and what each call does to them.
-use Rattle.std.specs.Prelude.{◌≡◌, ◌<◌, ◌≤◌, ◌+◌, ℕ, suc, Bool, false, IsTrue, is_some, List, ◌∷◌, length, map, slice_get, Option, Some, None, option_map}
+use Rattle.std.specs.Prelude.{◌≡◌, ◌<◌, ◌≤◌, ◌+◌, ℕ, suc, Bool, MatchBool, false, IsTrue, is_some, List, ◌∷◌, length, map, slice_get, Option, Some, None, option_map}
 use Rattle.serial_spec.specs.declared.event.Event.{Event}
 use Rattle.serial_spec.specs.History.{Name, History}
 use Rattle.serial_spec.specs.Rows.{Rows, value_in}
@@ -54,6 +54,10 @@ SomeGoesOn rows ss h = (s : ℕ) × IsTrue (can_go_on rows ss h s)
 -- none can
 abbrev pub NoneGoesOn : Rows → List Session → History → Type 0
 NoneGoesOn rows ss h = (s : ℕ) → can_go_on rows ss h s ≡ false
+
+-- it is told which of the two is so
+abbrev pub TellsGoesOn : Rows → List Session → History → Bool → Type 0
+TellsGoesOn rows ss h goes_on = MatchBool goes_on (SomeGoesOn rows ss h) (NoneGoesOn rows ss h)
 
 -- the session whose line must be given up, if one must
 abbrev pub TellsStuck : Rows → List Session → History → Option ℕ → Type 0

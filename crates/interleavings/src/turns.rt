@@ -1,5 +1,5 @@
 //! Sessions under way, a line at a time.
-ghost use Rattle.std.specs.Prelude.{[], ◌≡◌, ◌↔◌, length, replicate, IfErr, IfNone, IfOk, IfSome, IsOk, IsTrue, MatchBool, None, OnErr, OnOk};
+ghost use Rattle.std.specs.Prelude.{[], ◌≡◌, ◌↔◌, length, replicate, IfErr, IfNone, IfOk, IfSome, IsOk, IsTrue, None, OnErr, OnOk};
 ghost use Rattle.serial_spec.specs.Interleaving.{AllAnswered, next_event};
 ghost use Rattle.serial_spec.specs.Follows.{NoneGivesUp};
 ghost use Rattle.txn_history.specs.Turns.{IsUnderWay};
@@ -9,7 +9,7 @@ ghost use Rattle.manager_core.specs.Opening.{HasCause};
 ghost use Rattle.manager_core.specs.Sound.{IsSound};
 ghost use Rattle.interleavings.specs.Progressing.{AreUnderWay, turning};
 ghost use Rattle.interleavings.specs.Scheduled.{Stands};
-ghost use Rattle.interleavings.specs.Turning.{IsClosed, IsDue, IsFirstOpen, IsStart, NoneGoesOn, SomeGoesOn, Stepped, TellsStuck, Unstuck, can_go_on, next_number};
+ghost use Rattle.interleavings.specs.Turning.{IsClosed, IsDue, IsFirstOpen, IsStart, Stepped, TellsStuck, Unstuck, can_go_on, next_number, TellsGoesOn};
 
 use crate::attempt::attempt;
 use crate::progress::Progress;
@@ -254,9 +254,7 @@ impl<'a, S: TopStore> Turns<'a, S> {
     /// the session that was answered last, which mostly goes on, and takes one look at each session
     /// where none does.
     pub fn goes_on(&self) -> bool
-        ensures { MatchBool result
-            (SomeGoesOn self.now.core.rows self.now.sessions self.now.core.history)
-            (NoneGoesOn self.now.core.rows self.now.sessions self.now.core.history) }
+        ensures { TellsGoesOn self.now.core.rows self.now.sessions self.now.core.history result }
     {
         if self.can_go_on(self.lead) {
             return true;

@@ -1,14 +1,22 @@
 -- What is written of a report that grows, part by part.
-use Rattle.std.specs.Prelude.{◌⊎◌, ◌-◌, ℕ, List, length, take, Ok, Err}
+use Rattle.std.specs.Prelude.{◌⊎◌, ◌-◌, ◌++◌, ℕ, List, length, take, Ok, Err}
 use Rattle.std.specs.Io.KnownBytes.{Appends}
 use Rattle.txn_bytes.specs.Written.{Writer}
 use Rattle.serial_spec.specs.History.{History}
+use Rattle.serial_spec.specs.Report.{spelled_history}
+use Rattle.interleavings.specs.Told.{Told}
+use Rattle.report_text.specs.Lines.{ending_text}
 use Rattle.program_words.specs.Faults.{IsCut}
 use Rattle.program_words.specs.Tellings.{IsFlushed}
 
 -- the entries behind the oldest so many
 abbrev pub entries_behind : ℕ → History → History
 entries_behind n h = take (length h - n) h
+
+-- the lines of these entries, and the end of the report
+abbrev pub rest_behind : ℕ → Told → List ℕ
+rest_behind n r =
+    spelled_history r.labels (entries_behind n r.history) ++ ending_text r.table
 
 module _ {W : Type 0} (w : Writer W) where
   -- the writer got these bytes and passed them on

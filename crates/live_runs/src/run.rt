@@ -58,10 +58,9 @@ fn run_live<R: Source, S: TopStore, W: Sink, E: Sink>(
     out: &mut W,
     err: &mut E,
 ) -> Result<S, (LiveFault, Option<S>)>
+    ensures ok { IfOk result (IsLived R.Source S.TopStore W.Sink E.Sink store input.old input.new
+        out.old out.new err.old err.new) }
     // Wide: the reader, the store and the two writers, before the run and behind it.
-    ensures ok { IfOk result (λ left. IsLived R.Source S.TopStore W.Sink E.Sink
-        store input.old input.new out.old out.new err.old err.new left) }
-    // Wide: the same, of a fault.
     ensures err { IfErr result (λ end. HasLiveCause R.Source S.TopStore W.Sink E.Sink
         store input.old input.new out.old out.new err.old err.new end.1 end.0) }
 {

@@ -1,10 +1,10 @@
 //! The report as it grows: each part is written and passed on.
-ghost use Rattle.std.specs.Prelude.{◌≤◌, ◌++◌, length, reverse, OnErr, OnOk};
+ghost use Rattle.std.specs.Prelude.{◌≤◌, length, reverse, OnErr, OnOk};
 ghost use Rattle.line_language.specs.Report.{spelled_history};
 ghost use Rattle.durable_top.specs.Store.{plain};
 ghost use Rattle.interleavings.specs.Reports.{IsReport};
-ghost use Rattle.report_text.specs.Lines.{ending_text, opening_text};
-ghost use Rattle.live_runs.specs.Showing.{IsShown, IsUnshown, entries_behind};
+ghost use Rattle.report_text.specs.Lines.{opening_text};
+ghost use Rattle.live_runs.specs.Showing.{IsShown, IsUnshown, entries_behind, rest_behind};
 
 use durable_top::Row;
 use interleavings::Report;
@@ -47,12 +47,8 @@ pub(crate) fn show_rest<W: Sink>(
     out: &mut W,
 ) -> Result<(), WriteFault>
     requires { written ≤ length report.now.history }
-    ensures ok { OnOk result (IsShown W.Sink out.old out.new
-        (spelled_history report.now.labels (entries_behind written report.now.history)
-        ++ ending_text report.now.table)) }
-    ensures err { OnErr result (IsUnshown W.Sink out.old out.new
-        (spelled_history report.now.labels (entries_behind written report.now.history)
-        ++ ending_text report.now.table)) }
+    ensures ok { OnOk result (IsShown W.Sink out.old out.new (rest_behind written report.now)) }
+    ensures err { OnErr result (IsUnshown W.Sink out.old out.new (rest_behind written report.now)) }
     ensures report { IsReport report.now }
 {
     let table = report.table();

@@ -27,7 +27,7 @@ use Rattle.manager_core.specs.Outcomes.{answer_of}
 use Rattle.manager_core.specs.State.{State, entry}
 use Rattle.manager_core.specs.Tables.{Tabled, ComesTo, HasOtherRoom, ReachesIn, SetsWait}
 use Rattle.manager_core.specs.Tables.{WaitsFrom, WaitsUntil, rows_in}
-use Rattle.manager_core.specs.Victims.{HasMadeRoom, HasRoomToStep, IsReadyFor, Settles}
+use Rattle.manager_core.specs.inner.Victims.{HasMadeRoom, HasRoomToStep, IsReadyFor, Settles}
 use Rattle.manager_core.proofs.Answers.{EndsAs, access_comes, attempt_of, retry_comes}
 use Rattle.manager_core.proofs.Kept.{beside_but, kept_answered, kept_asked, same_rows}
 use Rattle.manager_core.proofs.Retrying.{IsWaiting}

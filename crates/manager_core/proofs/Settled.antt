@@ -17,7 +17,7 @@ use Rattle.manager_core.specs.declared.manager.AtOpening.{AtOpening}
 use Rattle.manager_core.specs.Kept.{IsKept, IsSettled}
 use Rattle.manager_core.specs.Outcomes.{answer_of, outcome_of}
 use Rattle.manager_core.specs.Tables.{Tabled, HasOtherRoom, rows_in}
-use Rattle.manager_core.specs.Victims.{Breaks}
+use Rattle.manager_core.specs.inner.Victims.{Breaks}
 use Rattle.manager_core.proofs.Kept.{backed_over, kept_roomy}
 use Rattle.manager_core.proofs.Victims.{allowed_after, backed_after, legal_after, quiet_after}
 

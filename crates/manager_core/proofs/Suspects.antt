@@ -31,7 +31,7 @@ use Rattle.wait_graph.specs.Edges.{ByLocks, Keeps, is_beside, is_beside_it, is_i
 use Rattle.wait_graph.specs.Walks.{IsLastThrough, IsOnNoCycle}
 use Rattle.manager_core.specs.State.{entry}
 use Rattle.manager_core.specs.Tables.{Tabled}
-use Rattle.manager_core.specs.Victims.{StaysQuiet}
+use Rattle.manager_core.specs.inner.Victims.{StaysQuiet}
 use Rattle.manager_core.proofs.Branches.{in_branch}
 use Rattle.manager_core.proofs.KeptOut.{no_wait_at}
 use Rattle.manager_core.proofs.Events.{accesses_own, done_at, refused_adds_none, same_asked}

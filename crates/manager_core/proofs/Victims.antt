@@ -26,7 +26,7 @@ use Rattle.manager_core.specs.Kept.{AreTablesOf, IsTreeOf}
 use Rattle.manager_core.specs.Lines.{IsWaitOf}
 use Rattle.manager_core.specs.Sound.{IsBacked}
 use Rattle.manager_core.specs.Tables.{Tabled, AbortsIn, is_below, wait_at}
-use Rattle.manager_core.specs.Victims.{Breaks, IsReadyFor, Settles}
+use Rattle.manager_core.specs.inner.Victims.{Breaks, IsReadyFor, Settles}
 use Rattle.manager_core.proofs.Events.{is_wait, own_wait}
 use Rattle.manager_core.proofs.Trees.{same_at_abort}
 use Rattle.manager_core.proofs.Facts.{backed_next}

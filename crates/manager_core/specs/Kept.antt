@@ -1,6 +1,7 @@
 -- What the manager's type keeps: the tables are what the history says, the store has the table, and
 -- no cycle of waits stands.
 use Rattle.std.specs.Prelude.{◌≡◌, ℕ, ℤ, if◌then◌else◌, List, reverse, slice_get, Option, Some, None}
+use Rattle.txn_tree.specs.Asked.{IsNumberOf}
 use Rattle.txn_tree.specs.States.{States, names, status_in}
 use Rattle.txn_tree.specs.Statuses.{status_of}
 use Rattle.orphans.specs.Marked.{Marked, is_marked}
@@ -70,6 +71,19 @@ pub record AreTablesOf (rows : Rows) (h : History) (tables : Tabled) : Type 0 wh
   pub waiting : AreWaitsOf h tables.tree tables.waits
   -- the table is what the committed top-level transactions left
   pub current : (k : List ℕ) → value_in (rows_in tables) k ≡ stored (value_in rows) h k
+
+-- this holds of each history that these are the tables of
+abbrev pub OfTables : Tabled → (History → Type 0) → Type 0
+OfTables tables P = (rows : Rows) (h : History) → AreTablesOf rows h tables → P h
+
+-- the same of one whose entries are allowed
+abbrev pub OfAllowed : Tabled → (History → Type 0) → Type 0
+OfAllowed tables P =
+    (rows : Rows) (h : History) → AreAllowed rows h → AreTablesOf rows h tables → P h
+
+-- this holds of the name of the transaction with this number
+abbrev pub OfNumber : Tabled → ℕ → (Name → Type 0) → Type 0
+OfNumber tables txn P = (t : Name) → IsNumberOf tables.tree t txn → P t
 
 -- after each entry, whether or not it made a cycle of waits
 pub record IsKept {S : Type 0} (g : Ghosts S) (rows : Rows) (h : History) (tables : Tabled)

@@ -1,5 +1,5 @@
 -- The tables as contracts see them, what is asked of them, and what each step does to them.
-use Rattle.std.specs.Prelude.{◌≡◌, ℕ, Bool, true, false, ◌&&◌, ◌||◌, if◌then◌else◌, List, [], ◌∷◌, ◌++◌, slice_get, Option, Some, None, option_map}
+use Rattle.std.specs.Prelude.{◌≡◌, ◌<◌, ℕ, Bool, true, false, ◌&&◌, ◌||◌, if◌then◌else◌, List, [], ◌∷◌, ◌++◌, length, slice_get, Option, Some, None, option_map}
 use Rattle.std.specs.Prelude.{IsTrue, is_some}
 use Rattle.txn_names.specs.Path.{path_eq, is_front, parent, top_of}
 use Rattle.txn_tree.specs.States.{States, names, status_in}
@@ -19,6 +19,7 @@ use Rattle.serial_spec.specs.declared.target.Target.{Target}
 use Rattle.serial_spec.specs.Targets.{kind_of, target, target_eq}
 use Rattle.serial_spec.specs.declared.event.Event.{Event}
 use Rattle.serial_spec.specs.declared.event.Event.TheVariants.{Access, Sum}
+use Rattle.serial_spec.specs.declared.entry.Answer.{Answer}
 use Rattle.serial_spec.specs.declared.entry.Answer.TheVariants as answer
 use Rattle.serial_spec.specs.declared.entry.Entry.{Entry}
 use Rattle.serial_spec.specs.declared.operation.Reply.{Reply}
@@ -31,6 +32,7 @@ use Rattle.serial_spec.specs.Rows.{Rows, value_in}
 use Rattle.serial_spec.specs.Allowed.{cause_at_access}
 use Rattle.serial_spec.specs.Causes.{why_ended}
 use Rattle.manager_core.specs.declared.accessing.Attempt.{Attempt}
+use Rattle.manager_core.specs.declared.accessing.Request.{Request}
 use Rattle.manager_core.specs.declared.accessing.Attempt.TheVariants.{Answered, Waits, Refused}
 use Rattle.serial_spec.specs.Legal.{is_top_level}
 use Rattle.manager_core.specs.State.{entry}
@@ -71,6 +73,15 @@ IsParentNumber tree t p = (m : ℕ) → is_it p m ≡ is_name (slice_get (names 
 -- the wait that is kept for the number n
 abbrev pub wait_at : Tabled → ℕ → Option Wait
 wait_at tables n = kept_wait tables.waits n
+
+-- where t waited, or one below it, fewer wait
+abbrev pub FewerWaitBelow : Tabled → Tabled → Name → Type 0
+FewerWaitBelow old new t = (n : ℕ) → IsTrue (is_below (slice_get (names old.tree) n) t)
+    → IsTrue (is_some (wait_at old n)) → length new.waits.waits < length old.waits.waits
+
+-- the entry of a line that asks this, with its answer
+abbrev pub entry_of : Request → Answer → Entry
+entry_of request said = entry request.by (event_of request.name.now request.asked.now) said
 
 -- somebody keeps t from what it asks
 abbrev pub IsKeptOutOf : Tabled → Name → Asked → Type 0

@@ -1,8 +1,7 @@
 //! An abort, in the tables.
-ghost use Rattle.std.specs.Prelude.{◌≡◌, ◌≤◌, ◌<◌, ◌+◌, ℕ, length, slice_get, is_some, IsTrue, None};
-ghost use Rattle.txn_tree.specs.States.{names};
+ghost use Rattle.std.specs.Prelude.{◌≡◌, ◌≤◌, ◌<◌, ◌+◌, None};
 ghost use Rattle.txn_tree.specs.Causes.{cause_at_abort};
-ghost use Rattle.manager_core.specs.Tables.{AbortsIn, MadeUnless, is_below, rows_in, wait_at};
+ghost use Rattle.manager_core.specs.Tables.{AbortsIn, MadeUnless, rows_in, FewerWaitBelow};
 
 use crate::tables::Tables;
 use serial_spec::Refusal;
@@ -16,10 +15,7 @@ impl Tables {
         ensures cause { result ≡ cause_at_abort self.old.tree name.now }
         ensures aborts { MadeUnless result self.old self.new (AbortsIn self.old self.new name.now) }
         ensures table { rows_in self.new ≡ rows_in self.old }
-        ensures fewer { result ≡ None → (n : ℕ) →
-            IsTrue (is_below (slice_get (names self.old.tree) n) name.now) →
-            IsTrue (is_some (wait_at self.old n)) →
-            length self.new.waits.waits < length self.old.waits.waits }
+        ensures fewer { result ≡ None → FewerWaitBelow self.old self.new name.now }
         ensures room { self.old.marks.room ≤ self.new.marks.room + 1 }
     {
         self.looks.clear();

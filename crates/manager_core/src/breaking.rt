@@ -6,7 +6,7 @@ ghost use Rattle.serial_spec.specs.Waits.{IsVictim, Quiet};
 ghost use Rattle.txn_history.specs.Laws.{QuietBut};
 ghost use Rattle.manager_core.specs.Kept.{AreTablesOf};
 ghost use Rattle.manager_core.specs.Tables.{rows_in};
-ghost use Rattle.manager_core.specs.Victims.{HasMadeRoom, HasRoomToStep, Settles};
+ghost use Rattle.manager_core.specs.inner.Victims.{HasMadeRoom, HasRoomToStep, Settles};
 
 use crate::log::Log;
 use crate::outcome::Outcome;

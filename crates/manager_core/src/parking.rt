@@ -1,16 +1,13 @@
 //! What keeps a line from its answer, read off the tables.
 ghost use Rattle.std.specs.Prelude.{◌≡◌, ◌↔◌, not, IfNone, IfSome, IsTrue, Some};
-ghost use Rattle.txn_names.specs.Path.{Path};
-ghost use Rattle.txn_tree.specs.Asked.{IsNumberOf};
 ghost use Rattle.lock_table.specs.ByAsked.{MayAsk};
 ghost use Rattle.serial_spec.specs.Allowed.{has_come, is_full_for};
-ghost use Rattle.serial_spec.specs.History.{History, event_of};
+ghost use Rattle.serial_spec.specs.History.{event_of};
 ghost use Rattle.serial_spec.specs.Legal.{AreAllowed};
 ghost use Rattle.serial_spec.specs.Locks.{is_blocked};
-ghost use Rattle.serial_spec.specs.Rows.{Rows};
 ghost use Rattle.serial_spec.specs.Waits.{same_line};
 ghost use Rattle.wait_cycles.specs.declared.waits.Wait.{Wait};
-ghost use Rattle.manager_core.specs.Kept.{AreTablesOf};
+ghost use Rattle.manager_core.specs.Kept.{AreTablesOf, OfAllowed, OfNumber, OfTables};
 ghost use Rattle.manager_core.specs.Lines.{IsWaitOf};
 ghost use Rattle.manager_core.specs.Looked.{IsKeptFrom};
 ghost use Rattle.manager_core.specs.Parking.{IsKeptOut, IsParked, NobodyWaits, WaitsOn, come_by};
@@ -49,17 +46,15 @@ fn is_of(wait: &Wait, by: By, asked: &Asked) -> bool
 impl Tables {
     /// Whether the condition of an `after` line holds.
     pub(crate) fn has_come(&self, name: &Name, when: When) -> bool
-        ensures { (rows : Rows) (h : History) → AreAllowed rows h → AreTablesOf rows h self.now →
-            result ≡ has_come h name.now when }
+        ensures { OfAllowed self.now (λ h. result ≡ has_come h name.now when) }
     {
         come_by(self.number_by_marks(name).err(), when)
     }
 
     // Whether the transaction with this number waits for this access, and by this line.
     fn waits_by(&self, txn: TxnNo, by: By, asked: &Asked) -> bool
-        ensures { (t : Path) → IsNumberOf self.now.tree t txn → (rows : Rows) (h : History) →
-            AreAllowed rows h → AreTablesOf rows h self.now →
-            IsTrue result ↔ IsWaitOf h by (event_of t asked.now) }
+        ensures { OfNumber self.now txn
+            (λ t. OfAllowed self.now (λ h. IsTrue result ↔ IsWaitOf h by (event_of t asked.now))) }
     {
         match self.waits.of(txn) {
             Some(wait) => is_of(wait, by, asked),
@@ -69,9 +64,8 @@ impl Tables {
 
     /// Whether no lock keeps the access out.
     pub(crate) fn may(&self, txn: TxnNo, asked: &Asked) -> bool
-        ensures blocked { (t : Path) → IsNumberOf self.now.tree t txn →
-            (rows : Rows) (h : History) → AreTablesOf rows h self.now →
-            result ≡ not (is_blocked h t asked.now) }
+        ensures blocked { OfNumber self.now txn
+            (λ t. OfTables self.now (λ h. result ≡ not (is_blocked h t asked.now))) }
         ensures locks { IsTrue result ↔ MayAsk self.now.tree self.now.estate.locks txn asked.now }
     {
         self.estate.locks().may_ask(&self.tree, txn, asked)
@@ -81,8 +75,8 @@ impl Tables {
     /// access find it without another look-up. It takes no memory.
     #[inline(always)]
     pub(crate) fn may_remembering(&mut self, txn: TxnNo, asked: &Asked) -> bool
-        ensures blocked { (t : Path) → IsNumberOf self.old.tree t txn → (rows : Rows) (h : History)
-            → AreTablesOf rows h self.old → result ≡ not (is_blocked h t asked.now) }
+        ensures blocked { OfNumber self.old txn
+            (λ t. OfTables self.old (λ h. result ≡ not (is_blocked h t asked.now))) }
         ensures locks { IsTrue result
             ↔ MayAsk self.old.tree self.old.estate.locks txn asked.now }
         ensures same { self.new ≡ self.old }

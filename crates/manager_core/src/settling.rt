@@ -6,14 +6,10 @@
 //! none.
 ghost use Rattle.std.specs.Prelude.{◌≡◌, ◌∷◌, IsFalse};
 ghost use Rattle.serial_spec.specs.declared.entry.Answer.TheVariants.{Done};
-ghost use Rattle.serial_spec.specs.declared.entry.By.{By};
-ghost use Rattle.serial_spec.specs.declared.operation.Reply.{Reply};
 ghost use Rattle.serial_spec.specs.declared.target.Asked.{Asked};
-ghost use Rattle.serial_spec.specs.History.{History, event_of};
-ghost use Rattle.serial_spec.specs.Rows.{Rows};
 ghost use Rattle.manager_core.specs.Outcomes.{answer_of};
-ghost use Rattle.manager_core.specs.State.{entry};
-ghost use Rattle.manager_core.specs.Victims.{IsReadyFor, Settles, StaysQuiet};
+ghost use Rattle.manager_core.specs.inner.Victims.{IsReadyFor, Settles, ClosesNoCycle};
+ghost use Rattle.manager_core.specs.Tables.{entry_of};
 
 use crate::accessing::Request;
 use crate::breaking::{break_cycles, break_own_cycles};
@@ -30,8 +26,7 @@ use wait_graph::{CycleSearch, any_edge_by_way_of};
 // waits no cycle stands. It takes no memory.
 #[inline(always)]
 fn may_close_cycle(tables: &Tables, name: &Name, asked: &Asked) -> bool
-    ensures { IsFalse result → (rows : Rows) (h : History) (by : By) (reply : Reply) →
-        StaysQuiet rows (entry by (event_of name.now asked.now) (Done reply)) h tables.now }
+    ensures { IsFalse result → ClosesNoCycle tables.now name.now asked.now }
 {
     if tables.waits.is_empty() {
         return false;
@@ -55,11 +50,9 @@ pub(crate) fn settle(
     outcome: &Outcome,
 )
     requires { IsReadyFor log.old
-        (entry request.now.by (event_of request.now.name.now request.now.asked.now)
-        (answer_of outcome.now)) tables.old breaker.old }
-    ensures { Settles log.old.rows
-        (entry request.now.by (event_of request.now.name.now request.now.asked.now)
-        (answer_of outcome.now) ∷ log.old.entries) log.new tables.old tables.new }
+        (entry_of request.now (answer_of outcome.now)) tables.old breaker.old }
+    ensures { Settles log.old.rows (entry_of request.now (answer_of outcome.now) ∷ log.old.entries)
+        log.new tables.old tables.new }
 {
     let Request { by, name, asked } = *request;
     log.add_asked(by, name, asked, outcome);

@@ -1,16 +1,12 @@
 //! Waits, in the tables.
 ghost use Rattle.std.specs.Prelude.{◌≡◌, ◌<◌, ◌≤◌, ◌+◌, length, ℕ, IsFalse, None, Some};
-ghost use Rattle.txn_names.specs.Path.{Path};
 ghost use Rattle.txn_tree.specs.Asked.{IsNumberOf, is_absent_in};
 ghost use Rattle.serial_spec.specs.declared.entry.Answer.TheVariants as answer;
 ghost use Rattle.serial_spec.specs.Allowed.{waits_elsewhere};
-ghost use Rattle.serial_spec.specs.History.{History, event_of};
-ghost use Rattle.serial_spec.specs.Rows.{Rows};
 ghost use Rattle.serial_spec.specs.Waits.{same_line, wait_of};
-ghost use Rattle.manager_core.specs.Kept.{AreTablesOf};
+ghost use Rattle.manager_core.specs.Kept.{OfNumber, OfTables};
 ghost use Rattle.manager_core.specs.Lines.{waiting_access};
-ghost use Rattle.manager_core.specs.State.{entry};
-ghost use Rattle.manager_core.specs.Tables.{IsKeptOutOf, SetsWait, wait_at};
+ghost use Rattle.manager_core.specs.Tables.{IsKeptOutOf, SetsWait, wait_at, entry_of};
 
 use crate::accessing::Request;
 use crate::tables::Tables;
@@ -37,8 +33,8 @@ pub(crate) fn same_line(a: By, b: By) -> bool
 impl Tables {
     /// The access by which the transaction with this number waits, with its line.
     pub(crate) fn waiting_access_at(&self, txn: TxnNo) -> Option<(By, Asked)>
-        ensures { (t : Path) → IsNumberOf self.now.tree t txn → (rows : Rows) (h : History) →
-            AreTablesOf rows h self.now → result ≡ waiting_access (wait_of h t) }
+        ensures { OfNumber self.now txn
+            (λ t. OfTables self.now (λ h. result ≡ waiting_access (wait_of h t))) }
     {
         let wait = self.waits.of(txn)?;
         Some((wait.by, wait.asked))
@@ -46,16 +42,15 @@ impl Tables {
 
     /// The access by which the transaction waits, with its line.
     pub(crate) fn waiting_access(&self, name: &Name) -> Option<(By, Asked)>
-        ensures { (rows : Rows) (h : History) → AreTablesOf rows h self.now →
-            result ≡ waiting_access (wait_of h name.now) }
+        ensures { OfTables self.now (λ h. result ≡ waiting_access (wait_of h name.now)) }
     {
         self.waiting_access_at(self.tree.no_of(name)?)
     }
 
     /// Whether the transaction with this number waits by another line than this.
     pub(crate) fn waits_elsewhere(&self, txn: TxnNo, by: By) -> bool
-        ensures { (t : Path) → IsNumberOf self.now.tree t txn → (rows : Rows) (h : History) →
-            AreTablesOf rows h self.now → result ≡ waits_elsewhere h by t }
+        ensures { OfNumber self.now txn
+            (λ t. OfTables self.now (λ h. result ≡ waits_elsewhere h by t)) }
     {
         match self.waiting_access_at(txn) {
             Some((line, _)) => !same_line(line, by),
@@ -73,8 +68,7 @@ impl Tables {
         requires room { 0 < self.old.waits.room }
         ensures beside { self.new ≡ record self.old { waits = self.new.waits } }
         ensures waits { SetsWait self.old self.new request.now.name.now
-            (Some (entry request.now.by (event_of request.now.name.now request.now.asked.now)
-            answer.Waits)) }
+            (Some (entry_of request.now answer.Waits)) }
         ensures grown { length self.new.waits.waits ≡ length self.old.waits.waits + 1 }
     {
         let txn = self.number_of(request.name);

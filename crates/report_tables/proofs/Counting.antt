@@ -14,7 +14,7 @@ use Rattle.serial_spec.specs.Operations.{amount}
 use Rattle.serial_spec.specs.Serial.{Map, put}
 use Rattle.serial_spec.specs.Sums.{sum_in}
 use Rattle.serial_spec.proofs.Exports.{sum_in-else, sum_in-put}
-use Rattle.report_tables.specs.Tallied.{AreCounted, AreNamed, AreTallied, HaveRoom, IsFine, IsSmall, IsValue, Sums, by_key, raised}
+use Rattle.report_tables.specs.inner.Tallied.{AreCounted, AreNamed, AreTallied, HaveRoom, IsFine, IsSmall, IsValue, Sums, by_key, raised}
 use Rattle.report_tables.specs.Valued.{Values, value_at}
 use Rattle.report_tables.proofs.Running.{value_here, value_put}
 use Rattle.report_tables.proofs.Speaking.{keys_set}

@@ -7,7 +7,7 @@ use Rattle.serial_spec.specs.Rows.{Rows}
 use Rattle.report_check.specs.Verdicts.{compared, same_row}
 use Rattle.report_check.specs.declared.verdict.Verdict.TheVariants.{Yes, No}
 use Rattle.report_tables.specs.Valued.{Values, present}
-use Rattle.report_tables.specs.Compared.{Advances, compared_from, is_row, next_of}
+use Rattle.report_tables.specs.inner.Compared.{Advances, compared_from, is_row, next_of}
 
 dropped : {X : Type 0} (xs : List X) (i : ℕ) (x : X) → slice_get xs i ≡ Some x → drop i xs ≡ x ∷ drop (suc i) xs
 dropped [] i x at = absurd (false≢true (ap is_some at))

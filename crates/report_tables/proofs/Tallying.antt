@@ -12,7 +12,7 @@ use Rattle.indexmap.specs.IndexMap.{set_value_at}
 use Rattle.txn_names.specs.Path.{label_eq}
 use Rattle.txn_names.specs.Groups.{IsGroupBefore, has}
 use Rattle.txn_names.proofs.Exports.{dot_behind, label_eq_self, on_label, on_test, same_label}
-use Rattle.report_tables.specs.Tallied.{AreNamed, HaveRoom, IsSmall, Sums, at_group, by_key, raised}
+use Rattle.report_tables.specs.inner.Tallied.{AreNamed, HaveRoom, IsSmall, Sums, at_group, by_key, raised}
 
 -- ---- as the code adds
 

@@ -46,6 +46,14 @@ abbrev pub told_session : ℕ → Event → Answer → ℕ → Session
 told_session line e a before = if is_waits a then record { answered = before; waits = Some e }
     else record { answered = line; waits = None }
 
+-- this holds of the labels, and of each history, that these sessions are those of
+abbrev pub OfSessions : List (List ℕ × Session) → (List (List ℕ) → History → Type 0) → Type 0
+OfSessions es P = (labels : List (List ℕ)) (h : History) → AreSessionsOf labels h es → P labels h
+
+-- whether an entry may be of the session's next line
+abbrev pub may_come : History → ℕ → ℕ → Event → Answer → Bool
+may_come h s n e a = n == suc (answered h s) && goes_on (waiting h s) e a
+
 abbrev pub line_entry : ℕ → ℕ → Event → Answer → Entry
 line_entry s n e a = record { by = by.Line s n; event = e; answer = a }
 
@@ -53,6 +61,11 @@ line_entry s n e a = record { by = by.Line s n; event = e; answer = a }
 -- leaves them
 abbrev pub Tells : Bool → List (List ℕ) → History → ℕ → ℕ → Event → Answer → List (List ℕ × Session)
     → Type 0
-Tells true labels h s n e a es = ((n == suc (answered h s) && goes_on (waiting h s) e a) ≡ true)
+Tells true labels h s n e a es = (may_come h s n e a ≡ true)
     × AreSessionsOf labels (line_entry s n e a ∷ h) es
-Tells false labels h s n e a es = (n == suc (answered h s) && goes_on (waiting h s) e a) ≡ false
+Tells false labels h s n e a es = may_come h s n e a ≡ false
+
+-- the same of an event of a text, and of a session that has a label
+abbrev pub TakesLine : List (List ℕ) → History → ℕ → ℕ → Event → Answer → List (List ℕ × Session)
+    → Bool → Type 0
+TakesLine labels h s n e a es told = IsEvent e → s < length labels → Tells told labels h s n e a es

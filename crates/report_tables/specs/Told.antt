@@ -1,15 +1,16 @@
 -- The transactions that a report tells of, as they are kept: what the history says of each.
-use Rattle.std.specs.Prelude.{◌≡◌, ℕ, Bool, true, false, List, [], ◌∷◌, length, reverse, slice_get, Some}
+use Rattle.std.specs.Prelude.{◌≡◌, ◌+◌, ℕ, suc, Bool, true, false, List, [], ◌∷◌, length, reverse, slice_get, Some}
 use Rattle.txn_names.specs.Path.{parent}
 use Rattle.txn_tree.specs.States.{States, names, status_in}
 use Rattle.txn_tree.specs.Statuses.{status_of}
 use Rattle.txn_tree.specs.Asked.{is_absent_in, is_live_in}
 use Rattle.serial_spec.specs.declared.entry.Entry.{Entry}
-use Rattle.serial_spec.specs.History.{Name, History, Effect, effect, status, begun, has_begun, has_committed, has_aborted}
+use Rattle.serial_spec.specs.declared.target.Asked.{Asked}
+use Rattle.serial_spec.specs.History.{Name, History, Effect, Accesses, effect, status, begun, has_begun, has_committed, has_aborted}
 use Rattle.report_check.specs.Passing.{may_do}
 use Rattle.report_check.specs.Serving.{accesses_of}
 use Rattle.report_check.proofs.Exports.{IsGrown}
-use Rattle.report_tables.specs.Chained.{Holds, Known}
+use Rattle.report_tables.specs.Chained.{Asks, Holds, Known}
 use Rattle.report_tables.specs.declared.chains.Access.{Access}
 use Rattle.report_tables.specs.declared.chains.Chain.{Chain}
 use Rattle.report_tables.specs.declared.transactions.Transactions.{Transactions}
@@ -59,3 +60,17 @@ pub record AreTransactionsOf (base : ℕ) (known : Known) (h : History)
 abbrev pub Comes : Bool → History → Effect → (Entry → Type 0) → Type 0
 Comes true h x P = (may_do h x ≡ true) × ((e : Entry) → effect e ≡ x → P e)
 Comes false h x P = may_do h x ≡ false
+
+-- it is told whether the effect may come to any history of these transactions, and if so they are
+-- as an entry leaves them that has it
+abbrev pub TakesEffect : Effect → Transactions → Transactions → Bool → Type 0
+TakesEffect x old new ok =
+    (base : ℕ) (known : Known) (h : History) → AreTransactionsOf base known h old
+    → Comes ok h x (λ e. AreTransactionsOf base known (e ∷ h) new)
+
+-- the same of an access, of which the next line tells
+abbrev pub TakesAccess : Name → Access → Transactions → Transactions → Bool → Type 0
+TakesAccess name access old new ok =
+    (base : ℕ) (known : Known) (h : History) (a : Asked) → AreTransactionsOf base known h old
+    → access.line ≡ base + suc (length h) → Asks known access.asked a
+    → Comes ok h (Accesses name a access.reply) (λ e. AreTransactionsOf base known (e ∷ h) new)

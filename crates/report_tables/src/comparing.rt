@@ -2,7 +2,7 @@
 ghost use Rattle.std.specs.Prelude.{◌≡◌, ◌≤◌, ◌<◌, ◌+◌, ◌^◌, ℕ, length, slice_get};
 ghost use Rattle.indexmap.specs.IndexMap.{index_map_len};
 ghost use Rattle.report_check.specs.Verdicts.{compared};
-ghost use Rattle.report_tables.specs.Compared.{Advances, is_row, next_of};
+ghost use Rattle.report_tables.specs.inner.Compared.{Advances, is_row, next_of};
 ghost use Rattle.report_tables.specs.Valued.{present};
 
 use crate::values::Values;

@@ -1,16 +1,14 @@
 //! The second pass: the committed top-level transactions are run over one plain map.
-ghost use Rattle.std.specs.Prelude.{◌≡◌, ◌≤◌, ℕ, List, length, slice_get, Option, Some, None};
+ghost use Rattle.std.specs.Prelude.{◌≡◌, ◌≤◌, length, Some, None};
 ghost use Rattle.indexmap.specs.IndexMap.{keys};
-ghost use Rattle.serial_spec.specs.declared.target.Asked.{Asked};
 ghost use Rattle.serial_spec.specs.declared.target.Asked.TheVariants.{At, Over};
 ghost use Rattle.serial_spec.specs.Flat.{same_reply};
-ghost use Rattle.serial_spec.specs.Serial.{reply_at};
 ghost use Rattle.serial_spec.specs.Sums.{reply_of_sum};
-ghost use Rattle.report_check.specs.Serving.{PlacedAccess, or_least};
-ghost use Rattle.report_tables.specs.Chained.{Asks, Leads, known_by};
-ghost use Rattle.report_tables.specs.Served.{AreServed, GoesOn, IsServed, IsToldBy};
-ghost use Rattle.report_tables.specs.Tallied.{AreTallied};
-ghost use Rattle.report_tables.specs.Valued.{Values as Valued, value_at};
+ghost use Rattle.report_check.specs.Serving.{or_least};
+ghost use Rattle.report_tables.specs.Chained.{known_by};
+ghost use Rattle.report_tables.specs.Served.{IsServed, ServesAccess, ServesFrom, ServesOne, TellsAccess, is_due};
+ghost use Rattle.report_tables.specs.inner.Tallied.{AreTallied};
+ghost use Rattle.report_tables.specs.Valued.{Values as Valued, AtPlace};
 
 use crate::chains::{Access, ByNumber};
 use crate::tallies::{set_value, tally};
@@ -62,8 +60,8 @@ fn serve_at_key(
     requires { AreTallied values.old.entries groups.old.entries }
     ensures keys { keys groups.new ≡ keys groups.old }
     ensures tallied { AreTallied values.new.entries groups.new.entries }
-    ensures served { (k : List ℕ) → slice_get (keys values.old) number ≡ Some k
-        → IsServed (At k op.now) reply.now values.old.entries values.new.entries result }
+    ensures served { AtPlace (keys values.old) number
+        (λ k. IsServed (At k op.now) reply.now values.old.entries values.new.entries result) }
 {
     let Some((_, value)) = values.get_index(number) else {
         return true;
@@ -75,9 +73,8 @@ fn serve_at_key(
 
 // Whether the reply is that of a sum over the group with this number.
 fn is_due_over(groups: &Groups, number: usize, reply: &Reply) -> bool
-    ensures { (g : List ℕ) (es : Valued) → AreTallied es groups.now.entries →
-        slice_get (keys groups.now) number ≡ Some g
-        → result ≡ same_reply reply.now (reply_at (value_at es) (Over g)) }
+    ensures { (es : Valued) → AreTallied es groups.now.entries → AtPlace (keys groups.now) number
+        (λ g. result ≡ is_due es (Over g) reply.now) }
 {
     match groups.get_index(number) {
         Some((_, sum)) => is_same_reply(reply, &reply_over(*sum)),
@@ -90,9 +87,8 @@ fn serve(values: &mut Values, groups: &mut Groups, access: &Access) -> bool
     requires { AreTallied values.old.entries groups.old.entries }
     ensures keys { keys groups.new ≡ keys groups.old }
     ensures tallied { AreTallied values.new.entries groups.new.entries }
-    ensures served { (a : Asked) →
-        Asks (known_by (keys values.old) (keys groups.old)) access.now.asked a
-        → IsServed a access.now.reply values.old.entries values.new.entries result }
+    ensures served { ServesAccess access.now (known_by (keys values.old) (keys groups.old))
+        values.old.entries values.new.entries result }
 {
     match &access.asked {
         ByNumber::At(number, op) => serve_at_key(values, groups, *number, op, &access.reply),
@@ -110,9 +106,8 @@ fn serve_one(
     requires { AreTallied values.old.entries groups.old.entries }
     ensures keys { keys groups.new ≡ keys groups.old }
     ensures tallied { AreTallied values.new.entries groups.new.entries }
-    ensures told { (a : Asked) →
-        Asks (known_by (keys values.old) (keys groups.old)) access.now.asked a
-        → IsToldBy access.now a values.old.entries values.new.entries wrong result }
+    ensures told { TellsAccess access.now (known_by (keys values.old) (keys groups.old))
+        values.old.entries values.new.entries wrong result }
 {
     if serve(values, groups, access) {
         wrong
@@ -133,9 +128,7 @@ fn serve_at(
     requires { AreTallied values.old.entries groups.old.entries }
     ensures keys { keys groups.new ≡ keys groups.old }
     ensures tallied { AreTallied values.new.entries groups.new.entries }
-    ensures told { (before last : Option ℕ) (rest : List PlacedAccess)
-        → Leads accesses.now (known_by (keys values.old) (keys groups.old)) at before last rest
-        → GoesOn accesses.now (known_by (keys values.old) (keys groups.old)) last rest
+    ensures told { ServesOne accesses.now (known_by (keys values.old) (keys groups.old)) at
         values.old.entries values.new.entries wrong result }
 {
     let Some(place) = at else {
@@ -158,9 +151,8 @@ fn run(
     first: Option<usize>,
 ) -> Option<usize>
     requires { AreTallied values.old.entries groups.old.entries }
-    ensures { (last : Option ℕ) (ps : List PlacedAccess)
-        → Leads accesses.now (known_by (keys values.old) (keys groups.old)) first None last ps
-        → AreServed ps values.old.entries values.new.entries result }
+    ensures { ServesFrom accesses.now (known_by (keys values.old) (keys groups.old)) first
+        values.old.entries values.new.entries result }
 {
     let mut wrong = None;
     let mut next = first;
@@ -181,9 +173,8 @@ pub fn serve_all(
     accesses: &[Access],
     first: Option<usize>,
 ) -> Option<usize>
-    ensures { (last : Option ℕ) (ps : List PlacedAccess)
-        → Leads accesses.now (known_by (keys values.old) (keys groups.old)) first None last ps
-        → AreServed ps values.old.entries values.new.entries result }
+    ensures { ServesFrom accesses.now (known_by (keys values.old) (keys groups.old)) first
+        values.old.entries values.new.entries result }
 {
     tally(groups, values);
     run(values, groups, accesses, first)

@@ -1,6 +1,6 @@
 //! The sessions that a report names: which line of each comes next, and whether it has begun to
 //! wait.
-ghost use Rattle.std.specs.Prelude.{◌≡◌, ◌↔◌, ◌∷◌, ◌++◌, [], ◌<◌, ◌&&◌, ◌==◌, ℕ, List, IsTrue, IfOk, IfSome, OnOk, length, suc, is_none, None};
+ghost use Rattle.std.specs.Prelude.{◌≡◌, ◌↔◌, ◌∷◌, ◌++◌, [], ◌<◌, ◌&&◌, ℕ, IsTrue, IfOk, IfSome, OnOk, length, is_none, None};
 ghost use Rattle.indexmap.specs.IndexMap.{get};
 ghost use Rattle.txn_names.specs.Path.{label_eq};
 ghost use Rattle.line_language.specs.Events.{IsEvent};
@@ -9,7 +9,7 @@ ghost use Rattle.serial_spec.specs.History.{History};
 ghost use Rattle.report_check.specs.Passing.{goes_on, none_waits};
 ghost use Rattle.serial_spec.specs.Interleaving.{answered};
 ghost use Rattle.report_check.specs.Passing.{waiting};
-ghost use Rattle.report_tables.specs.Spoken.{AreSessionsOf, IsNumbered, IsSessionOf, Tells, told_session};
+ghost use Rattle.report_tables.specs.Spoken.{IsNumbered, IsSessionOf, told_session, OfSessions, TakesLine, may_come};
 
 use indexmap::IndexMap;
 use serial_spec::{Answer, Event, MOST_SESSIONS, NoMemory};
@@ -57,7 +57,7 @@ impl Session {
     // which it waits, if it does.
     fn may_tell(&self, line: u32, event: &Event, answer: &Answer) -> bool
         ensures { (h : History) (s : ℕ) → IsSessionOf h s self.now → IsEvent event.now
-            → result ≡ (line == suc (answered h s) && goes_on (waiting h s) event.now answer.now) }
+            → result ≡ may_come h s line event.now answer.now }
     {
         if u64::from(line) != u64::from(self.answered) + 1 {
             return false;
@@ -94,9 +94,8 @@ fn add_session(sessions: &mut Sessions, label: &Label, waits: Option<Event>) -> 
 /// The number of the session with this label, which a new label is given. There is none where it
 /// would be one too many. The only error is that memory runs out.
 pub fn session_number(sessions: &mut Sessions, label: &Label) -> Result<Option<usize>, NoMemory>
-    ensures { IfOk result (λ number. (labels : List (List ℕ)) (h : History) →
-        AreSessionsOf labels h sessions.old.entries
-        → IsNumbered labels label.now h number sessions.new.entries) }
+    ensures { IfOk result (λ number. OfSessions sessions.old.entries (λ labels h.
+        IsNumbered labels label.now h number sessions.new.entries)) }
 {
     if let Some(number) = sessions.get_index_of(label) {
         return Ok(Some(number));
@@ -117,10 +116,8 @@ pub fn take_line(
     event: &Event,
     answer: &Answer,
 ) -> bool
-    ensures { (labels : List (List ℕ)) (h : History) → AreSessionsOf labels h sessions.old.entries →
-        IsEvent event.now
-        → number < length labels →
-        Tells result labels h number line event.now answer.now sessions.new.entries }
+    ensures { OfSessions sessions.old.entries (λ labels h.
+        TakesLine labels h number line event.now answer.now sessions.new.entries result) }
 {
     let Some(session) = sessions.get_index_mut(number) else {
         return false;
@@ -134,8 +131,8 @@ pub fn take_line(
 
 // Whether the session with this number has no line that waits.
 fn is_idle_at(sessions: &Sessions, number: usize) -> bool
-    ensures { (labels : List (List ℕ)) (h : History) → AreSessionsOf labels h sessions.now.entries
-        → number < length labels → result ≡ is_none (waiting h number) }
+    ensures { OfSessions sessions.now.entries
+        (λ labels h. number < length labels → result ≡ is_none (waiting h number)) }
 {
     match sessions.get_index(number) {
         Some((_, session)) => session.is_idle(),
@@ -145,8 +142,7 @@ fn is_idle_at(sessions: &Sessions, number: usize) -> bool
 
 /// Whether no session has a line that waits.
 pub fn none_waits(sessions: &Sessions) -> bool
-    ensures { (labels : List (List ℕ)) (h : History) → AreSessionsOf labels h sessions.now.entries
-        → result ≡ none_waits h (length labels) }
+    ensures { OfSessions sessions.now.entries (λ labels h. result ≡ none_waits h (length labels)) }
 {
     for number in 0..sessions.len() {
         if !is_idle_at(sessions, number) {

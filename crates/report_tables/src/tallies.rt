@@ -1,5 +1,5 @@
 //! The sums over groups, which follow the values of the keys: a look at a sum goes through no keys.
-ghost use Rattle.std.specs.Prelude.{◌≡◌, ◌<◌, ◌-ℤ◌, ℕ, ℤ, List, length, pos, slice_get, IsTrue, Option, Some};
+ghost use Rattle.std.specs.Prelude.{◌≡◌, ◌<◌, ◌-ℤ◌, length, pos, IsTrue, Some};
 ghost use Rattle.std.specs.Map.{keys_of};
 ghost use Rattle.std.specs.List.{AllByRecursion, IsDistinct};
 ghost use Rattle.indexmap.specs.IndexMap.{keys, set_value_at};
@@ -7,7 +7,8 @@ ghost use Rattle.txn_names.specs.Groups.{has};
 ghost use Rattle.txn_names.specs.Path.{label_eq};
 ghost use Rattle.txn_names.specs.Text.{IsKey};
 ghost use Rattle.serial_spec.specs.Operations.{amount};
-ghost use Rattle.report_tables.specs.Tallied.{AreCounted, AreNamed, AreTallied, HaveRoom, IsFine, IsValue, at_group, by_key, raised};
+ghost use Rattle.report_tables.specs.inner.Tallied.{AreCounted, AreNamed, AreTallied, HaveRoom, IsFine, IsValue, at_group, by_key, raised};
+ghost use Rattle.report_tables.specs.Valued.{AtEntry, AtPlace};
 
 use crate::values::{Groups, Values};
 use txn_names::{Group, Key};
@@ -79,7 +80,7 @@ pub(crate) fn set_value(values: &mut Values, groups: &mut Groups, number: usize,
 // Makes the sum over the group with this number 0.
 fn clear_at(groups: &mut Groups, number: usize)
     ensures sum { groups.new.entries ≡ set_value_at groups.old.entries number (pos 0) }
-    ensures named { (g : List ℕ) → slice_get (keys groups.old) number ≡ Some g → 0 < length g }
+    ensures named { AtPlace (keys groups.old) number (λ g. 0 < length g) }
 {
     let Some((group, _)) = groups.get_index(number) else {
         return;
@@ -104,12 +105,11 @@ fn clear(groups: &mut Groups)
 // Adds the value of the key with this number to the sums over its groups.
 fn count_at(groups: &mut Groups, values: &Values, number: usize)
     requires named { AreNamed groups.old.entries }
-    requires room { (k : List ℕ) (v : Option ℤ) → slice_get values.now.entries number ≡ Some (k, v)
-        → IsValue v → HaveRoom (λ g. IsTrue (has g k)) (amount v) groups.old.entries }
-    ensures fine { (k : List ℕ) (v : Option ℤ) → slice_get values.now.entries number ≡ Some (k, v) →
-        IsFine (k, v) }
-    ensures sums { (k : List ℕ) (v : Option ℤ) → slice_get values.now.entries number ≡ Some (k, v)
-        → groups.new.entries ≡ raised (by_key k (amount v)) groups.old.entries }
+    requires room { AtEntry values.now.entries number
+        (λ k v. IsValue v → HaveRoom (λ g. IsTrue (has g k)) (amount v) groups.old.entries) }
+    ensures fine { AtEntry values.now.entries number (λ k v. IsFine (k, v)) }
+    ensures sums { AtEntry values.now.entries number
+        (λ k v. groups.new.entries ≡ raised (by_key k (amount v)) groups.old.entries) }
 {
     if let Some((key, value)) = values.get_index(number) {
         raise_all(groups, key, difference(&None, *value));

@@ -1,13 +1,12 @@
 //! The transactions that a report tells of: the state of each, and its accesses.
-ghost use Rattle.std.specs.Prelude.{◌≡◌, ◌∷◌, ◌++◌, ◌+◌, [], ℕ, List, length, nat_lt, suc, slice_get, false, true, None, Some, IfNone, IfOk, IfSome};
+ghost use Rattle.std.specs.Prelude.{◌≡◌, ◌++◌, ◌+◌, [], ℕ, List, nat_lt, slice_get, false, true, None, Some, IfNone, IfOk, IfSome};
 ghost use Rattle.txn_names.specs.Text.{IsName};
 ghost use Rattle.txn_tree.specs.States.{IsTree, names};
 ghost use Rattle.txn_tree.specs.Asked.{is_active_in};
 ghost use Rattle.txn_tree.specs.Numbered.{IsClosed, live_children_at};
-ghost use Rattle.serial_spec.specs.History.{Aborts, Accesses, Begins, Commits, History};
-ghost use Rattle.serial_spec.specs.declared.target.Asked.{Asked};
-ghost use Rattle.report_tables.specs.Chained.{Asks, Known};
-ghost use Rattle.report_tables.specs.Told.{AreTransactionsOf, AboveAt, Comes};
+ghost use Rattle.serial_spec.specs.History.{Aborts, Begins, Commits};
+ghost use Rattle.report_tables.specs.Chained.{Known};
+ghost use Rattle.report_tables.specs.Told.{AreTransactionsOf, AboveAt, TakesAccess, TakesEffect};
 
 use crate::chains::{Access, Chain, append_at, chain_at};
 use serial_spec::NoMemory;
@@ -79,10 +78,7 @@ impl Transactions {
 
 /// A transaction begins, if it may. The only error is that memory runs out.
 pub fn begin(transactions: &mut Transactions, name: &Name) -> Result<bool, NoMemory>
-    ensures { IfOk result (λ ok. (base : ℕ) (known : Known) (h : History)
-        → AreTransactionsOf base known h transactions.old
-        → Comes ok h (Begins name.now)
-        (λ e. AreTransactionsOf base known (e ∷ h) transactions.new)) }
+    ensures { IfOk result (TakesEffect (Begins name.now) transactions.old transactions.new) }
 {
     name.has_labels();
     transactions.tree.has_distinct_names();
@@ -103,11 +99,7 @@ pub fn access(
     access: Access,
 ) -> Result<bool, NoMemory>
     requires { access.next ≡ None }
-    ensures { IfOk result (λ ok. (base : ℕ) (known : Known) (h : History) (a : Asked)
-        → AreTransactionsOf base known h transactions.old
-        → access.line ≡ base + suc (length h) → Asks known access.asked a
-        → Comes ok h (Accesses name.now a access.reply)
-        (λ e. AreTransactionsOf base known (e ∷ h) transactions.new)) }
+    ensures { IfOk result (TakesAccess name.now access transactions.old transactions.new) }
 {
     let Some(txn) = active_number(&transactions.tree, name) else {
         return Ok(false);
@@ -125,10 +117,7 @@ pub fn access(
 
 /// A transaction commits, if it may. It takes no memory.
 pub fn commit(transactions: &mut Transactions, name: &Name) -> bool
-    ensures { (base : ℕ) (known : Known) (h : History) →
-        AreTransactionsOf base known h transactions.old
-        → Comes result h (Commits name.now)
-        (λ e. AreTransactionsOf base known (e ∷ h) transactions.new) }
+    ensures { TakesEffect (Commits name.now) transactions.old transactions.new result }
 {
     let Some(txn) = active_number(&transactions.tree, name) else {
         return false;
@@ -150,10 +139,7 @@ pub fn commit(transactions: &mut Transactions, name: &Name) -> bool
 
 /// A transaction aborts, if it may. It takes no memory.
 pub fn abort(transactions: &mut Transactions, name: &Name) -> bool
-    ensures { (base : ℕ) (known : Known) (h : History) →
-        AreTransactionsOf base known h transactions.old
-        → Comes result h (Aborts name.now)
-        (λ e. AreTransactionsOf base known (e ∷ h) transactions.new) }
+    ensures { TakesEffect (Aborts name.now) transactions.old transactions.new result }
 {
     let Some(txn) = active_number(&transactions.tree, name) else {
         return false;

@@ -34,14 +34,10 @@ pub fn replay_text<S: TopStore, W: Sink>(
     store: S,
     out: &mut W,
 ) -> Result<S, ReplayFault>
-    // Wide: the bytes of the output before and behind, the text, the way and the store.
-    ensures ok { IfOk result (λ left.
-        IsReplayed S.TopStore (W.contents out.old) (W.contents out.new)
-        text.now (Scheduled schedule.now) store left) }
-    // Wide: the same, of a fault.
-    ensures err { IfErr result (λ fault.
-        HasReplayCause S.TopStore (W.contents out.old) (W.contents out.new)
-        text.now (Scheduled schedule.now) store fault) }
+    ensures ok { IfOk result (IsReplayed S.TopStore (W.contents out.old) (W.contents out.new)
+        text.now (Scheduled schedule.now) store) }
+    ensures err { IfErr result (HasReplayCause S.TopStore (W.contents out.old) (W.contents out.new)
+        text.now (Scheduled schedule.now) store) }
     ensures asked { IfErr result (λ fault. IsAnswered W.Sink out.new fault) }
     ensures unwritten { IfErr result (λ fault. IsUnwritten fault → out.new ≡ out.old) }
 {

@@ -3,7 +3,8 @@
 -- the transaction has nothing at the key, as where there is no place. The cells at one key are seen
 -- by two functions of the number alone, `content_of` and `holds`. How a table is kept is told
 -- apart, in Kept, and no contract but of this crate's own parts rests on it.
-use Rattle.std.specs.Prelude.{◌≡◌, ℕ, Bool, true, false, nat_eq, ◌&&◌, ◌||◌, if◌then◌else◌, List, Option, Some, None}
+use Rattle.std.specs.Prelude.{◌≡◌, ℕ, Bool, true, false, not, nat_eq, ◌&&◌, ◌||◌, if◌then◌else◌, List, Option, Some, None}
+use Rattle.std.specs.List.{list_any}
 pub use Rattle.txn_cells.specs.Kept.{Held, Table, content, content_of, has_place, holds, nothing, stands}
 use Rattle.txn_names.specs.Path.{label_eq}
 pub use Rattle.txn_tree.specs.Numbered.{is_front_of, is_under}
@@ -16,6 +17,18 @@ is_it (Some p) u = nat_eq p u
 -- where there are places, once t has one at k
 abbrev pub with_place : (ℕ → List ℕ → Bool) → ℕ → List ℕ → ℕ → List ℕ → Bool
 with_place place t k u q = (nat_eq t u && label_eq k q) || place u q
+
+-- what u has at q, once t has this at k
+abbrev pub with_content : {V : Type 0} → (ℕ → List ℕ → Option V) → ℕ → List ℕ → V
+    → ℕ → List ℕ → Option V
+with_content content t k v u q =
+    if nat_eq t u && label_eq k q then Some v else content u q
+
+-- the same once t has there what this makes of what it had
+abbrev pub with_joined : {V : Type 0} → (ℕ → List ℕ → Option V) → ℕ → List ℕ → (Option V → V)
+    → ℕ → List ℕ → Option V
+with_joined content t k join u q =
+    if nat_eq t u && label_eq k q then Some (join (content u q)) else content u q
 
 -- where there are places, once the parent has one at each key of the child
 abbrev pub with_childs : (ℕ → List ℕ → Bool) → ℕ → ℕ → ℕ → List ℕ → Bool
@@ -32,16 +45,42 @@ abbrev pub merged : {V : Type 0} → (V → Option V → V) → Option V → Opt
 merged inherited None own = own
 merged inherited (Some v) own = Some (inherited v own)
 
--- what u has at q, where the child has committed into its parent: it has nothing, and the parent
--- inherits
+-- what u has at a key, where the child has committed into its parent: it has nothing, and the
+-- parent inherits
+abbrev pub handed_up_here : {V : Type 0} → (V → Option V → V) → (ℕ → Option V) → ℕ → Option ℕ
+    → ℕ → Option V
+handed_up_here inherited content child parent u =
+    if nat_eq child u then None
+    else if is_it parent u then merged inherited (content child) (content u)
+    else content u
+
+-- the same at the key q of all
 abbrev pub handed_up : {V : Type 0} → (V → Option V → V) → (ℕ → List ℕ → Option V) → ℕ → Option ℕ
     → ℕ → List ℕ → Option V
 handed_up inherited content child parent u q =
-    if nat_eq child u then None
-    else if is_it parent u then merged inherited (content child q) (content u q)
-    else content u q
+    handed_up_here inherited (λ v. content v q) child parent u
+
+-- whether it is one of these keys
+abbrev pub is_among : List (List ℕ) → List ℕ → Bool
+is_among keys q = list_any (label_eq q) keys
+
+-- at these keys the child has committed into its parent, and at the others all is as it was
+abbrev pub AreHandedUp : {V : Type 0} → (List ℕ → Bool) → (V → Option V → V) → ℕ → Option ℕ
+    → (ℕ → List ℕ → Option V) → (ℕ → List ℕ → Option V) → Type 0
+AreHandedUp is_one inherited child parent old new = (u : ℕ) → (q : List ℕ)
+    → new u q ≡ (if is_one q then handed_up inherited old child parent u q else old u q)
+
+-- the child has no place at these keys any more, and each other place is as it was
+abbrev pub AreGivenUp : (List ℕ → Bool) → ℕ
+    → (ℕ → List ℕ → Bool) → (ℕ → List ℕ → Bool) → Type 0
+AreGivenUp is_one child old new = (u : ℕ) → (q : List ℕ)
+    → new u q ≡ (not (nat_eq child u && is_one q) && old u q)
 
 -- ---- at one key
+
+-- what u has there, once t has what this makes of what it had
+abbrev pub joined_here : {V : Type 0} → (ℕ → Option V) → ℕ → (Option V → V) → ℕ → Option V
+joined_here content t join u = if nat_eq t u then Some (join (content u)) else content u
 
 -- these are what all transactions have at k
 pub record IsAt {V : Type 0} (table : Table V) (k : List ℕ) (held : Held V) : Type 0 where

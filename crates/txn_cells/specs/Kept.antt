@@ -2,7 +2,7 @@
 -- stands there. And as they are kept: at each key the transactions with a place there, each with
 -- what it has, and beside that the keys of each transaction, at its number, each with its place
 -- among all keys.
-use Rattle.std.specs.Prelude.{◌≡◌, ◌+◌, ◌<◌, ◌≤◌, ℕ, suc, Bool, true, false, cond, nat_eq, List, [], ◌∷◌, Option, Some, None, is_some, unwrap_or, slice_get, length, map}
+use Rattle.std.specs.Prelude.{◌≡◌, ◌+◌, ◌<◌, ◌≤◌, ◌&&◌, ◌++◌, ℕ, suc, Bool, true, false, cond, if◌then◌else◌, nat_eq, List, [], ◌∷◌, Option, Some, None, is_some, unwrap_or, slice_get, length, map}
 use Rattle.std.specs.List.{AllByRecursion, list_any}
 use Rattle.std.specs.List.Sorted.{IsStrictlyIncreasing}
 use Rattle.std.specs.Map.{lookup, keys_of}
@@ -58,6 +58,10 @@ content_of held t = unwrap_or (lookup (nat_eq t) held) None
 abbrev pub IsChangedAt : {V : Type 0} → Held V → Held V → ℕ → Option (Option V) → Type 0
 IsChangedAt old new t now = (u : ℕ)
     → lookup (nat_eq u) new ≡ cond (nat_eq t u) now (lookup (nat_eq u) old)
+
+-- whether t has a place, and what it has there stands out
+abbrev pub is_outstanding : {V : Type 0} → (V → Bool) → Held V → ℕ → Bool
+is_outstanding outstanding held t = stands outstanding (content_of held t) && holds held t
 
 -- these are the numbers of those that have a place, each once, rising
 pub record AreHolders {V : Type 0} (numbers : List ℕ) (held : Held V) : Type 0 where
@@ -122,6 +126,10 @@ Lists = List Listed
 
 abbrev pub listed_at : Lists → ℕ → Listed
 listed_at lists t = unwrap_or (slice_get lists t) []
+
+-- the keys of u, once t has this one more
+abbrev pub listed_with : Lists → ℕ → List ℕ × ℕ → ℕ → Listed
+listed_with lists t e u = if nat_eq t u then listed_at lists u ++ e ∷ [] else listed_at lists u
 
 abbrev pub keys_at : Lists → ℕ → List (List ℕ)
 keys_at lists t = keys_of (listed_at lists t)

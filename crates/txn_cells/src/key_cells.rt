@@ -3,7 +3,7 @@ ghost use Rattle.std.specs.Prelude.{◌≡◌, ◌&&◌, ◌||◌, not, nat_eq, 
 ghost use Rattle.std.specs.List.{list_any};
 ghost use Rattle.std.specs.List.Sorted.{IsStrictlyIncreasing};
 ghost use Rattle.std.specs.Map.{keys_of};
-ghost use Rattle.txn_cells.specs.Cells.{is_it, merged};
+ghost use Rattle.txn_cells.specs.Cells.{handed_up_here, joined_here};
 ghost use Rattle.txn_cells.specs.Kept.{content_of, holds, stands};
 
 use crate::cells::Cells;
@@ -144,9 +144,8 @@ impl<V: Inherit> KeyCells<V> {
     /// Adds this to what the transaction has, as an access of its own. It takes no memory.
     pub(crate) fn join(&mut self, txn: TxnNo, added: V)
         requires { IsTrue (holds self.old txn) }
-        ensures contents { (u : ℕ) → content_of self.new u ≡ (if nat_eq txn u
-            then Some (V.joined added (content_of self.old u))
-            else content_of self.old u) }
+        ensures contents { (u : ℕ) → content_of self.new u
+            ≡ joined_here (content_of self.old) txn (V.joined added) u }
         ensures places { (u : ℕ) → holds self.new u ≡ holds self.old u }
     {
         if let Some((index, had)) = self.found(txn) {
@@ -173,10 +172,7 @@ impl<V: Inherit> KeyCells<V> {
         requires other { IfSome parent (λ p. IsFalse (nat_eq child p)) }
         requires place { IfSome parent (λ p. IsTrue (holds self.old p)) }
         ensures contents { (u : ℕ) → content_of self.new u
-            ≡ (if nat_eq child u then None
-            else if is_it parent u
-            then merged V.inherited (content_of self.old child) (content_of self.old u)
-            else content_of self.old u) }
+            ≡ handed_up_here V.inherited (content_of self.old) child parent u }
         ensures places { (u : ℕ) → holds self.new u ≡ (not (nat_eq child u) && holds self.old u) }
     {
         let had = self.remove(child);

@@ -3,7 +3,7 @@ ghost use Rattle.std.specs.Prelude.{◌≡◌, ◌≤◌, ◌<◌, ◌++◌, ◌
 ghost use Rattle.std.specs.List.{IsDistinct, list_any};
 ghost use Rattle.std.specs.Map.{keys_of};
 ghost use Rattle.txn_names.specs.Path.{label_eq};
-ghost use Rattle.txn_cells.specs.Kept.{busy_in, keys_at, listed_at};
+ghost use Rattle.txn_cells.specs.Kept.{busy_in, keys_at, listed_at, listed_with};
 
 use serial_spec::NoMemory;
 use std::alloc::{AllocError, Global};
@@ -177,9 +177,8 @@ impl KeyLists {
     fn add_at(&mut self, list: usize, key: &Key, place: usize) -> Result<(), NoMemory>
         requires within { list < length self.old }
         requires fresh { IsFalse (list_any (label_eq key.now) (keys_at self.old list)) }
-        ensures ok { OnOk result ((u : ℕ) → listed_at self.new u ≡
-            (if nat_eq list u then listed_at self.old u ++ (key.now, place) ∷ []
-            else listed_at self.old u)) }
+        ensures ok { OnOk result
+            ((u : ℕ) → listed_at self.new u ≡ listed_with self.old list (key.now, place) u) }
         ensures err { OnErr result ((u : ℕ) → listed_at self.new u ≡ listed_at self.old u) }
     {
         let first = self.lists[list].len() == 0;
@@ -194,9 +193,8 @@ impl KeyLists {
     /// has the keys that it had.
     pub(crate) fn add(&mut self, txn: TxnNo, key: &Key, place: usize) -> Result<(), NoMemory>
         requires fresh { IsFalse (list_any (label_eq key.now) (keys_at self.old txn)) }
-        ensures ok { OnOk result ((u : ℕ) → listed_at self.new u ≡
-            (if nat_eq txn u then listed_at self.old u ++ (key.now, place) ∷ []
-            else listed_at self.old u)) }
+        ensures ok { OnOk result
+            ((u : ℕ) → listed_at self.new u ≡ listed_with self.old txn (key.now, place) u) }
         ensures err { OnErr result ((u : ℕ) → listed_at self.new u ≡ listed_at self.old u) }
     {
         self.grow(txn)?;

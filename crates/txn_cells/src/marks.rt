@@ -1,9 +1,9 @@
 //! Marks of those at a key whose content stands out, so that they are found without going through
 //! all that have a place there.
-ghost use Rattle.std.specs.Prelude.{◌≡◌, ◌≤◌, ◌<◌, ◌&&◌, nat_eq, length, vec_capacity, OnOk, ℕ};
+ghost use Rattle.std.specs.Prelude.{◌≡◌, ◌≤◌, ◌<◌, nat_eq, length, vec_capacity, OnOk, ℕ};
 ghost use Rattle.std.specs.List.{list_any};
 ghost use Rattle.std.specs.List.Sorted.{IsStrictlyIncreasing};
-ghost use Rattle.txn_cells.specs.Kept.{HasMarks, HasMarksPastFew, content_of, few, holds, stands};
+ghost use Rattle.txn_cells.specs.Kept.{HasMarks, HasMarksPastFew, few, stands, is_outstanding};
 
 use crate::cells::Cells;
 use crate::inherit::Inherit;
@@ -28,7 +28,7 @@ fn stands_out<V: Inherit>(content: Option<V>) -> bool
 fn mark_all<V: Inherit>(marked: &mut Vec<TxnNo>, cells: &Cells<V>) -> Result<(), NoMemory>
     ensures rising { OnOk result (IsStrictlyIncreasing marked.new.items) }
     ensures each { OnOk result ((u : ℕ) → list_any (nat_eq u) marked.new.items
-        ≡ (stands V.outstanding (content_of cells.now u) && holds cells.now u)) }
+        ≡ is_outstanding V.outstanding cells.now u) }
     ensures room { OnOk result (length cells.now < vec_capacity marked.new) }
 {
     let numbers = cells.numbers();

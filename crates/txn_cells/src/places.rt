@@ -1,10 +1,9 @@
 //! What is held at each key.
-ghost use Rattle.std.specs.Prelude.{◌≡◌, ◌&&◌, not, nat_eq, false, length, slice_get, [], IsFalse, IsOk, IsTrue, IfNone, IfOk, IfSome, OnErr, OnOk, List, ℕ, if◌then◌else◌, Some, None};
-ghost use Rattle.std.specs.List.{list_any};
+ghost use Rattle.std.specs.Prelude.{◌≡◌, not, nat_eq, false, length, slice_get, [], IsFalse, IsOk, IsTrue, IfNone, IfOk, IfSome, OnErr, OnOk, List, ℕ, Some, None};
 ghost use Rattle.std.specs.List.Sorted.{IsStrictlyIncreasing};
 ghost use Rattle.std.specs.Map.{keys_of};
 ghost use Rattle.txn_names.specs.Path.{label_eq};
-ghost use Rattle.txn_cells.specs.Cells.{handed_up, is_it, with_place};
+ghost use Rattle.txn_cells.specs.Cells.{is_it, with_place, AreGivenUp, AreHandedUp, is_among, with_content, with_joined};
 ghost use Rattle.txn_cells.specs.Kept.{AreAt, StayAt, content_kept, held_at, place_kept, stands};
 
 use crate::inherit::Inherit;
@@ -162,9 +161,8 @@ impl<V: Inherit> Places<V> {
     pub(crate) fn set(&mut self, txn: TxnNo, key: &Key, value: V)
         requires { IsTrue (place_kept self.old txn key.now) }
         ensures keys { keys_of self.new ≡ keys_of self.old }
-        ensures contents { (u : ℕ) → (q : List ℕ) →
-            content_kept self.new u q ≡ (if nat_eq txn u && label_eq key.now q then Some value
-            else content_kept self.old u q) }
+        ensures contents { (u : ℕ) → (q : List ℕ) → content_kept self.new u q
+            ≡ with_content (content_kept self.old) txn key.now value u q }
         ensures places { (u : ℕ) → (q : List ℕ) → place_kept self.new u q
             ≡ place_kept self.old u q }
     {
@@ -177,10 +175,8 @@ impl<V: Inherit> Places<V> {
     pub(crate) fn join(&mut self, txn: TxnNo, key: &Key, added: V)
         requires { IsTrue (place_kept self.old txn key.now) }
         ensures keys { keys_of self.new ≡ keys_of self.old }
-        ensures contents { (u : ℕ) → (q : List ℕ) →
-            content_kept self.new u q ≡ (if nat_eq txn u && label_eq key.now q
-            then Some (V.joined added (content_kept self.old u q))
-            else content_kept self.old u q) }
+        ensures contents { (u : ℕ) (q : List ℕ) → content_kept self.new u q
+            ≡ with_joined (content_kept self.old) txn key.now (V.joined added) u q }
         ensures places { (u : ℕ) → (q : List ℕ) → place_kept self.new u q
             ≡ place_kept self.old u q }
     {
@@ -195,13 +191,10 @@ impl<V: Inherit> Places<V> {
         requires other { IfSome parent (λ p. IsFalse (nat_eq child p)) }
         requires place { IfSome parent (λ p. IsTrue (place_kept self.old p key.now)) }
         ensures keys { keys_of self.new ≡ keys_of self.old }
-        ensures contents { (u : ℕ) → (q : List ℕ) →
-            content_kept self.new u q ≡
-            (if label_eq key.now q
-            then handed_up V.inherited (content_kept self.old) child parent u q
-            else content_kept self.old u q) }
-        ensures places { (u : ℕ) → (q : List ℕ) → place_kept self.new u q
-            ≡ (not (nat_eq child u && label_eq key.now q) && place_kept self.old u q) }
+        ensures contents { AreHandedUp (label_eq key.now) V.inherited child parent
+            (content_kept self.old) (content_kept self.new) }
+        ensures places { AreGivenUp (label_eq key.now) child (place_kept self.old)
+            (place_kept self.new) }
     {
         self.holders
             .get_index_mut(place)
@@ -213,18 +206,13 @@ impl<V: Inherit> Places<V> {
     pub(crate) fn hand_up_all(&mut self, list: &KeyList, child: TxnNo, parent: &Option<TxnNo>)
         requires at { AreAt (keys_of self.old) list.now }
         requires other { IfSome parent.now (λ p. IsFalse (nat_eq child p)) }
-        requires places { IfSome parent.now (λ p. (q : List ℕ) →
-            IsTrue (list_any (label_eq q) (keys_of list.now)) → IsTrue (place_kept self.old p q)) }
+        requires places { IfSome parent.now (λ p. (q : List ℕ)
+            → IsTrue (is_among (keys_of list.now) q) → IsTrue (place_kept self.old p q)) }
         ensures keys { keys_of self.new ≡ keys_of self.old }
-        ensures contents { (u : ℕ) → (q : List ℕ) →
-            content_kept self.new u q ≡
-            (if list_any (label_eq q) (keys_of list.now)
-            then handed_up V.inherited (content_kept self.old) child parent.now u q
-            else content_kept self.old u q) }
-        ensures places { (u : ℕ) → (q : List ℕ) →
-            place_kept self.new u q
-            ≡ (not (nat_eq child u && list_any (label_eq q) (keys_of list.now))
-            && place_kept self.old u q) }
+        ensures contents { AreHandedUp (is_among (keys_of list.now)) V.inherited child parent.now
+            (content_kept self.old) (content_kept self.new) }
+        ensures places { AreGivenUp (is_among (keys_of list.now)) child (place_kept self.old)
+            (place_kept self.new) }
     {
         for index in 0..list.len() {
             if let Some(entry) = list.get(index) {

@@ -4,7 +4,7 @@ ghost use Rattle.std.specs.List.{IsDistinct, list_any};
 ghost use Rattle.std.specs.List.Sorted.{IsStrictlyIncreasing};
 ghost use Rattle.std.specs.Map.{keys_of};
 ghost use Rattle.txn_names.specs.Path.{label_eq};
-ghost use Rattle.txn_cells.specs.Cells.{IsAt, IsBareAt, IsTowards, handed_up, is_it, is_under, nothing, with_childs, with_place};
+ghost use Rattle.txn_cells.specs.Cells.{IsAt, IsBareAt, IsTowards, handed_up, is_it, is_under, nothing, with_childs, with_place, with_content, with_joined};
 ghost use Rattle.txn_cells.specs.Kept.{AreListed, ArePlaced, content, content_kept, has_place, listed_at, place_kept, stands};
 
 use crate::inherit::Inherit;
@@ -279,9 +279,8 @@ impl<V: Inherit> CellTable<V> {
     /// Sets what the transaction has at the key. It takes no memory.
     pub fn set(&mut self, txn: TxnNo, key: &Key, value: V)
         requires place { IsTrue (has_place self.old txn key.now) }
-        ensures contents { (u : ℕ) → (q : List ℕ) →
-            content self.new u q ≡ (if nat_eq txn u && label_eq key.now q then Some value
-            else content self.old u q) }
+        ensures contents { (u : ℕ) → (q : List ℕ) → content self.new u q
+            ≡ with_content (content self.old) txn key.now value u q }
         ensures places { (u : ℕ) → (q : List ℕ) → has_place self.new u q ≡ has_place self.old u q }
     {
         self.places.set(txn, key, value);
@@ -291,9 +290,8 @@ impl<V: Inherit> CellTable<V> {
     /// `join` makes of the two. It takes no memory.
     pub fn join(&mut self, txn: TxnNo, key: &Key, added: V)
         requires place { IsTrue (has_place self.old txn key.now) }
-        ensures contents { (u : ℕ) → (q : List ℕ) →
-            content self.new u q ≡ (if nat_eq txn u && label_eq key.now q
-            then Some (V.joined added (content self.old u q)) else content self.old u q) }
+        ensures contents { (u : ℕ) → (q : List ℕ) → content self.new u q
+            ≡ with_joined (content self.old) txn key.now (V.joined added) u q }
         ensures places { (u : ℕ) → (q : List ℕ) → has_place self.new u q ≡ has_place self.old u q }
     {
         self.places.join(txn, key, added);

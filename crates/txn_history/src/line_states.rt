@@ -1,9 +1,9 @@
 //! The states of a history's lines.
-ghost use Rattle.std.specs.Prelude.{◌≡◌, ◌+◌, ◌<◌, ◌≤◌, ◌&&◌, ◌||◌, if◌then◌else◌, [], ◌∷◌, length, IsTrue, IsFalse, None, Some, OnOk};
+ghost use Rattle.std.specs.Prelude.{◌≡◌, ◌+◌, ◌<◌, ◌≤◌, ◌&&◌, ◌||◌, [], ◌∷◌, length, IsTrue, IsFalse, None, Some, OnOk};
 ghost use Rattle.indexmap.specs.IndexMap.{get, spare};
 ghost use Rattle.serial_spec.specs.History.{History as Entries};
 ghost use Rattle.serial_spec.specs.Waits.{is_waits};
-ghost use Rattle.txn_history.specs.Tables.{Place, place_eq, alone_at, has_closed, is_beyond, place_of, AreLines};
+ghost use Rattle.txn_history.specs.Tables.{Place, place_eq, has_closed, is_beyond, place_of, AreLines, KeepsState};
 
 use indexmap::IndexMap;
 use serial_spec::{Answer, By, Entry, MOST_SESSIONS, NoMemory};
@@ -84,11 +84,8 @@ fn put(
     place: usize,
 )
     requires { 0 < spare others.old }
-    ensures states { (IsTrue is_new → get place_eq others.old line ≡ None) → (p : Place)
-        → get place_eq others.new p ≡
-        if place_eq line p
-        then Some (alone_at (get place_eq others.old p) entry.now place)
-        else get place_eq others.old p }
+    ensures states { KeepsState line is_new entry.now place (get place_eq others.old)
+        (get place_eq others.new) }
     ensures room { spare others.old ≤ spare others.new + 1 }
 {
     let waits = matches!(entry.answer, Answer::Waits);

@@ -94,3 +94,8 @@ top_with tops (Some p) c = tops
 abbrev pub followed : List Node → Option ℕ → ℕ → List Node
 followed nodes None n = nodes
 followed nodes (Some l) n = update_at nodes l (with_next n)
+
+-- the child stands behind the others of the parent or of the root
+abbrev pub appended : List Node → Children → Option ℕ → ℕ → List Node
+appended nodes tops p n =
+    followed (with_below nodes p (with_child n (below nodes tops p))) (below nodes tops p).last n

@@ -1,5 +1,5 @@
 -- The transactions that have begun, in order of beginning, each with its own state.
-use Rattle.std.specs.Prelude.{◌≢◌, ◌≤◌, Bool, true, false, All, List, [], ◌∷◌, length, unwrap_or}
+use Rattle.std.specs.Prelude.{◌≡◌, ◌≢◌, ◌≤◌, ℕ, Bool, true, false, if◌then◌else◌, All, List, [], ◌∷◌, length, slice_get, Some, unwrap_or}
 use Rattle.std.specs.List.{IsDistinct}
 use Rattle.std.specs.Map.{keys_of, values_of, lookup}
 use Rattle.txn_names.specs.Path.{Path, path_eq}
@@ -36,6 +36,16 @@ is_committed s = false
 abbrev pub is_aborted : Status → Bool
 is_aborted Aborted = true
 is_aborted s = false
+
+-- the transaction gets this state, and each other one keeps its own
+abbrev pub GetsStatus : States → States → Path → Status → Type 0
+GetsStatus old new t status =
+    (u : Path) → status_in new u ≡ (if path_eq t u then status else status_in old u)
+
+-- the same of the transaction with this number
+abbrev pub GetsStatusAt : States → States → ℕ → Status → Type 0
+GetsStatusAt old new n status =
+    (t : Path) → slice_get (names old) n ≡ Some t → GetsStatus old new t status
 
 -- what holds of the states in every tree
 pub record IsTree (tree : States) : Type 0 where

@@ -1,6 +1,6 @@
 //! Where the transactions stand in the tree: what is kept of parents, siblings and children.
 ghost use Rattle.std.specs.Prelude.{◌≡◌, ◌<◌, ◌+◌, ◌^◌, [], ◌∷◌, ◌++◌, length, slice_get, IfSome, OnErr, OnOk};
-ghost use Rattle.txn_tree.specs.Linked.{begun_node, below, children_in, followed, kept_next, kept_parent, top_with, with_below, with_child, with_one_ended};
+ghost use Rattle.txn_tree.specs.Linked.{begun_node, below, children_in, followed, kept_next, kept_parent, top_with, with_below, with_child, with_one_ended, appended};
 
 use crate::node::{Children, Node};
 use crate::number::TxnNo;
@@ -85,9 +85,7 @@ pub(crate) fn append_child(
     requires within { IfSome parent (λ p. p < length nodes.old) }
     requires last { IfSome (below nodes.old tops.old parent).last (λ l. l < length nodes.old) }
     requires fits { (below nodes.old tops.old parent).live + 1 < 2 ^ 32 }
-    ensures nodes { nodes.new ≡ followed
-        (with_below nodes.old parent (with_child child (below nodes.old tops.old parent)))
-        (below nodes.old tops.old parent).last child }
+    ensures nodes { nodes.new ≡ appended nodes.old tops.old parent child }
     ensures tops { tops.new
         ≡ top_with tops.old parent (with_child child (below nodes.old tops.old parent)) }
 {

@@ -1,9 +1,9 @@
 //! The names and the states of the transactions that have begun.
-ghost use Rattle.std.specs.Prelude.{◌≡◌, ◌≢◌, ◌↔◌, ◌<◌, [], ◌∷◌, ◌++◌, is_some, length, not, position, slice_get, false, None, Some, if◌then◌else◌, IfSome, IsTrue, OnErr, OnOk};
+ghost use Rattle.std.specs.Prelude.{◌≡◌, ◌≢◌, ◌↔◌, ◌<◌, [], ◌∷◌, ◌++◌, is_some, length, not, position, slice_get, false, None, Some, IfSome, IsTrue, OnErr, OnOk};
 ghost use Rattle.std.specs.Option.{option_copied};
-ghost use Rattle.txn_names.specs.Path.{Path, path_eq};
+ghost use Rattle.txn_names.specs.Path.{path_eq};
 ghost use Rattle.txn_names.specs.Text.{IsName};
-ghost use Rattle.txn_tree.specs.States.{IsTree, names, status_in};
+ghost use Rattle.txn_tree.specs.States.{IsTree, names, status_in, GetsStatus, GetsStatusAt};
 ghost use Rattle.txn_tree.specs.Asked.{IsNumberOf, IsRootless, is_absent_in, is_active_in, top_aborted_in};
 ghost use Rattle.txn_tree.specs.Numbered.{is_under, status_at};
 ghost use Rattle.txn_tree.specs.Causes.{cause_at_abort, cause_at_begin, cause_at_parent};
@@ -166,9 +166,7 @@ impl Register {
         requires begins { cause_at_begin self.old name.now ≡ None }
         requires name { IsName name.now }
         ensures last { OnOk result (self.new ≡ self.old ++ (name.now, Status.Live) ∷ []) }
-        ensures live { OnOk result ((u : Path) →
-            status_in self.new u ≡ (if path_eq name.now u then Status.Live
-            else status_in self.old u)) }
+        ensures live { OnOk result (GetsStatus self.old self.new name.now Status.Live) }
         ensures err { OnErr result (self.new ≡ self.old) }
     {
         match self.states.insert(*name, Status::Live) {
@@ -182,9 +180,7 @@ impl Register {
         requires begun { txn < length self.old }
         requires other { status ≢ Status.Absent }
         ensures names { names self.new ≡ names self.old }
-        ensures status { (t : Path) → slice_get (names self.old) txn ≡ Some t
-            → (u : Path) → status_in self.new u
-            ≡ (if path_eq t u then status else status_in self.old u) }
+        ensures status { GetsStatusAt self.old self.new txn status }
     {
         *self.states.get_index_mut(txn.place() as usize).unwrap() = status;
     }

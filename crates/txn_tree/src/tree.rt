@@ -4,7 +4,7 @@ ghost use Rattle.std.specs.Option.{option_copied};
 ghost use Rattle.std.specs.Result.{result_err};
 ghost use Rattle.txn_names.specs.Path.{Path, parent, path_eq};
 ghost use Rattle.txn_names.specs.Text.{IsName};
-ghost use Rattle.txn_tree.specs.States.{IsTree, is_aborted, is_live, names, status_in};
+ghost use Rattle.txn_tree.specs.States.{IsTree, is_aborted, is_live, names, status_in, GetsStatus, GetsStatusAt};
 ghost use Rattle.txn_tree.specs.Asked.{IsNumberOf, IsRootless, ended_by_abort, is_absent_in, is_active_in, live_children_of, top_aborted_in};
 ghost use Rattle.txn_tree.specs.Numbered.{IsClosed, IsUpward, RisesDown, ended_at, is_active_at, is_below_orphan, has_parent, is_parent_of, is_under, live_children_at, status_at};
 ghost use Rattle.txn_tree.specs.Siblings.{HasBranches, IsFirst, IsNext, is_child_at, is_sibling_at, is_top_at};
@@ -279,9 +279,7 @@ impl Tree {
         requires ended { is_live status ≡ false }
         requires lone { is_aborted status ≡ false → live_children_at self.old txn ≡ 0 }
         ensures names { names self.new ≡ names self.old }
-        ensures status { (t : Path) → slice_get (names self.old) txn ≡ Some t
-            → (u : Path) → status_in self.new u
-            ≡ (if path_eq t u then status else status_in self.old u) }
+        ensures status { GetsStatusAt self.old self.new txn status }
     {
         let parent = self.nodes[txn.place() as usize].parent;
         self.register.set_at(txn, status);
@@ -321,10 +319,7 @@ impl Tree {
     pub fn commit_at(&mut self, txn: TxnNo)
         requires active { is_active_at self.old txn ≡ true }
         requires children { live_children_at self.old txn ≡ 0 }
-        ensures committed { (t : Path) → slice_get (names self.old) txn ≡ Some t
-            → (u : Path) →
-            status_in self.new u ≡ (if path_eq t u then Status.Committed
-            else status_in self.old u) }
+        ensures committed { GetsStatusAt self.old self.new txn Status.Committed }
         ensures names { names self.new ≡ names self.old }
     {
         self.end(txn, Status::Committed);
@@ -338,10 +333,7 @@ impl Tree {
         requires active { is_active_at self.old txn ≡ true }
         ensures ended { (t : Path) → slice_get (names self.old) txn ≡ Some t →
             result ≡ ended_by_abort self.old t }
-        ensures aborted { (t : Path) → slice_get (names self.old) txn ≡ Some t
-            → (u : Path) →
-            status_in self.new u ≡ (if path_eq t u then Status.Aborted
-            else status_in self.old u) }
+        ensures aborted { GetsStatusAt self.old self.new txn Status.Aborted }
         ensures names { names self.new ≡ names self.old }
     {
         let ended = self.ended_at(txn);
@@ -354,9 +346,7 @@ impl Tree {
     /// aborted one), Done (it has committed), Children (a child is live).
     pub fn commit(&mut self, name: &Name) -> Result<(), Refusal>
         ensures refused { result_err result ≡ cause_at_commit self.old name.now }
-        ensures committed { OnOk result ((u : Path) →
-            status_in self.new u ≡ (if path_eq name.now u then Status.Committed
-            else status_in self.old u)) }
+        ensures committed { OnOk result (GetsStatus self.old self.new name.now Status.Committed) }
         ensures names { OnOk result (names self.new ≡ names self.old) }
         ensures err { OnErr result (self.new ≡ self.old) }
     {
@@ -375,9 +365,7 @@ impl Tree {
     pub fn abort(&mut self, name: &Name) -> Result<u32, Refusal>
         ensures refused { result_err result ≡ cause_at_abort self.old name.now }
         ensures ended { IfOk result (λ n. n ≡ ended_by_abort self.old name.now) }
-        ensures aborted { OnOk result ((u : Path) →
-            status_in self.new u ≡ (if path_eq name.now u then Status.Aborted
-            else status_in self.old u)) }
+        ensures aborted { OnOk result (GetsStatus self.old self.new name.now Status.Aborted) }
         ensures names { OnOk result (names self.new ≡ names self.old) }
         ensures err { OnErr result (self.new ≡ self.old) }
     {

@@ -7,8 +7,8 @@ ghost use Rattle.serial_spec.specs.Operations.{amount, as_option};
 ghost use Rattle.serial_spec.specs.Rows.{IsRising, value_in};
 ghost use Rattle.serial_spec.specs.Serial.{put};
 ghost use Rattle.serial_spec.specs.Sums.{sum_in};
-ghost use Rattle.version_stack.specs.Versioned.{FitsBase, IsTowards, base_after, base_in, handed_up, has_place, left_at, left_in, put_by, change_of, with_childs, with_keys, with_own, with_place};
-ghost use Rattle.version_stack.specs.Seen.{as_i64, seen_at, seen_in};
+ghost use Rattle.version_stack.specs.Versioned.{FitsBase, IsTowards, base_after, base_in, handed_up, has_place, left_at, left_in, put_by, change_of, with_childs, with_keys, with_place};
+ghost use Rattle.version_stack.specs.Seen.{as_i64, own_sum, seen_at, seen_in};
 
 use crate::version::Version;
 use serial_spec::{Left, NoMemory, PlainTable, sum_of};
@@ -169,9 +169,8 @@ impl Versions {
     // By how much what the transaction left changes the sum over the group, over what another, its
     // parent, sees.
     fn own_part(&self, tree: &Tree, above: &Option<TxnNo>, txn: TxnNo, group: &Group) -> i128
-        ensures part { sum_in
-            (with_own self.now txn (seen_at tree.now self.now above.now)) group.now ≡
-            sum_in (seen_at tree.now self.now above.now) group.now +ℤ result }
+        ensures part { own_sum tree.now self.now above.now txn group.now
+            ≡ sum_in (seen_at tree.now self.now above.now) group.now +ℤ result }
         ensures least { neg_ℤ (pos (2 ^ 122)) ≤ℤ result }
         ensures most { result ≤ℤ pos (2 ^ 122) }
     {

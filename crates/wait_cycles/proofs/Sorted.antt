@@ -8,7 +8,7 @@ use Rattle.std.proofs.lemmas.List.{length-append}
 use Rattle.std.proofs.lemmas.Option.{slice_get_within, slice_get-get_or, get_or_from_slice_get}
 use Rattle.wait_cycles.specs.declared.trail.Reached.{Reached}
 use Rattle.wait_cycles.specs.Cycles.{Pairs, IsCycle, IsGreatest, WaitInTurn, is_member, waits_in}
-use Rattle.wait_cycles.specs.Sorted.{ArePartedAt, AreRising, AreSorted, IsAwaited, up_to}
+use Rattle.wait_cycles.specs.inner.Sorted.{ArePartedAt, AreRising, AreSorted, IsAwaited, up_to}
 use Rattle.wait_cycles.specs.Trails.{Covers, IsFound, IsLastReached, nodes}
 use Rattle.txn_tree.proofs.Exports.{get_front}
 use Rattle.wait_cycles.proofs.Lists.{any-map, map_append, member_append, member_here, place_of, pushed_member}

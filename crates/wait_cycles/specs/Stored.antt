@@ -19,6 +19,10 @@ wait_under slab k = unwrap_or (option_map (λ r. r.wait) (get slab k)) no_wait
 abbrev pub waits_under : Slab Record → List ℕ → List Wait
 waits_under slab keys = map (wait_under slab) keys
 
+-- under the key this wait stands, with this place
+abbrev pub IsRecord : Slab Record → ℕ → Wait → ℕ → Type 0
+IsRecord slab k w place = get slab k ≡ Some (record { wait = w; place = place })
+
 pub record AreStored (slab : Slab Record) (keys : List ℕ) (table : List (Option ℕ)) : Type 0 where
   pub number : slab_len slab ≡ length keys
   -- under each key stands a record that has the key's place

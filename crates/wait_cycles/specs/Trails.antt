@@ -34,6 +34,11 @@ pub record IsFound (pairs : Pairs) (start : ℕ) (trail : List Reached) : Type 0
   pub sound : (i : ℕ) (r : Reached) → slice_get trail i ≡ Some r
       → ComesFrom pairs start (nodes trail) i r
 
+-- those that were found are so still, and so are those to which the one at this place leads
+abbrev pub KeepsFound : Pairs → List Reached → List Reached → Option ℕ → ℕ → Type 0
+KeepsFound pairs old new from txn = (first : ℕ) → IsFound pairs first old
+    → IsAt first (nodes old) (length old) from txn → IsFound pairs first new
+
 -- all that a waits for are among them
 abbrev pub Covers : Pairs → List Reached → ℕ → Type 0
 Covers pairs trail a = (b : ℕ) → IsTrue (waits_in pairs a b) → IsTrue (is_member b (nodes trail))

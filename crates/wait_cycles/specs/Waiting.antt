@@ -32,9 +32,13 @@ pub record AreOnce (s : Waiting) : Type 0 where
       → v.txn ≡ w.txn → i ≡ j
   pub all : (t : ℕ) (w : Wait) → wait_of s t ≡ Some w → (i : ℕ) × (slice_get s.waits i ≡ Some w)
 
+-- the wait of u, once there is this one more
+abbrev pub wait_with : Waiting → Wait → ℕ → Option Wait
+wait_with s w u = if nat_eq w.txn u then Some w else wait_of s u
+
 -- one waits that did not, and all others as before
 pub record HasJoined (old new : Waiting) (w : Wait) : Type 0 where
-  pub waits : (u : ℕ) → wait_of new u ≡ (if nat_eq w.txn u then Some w else wait_of old u)
+  pub waits : (u : ℕ) → wait_of new u ≡ wait_with old w u
   pub len : length new.waits ≡ length old.waits + 1
 
 -- the wait at this place is gone, and the last stands there

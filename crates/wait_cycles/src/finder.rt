@@ -2,7 +2,7 @@
 ghost use Rattle.std.specs.Prelude.{◌≡◌, ◌≤◌, ℕ, List, IsTrue, IsFalse, IsOk, IfOk, IfSome, IfNone, OnOk, length, slice_get, vec_capacity, Some};
 ghost use Rattle.wait_cycles.specs.Cycles.{IsCycle, IsLastCycle, IsLastOn, Pairs, is_member};
 ghost use Rattle.wait_cycles.specs.Trails.{AreBackward, IsFound, IsLastReached, nodes};
-ghost use Rattle.wait_cycles.specs.Sorted.{AreRising, AreSorted, IsAwaited, IsNoGreatest};
+ghost use Rattle.wait_cycles.specs.inner.Sorted.{AreRising, AreSorted, IsAwaited, IsNoGreatest};
 ghost use Rattle.wait_cycles.specs.Room.{room_of};
 
 use crate::cycle::Cycle;

@@ -1,7 +1,7 @@
 //! The pairs by their first, and the numbers at which a search starts.
 ghost use Rattle.std.specs.Prelude.{◌≡◌, ◌+◌, ◌^◌, ◌≤◌, ◌<◌, ◌≢◌, ℕ, nat_le, IsTrue, IfSome, IfNone, length, slice_get, vec_capacity, Some};
 ghost use Rattle.wait_cycles.specs.Cycles.{is_member, waits_in};
-ghost use Rattle.wait_cycles.specs.Sorted.{AreRising, AreSorted, ArePartedAt, IsAwaited};
+ghost use Rattle.wait_cycles.specs.inner.Sorted.{AreRising, AreSorted, ArePartedAt, IsAwaited};
 
 use txn_tree::TxnNo;
 

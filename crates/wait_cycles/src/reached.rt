@@ -1,8 +1,8 @@
 //! Who is reached from a start, going from each to those that it waits for.
-ghost use Rattle.std.specs.Prelude.{◌≡◌, ◌≤◌, ◌+◌, ◌&&◌, not, ℕ, nat_eq, nat_le, length};
+ghost use Rattle.std.specs.Prelude.{◌≡◌, ◌≤◌, ◌+◌, ◌&&◌, not, nat_eq, nat_le, length};
 ghost use Rattle.std.specs.List.{list_any};
-ghost use Rattle.wait_cycles.specs.Sorted.{AreSorted, up_to};
-ghost use Rattle.wait_cycles.specs.Trails.{Covers, IsAt, IsFound, IsLonger, IsTrail, nodes, open_pairs};
+ghost use Rattle.wait_cycles.specs.inner.Sorted.{AreSorted, up_to};
+ghost use Rattle.wait_cycles.specs.Trails.{Covers, IsLonger, IsTrail, open_pairs, KeepsFound};
 
 use crate::order::{first_place, waited_for};
 use crate::trail::{Reached, Trail};
@@ -28,9 +28,8 @@ fn reach_from(
     requires sorted { AreSorted sorted.now }
     requires room { open_pairs
         (up_to sorted.now start) trail.old.reached + length trail.old.reached ≤ trail.old.capacity }
-    ensures found { (first : ℕ) → IsFound (up_to sorted.now start) first trail.old.reached
-        → IsAt first (nodes trail.old.reached) (length trail.old.reached) from txn →
-        IsFound (up_to sorted.now start) first trail.new.reached }
+    ensures found { KeepsFound (up_to sorted.now start)
+        trail.old.reached trail.new.reached from txn }
     ensures longer { IsLonger (up_to sorted.now start) trail.old.reached trail.new.reached }
     ensures covers { Covers (up_to sorted.now start) trail.new.reached txn }
     ensures capacity { trail.old.capacity ≤ trail.new.capacity }

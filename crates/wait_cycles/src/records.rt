@@ -2,7 +2,7 @@
 ghost use Rattle.std.specs.Prelude.{◌≡◌, ◌≢◌, ◌+◌, ◌<◌, ◌≤◌, ◌∷◌, ◌++◌, [], ℕ, length, slice_get, slice_set, IsOk, IfNone, IfSome, OnErr, OnOk, None, Some, vec_capacity};
 ghost use Rattle.std.specs.Option.{option_copied};
 ghost use Rattle.slab.specs.Slab.{ContainsKey, get, slab_len};
-ghost use Rattle.wait_cycles.specs.Stored.{AreInTable};
+ghost use Rattle.wait_cycles.specs.Stored.{AreInTable, IsRecord};
 ghost use Rattle.wait_cycles.specs.Waiting.{AreOnce, IsTaken, wait_of};
 
 use crate::waits::Wait;
@@ -116,8 +116,7 @@ fn put_key(table: &mut Vec<Option<usize>>, txn: TxnNo, key: Option<usize>)
 // Gives the record under the key another place.
 fn move_to(slab: &mut Slab<Record>, key: usize, place: usize)
     requires { ContainsKey slab.old key }
-    ensures moved { (w : Wait) (p : ℕ) → get slab.old key ≡ Some (record { wait = w; place = p }) →
-        get slab.new key ≡ Some (record { wait = w; place = place }) }
+    ensures moved { (w : Wait) (p : ℕ) → IsRecord slab.old key w p → IsRecord slab.new key w place }
     ensures others { (other : ℕ) → other ≢ key → get slab.new other ≡ get slab.old other }
     ensures len { slab_len slab.new ≡ slab_len slab.old }
     ensures capacity { slab.new.capacity ≡ slab.old.capacity }
@@ -130,9 +129,8 @@ fn move_to(slab: &mut Slab<Record>, key: usize, place: usize)
 // Gives the record of the key at this place, if there are so many, this place.
 fn settle(slab: &mut Slab<Record>, keys: &[usize], place: usize)
     requires { IfSome (slice_get keys.now place) (ContainsKey slab.old) }
-    ensures moved { (k : ℕ) (w : Wait) (p : ℕ) → slice_get keys.now place ≡ Some k →
-        get slab.old k ≡ Some (record { wait = w; place = p }) →
-        get slab.new k ≡ Some (record { wait = w; place = place }) }
+    ensures moved { (k : ℕ) (w : Wait) (p : ℕ) → slice_get keys.now place ≡ Some k
+        → IsRecord slab.old k w p → IsRecord slab.new k w place }
     ensures others { (k : ℕ) → slice_get keys.now place ≢ Some k → get slab.new k ≡ get slab.old k }
     ensures len { slab_len slab.new ≡ slab_len slab.old }
     ensures capacity { slab.new.capacity ≡ slab.old.capacity }

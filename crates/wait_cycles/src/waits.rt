@@ -2,7 +2,7 @@
 ghost use Rattle.std.specs.Prelude.{◌≡◌, ◌+◌, ◌<◌, ◌≤◌, [], ℕ, nat_eq, not, filter, length, slice_get, if◌then◌else◌, IsOk, IsSome, IsTrue, IfNone, IfSome, OnOk, OnErr, None, Some};
 ghost use Rattle.std.specs.Option.{option_copied};
 ghost use Rattle.serial_spec.specs.declared.target.Asked.TheVariants.{At, Over};
-ghost use Rattle.wait_cycles.specs.Waiting.{AreOnce, HasJoined, StandsAt, is_under, is_under_in, wait_of};
+ghost use Rattle.wait_cycles.specs.Waiting.{AreOnce, HasJoined, StandsAt, is_under, is_under_in, wait_of, wait_with};
 
 use crate::records::Records;
 use serial_spec::{Asked, By, NoMemory, Op};
@@ -159,8 +159,8 @@ impl Waits {
     pub fn add_reserved(&mut self, txn: TxnNo, asked: &Asked, by: By)
         requires none { wait_of self.old txn ≡ None }
         requires room { 0 < self.old.room }
-        ensures wait { (u : ℕ) → wait_of self.new u ≡ (if nat_eq txn u
-            then Some (record { txn = txn; asked = asked.now; by = by }) else wait_of self.old u) }
+        ensures wait { (u : ℕ) → wait_of self.new u
+            ≡ wait_with self.old (record { txn = txn; asked = asked.now; by = by }) u }
         ensures len { length self.new.waits ≡ length self.old.waits + 1 }
         ensures room { self.old.room ≡ self.new.room + 1 }
     {

@@ -1,6 +1,6 @@
 -- The edges of the graph of waits: which of those that wait wait for which, by the numbers of
 -- transactions.
-use Rattle.std.specs.Prelude.{◌≡◌, ◌↔◌, ℕ, Bool, false, IsFalse, IsTrue, nat_eq, nat_lt, ◌&&◌, List, [], ◌∷◌, ◌++◌, map, filter, slice_get, Option, Some}
+use Rattle.std.specs.Prelude.{◌≡◌, ◌↔◌, ℕ, Bool, false, IsFalse, IsTrue, nat_eq, nat_lt, ◌&&◌, List, [], ◌∷◌, ◌++◌, map, filter, slice_get, Option, Some, is_some}
 use Rattle.std.specs.List.{list_any}
 use Rattle.txn_names.specs.Path.{Path, meet}
 use Rattle.txn_tree.specs.States.{States, names}
@@ -11,6 +11,7 @@ use Rattle.serial_spec.specs.declared.target.Asked.{Asked}
 use Rattle.serial_spec.specs.declared.target.Target.{Target}
 use Rattle.serial_spec.specs.Targets.{meets, target}
 use Rattle.wait_cycles.specs.Cycles.{Pairs, waits_in}
+use Rattle.wait_cycles.specs.Waiting.{Waiting, wait_of}
 use Rattle.wait_cycles.specs.declared.waits.Wait.{Wait}
 
 -- Whether by its locks the third keeps the first from what it asks, by their numbers: a test that
@@ -74,19 +75,40 @@ edges_of tree keeps [] others = []
 edges_of tree keeps (w ∷ ws) others = edges_from tree keeps others w
     ++ edges_of tree keeps ws others
 
+-- this holds of the edges of this one, by each test that tells by these locks
+abbrev pub OfEdgesFrom : States → Targeted → List Wait → Wait → (Pairs → Type 0) → Type 0
+OfEdgesFrom tree locks others w P = ByLocks tree locks (λ keeps. P (edges_from tree keeps others w))
+
 -- all edges: the pairs of those that wait of which the first waits for the second
 abbrev pub edges_among : States → Keeps → List Wait → Pairs
 edges_among tree keeps ws = edges_of tree keeps ws ws
+
+-- this holds of all edges, by each test that tells by these locks
+abbrev pub OfEdges : States → Targeted → List Wait → (Pairs → Type 0) → Type 0
+OfEdges tree locks waits P = ByLocks tree locks (λ keeps. P (edges_among tree keeps waits))
+
+-- whether b waits and keeps this access from being answered: an edge to b, where b is alone in its
+-- branch
+abbrev pub is_edge_to : States → Keeps → Waiting → Wait → ℕ → Bool
+is_edge_to tree keeps s w b = is_some (wait_of s b) && is_held_up tree keeps w b b
 
 -- whether it is in the branch by which b parts from t
 abbrev pub is_beside_it : States → ℕ → ℕ → Wait → Bool
 is_beside_it tree t b v = is_in_branch tree t b v.txn
 
--- whether it waits for what has a key in common with this, t keeps it from being answered, and one
--- that waits is in the branch of t
+-- whether t keeps it from being answered, and one that waits is in the branch of t
+abbrev pub is_held_by_way_of : States → Keeps → List Wait → ℕ → Wait → Bool
+is_held_by_way_of tree keeps others t w =
+    keeps w.txn w.asked t && list_any (is_beside_it tree w.txn t) others
+
+-- the same of one that waits for what has a key in common with this
 abbrev pub waits_by_way_of : States → Keeps → List Wait → ℕ → Target → Wait → Bool
-waits_by_way_of tree keeps others t s w = meets s (target w.asked)
-    && (keeps w.txn w.asked t && list_any (is_beside_it tree w.txn t) others)
+waits_by_way_of tree keeps others t s w =
+    meets s (target w.asked) && is_held_by_way_of tree keeps others t w
+
+-- this holds of the test who waits by way of t, by each test that tells by these locks
+abbrev pub OfWays : States → Targeted → List Wait → ℕ → Target → ((Wait → Bool) → Type 0) → Type 0
+OfWays tree locks waits t s P = ByLocks tree locks (λ keeps. P (waits_by_way_of tree keeps waits t s))
 
 -- nobody waits, for whatever and by whichever locks, for another by way of t
 abbrev pub IsNobodysWay : States → List Wait → ℕ → Type 0

@@ -1,5 +1,6 @@
 -- The walk from one that waits to those for whom it waits, and on from each of them.
-use Rattle.std.specs.Prelude.{◌≡◌, ◌≤◌, ◌⊎◌, ℕ, Bool, false, not, IsTrue, List, slice_get, slice_index_or, Some, count_by}
+use Rattle.std.specs.Prelude.{◌≡◌, ◌≤◌, ◌⊎◌, ◌+◌, ◌*◌, ℕ, Bool, false, not, IsTrue, List, length, slice_get, slice_index_or, Some, count_by, vec_len}
+use Rattle.std.specs.Global.{Vec}
 use Rattle.wait_cycles.specs.Cycles.{Pairs, IsCycle, is_member, waits_in}
 use Rattle.wait_cycles.specs.declared.waits.Wait.{Wait}
 
@@ -37,6 +38,17 @@ AreGoneOn all waits marks listed =
     (place : ℕ) (w : Wait) → IsTrue (slice_index_or marks place false)
     → slice_get waits place ≡ Some w → AreListed all listed w.txn
 
+-- where it was so before with each that was marked, it is so with each that is, and with this one
+abbrev pub GoesOnFrom : List Wait → ℕ → Vec Bool → Vec (ℕ × ℕ) → Vec Bool → Vec (ℕ × ℕ) → Pairs
+    → Type 0
+GoesOnFrom waits a marks listed new_marks new_listed all =
+    AreGoneOn all waits marks.items listed.items
+    → AreGoneOn all waits new_marks.items new_listed.items × AreListed all new_listed.items a
+
 -- how many places are not marked
 abbrev pub unmarked : List Bool → ℕ
 unmarked marks = count_by not marks
+
+-- how many pairs there may be once each place is marked
+abbrev pub most_listed : Vec (ℕ × ℕ) → Vec Bool → List Wait → ℕ
+most_listed listed marks waits = vec_len listed + unmarked marks.items * length waits

@@ -2,8 +2,7 @@
 ghost use Rattle.std.specs.Prelude.{◌≡◌, ◌≤◌, ◌+◌, ◌*◌, ◌&&◌, ◌++◌, is_some, length, vec_len, vec_capacity, IfSome, IsTrue};
 ghost use Rattle.std.specs.List.{list_any};
 ghost use Rattle.txn_tree.specs.States.{States};
-ghost use Rattle.wait_cycles.specs.Waiting.{wait_of};
-ghost use Rattle.wait_graph.specs.Edges.{AreAlike, AreLockers, AreOwnBranches, ByLocks, edges_among, edges_from, is_held_up, waits_for_in};
+ghost use Rattle.wait_graph.specs.Edges.{AreAlike, AreLockers, AreOwnBranches, ByLocks, is_held_up, waits_for_in, OfEdges, OfEdgesFrom, is_edge_to};
 ghost use Rattle.wait_graph.specs.Walks.{IsLonger};
 
 use crate::branch::{are_alone_in_branches, are_known_alone, is_in_branch, is_lone_top};
@@ -135,8 +134,8 @@ fn add_edges_to_waiting(
     edges: &mut Vec<(TxnNo, TxnNo)>,
 )
     requires room { vec_len edges.old + length waits.now.waits ≤ vec_capacity edges.old }
-    ensures edges { ByLocks tree.now locks.now (λ keeps.
-        edges.new.items ≡ edges.old.items ++ edges_from tree.now keeps waits.now.waits wait.now) }
+    ensures edges { OfEdgesFrom tree.now locks.now waits.now.waits wait.now
+        (λ more. edges.new.items ≡ edges.old.items ++ more) }
     ensures longer { IsLonger edges.old.items edges.new.items }
     ensures len { vec_len edges.new ≤ vec_len edges.old + length waits.now.waits }
     ensures capacity { vec_capacity edges.old ≤ vec_capacity edges.new }
@@ -162,8 +161,7 @@ fn is_edge_to_blocker(
     blocker: TxnNo,
 ) -> bool
     ensures { ByLocks tree.now locks.now (λ keeps.
-        result ≡ (is_some (wait_of waits.now blocker)
-        && is_held_up tree.now keeps wait.now blocker blocker)) }
+        result ≡ is_edge_to tree.now keeps waits.now wait.now blocker) }
 {
     // Whether it waits is asked first: few do, and a look at the locks costs more.
     waits.of(blocker).is_some() && has_edge_by(tree, locks, wait, blocker, blocker)
@@ -182,9 +180,8 @@ fn add_edges_to_blockers(
     requires all { AreLockers tree.now locks.now wait.now blockers.now }
     requires alone { AreOwnBranches tree.now wait.now.txn blockers.now }
     requires room { vec_len edges.old + length blockers.now ≤ vec_capacity edges.old }
-    ensures edges { ByLocks tree.now locks.now (λ keeps.
-        AreAlike edges.new.items (edges.old.items
-        ++ edges_from tree.now keeps waits.now.waits wait.now)) }
+    ensures edges { OfEdgesFrom tree.now locks.now waits.now.waits wait.now
+        (λ more. AreAlike edges.new.items (edges.old.items ++ more)) }
     ensures longer { IsLonger edges.old.items edges.new.items }
     ensures len { vec_len edges.new ≤ vec_len edges.old + length blockers.now }
     ensures capacity { vec_capacity edges.old ≤ vec_capacity edges.new }
@@ -206,9 +203,8 @@ pub(crate) fn add_edges_from(
     edges: &mut Vec<(TxnNo, TxnNo)>,
 )
     requires room { vec_len edges.old + length waits.now.waits ≤ vec_capacity edges.old }
-    ensures edges { ByLocks tree.now locks.now (λ keeps.
-        AreAlike edges.new.items (edges.old.items
-        ++ edges_from tree.now keeps waits.now.waits wait.now)) }
+    ensures edges { OfEdgesFrom tree.now locks.now waits.now.waits wait.now
+        (λ more. AreAlike edges.new.items (edges.old.items ++ more)) }
     ensures longer { IsLonger edges.old.items edges.new.items }
     ensures len { vec_len edges.new ≤ vec_len edges.old + length waits.now.waits }
     ensures capacity { vec_capacity edges.old ≤ vec_capacity edges.new }
@@ -232,8 +228,7 @@ pub(crate) fn collect_edges(
     edges: &mut Vec<(TxnNo, TxnNo)>,
 )
     requires room { length waits.now.waits * length waits.now.waits ≤ vec_capacity edges.old }
-    ensures edges { ByLocks tree.now locks.now (λ keeps.
-        AreAlike edges.new.items (edges_among tree.now keeps waits.now.waits)) }
+    ensures edges { OfEdges tree.now locks.now waits.now.waits (AreAlike edges.new.items) }
     ensures len { vec_len edges.new ≤ length waits.now.waits * length waits.now.waits }
     ensures capacity { vec_capacity edges.old ≤ vec_capacity edges.new }
 {

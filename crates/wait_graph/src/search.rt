@@ -1,7 +1,7 @@
 //! The search for cycles of waits and for a victim on one, in room that was made before.
 ghost use Rattle.std.specs.Prelude.{◌≡◌, ◌≤◌, ◌*◌, ℕ, List, length, IfNone, IfSome, IsFalse, IsOk, OnOk};
 ghost use Rattle.wait_cycles.specs.Cycles.{IsCycle, IsLastOn};
-ghost use Rattle.wait_graph.specs.Edges.{ByLocks, edges_among};
+ghost use Rattle.wait_graph.specs.Edges.{OfEdges};
 ghost use Rattle.wait_graph.specs.Walks.{IsLastThrough, IsOnNoCycle};
 
 use crate::edges::collect_edges;
@@ -93,10 +93,10 @@ impl CycleSearch {
         txn: TxnNo,
     ) -> Option<TxnNo>
         requires { length waits.now.waits * length waits.now.waits ≤ self.old }
-        ensures some { IfSome result (λ last. ByLocks tree.now locks.now (λ keeps.
-            IsLastThrough (edges_among tree.now keeps waits.now.waits) txn last)) }
-        ensures none { IfNone result (ByLocks tree.now locks.now (λ keeps.
-            IsOnNoCycle (edges_among tree.now keeps waits.now.waits) txn)) }
+        ensures some { IfSome result (λ last.
+            OfEdges tree.now locks.now waits.now.waits (λ all. IsLastThrough all txn last)) }
+        ensures none { IfNone result
+            (OfEdges tree.now locks.now waits.now.waits (λ all. IsOnNoCycle all txn)) }
         ensures room { self.old ≤ self.new }
     {
         if !collect_way(tree, locks, waits, txn, &mut self.marks, &mut self.edges) {
@@ -109,10 +109,9 @@ impl CycleSearch {
     pub fn victim(&mut self, tree: &Tree, locks: &TargetLocks, waits: &Waits) -> Option<TxnNo>
         requires { length waits.now.waits * length waits.now.waits ≤ self.old }
         ensures some { IfSome result (λ txn.
-            ByLocks tree.now locks.now (λ keeps.
-            IsLastOn (edges_among tree.now keeps waits.now.waits) txn)) }
-        ensures none { IfNone result (ByLocks tree.now locks.now (λ keeps.
-            (xs : List ℕ) → IsCycle (edges_among tree.now keeps waits.now.waits) xs → ⊥)) }
+            OfEdges tree.now locks.now waits.now.waits (λ all. IsLastOn all txn)) }
+        ensures none { IfNone result (OfEdges tree.now locks.now waits.now.waits
+            (λ all. (xs : List ℕ) → IsCycle all xs → ⊥)) }
         ensures room { self.old ≤ self.new }
     {
         collect_edges(tree, locks, waits, &mut self.edges);

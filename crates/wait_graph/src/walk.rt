@@ -1,8 +1,8 @@
 //! The walk from one that waits to those for whom it waits, and on from each of them: its edges,
 //! and whether it comes back.
 ghost use Rattle.std.specs.Prelude.{◌≡◌, ◌≤◌, ◌+◌, ◌*◌, ◌||◌, nat_eq, ℕ, false, IsFalse, length, slice_index_or, vec_len, vec_capacity};
-ghost use Rattle.wait_graph.specs.Edges.{ByLocks, edges_among};
-ghost use Rattle.wait_graph.specs.Walks.{AreGoneOn, AreListed, HasMoreOf, IsLonger, IsOnNoCycle, IsWayOf, unmarked};
+ghost use Rattle.wait_graph.specs.Edges.{OfEdges};
+ghost use Rattle.wait_graph.specs.Walks.{HasMoreOf, IsLonger, IsOnNoCycle, IsWayOf, GoesOnFrom, most_listed};
 
 use crate::edges::add_edges_from;
 use lock_table::TargetLocks;
@@ -33,23 +33,16 @@ fn go_on_from(
     edges: &mut Vec<(TxnNo, TxnNo)>,
 )
     requires marks { length marks.old.items ≡ length waits.now.waits }
-    requires room { vec_len edges.old + unmarked marks.old.items * length waits.now.waits
-        ≤ vec_capacity edges.old }
-    ensures gone_on { ByLocks tree.now locks.now (λ keeps.
-        AreGoneOn
-        (edges_among tree.now keeps waits.now.waits) waits.now.waits marks.old.items
-        edges.old.items
-        → AreGoneOn
-        (edges_among tree.now keeps waits.now.waits) waits.now.waits marks.new.items
-        edges.new.items
-        × AreListed (edges_among tree.now keeps waits.now.waits) edges.new.items txn) }
-    ensures among { ByLocks tree.now locks.now (λ keeps.
-        HasMoreOf (edges_among tree.now keeps waits.now.waits) edges.old.items edges.new.items) }
+    requires room { most_listed edges.old marks.old waits.now.waits ≤ vec_capacity edges.old }
+    ensures gone_on { OfEdges tree.now locks.now waits.now.waits
+        (GoesOnFrom waits.now.waits txn marks.old edges.old marks.new edges.new) }
+    ensures among { OfEdges tree.now locks.now waits.now.waits
+        (λ all. HasMoreOf all edges.old.items edges.new.items) }
     ensures longer { IsLonger edges.old.items edges.new.items }
     ensures marks { length marks.new.items ≡ length marks.old.items }
     ensures marks_capacity { vec_capacity marks.old ≤ vec_capacity marks.new }
-    ensures len { vec_len edges.new + unmarked marks.new.items * length waits.now.waits
-        ≤ vec_len edges.old + unmarked marks.old.items * length waits.now.waits }
+    ensures len { most_listed edges.new marks.new waits.now.waits
+        ≤ most_listed edges.old marks.old waits.now.waits }
     ensures capacity { vec_capacity edges.old ≤ vec_capacity edges.new }
 {
     waits.has_each_once();
@@ -85,10 +78,10 @@ pub(crate) fn collect_way(
 ) -> bool
     requires marks { length waits.now.waits ≤ vec_capacity marks.old }
     requires room { length waits.now.waits * length waits.now.waits ≤ vec_capacity edges.old }
-    ensures none { IsFalse result → ByLocks tree.now locks.now (λ keeps.
-        IsOnNoCycle (edges_among tree.now keeps waits.now.waits) txn) }
-    ensures way { ByLocks tree.now locks.now (λ keeps.
-        IsWayOf (edges_among tree.now keeps waits.now.waits) edges.new.items txn) }
+    ensures none { IsFalse result → OfEdges tree.now locks.now waits.now.waits
+        (λ all. IsOnNoCycle all txn) }
+    ensures way { OfEdges tree.now locks.now waits.now.waits
+        (λ all. IsWayOf all edges.new.items txn) }
     ensures len { vec_len edges.new ≤ length waits.now.waits * length waits.now.waits }
     ensures marks_capacity { vec_capacity marks.old ≤ vec_capacity marks.new }
     ensures capacity { vec_capacity edges.old ≤ vec_capacity edges.new }

@@ -4,7 +4,7 @@ ghost use Rattle.std.specs.Prelude.{◌≡◌, ◌&&◌, slice_get, IsTrue};
 ghost use Rattle.std.specs.List.{list_any};
 ghost use Rattle.serial_spec.specs.Targets.{target};
 ghost use Rattle.wait_cycles.specs.Waiting.{AreOnce};
-ghost use Rattle.wait_graph.specs.Edges.{ByLocks, IsNobodysWay, is_beside_it, passes, waits_by_way_of};
+ghost use Rattle.wait_graph.specs.Edges.{ByLocks, IsNobodysWay, is_beside_it, passes, OfWays, is_held_by_way_of};
 
 use crate::branch::{is_in_branch, is_lone_top};
 use lock_table::TargetLocks;
@@ -48,8 +48,7 @@ fn has_edge_by_way_of(
     wait: &Wait,
 ) -> bool
     ensures { ByLocks tree.now locks.now (λ keeps.
-        result ≡ (keeps wait.now.txn wait.now.asked txn
-        && list_any (is_beside_it tree.now wait.now.txn txn) waits.now.waits)) }
+        result ≡ is_held_by_way_of tree.now keeps waits.now.waits txn wait.now) }
 {
     locks.blocks_asked(tree, txn, wait.txn, &wait.asked)
         && any_waits_in_branch(tree, waits, wait.txn, txn)
@@ -65,9 +64,8 @@ fn has_edge_by_way_of_at(
     target: &Target,
     place: usize,
 ) -> bool
-    ensures { ByLocks tree.now locks.now (λ keeps.
-        result ≡ passes (waits_by_way_of tree.now keeps waits.now.waits txn target.now)
-        (slice_get waits.now.waits place)) }
+    ensures { OfWays tree.now locks.now waits.now.waits txn target.now
+        (λ is_one. result ≡ passes is_one (slice_get waits.now.waits place)) }
 {
     match waits.at(place) {
         Some(wait) => {
@@ -96,9 +94,8 @@ pub fn any_edge_by_way_of(
     txn: TxnNo,
     target: &Target,
 ) -> bool
-    ensures result { ByLocks tree.now locks.now (λ keeps.
-        result ≡ list_any
-        (waits_by_way_of tree.now keeps waits.now.waits txn target.now) waits.now.waits) }
+    ensures result { OfWays tree.now locks.now waits.now.waits txn target.now
+        (λ is_one. result ≡ list_any is_one waits.now.waits) }
     ensures once { AreOnce waits.now }
 {
     if is_way_of_none(tree, waits, txn) {

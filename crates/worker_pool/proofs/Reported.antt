@@ -16,7 +16,7 @@ use Rattle.interleavings.specs.declared.served.ServeFault.{ServeFault}
 use Rattle.interleavings.specs.declared.served.ServeFault.TheVariants.{NoMemory, Open, Thread}
 use Rattle.interleavings.specs.Served.{HasServeCause, IsServed, IsServedFrom, IsUnservedFrom}
 use Rattle.worker_pool.specs.Openings.{HasGoneOn, IsKept}
-use Rattle.worker_pool.specs.Working.{IsAfterOpening, IsOfWork}
+use Rattle.worker_pool.specs.inner.Working.{IsAfterOpening, IsOfWork}
 
 no_thread : {P : Type 0} → NoMemory ≡ Thread → P
 no_thread h = cc

@@ -1,4 +1,3 @@
 pub mod Jobs
 pub mod Openings
-pub mod Trying
-pub mod Working
+pub mod inner

@@ -7,8 +7,8 @@ ghost use Rattle.interleavings.specs.Turning.{IsClosed, Unstuck, next_number};
 ghost use Rattle.shared_book.specs.Attempting.{Attempted};
 ghost use Rattle.worker_pool.specs.Jobs.{IsNextJob};
 ghost use Rattle.worker_pool.specs.Openings.{IsAsOpened};
-ghost use Rattle.worker_pool.specs.Trying.{LooksForStuck, Tries};
-ghost use Rattle.worker_pool.specs.Working.{IsOfWork};
+ghost use Rattle.worker_pool.specs.inner.Trying.{LooksForStuck, Tries};
+ghost use Rattle.worker_pool.specs.inner.Working.{IsOfWork};
 
 use durable_top::TopStore;
 use interleavings::{Report, ServeFault, Turn};

@@ -2,7 +2,7 @@
 ghost use Rattle.std.specs.Prelude.{◌≡◌, ◌<◌, ◌≤◌, IfErr, IfOk, IfSome, IsErrOf};
 ghost use Rattle.interleavings.specs.Served.{HasServeCause, IsServed, IsServedFrom, IsUnservedFrom};
 ghost use Rattle.worker_pool.specs.Openings.{IsAsOpened};
-ghost use Rattle.worker_pool.specs.Working.{IsAfterOpening};
+ghost use Rattle.worker_pool.specs.inner.Working.{IsAfterOpening};
 
 use crate::desk::{Desk, Opening};
 use crate::workers::{Gate, MOST_WORKERS, count_of, work_through};

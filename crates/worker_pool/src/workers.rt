@@ -4,7 +4,7 @@ ghost use Rattle.crossbeam_channel.specs.Claims.{IsSeatAt};
 ghost use Rattle.crossbeam_channel.specs.Ends.{sends_on};
 ghost use Rattle.serial_spec.specs.declared.limits.TheConstants.{MOST_SESSIONS};
 ghost use Rattle.worker_pool.specs.Jobs.{IsJob, IsNextJob};
-ghost use Rattle.worker_pool.specs.Working.{IsAfterOpening};
+ghost use Rattle.worker_pool.specs.inner.Working.{IsAfterOpening};
 
 use crate::desk::{Desk, Opening, Tried};
 use crate::jobs::{Channel, Job, Lanes};

@@ -1,5 +1,5 @@
 use Rattle.std.proofs.Common.{◌≡◌, ◌≤◌, length}
-use Rattle.report_tables.specs.Compared.{compared_from}
+use Rattle.report_tables.specs.inner.Compared.{compared_from}
 use Rattle.report_tables.proofs.comparing.compare.Given as goal
 
 abbrev pub invariant-loop-number : goal.invariant-loop-number

@@ -1,5 +1,5 @@
 use Rattle.std.proofs.Common.{sym, subst}
-use Rattle.report_tables.specs.Compared.{Advances}
+use Rattle.report_tables.specs.inner.Compared.{Advances}
 use Rattle.report_tables.proofs.Matching.{advances}
 use Rattle.report_tables.proofs.comparing.next_place.Goals as goal
 

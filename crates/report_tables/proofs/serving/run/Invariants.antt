@@ -2,7 +2,7 @@ use Rattle.std.proofs.Common.{◌≡◌, ℕ, List, Option, None}
 use Rattle.std.specs.Map.{keys_of}
 use Rattle.report_check.specs.Serving.{PlacedAccess}
 use Rattle.report_tables.specs.Chained.{Leads, known_by}
-use Rattle.report_tables.specs.Tallied.{AreTallied}
+use Rattle.report_tables.specs.inner.Tallied.{AreTallied}
 use Rattle.report_tables.proofs.Running.{IsUnderWay}
 use Rattle.report_tables.proofs.serving.run.Given as goal
 

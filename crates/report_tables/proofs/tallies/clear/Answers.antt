@@ -1,7 +1,7 @@
 use Rattle.std.proofs.Common.{◌≡◌, ◌≤◌, ◌+◌, List, ℕ, length, pos, arith, sym, ap, ◌∙◌, subst}
 use Rattle.std.specs.Map.{keys_of}
 use Rattle.std.proofs.lemmas.Map.Entries.{length-keys_of}
-use Rattle.report_tables.specs.Tallied.{Sums}
+use Rattle.report_tables.specs.inner.Tallied.{Sums}
 use Rattle.report_tables.proofs.Counting.{Cleared, clear_last, clear_more}
 use Rattle.report_tables.proofs.Speaking.{keys_set}
 use Rattle.report_tables.proofs.tallies.clear.Goals as goal

@@ -1,7 +1,7 @@
 use Rattle.std.proofs.Common.{◌<◌, ◌≤◌, ◌+◌, ◌^◌, length, arith, sym, ap, ◌∙◌, subst}
 use Rattle.std.specs.Map.{keys_of}
 use Rattle.serial_spec.specs.Operations.{amount}
-use Rattle.report_tables.specs.Tallied.{AreNamed, Sums, by_key}
+use Rattle.report_tables.specs.inner.Tallied.{AreNamed, Sums, by_key}
 use Rattle.report_tables.specs.Valued.{Values}
 use Rattle.report_tables.proofs.Counting.{Counted, count_last, count_more, count_room, fine_more}
 use Rattle.report_tables.proofs.Summing.{entry_within}

@@ -1,7 +1,7 @@
 use Rattle.std.proofs.Common.{◌≡◌, take}
 use Rattle.std.specs.List.{AllByRecursion}
 use Rattle.std.specs.Map.{keys_of}
-use Rattle.report_tables.specs.Tallied.{AreNamed, IsFine}
+use Rattle.report_tables.specs.inner.Tallied.{AreNamed, IsFine}
 use Rattle.report_tables.proofs.Counting.{Counted}
 use Rattle.report_tables.proofs.tallies.count.Given as goal
 

@@ -3,7 +3,7 @@ use Rattle.std.specs.Int.{w128}
 use Rattle.std.proofs.lemmas.Int.{ints, to_z-of_z}
 use Rattle.txn_names.specs.Groups.{has}
 use Rattle.serial_spec.specs.Operations.{amount}
-use Rattle.report_tables.specs.Tallied.{HaveRoom}
+use Rattle.report_tables.specs.inner.Tallied.{HaveRoom}
 use Rattle.report_tables.proofs.tallies.count_at.Goals as goal
 
 pub raise_all-requires-clause-room : goal.raise_all-requires-clause-room

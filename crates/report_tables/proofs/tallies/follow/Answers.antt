@@ -3,7 +3,7 @@ use Rattle.std.specs.Int.{w128}
 use Rattle.std.specs.Map.{keys_of}
 use Rattle.std.proofs.lemmas.Int.{to_z-of_z}
 use Rattle.indexmap.specs.IndexMap.{set_value_at}
-use Rattle.report_tables.specs.Tallied.{AreTallied, Sums, by_key}
+use Rattle.report_tables.specs.inner.Tallied.{AreTallied, Sums, by_key}
 use Rattle.report_tables.specs.Valued.{Values}
 use Rattle.report_tables.proofs.Counting.{set_past, set_room, tallied_set}
 use Rattle.report_tables.proofs.Tallying.{keys_raised}

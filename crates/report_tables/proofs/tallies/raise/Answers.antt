@@ -6,7 +6,7 @@ use Rattle.std.specs.Option.{option_copied_mut}
 use Rattle.indexmap.specs.IndexMap.{set_value_at}
 use Rattle.txn_names.specs.Path.{label_eq}
 use Rattle.txn_names.proofs.Exports.{label_eq_self}
-use Rattle.report_tables.specs.Tallied.{Sums}
+use Rattle.report_tables.specs.inner.Tallied.{Sums}
 use Rattle.report_tables.proofs.Numbered.{at_position, nothing}
 use Rattle.report_tables.proofs.Tallying.{added, fits_added, raised_at, raised_nowhere, room_at}
 use Rattle.report_tables.proofs.tallies.raise.Goals as goal

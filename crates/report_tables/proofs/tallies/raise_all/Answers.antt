@@ -4,7 +4,7 @@ use Rattle.std.proofs.lemmas.Bool.{false≢true}
 use Rattle.std.proofs.lemmas.Int.{to_z-of_z}
 use Rattle.txn_names.specs.Path.{label_eq}
 use Rattle.txn_names.specs.Groups.{has}
-use Rattle.report_tables.specs.Tallied.{HaveRoom, Sums, at_group, by_key, raised}
+use Rattle.report_tables.specs.inner.Tallied.{HaveRoom, Sums, at_group, by_key, raised}
 use Rattle.report_tables.proofs.Tallying.{room_more, upto_first, upto_last, upto_more, upto_none}
 use Rattle.report_tables.proofs.tallies.raise_all.Goals as goal
 use Rattle.report_tables.proofs.tallies.raise_all.Goals.{in-Some, in_default}

@@ -1,5 +1,5 @@
 use Rattle.std.proofs.Common.{◌≡◌, ◌<◌}
-use Rattle.report_tables.specs.Tallied.{raised}
+use Rattle.report_tables.specs.inner.Tallied.{raised}
 use Rattle.report_tables.proofs.Tallying.{upto}
 use Rattle.report_tables.proofs.tallies.raise_all.Given as goal
 

@@ -1,6 +1,6 @@
 use Rattle.std.proofs.Common.{sym, ap, ◌∙◌, subst}
 use Rattle.std.specs.Option.{option_copied_mut}
-use Rattle.report_tables.specs.Tallied.{AreTallied}
+use Rattle.report_tables.specs.inner.Tallied.{AreTallied}
 use Rattle.report_tables.specs.Valued.{Values}
 use Rattle.report_tables.proofs.Counting.{set_valueless}
 use Rattle.report_tables.proofs.tallies.set_value.Goals as goal

@@ -1,6 +1,6 @@
 use Rattle.std.proofs.Common.{sym, ◌∙◌, true≢false}
 use Rattle.wait_cycles.specs.declared.trail.Reached.{Reached}
-use Rattle.wait_cycles.specs.Sorted.{up_to}
+use Rattle.wait_cycles.specs.inner.Sorted.{up_to}
 use Rattle.wait_cycles.proofs.Lists.{any-map}
 use Rattle.wait_cycles.proofs.Closed.{reaches_itself}
 use Rattle.wait_cycles.proofs.Sorted.{cycle_within, found_onto, of_up_to}

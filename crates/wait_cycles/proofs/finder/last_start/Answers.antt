@@ -1,6 +1,6 @@
 use Rattle.std.proofs.Common.{◌≡◌, ℕ, List, ◌++◌, ◌∷◌, [], Option, refl, ap, subst, ◌∙◌, arith}
 use Rattle.std.specs.Prelude.{option_to_list}
-use Rattle.wait_cycles.specs.Sorted.{AreRising}
+use Rattle.wait_cycles.specs.inner.Sorted.{AreRising}
 use Rattle.wait_cycles.proofs.Sorted.{AreLeft, at_most_last, fewer_left, greatest_awaited, nobody_left, rising_front}
 use Rattle.wait_cycles.proofs.finder.last_start.Goals as goal
 

@@ -1,6 +1,6 @@
 use Rattle.std.proofs.Common.{◌≡◌, ◌≤◌, length}
 use Rattle.std.specs.Prelude.{IfSome, vec_capacity}
-use Rattle.wait_cycles.specs.Sorted.{AreRising, IsNoGreatest}
+use Rattle.wait_cycles.specs.inner.Sorted.{AreRising, IsNoGreatest}
 use Rattle.wait_cycles.proofs.Sorted.{AreLeft}
 use Rattle.wait_cycles.proofs.finder.last_start.Given as goal
 

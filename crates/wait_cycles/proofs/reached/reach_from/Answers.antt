@@ -3,7 +3,7 @@ use Rattle.std.specs.Prelude.{nat_le}
 use Rattle.std.specs.List.{list_any}
 use Rattle.std.proofs.lemmas.List.{length-append}
 use Rattle.std.proofs.lemmas.Option.{slice_get_within}
-use Rattle.wait_cycles.specs.Sorted.{up_to}
+use Rattle.wait_cycles.specs.inner.Sorted.{up_to}
 use Rattle.wait_cycles.proofs.Found.{next, found_next, longer_next, longer_none, member_longer, not_yet}
 use Rattle.wait_cycles.proofs.Sorted.{covered, covered_more, goes_on, pushed_node, reached_before}
 use Rattle.wait_cycles.proofs.reached.reach_from.Goals as goal

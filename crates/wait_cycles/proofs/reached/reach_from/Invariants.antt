@@ -1,6 +1,6 @@
 use Rattle.std.proofs.Common.{◌≡◌, ◌≤◌, ◌-◌, ℕ, length, Some}
 use Rattle.std.specs.Prelude.{slice_get}
-use Rattle.wait_cycles.specs.Sorted.{up_to}
+use Rattle.wait_cycles.specs.inner.Sorted.{up_to}
 use Rattle.wait_cycles.specs.Trails.{IsAt, IsFound, IsLonger, nodes}
 use Rattle.wait_cycles.proofs.Sorted.{AreCovered}
 use Rattle.wait_cycles.proofs.reached.reach_from.Given as goal

@@ -1,7 +1,7 @@
 use Rattle.std.proofs.Common.{◌≡◌, ℕ, List, Some, refl, subst, sym, arith}
 use Rattle.std.specs.Prelude.{nat_le, slice_get}
 use Rattle.wait_cycles.specs.declared.trail.Reached.{Reached}
-use Rattle.wait_cycles.specs.Sorted.{up_to}
+use Rattle.wait_cycles.specs.inner.Sorted.{up_to}
 use Rattle.wait_cycles.specs.Trails.{IsFound}
 use Rattle.wait_cycles.proofs.Found.{nobody, room_first}
 use Rattle.wait_cycles.proofs.Lists.{few_pass}

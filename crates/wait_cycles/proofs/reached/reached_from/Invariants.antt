@@ -1,6 +1,6 @@
 use Rattle.std.proofs.Common.{◌≡◌, ◌<◌, ◌≤◌, ◌+◌, ◌-◌, ℕ, length, Some}
 use Rattle.std.specs.Prelude.{slice_get}
-use Rattle.wait_cycles.specs.Sorted.{up_to}
+use Rattle.wait_cycles.specs.inner.Sorted.{up_to}
 use Rattle.wait_cycles.specs.Trails.{Covers, IsFound, nodes, open_pairs}
 use Rattle.wait_cycles.proofs.reached.reached_from.Given as goal
 

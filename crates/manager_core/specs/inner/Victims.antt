@@ -1,8 +1,12 @@
 -- What the breaking of cycles does to the history and the tables, where there is none to break, and
 -- what room it takes.
 use Rattle.std.specs.Prelude.{◌≡◌, ℕ, ◌≤◌, ◌+◌, ◌*◌, List, ◌∷◌, length}
+use Rattle.serial_spec.specs.declared.entry.Answer.TheVariants.{Done}
+use Rattle.serial_spec.specs.declared.entry.By.{By}
 use Rattle.serial_spec.specs.declared.entry.Entry.{Entry}
-use Rattle.serial_spec.specs.History.{Name, History}
+use Rattle.serial_spec.specs.declared.operation.Reply.{Reply}
+use Rattle.serial_spec.specs.declared.target.Asked.{Asked}
+use Rattle.serial_spec.specs.History.{Name, History, event_of}
 use Rattle.serial_spec.specs.Legal.{AreAllowed}
 use Rattle.serial_spec.specs.Rows.{Rows}
 use Rattle.serial_spec.specs.Waits.{Quiet}
@@ -10,6 +14,7 @@ use Rattle.serial_spec.specs.Interleaving.{AfterVictims}
 use Rattle.txn_history.specs.Recorded.{Recorded}
 use Rattle.manager_core.specs.Tables.{Tabled, HasOtherRoom, rows_in}
 use Rattle.manager_core.specs.Kept.{AreTablesOf}
+use Rattle.manager_core.specs.State.{entry}
 
 -- victims were aborted until no cycle of waits was left, and the tables are what the history says
 pub record Breaks (rows : Rows) (old new : History) (tables : Tabled) : Type 0 where
@@ -28,6 +33,11 @@ pub record Settles (opening : Rows) (h : History) (log : Recorded) (old tables :
 abbrev pub StaysQuiet : Rows → Entry → History → Tabled → Type 0
 StaysQuiet rows e h tables = AreAllowed rows (e ∷ h) → AreTablesOf rows (e ∷ h) tables → Quiet h
     → Quiet (e ∷ h)
+
+-- so it is with each access by which t asks this
+abbrev pub ClosesNoCycle : Tabled → Name → Asked → Type 0
+ClosesNoCycle tables t a = (rows : Rows) (h : History) (by : By) (reply : Reply)
+    → StaysQuiet rows (entry by (event_of t a) (Done reply)) h tables
 
 -- The entry may be added to the log, the tables have it, and no cycle of waits stood before it.
 -- There is room for it, to abort all that wait, and for so many pairs as are looked at.
