@@ -1,4 +1,4 @@
-use Rattle.std.proofs.Common.{◌≡◌, ℕ, Bool, true, false, List, ◌++◌, ◌-◌, ◌<◌, ◌≤◌, length, take, refl, ap, sym, ◌∙◌, arith, length-take}
+use Rattle.std.proofs.Common.{◌≡◌, ℕ, Bool, true, false, List, ◌++◌, ◌-◌, ◌≤◌, length, take, refl, ap, ◌∙◌, arith, length-take}
 use Rattle.std.specs.Bool.{MatchBool}
 use Rattle.request_lines.specs.Keeping.{Keeps}
 use Rattle.request_lines.proofs.Filling.{adds_all, adds_front}
