@@ -1,9 +1,8 @@
 //! Entries of a report, read and spelled.
-ghost use Rattle.std.specs.Prelude.{◌≡◌, [], ◌++◌, None, OnErr, OnOk, codes, decimal, slice_get, unwrap_or};
-ghost use Rattle.std.specs.Io.KnownBytes.{Appends};
+ghost use Rattle.std.specs.Prelude.{◌≡◌, [], ◌++◌, None, OnErr, codes, decimal, slice_get, unwrap_or};
 ghost use Rattle.std.specs.Option.{option_copied, option_map};
 ghost use Rattle.std.specs.Str.{bytes_eq};
-ghost use Rattle.txn_bytes.specs.Written.{AppendsFront, IsStopped};
+ghost use Rattle.txn_bytes.specs.Written.{IsStopped, PutsAll, PutsFront};
 ghost use Rattle.txn_names.specs.Text.{spelled_name};
 ghost use Rattle.serial_spec.specs.declared.entry.By.TheVariants.{Line};
 ghost use Rattle.line_language.specs.Report.{name_in, spelled_entry};
@@ -177,12 +176,8 @@ pub fn read_entry(bytes: &[u8], entry: &mut Option<ReportEntry>)
 }
 
 fn put_label<W: Sink>(out: &mut W, labels: &[Label], session: u32) -> Result<(), WriteFault>
-    ensures ok { OnOk result
-        (Appends (W.contents out.old) (W.contents out.new)
-        (unwrap_or (slice_get labels.now session) [])) }
-    ensures err { OnErr result
-        (AppendsFront (W.contents out.old) (W.contents out.new)
-        (unwrap_or (slice_get labels.now session) [])) }
+    ensures ok { PutsAll W.Sink out.old out.new (unwrap_or (slice_get labels.now session) []) result }
+    ensures err { PutsFront W.Sink out.old out.new (unwrap_or (slice_get labels.now session) []) result }
     ensures asked { OnErr result (IsStopped W.Sink out.new) }
 {
     match labels.get(session as usize) {
@@ -198,12 +193,8 @@ fn put_place<W: Sink>(
     session: u32,
     number: u32,
 ) -> Result<(), WriteFault>
-    ensures ok { OnOk result
-        (Appends (W.contents out.old) (W.contents out.new)
-        (unwrap_or (slice_get labels.now session) [] ++ codes " " ++ decimal number)) }
-    ensures err { OnErr result
-        (AppendsFront (W.contents out.old) (W.contents out.new)
-        (unwrap_or (slice_get labels.now session) [] ++ codes " " ++ decimal number)) }
+    ensures ok { PutsAll W.Sink out.old out.new (unwrap_or (slice_get labels.now session) [] ++ codes " " ++ decimal number) result }
+    ensures err { PutsFront W.Sink out.old out.new (unwrap_or (slice_get labels.now session) [] ++ codes " " ++ decimal number) result }
     ensures asked { OnErr result (IsStopped W.Sink out.new) }
 {
     put_label(out, labels, session)?;
@@ -220,12 +211,8 @@ fn put_answered<W: Sink>(
     event: &Event,
     answer: &Answer,
 ) -> Result<(), WriteFault>
-    ensures ok { OnOk result
-        (Appends (W.contents out.old) (W.contents out.new)
-        (spelled_entry labels.now (Line session number) event.now answer.now)) }
-    ensures err { OnErr result
-        (AppendsFront (W.contents out.old) (W.contents out.new)
-        (spelled_entry labels.now (Line session number) event.now answer.now)) }
+    ensures ok { PutsAll W.Sink out.old out.new (spelled_entry labels.now (Line session number) event.now answer.now) result }
+    ensures err { PutsFront W.Sink out.old out.new (spelled_entry labels.now (Line session number) event.now answer.now) result }
     ensures asked { OnErr result (IsStopped W.Sink out.new) }
 {
     put_place(out, labels, session, number)?;
@@ -237,10 +224,8 @@ fn put_answered<W: Sink>(
 
 // A word with its space, and the name of an abort.
 fn put_aborted<W: Sink>(out: &mut W, word: &[u8], event: &Event) -> Result<(), WriteFault>
-    ensures ok { OnOk result (Appends (W.contents out.old) (W.contents out.new) (word.now
-        ++ spelled_name (name_in event.now))) }
-    ensures err { OnErr result (AppendsFront (W.contents out.old) (W.contents out.new) (word.now
-        ++ spelled_name (name_in event.now))) }
+    ensures ok { PutsAll W.Sink out.old out.new (word.now ++ spelled_name (name_in event.now)) result }
+    ensures err { PutsFront W.Sink out.old out.new (word.now ++ spelled_name (name_in event.now)) result }
     ensures asked { OnErr result (IsStopped W.Sink out.new) }
 {
     match event {
@@ -252,12 +237,8 @@ fn put_aborted<W: Sink>(out: &mut W, word: &[u8], event: &Event) -> Result<(), W
 /// Writes an entry as a line of a report without its line feed, with the label of its session. It
 /// takes no memory. After a fault, the only one, the writer has taken a beginning of that.
 pub fn put_entry<W: Sink>(out: &mut W, labels: &[Label], entry: &Entry) -> Result<(), WriteFault>
-    ensures ok { OnOk result
-        (Appends (W.contents out.old) (W.contents out.new)
-        (spelled_entry labels.now entry.now.by entry.now.event entry.now.answer)) }
-    ensures err { OnErr result
-        (AppendsFront (W.contents out.old) (W.contents out.new)
-        (spelled_entry labels.now entry.now.by entry.now.event entry.now.answer)) }
+    ensures ok { PutsAll W.Sink out.old out.new (spelled_entry labels.now entry.now.by entry.now.event entry.now.answer) result }
+    ensures err { PutsFront W.Sink out.old out.new (spelled_entry labels.now entry.now.by entry.now.event entry.now.answer) result }
     ensures asked { OnErr result (IsStopped W.Sink out.new) }
 {
     match entry.by {

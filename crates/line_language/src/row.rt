@@ -1,7 +1,6 @@
 //! Rows of a report, read and spelled.
-ghost use Rattle.std.specs.Prelude.{◌≡◌, ◌++◌, OnErr, OnOk, codes};
-ghost use Rattle.std.specs.Io.KnownBytes.{Appends};
-ghost use Rattle.txn_bytes.specs.Written.{AppendsFront, IsStopped};
+ghost use Rattle.std.specs.Prelude.{◌≡◌, ◌++◌, OnErr, codes};
+ghost use Rattle.txn_bytes.specs.Written.{IsStopped, PutsAll, PutsFront};
 ghost use Rattle.line_language.specs.Printing.{spelled_number};
 ghost use Rattle.line_language.specs.Reading.{row_of};
 
@@ -25,11 +24,8 @@ pub fn parse_row(bytes: &[u8]) -> Option<(Key, i64)>
 /// Writes a row as a line of a report without its line feed: the key, an equals sign and the value.
 /// It takes no memory. After a fault, the only one, the writer has taken a beginning of that.
 pub fn put_row<W: Sink>(out: &mut W, key: &Key, value: i64) -> Result<(), WriteFault>
-    ensures ok { OnOk result
-        (Appends (W.contents out.old) (W.contents out.new) (key.now ++ codes "="
-        ++ spelled_number value)) }
-    ensures err { OnErr result (AppendsFront (W.contents out.old) (W.contents out.new) (key.now
-        ++ codes "=" ++ spelled_number value)) }
+    ensures ok { PutsAll W.Sink out.old out.new (key.now ++ codes "=" ++ spelled_number value) result }
+    ensures err { PutsFront W.Sink out.old out.new (key.now ++ codes "=" ++ spelled_number value) result }
     ensures asked { OnErr result (IsStopped W.Sink out.new) }
 {
     put(out, key.as_bytes())?;

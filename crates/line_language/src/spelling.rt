@@ -1,8 +1,7 @@
 //! How numbers, events and answers are spelled, one spelling each. After a fault the writer has
 //! taken a beginning of the spelling.
-ghost use Rattle.std.specs.Prelude.{ℕ, [], ◌∷◌, ◌++◌, codes, decimal, OnErr, OnOk};
-ghost use Rattle.std.specs.Io.KnownBytes.{Appends};
-ghost use Rattle.txn_bytes.specs.Written.{AppendsFront, IsStopped};
+ghost use Rattle.std.specs.Prelude.{◌++◌, codes, decimal, OnErr};
+ghost use Rattle.txn_bytes.specs.Written.{IsStopped, PutsAll, PutsFront};
 ghost use Rattle.txn_names.specs.Text.{spelled_name};
 ghost use Rattle.line_language.specs.Printing.{spelled_access, spelled_answer, spelled_event, spelled_number, spelled_refusal, spelled_reply, spelled_when};
 
@@ -16,10 +15,8 @@ use txn_names::{Group, Key, Name};
 /// Writes the number as it is spelled. After a fault, the only one, the writer has taken a beginning
 /// of that.
 pub fn put_number<W: Sink>(out: &mut W, number: i64) -> Result<(), WriteFault>
-    ensures ok { OnOk result
-        (Appends (W.contents out.old) (W.contents out.new) (spelled_number number)) }
-    ensures err { OnErr result
-        (AppendsFront (W.contents out.old) (W.contents out.new) (spelled_number number)) }
+    ensures ok { PutsAll W.Sink out.old out.new (spelled_number number) result }
+    ensures err { PutsFront W.Sink out.old out.new (spelled_number number) result }
     ensures asked { OnErr result (IsStopped W.Sink out.new) }
 {
     let mut buffer = Buffer::new();
@@ -27,9 +24,8 @@ pub fn put_number<W: Sink>(out: &mut W, number: i64) -> Result<(), WriteFault>
 }
 
 pub(crate) fn put_count<W: Sink>(out: &mut W, count: u32) -> Result<(), WriteFault>
-    ensures ok { OnOk result (Appends (W.contents out.old) (W.contents out.new) (decimal count)) }
-    ensures err { OnErr result
-        (AppendsFront (W.contents out.old) (W.contents out.new) (decimal count)) }
+    ensures ok { PutsAll W.Sink out.old out.new (decimal count) result }
+    ensures err { PutsFront W.Sink out.old out.new (decimal count) result }
     ensures asked { OnErr result (IsStopped W.Sink out.new) }
 {
     let mut buffer = Buffer::new();
@@ -38,9 +34,8 @@ pub(crate) fn put_count<W: Sink>(out: &mut W, count: u32) -> Result<(), WriteFau
 
 /// Writes the size in digits. After a fault, the only one, the writer has taken a beginning of that.
 pub fn put_size<W: Sink>(out: &mut W, size: usize) -> Result<(), WriteFault>
-    ensures ok { OnOk result (Appends (W.contents out.old) (W.contents out.new) (decimal size)) }
-    ensures err { OnErr result
-        (AppendsFront (W.contents out.old) (W.contents out.new) (decimal size)) }
+    ensures ok { PutsAll W.Sink out.old out.new (decimal size) result }
+    ensures err { PutsFront W.Sink out.old out.new (decimal size) result }
     ensures asked { OnErr result (IsStopped W.Sink out.new) }
 {
     let mut buffer = Buffer::new();
@@ -49,10 +44,8 @@ pub fn put_size<W: Sink>(out: &mut W, size: usize) -> Result<(), WriteFault>
 
 // A word with its space, and a name.
 pub(crate) fn put_named<W: Sink>(out: &mut W, word: &[u8], name: &Name) -> Result<(), WriteFault>
-    ensures ok { OnOk result (Appends (W.contents out.old) (W.contents out.new) (word.now
-        ++ spelled_name name.now)) }
-    ensures err { OnErr result (AppendsFront (W.contents out.old) (W.contents out.new) (word.now
-        ++ spelled_name name.now)) }
+    ensures ok { PutsAll W.Sink out.old out.new (word.now ++ spelled_name name.now) result }
+    ensures err { PutsFront W.Sink out.old out.new (word.now ++ spelled_name name.now) result }
     ensures asked { OnErr result (IsStopped W.Sink out.new) }
 {
     put(out, word)?;
@@ -66,10 +59,8 @@ fn put_spaced<W: Sink>(
     name: &Name,
     bytes: &[u8],
 ) -> Result<(), WriteFault>
-    ensures ok { OnOk result (Appends (W.contents out.old) (W.contents out.new) (word.now
-        ++ spelled_name name.now ++ codes " " ++ bytes.now)) }
-    ensures err { OnErr result (AppendsFront (W.contents out.old) (W.contents out.new) (word.now
-        ++ spelled_name name.now ++ codes " " ++ bytes.now)) }
+    ensures ok { PutsAll W.Sink out.old out.new (word.now ++ spelled_name name.now ++ codes " " ++ bytes.now) result }
+    ensures err { PutsFront W.Sink out.old out.new (word.now ++ spelled_name name.now ++ codes " " ++ bytes.now) result }
     ensures asked { OnErr result (IsStopped W.Sink out.new) }
 {
     put_named(out, word, name)?;
@@ -79,10 +70,8 @@ fn put_spaced<W: Sink>(
 
 // A word with its space, a name and a key.
 fn put_keyed<W: Sink>(out: &mut W, word: &[u8], name: &Name, key: &Key) -> Result<(), WriteFault>
-    ensures ok { OnOk result (Appends (W.contents out.old) (W.contents out.new) (word.now
-        ++ spelled_name name.now ++ codes " " ++ key.now)) }
-    ensures err { OnErr result (AppendsFront (W.contents out.old) (W.contents out.new) (word.now
-        ++ spelled_name name.now ++ codes " " ++ key.now)) }
+    ensures ok { PutsAll W.Sink out.old out.new (word.now ++ spelled_name name.now ++ codes " " ++ key.now) result }
+    ensures err { PutsFront W.Sink out.old out.new (word.now ++ spelled_name name.now ++ codes " " ++ key.now) result }
     ensures asked { OnErr result (IsStopped W.Sink out.new) }
 {
     put_spaced(out, word, name, key.as_bytes())
@@ -96,10 +85,9 @@ fn put_valued<W: Sink>(
     key: &Key,
     number: i64,
 ) -> Result<(), WriteFault>
-    ensures ok { OnOk result (Appends (W.contents out.old) (W.contents out.new) (word.now
-        ++ spelled_name name.now ++ codes " " ++ key.now ++ codes " " ++ spelled_number number)) }
-    ensures err { OnErr result (AppendsFront (W.contents out.old) (W.contents out.new) (word.now
-        ++ spelled_name name.now ++ codes " " ++ key.now ++ codes " " ++ spelled_number number)) }
+    // Wide: a line of three operands.
+    ensures ok { PutsAll W.Sink out.old out.new (word.now ++ spelled_name name.now ++ codes " " ++ key.now ++ codes " " ++ spelled_number number) result }
+    ensures err { PutsFront W.Sink out.old out.new (word.now ++ spelled_name name.now ++ codes " " ++ key.now ++ codes " " ++ spelled_number number) result }
     ensures asked { OnErr result (IsStopped W.Sink out.new) }
 {
     put_keyed(out, word, name, key)?;
@@ -108,11 +96,8 @@ fn put_valued<W: Sink>(
 }
 
 fn put_access<W: Sink>(out: &mut W, name: &Name, key: &Key, op: Op) -> Result<(), WriteFault>
-    ensures ok { OnOk result
-        (Appends (W.contents out.old) (W.contents out.new) (spelled_access name.now key.now op)) }
-    ensures err { OnErr result
-        (AppendsFront (W.contents out.old) (W.contents out.new)
-        (spelled_access name.now key.now op)) }
+    ensures ok { PutsAll W.Sink out.old out.new (spelled_access name.now key.now op) result }
+    ensures err { PutsFront W.Sink out.old out.new (spelled_access name.now key.now op) result }
     ensures asked { OnErr result (IsStopped W.Sink out.new) }
 {
     match operand(op) {
@@ -122,20 +107,16 @@ fn put_access<W: Sink>(out: &mut W, name: &Name, key: &Key, op: Op) -> Result<()
 }
 
 fn put_sum<W: Sink>(out: &mut W, name: &Name, group: &Group) -> Result<(), WriteFault>
-    ensures ok { OnOk result (Appends (W.contents out.old) (W.contents out.new) (codes "sum "
-        ++ spelled_name name.now ++ codes " " ++ group.now)) }
-    ensures err { OnErr result (AppendsFront (W.contents out.old) (W.contents out.new) (codes "sum "
-        ++ spelled_name name.now ++ codes " " ++ group.now)) }
+    ensures ok { PutsAll W.Sink out.old out.new (codes "sum " ++ spelled_name name.now ++ codes " " ++ group.now) result }
+    ensures err { PutsFront W.Sink out.old out.new (codes "sum " ++ spelled_name name.now ++ codes " " ++ group.now) result }
     ensures asked { OnErr result (IsStopped W.Sink out.new) }
 {
     put_spaced(out, b"sum ", name, group.as_bytes())
 }
 
 fn put_when<W: Sink>(out: &mut W, when: When) -> Result<(), WriteFault>
-    ensures ok { OnOk result
-        (Appends (W.contents out.old) (W.contents out.new) (spelled_when when)) }
-    ensures err { OnErr result
-        (AppendsFront (W.contents out.old) (W.contents out.new) (spelled_when when)) }
+    ensures ok { PutsAll W.Sink out.old out.new (spelled_when when) result }
+    ensures err { PutsFront W.Sink out.old out.new (spelled_when when) result }
     ensures asked { OnErr result (IsStopped W.Sink out.new) }
 {
     match when {
@@ -145,11 +126,8 @@ fn put_when<W: Sink>(out: &mut W, when: When) -> Result<(), WriteFault>
 }
 
 fn put_after<W: Sink>(out: &mut W, name: &Name, when: When) -> Result<(), WriteFault>
-    ensures ok { OnOk result (Appends (W.contents out.old) (W.contents out.new) (codes "after "
-        ++ spelled_name name.now ++ codes " " ++ spelled_when when)) }
-    ensures err { OnErr result
-        (AppendsFront (W.contents out.old) (W.contents out.new) (codes "after "
-        ++ spelled_name name.now ++ codes " " ++ spelled_when when)) }
+    ensures ok { PutsAll W.Sink out.old out.new (codes "after " ++ spelled_name name.now ++ codes " " ++ spelled_when when) result }
+    ensures err { PutsFront W.Sink out.old out.new (codes "after " ++ spelled_name name.now ++ codes " " ++ spelled_when when) result }
     ensures asked { OnErr result (IsStopped W.Sink out.new) }
 {
     put_named(out, b"after ", name)?;
@@ -158,10 +136,8 @@ fn put_after<W: Sink>(out: &mut W, name: &Name, when: When) -> Result<(), WriteF
 }
 
 pub(crate) fn put_event<W: Sink>(out: &mut W, event: &Event) -> Result<(), WriteFault>
-    ensures ok { OnOk result
-        (Appends (W.contents out.old) (W.contents out.new) (spelled_event event.now)) }
-    ensures err { OnErr result
-        (AppendsFront (W.contents out.old) (W.contents out.new) (spelled_event event.now)) }
+    ensures ok { PutsAll W.Sink out.old out.new (spelled_event event.now) result }
+    ensures err { PutsFront W.Sink out.old out.new (spelled_event event.now) result }
     ensures asked { OnErr result (IsStopped W.Sink out.new) }
 {
     match event {
@@ -175,10 +151,8 @@ pub(crate) fn put_event<W: Sink>(out: &mut W, event: &Event) -> Result<(), Write
 }
 
 fn put_reply<W: Sink>(out: &mut W, reply: Reply) -> Result<(), WriteFault>
-    ensures ok { OnOk result
-        (Appends (W.contents out.old) (W.contents out.new) (spelled_reply reply)) }
-    ensures err { OnErr result
-        (AppendsFront (W.contents out.old) (W.contents out.new) (spelled_reply reply)) }
+    ensures ok { PutsAll W.Sink out.old out.new (spelled_reply reply) result }
+    ensures err { PutsFront W.Sink out.old out.new (spelled_reply reply) result }
     ensures asked { OnErr result (IsStopped W.Sink out.new) }
 {
     match reply {
@@ -192,10 +166,8 @@ fn put_reply<W: Sink>(out: &mut W, reply: Reply) -> Result<(), WriteFault>
 
 // A word with its space, and a number.
 fn put_told<W: Sink>(out: &mut W, word: &[u8], number: i64) -> Result<(), WriteFault>
-    ensures ok { OnOk result (Appends (W.contents out.old) (W.contents out.new) (word.now
-        ++ spelled_number number)) }
-    ensures err { OnErr result (AppendsFront (W.contents out.old) (W.contents out.new) (word.now
-        ++ spelled_number number)) }
+    ensures ok { PutsAll W.Sink out.old out.new (word.now ++ spelled_number number) result }
+    ensures err { PutsFront W.Sink out.old out.new (word.now ++ spelled_number number) result }
     ensures asked { OnErr result (IsStopped W.Sink out.new) }
 {
     put(out, word)?;
@@ -203,10 +175,8 @@ fn put_told<W: Sink>(out: &mut W, word: &[u8], number: i64) -> Result<(), WriteF
 }
 
 fn put_refusal<W: Sink>(out: &mut W, refusal: &Refusal) -> Result<(), WriteFault>
-    ensures ok { OnOk result
-        (Appends (W.contents out.old) (W.contents out.new) (spelled_refusal refusal.now)) }
-    ensures err { OnErr result
-        (AppendsFront (W.contents out.old) (W.contents out.new) (spelled_refusal refusal.now)) }
+    ensures ok { PutsAll W.Sink out.old out.new (spelled_refusal refusal.now) result }
+    ensures err { PutsFront W.Sink out.old out.new (spelled_refusal refusal.now) result }
     ensures asked { OnErr result (IsStopped W.Sink out.new) }
 {
     match refusal {
@@ -216,10 +186,8 @@ fn put_refusal<W: Sink>(out: &mut W, refusal: &Refusal) -> Result<(), WriteFault
 }
 
 pub(crate) fn put_answer<W: Sink>(out: &mut W, answer: &Answer) -> Result<(), WriteFault>
-    ensures ok { OnOk result
-        (Appends (W.contents out.old) (W.contents out.new) (spelled_answer answer.now)) }
-    ensures err { OnErr result
-        (AppendsFront (W.contents out.old) (W.contents out.new) (spelled_answer answer.now)) }
+    ensures ok { PutsAll W.Sink out.old out.new (spelled_answer answer.now) result }
+    ensures err { PutsFront W.Sink out.old out.new (spelled_answer answer.now) result }
     ensures asked { OnErr result (IsStopped W.Sink out.new) }
 {
     match answer {

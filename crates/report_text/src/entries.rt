@@ -1,7 +1,6 @@
 //! The lines of a report.
-ghost use Rattle.std.specs.Prelude.{◌++◌, codes, reverse, slice_get, OnErr, OnOk};
-ghost use Rattle.std.specs.Io.KnownBytes.{Appends};
-ghost use Rattle.txn_bytes.specs.Written.{AppendsFront, IsStopped};
+ghost use Rattle.std.specs.Prelude.{◌++◌, codes, reverse, slice_get, OnErr};
+ghost use Rattle.txn_bytes.specs.Written.{IsStopped, PutsAll, PutsFront};
 ghost use Rattle.line_language.specs.Printing.{spelled_number};
 ghost use Rattle.report_text.specs.Lines.{entry_line, row_lines};
 ghost use Rattle.line_language.specs.Report.{line, spelled_history, spelled_rows};
@@ -14,12 +13,8 @@ use txn_names::{Key, Label};
 
 // The line of a row, one part after another.
 fn put_row_parts<W: Sink>(out: &mut W, key: &Key, value: i64) -> Result<(), WriteFault>
-    ensures ok { OnOk result
-        (Appends (W.contents out.old) (W.contents out.new)
-        (line (key.now ++ codes "=" ++ spelled_number value))) }
-    ensures err { OnErr result
-        (AppendsFront (W.contents out.old) (W.contents out.new)
-        (line (key.now ++ codes "=" ++ spelled_number value))) }
+    ensures ok { PutsAll W.Sink out.old out.new (line (key.now ++ codes "=" ++ spelled_number value)) result }
+    ensures err { PutsFront W.Sink out.old out.new (line (key.now ++ codes "=" ++ spelled_number value)) result }
     ensures asked { OnErr result (IsStopped W.Sink out.new) }
 {
     put_row(out, key, value)?;
@@ -33,12 +28,8 @@ pub(crate) fn put_row_line<W: Sink>(
     key: &Key,
     value: i64,
 ) -> Result<(), WriteFault>
-    ensures ok { OnOk result
-        (Appends (W.contents out.old) (W.contents out.new)
-        (line (key.now ++ codes "=" ++ spelled_number value))) }
-    ensures err { OnErr result
-        (AppendsFront (W.contents out.old) (W.contents out.new)
-        (line (key.now ++ codes "=" ++ spelled_number value))) }
+    ensures ok { PutsAll W.Sink out.old out.new (line (key.now ++ codes "=" ++ spelled_number value)) result }
+    ensures err { PutsFront W.Sink out.old out.new (line (key.now ++ codes "=" ++ spelled_number value)) result }
     ensures asked { OnErr result (IsStopped W.Sink out.new) }
 {
     buffer.clear();
@@ -55,12 +46,8 @@ fn put_row_at<W: Sink>(
     table: &PlainTable,
     place: usize,
 ) -> Result<(), WriteFault>
-    ensures ok { OnOk result
-        (Appends (W.contents out.old) (W.contents out.new)
-        (row_lines (slice_get table.now.rows place))) }
-    ensures err { OnErr result
-        (AppendsFront (W.contents out.old) (W.contents out.new)
-        (row_lines (slice_get table.now.rows place))) }
+    ensures ok { PutsAll W.Sink out.old out.new (row_lines (slice_get table.now.rows place)) result }
+    ensures err { PutsFront W.Sink out.old out.new (row_lines (slice_get table.now.rows place)) result }
     ensures asked { OnErr result (IsStopped W.Sink out.new) }
 {
     match table.at(place) {
@@ -70,10 +57,8 @@ fn put_row_at<W: Sink>(
 }
 
 pub(crate) fn put_table<W: Sink>(out: &mut W, table: &PlainTable) -> Result<(), WriteFault>
-    ensures ok { OnOk result
-        (Appends (W.contents out.old) (W.contents out.new) (spelled_rows table.now.rows)) }
-    ensures err { OnErr result
-        (AppendsFront (W.contents out.old) (W.contents out.new) (spelled_rows table.now.rows)) }
+    ensures ok { PutsAll W.Sink out.old out.new (spelled_rows table.now.rows) result }
+    ensures err { PutsFront W.Sink out.old out.new (spelled_rows table.now.rows) result }
     ensures asked { OnErr result (IsStopped W.Sink out.new) }
 {
     let mut buffer = LineBuffer::new();
@@ -85,10 +70,8 @@ pub(crate) fn put_table<W: Sink>(out: &mut W, table: &PlainTable) -> Result<(), 
 
 // The line of an entry, one part after another.
 fn put_entry_parts<W: Sink>(out: &mut W, labels: &[Label], entry: &Entry) -> Result<(), WriteFault>
-    ensures ok { OnOk result
-        (Appends (W.contents out.old) (W.contents out.new) (entry_line labels.now entry.now)) }
-    ensures err { OnErr result
-        (AppendsFront (W.contents out.old) (W.contents out.new) (entry_line labels.now entry.now)) }
+    ensures ok { PutsAll W.Sink out.old out.new (entry_line labels.now entry.now) result }
+    ensures err { PutsFront W.Sink out.old out.new (entry_line labels.now entry.now) result }
     ensures asked { OnErr result (IsStopped W.Sink out.new) }
 {
     put_entry(out, labels, entry)?;
@@ -102,10 +85,8 @@ fn put_entry_line<W: Sink>(
     labels: &[Label],
     entry: &Entry,
 ) -> Result<(), WriteFault>
-    ensures ok { OnOk result
-        (Appends (W.contents out.old) (W.contents out.new) (entry_line labels.now entry.now)) }
-    ensures err { OnErr result
-        (AppendsFront (W.contents out.old) (W.contents out.new) (entry_line labels.now entry.now)) }
+    ensures ok { PutsAll W.Sink out.old out.new (entry_line labels.now entry.now) result }
+    ensures err { PutsFront W.Sink out.old out.new (entry_line labels.now entry.now) result }
     ensures asked { OnErr result (IsStopped W.Sink out.new) }
 {
     buffer.clear();
@@ -121,12 +102,8 @@ pub(crate) fn put_history<W: Sink>(
     labels: &[Label],
     entries: &[Entry],
 ) -> Result<(), WriteFault>
-    ensures ok { OnOk result
-        (Appends (W.contents out.old) (W.contents out.new)
-        (spelled_history labels.now (reverse entries.now))) }
-    ensures err { OnErr result
-        (AppendsFront (W.contents out.old) (W.contents out.new)
-        (spelled_history labels.now (reverse entries.now))) }
+    ensures ok { PutsAll W.Sink out.old out.new (spelled_history labels.now (reverse entries.now)) result }
+    ensures err { PutsFront W.Sink out.old out.new (spelled_history labels.now (reverse entries.now)) result }
     ensures asked { OnErr result (IsStopped W.Sink out.new) }
 {
     let mut buffer = LineBuffer::new();

@@ -1,7 +1,6 @@
 //! A report, from its first line to its last.
-ghost use Rattle.std.specs.Prelude.{ℕ, [], ◌∷◌, ◌++◌, codes, reverse, OnErr, OnOk};
-ghost use Rattle.std.specs.Io.KnownBytes.{Appends};
-ghost use Rattle.txn_bytes.specs.Written.{AppendsFront, IsStopped};
+ghost use Rattle.std.specs.Prelude.{reverse, OnErr, OnOk};
+ghost use Rattle.txn_bytes.specs.Written.{IsStopped, PutsAll, PutsFront};
 ghost use Rattle.line_language.specs.Report.{report, spelled_history, spelled_rows};
 ghost use Rattle.durable_top.specs.Store.{plain};
 ghost use Rattle.report_check.specs.Verdicts.{HasVerdict};
@@ -21,22 +20,16 @@ fn put_opening_row<W: Sink>(
     buffer: &mut LineBuffer,
     row: &Row,
 ) -> Result<(), WriteFault>
-    ensures ok { OnOk result
-        (Appends (W.contents out.old) (W.contents out.new)
-        (row_line (row.now.key, row.now.value))) }
-    ensures err { OnErr result
-        (AppendsFront (W.contents out.old) (W.contents out.new)
-        (row_line (row.now.key, row.now.value))) }
+    ensures ok { PutsAll W.Sink out.old out.new (row_line (row.now.key, row.now.value)) result }
+    ensures err { PutsFront W.Sink out.old out.new (row_line (row.now.key, row.now.value)) result }
     ensures asked { OnErr result (IsStopped W.Sink out.new) }
 {
     put_row_line(out, buffer, &row.key, row.value)
 }
 
 fn put_opening<W: Sink>(out: &mut W, rows: &[Row]) -> Result<(), WriteFault>
-    ensures ok { OnOk result
-        (Appends (W.contents out.old) (W.contents out.new) (spelled_rows (plain rows.now))) }
-    ensures err { OnErr result
-        (AppendsFront (W.contents out.old) (W.contents out.new) (spelled_rows (plain rows.now))) }
+    ensures ok { PutsAll W.Sink out.old out.new (spelled_rows (plain rows.now)) result }
+    ensures err { PutsFront W.Sink out.old out.new (spelled_rows (plain rows.now)) result }
     ensures asked { OnErr result (IsStopped W.Sink out.new) }
 {
     let mut buffer = LineBuffer::new();
@@ -49,10 +42,8 @@ fn put_opening<W: Sink>(out: &mut W, rows: &[Row]) -> Result<(), WriteFault>
 /// Writes how a report begins: its first line and the opening rows. It takes no memory. After a
 /// fault, the only one, which the writer answered, it has taken a beginning of that.
 pub fn write_opening<W: Sink>(rows: &[Row], out: &mut W) -> Result<(), WriteFault>
-    ensures ok { OnOk result
-        (Appends (W.contents out.old) (W.contents out.new) (opening_text (plain rows.now))) }
-    ensures err { OnErr result
-        (AppendsFront (W.contents out.old) (W.contents out.new) (opening_text (plain rows.now))) }
+    ensures ok { PutsAll W.Sink out.old out.new (opening_text (plain rows.now)) result }
+    ensures err { PutsFront W.Sink out.old out.new (opening_text (plain rows.now)) result }
     ensures asked { OnErr result (IsStopped W.Sink out.new) }
 {
     put(out, b"open\n")?;
@@ -66,12 +57,8 @@ pub fn write_entries<W: Sink>(
     entries: &[Entry],
     out: &mut W,
 ) -> Result<(), WriteFault>
-    ensures ok { OnOk result
-        (Appends (W.contents out.old) (W.contents out.new)
-        (spelled_history labels.now (reverse entries.now))) }
-    ensures err { OnErr result
-        (AppendsFront (W.contents out.old) (W.contents out.new)
-        (spelled_history labels.now (reverse entries.now))) }
+    ensures ok { PutsAll W.Sink out.old out.new (spelled_history labels.now (reverse entries.now)) result }
+    ensures err { PutsFront W.Sink out.old out.new (spelled_history labels.now (reverse entries.now)) result }
     ensures asked { OnErr result (IsStopped W.Sink out.new) }
 {
     put_history(out, labels, entries)
@@ -80,10 +67,8 @@ pub fn write_entries<W: Sink>(
 /// Writes how a report ends: the final table and its last line. It takes no memory. After a fault,
 /// the only one, which the writer answered, it has taken a beginning of that.
 pub fn write_ending<W: Sink>(table: &PlainTable, out: &mut W) -> Result<(), WriteFault>
-    ensures ok { OnOk result
-        (Appends (W.contents out.old) (W.contents out.new) (ending_text table.now.rows)) }
-    ensures err { OnErr result
-        (AppendsFront (W.contents out.old) (W.contents out.new) (ending_text table.now.rows)) }
+    ensures ok { PutsAll W.Sink out.old out.new (ending_text table.now.rows) result }
+    ensures err { PutsFront W.Sink out.old out.new (ending_text table.now.rows) result }
     ensures asked { OnErr result (IsStopped W.Sink out.new) }
 {
     put(out, b"table\n")?;
@@ -95,14 +80,10 @@ pub fn write_ending<W: Sink>(table: &PlainTable, out: &mut W) -> Result<(), Writ
 /// memory. What was written is accepted by whoever checks reports. After a fault, the only one, the
 /// writer has taken a beginning of it.
 pub fn write_report<W: Sink>(told: &Report, out: &mut W) -> Result<(), WriteFault>
-    ensures ok { OnOk result
-        (Appends (W.contents out.old) (W.contents out.new)
-        (report told.now.opening told.now.labels told.now.history told.now.table)) }
+    ensures ok { PutsAll W.Sink out.old out.new (report told.now.opening told.now.labels told.now.history told.now.table) result }
     ensures accepted { OnOk result
         (HasVerdict (report told.now.opening told.now.labels told.now.history told.now.table) Yes) }
-    ensures err { OnErr result
-        (AppendsFront (W.contents out.old) (W.contents out.new)
-        (report told.now.opening told.now.labels told.now.history told.now.table)) }
+    ensures err { PutsFront W.Sink out.old out.new (report told.now.opening told.now.labels told.now.history told.now.table) result }
     ensures asked { OnErr result (IsStopped W.Sink out.new) }
 {
     write_opening(told.opening(), out)?;

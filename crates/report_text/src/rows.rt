@@ -1,7 +1,6 @@
 //! The rows of a table, each with the number of the commit that set it.
-ghost use Rattle.std.specs.Prelude.{ℕ, [], ◌∷◌, ◌++◌, codes, OnErr, OnOk};
-ghost use Rattle.std.specs.Io.KnownBytes.{Appends};
-ghost use Rattle.txn_bytes.specs.Written.{AppendsFront, IsStopped};
+ghost use Rattle.std.specs.Prelude.{OnErr};
+ghost use Rattle.txn_bytes.specs.Written.{IsStopped, PutsAll, PutsFront};
 ghost use Rattle.line_language.specs.Report.{line};
 ghost use Rattle.report_text.specs.Rows.{numbered_row, numbered_rows};
 
@@ -12,10 +11,8 @@ use txn_bytes::{Sink, WriteFault, put};
 
 // The row as in a report, a space and the number.
 fn put_numbered<W: Sink>(out: &mut W, row: &Row) -> Result<(), WriteFault>
-    ensures ok { OnOk result
-        (Appends (W.contents out.old) (W.contents out.new) (numbered_row row.now)) }
-    ensures err { OnErr result
-        (AppendsFront (W.contents out.old) (W.contents out.new) (numbered_row row.now)) }
+    ensures ok { PutsAll W.Sink out.old out.new (numbered_row row.now) result }
+    ensures err { PutsFront W.Sink out.old out.new (numbered_row row.now) result }
     ensures asked { OnErr result (IsStopped W.Sink out.new) }
 {
     put_row(out, &row.key, row.value)?;
@@ -25,10 +22,8 @@ fn put_numbered<W: Sink>(out: &mut W, row: &Row) -> Result<(), WriteFault>
 
 // The line of a row, one part after another.
 fn put_numbered_parts<W: Sink>(out: &mut W, row: &Row) -> Result<(), WriteFault>
-    ensures ok { OnOk result
-        (Appends (W.contents out.old) (W.contents out.new) (line (numbered_row row.now))) }
-    ensures err { OnErr result
-        (AppendsFront (W.contents out.old) (W.contents out.new) (line (numbered_row row.now))) }
+    ensures ok { PutsAll W.Sink out.old out.new (line (numbered_row row.now)) result }
+    ensures err { PutsFront W.Sink out.old out.new (line (numbered_row row.now)) result }
     ensures asked { OnErr result (IsStopped W.Sink out.new) }
 {
     put_numbered(out, row)?;
@@ -41,10 +36,8 @@ fn put_numbered_line<W: Sink>(
     buffer: &mut LineBuffer,
     row: &Row,
 ) -> Result<(), WriteFault>
-    ensures ok { OnOk result
-        (Appends (W.contents out.old) (W.contents out.new) (line (numbered_row row.now))) }
-    ensures err { OnErr result
-        (AppendsFront (W.contents out.old) (W.contents out.new) (line (numbered_row row.now))) }
+    ensures ok { PutsAll W.Sink out.old out.new (line (numbered_row row.now)) result }
+    ensures err { PutsFront W.Sink out.old out.new (line (numbered_row row.now)) result }
     ensures asked { OnErr result (IsStopped W.Sink out.new) }
 {
     buffer.clear();
@@ -58,10 +51,8 @@ fn put_numbered_line<W: Sink>(
 /// commit that set it. It takes no memory. After a fault, the only one, which the writer answered,
 /// it has taken a beginning of these lines.
 pub fn write_rows<W: Sink>(rows: &[Row], out: &mut W) -> Result<(), WriteFault>
-    ensures ok { OnOk result
-        (Appends (W.contents out.old) (W.contents out.new) (numbered_rows rows.now)) }
-    ensures err { OnErr result
-        (AppendsFront (W.contents out.old) (W.contents out.new) (numbered_rows rows.now)) }
+    ensures ok { PutsAll W.Sink out.old out.new (numbered_rows rows.now) result }
+    ensures err { PutsFront W.Sink out.old out.new (numbered_rows rows.now) result }
     ensures asked { OnErr result (IsStopped W.Sink out.new) }
 {
     let mut buffer = LineBuffer::new();

@@ -1,7 +1,6 @@
 //! The text of a verdict.
-ghost use Rattle.std.specs.Prelude.{ℕ, [], ◌∷◌, ◌++◌, codes, decimal, OnErr, OnOk};
-ghost use Rattle.std.specs.Io.KnownBytes.{Appends};
-ghost use Rattle.txn_bytes.specs.Written.{AppendsFront, IsStopped};
+ghost use Rattle.std.specs.Prelude.{◌++◌, codes, decimal, OnErr};
+ghost use Rattle.txn_bytes.specs.Written.{IsStopped, PutsAll, PutsFront};
 ghost use Rattle.line_language.specs.Report.{line};
 ghost use Rattle.report_text.specs.Verdicts.{spelled_verdict};
 
@@ -10,11 +9,8 @@ use report_check::Verdict;
 use txn_bytes::{Sink, WriteFault, put};
 
 fn put_no<W: Sink>(out: &mut W, number: usize) -> Result<(), WriteFault>
-    ensures ok { OnOk result
-        (Appends (W.contents out.old) (W.contents out.new) (line (codes "no " ++ decimal number))) }
-    ensures err { OnErr result
-        (AppendsFront (W.contents out.old) (W.contents out.new)
-        (line (codes "no " ++ decimal number))) }
+    ensures ok { PutsAll W.Sink out.old out.new (line (codes "no " ++ decimal number)) result }
+    ensures err { PutsFront W.Sink out.old out.new (line (codes "no " ++ decimal number)) result }
     ensures asked { OnErr result (IsStopped W.Sink out.new) }
 {
     put(out, b"no ")?;
@@ -26,10 +22,8 @@ fn put_no<W: Sink>(out: &mut W, number: usize) -> Result<(), WriteFault>
 /// fault. It takes no memory. After a fault, the only one, which the writer answered, it has taken
 /// a beginning of that line.
 pub fn write_verdict<W: Sink>(verdict: Verdict, out: &mut W) -> Result<(), WriteFault>
-    ensures ok { OnOk result
-        (Appends (W.contents out.old) (W.contents out.new) (spelled_verdict verdict)) }
-    ensures err { OnErr result
-        (AppendsFront (W.contents out.old) (W.contents out.new) (spelled_verdict verdict)) }
+    ensures ok { PutsAll W.Sink out.old out.new (spelled_verdict verdict) result }
+    ensures err { PutsFront W.Sink out.old out.new (spelled_verdict verdict) result }
     ensures asked { OnErr result (IsStopped W.Sink out.new) }
 {
     match verdict {

@@ -26,10 +26,18 @@ pub record IsStopped {W : Type 0} (w : Writer W) (new : W) : Type 0 where
   pub fault : WriteFault
   pub refused : w.takes before new bytes (Err fault)
 
+-- where the answer is no fault, the writer took all of the bytes
+abbrev pub PutsAll : {W T E : Type 0} → Writer W → W → W → List ℕ → Result T E → Type 0
+PutsAll w old new bs answer = OnOk answer (Appends (w.contents old) (w.contents new) bs)
+
+-- where it is one, the writer took a beginning of them and not all
+abbrev pub PutsFront : {W T E : Type 0} → Writer W → W → W → List ℕ → Result T E → Type 0
+PutsFront w old new bs answer = OnErr answer (AppendsFront (w.contents old) (w.contents new) bs)
+
 -- What a function that prints these bytes does to its writer, by its answer: the writer took all of
 -- them; or it took a beginning and not all, since it answered a fault when it was asked for more
 pub record Puts {W : Type 0} (w : Writer W) (old new : W) (bs : List ℕ)
     (answer : Result (Unit {0}) WriteFault) : Type 0 where
-  pub ok : OnOk answer (Appends (w.contents old) (w.contents new) bs)
-  pub err : OnErr answer (AppendsFront (w.contents old) (w.contents new) bs)
+  pub ok : PutsAll w old new bs answer
+  pub err : PutsFront w old new bs answer
   pub asked : OnErr answer (IsStopped w new)
