@@ -176,8 +176,10 @@ pub fn read_entry(bytes: &[u8], entry: &mut Option<ReportEntry>)
 }
 
 fn put_label<W: Sink>(out: &mut W, labels: &[Label], session: u32) -> Result<(), WriteFault>
-    ensures ok { PutsAll W.Sink out.old out.new (unwrap_or (slice_get labels.now session) []) result }
-    ensures err { PutsFront W.Sink out.old out.new (unwrap_or (slice_get labels.now session) []) result }
+    ensures ok { PutsAll W.Sink out.old out.new (unwrap_or (slice_get labels.now session) [])
+        result }
+    ensures err { PutsFront W.Sink out.old out.new (unwrap_or (slice_get labels.now session) [])
+        result }
     ensures asked { OnErr result (IsStopped W.Sink out.new) }
 {
     match labels.get(session as usize) {
@@ -193,8 +195,10 @@ fn put_place<W: Sink>(
     session: u32,
     number: u32,
 ) -> Result<(), WriteFault>
-    ensures ok { PutsAll W.Sink out.old out.new (unwrap_or (slice_get labels.now session) [] ++ codes " " ++ decimal number) result }
-    ensures err { PutsFront W.Sink out.old out.new (unwrap_or (slice_get labels.now session) [] ++ codes " " ++ decimal number) result }
+    ensures ok { PutsAll W.Sink out.old out.new (unwrap_or (slice_get labels.now session) [] ++
+        codes " " ++ decimal number) result }
+    ensures err { PutsFront W.Sink out.old out.new (unwrap_or (slice_get labels.now session) [] ++
+        codes " " ++ decimal number) result }
     ensures asked { OnErr result (IsStopped W.Sink out.new) }
 {
     put_label(out, labels, session)?;
@@ -211,8 +215,10 @@ fn put_answered<W: Sink>(
     event: &Event,
     answer: &Answer,
 ) -> Result<(), WriteFault>
-    ensures ok { PutsAll W.Sink out.old out.new (spelled_entry labels.now (Line session number) event.now answer.now) result }
-    ensures err { PutsFront W.Sink out.old out.new (spelled_entry labels.now (Line session number) event.now answer.now) result }
+    ensures ok { PutsAll W.Sink out.old out.new (spelled_entry labels.now (Line session number)
+        event.now answer.now) result }
+    ensures err { PutsFront W.Sink out.old out.new (spelled_entry labels.now (Line session number)
+        event.now answer.now) result }
     ensures asked { OnErr result (IsStopped W.Sink out.new) }
 {
     put_place(out, labels, session, number)?;
@@ -224,8 +230,10 @@ fn put_answered<W: Sink>(
 
 // A word with its space, and the name of an abort.
 fn put_aborted<W: Sink>(out: &mut W, word: &[u8], event: &Event) -> Result<(), WriteFault>
-    ensures ok { PutsAll W.Sink out.old out.new (word.now ++ spelled_name (name_in event.now)) result }
-    ensures err { PutsFront W.Sink out.old out.new (word.now ++ spelled_name (name_in event.now)) result }
+    ensures ok { PutsAll W.Sink out.old out.new (word.now ++ spelled_name (name_in event.now))
+        result }
+    ensures err { PutsFront W.Sink out.old out.new (word.now ++ spelled_name (name_in event.now))
+        result }
     ensures asked { OnErr result (IsStopped W.Sink out.new) }
 {
     match event {
@@ -237,8 +245,10 @@ fn put_aborted<W: Sink>(out: &mut W, word: &[u8], event: &Event) -> Result<(), W
 /// Writes an entry as a line of a report without its line feed, with the label of its session. It
 /// takes no memory. After a fault, the only one, the writer has taken a beginning of that.
 pub fn put_entry<W: Sink>(out: &mut W, labels: &[Label], entry: &Entry) -> Result<(), WriteFault>
-    ensures ok { PutsAll W.Sink out.old out.new (spelled_entry labels.now entry.now.by entry.now.event entry.now.answer) result }
-    ensures err { PutsFront W.Sink out.old out.new (spelled_entry labels.now entry.now.by entry.now.event entry.now.answer) result }
+    ensures ok { PutsAll W.Sink out.old out.new (spelled_entry labels.now entry.now.by
+        entry.now.event entry.now.answer) result }
+    ensures err { PutsFront W.Sink out.old out.new (spelled_entry labels.now entry.now.by
+        entry.now.event entry.now.answer) result }
     ensures asked { OnErr result (IsStopped W.Sink out.new) }
 {
     match entry.by {

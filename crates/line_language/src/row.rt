@@ -24,8 +24,10 @@ pub fn parse_row(bytes: &[u8]) -> Option<(Key, i64)>
 /// Writes a row as a line of a report without its line feed: the key, an equals sign and the value.
 /// It takes no memory. After a fault, the only one, the writer has taken a beginning of that.
 pub fn put_row<W: Sink>(out: &mut W, key: &Key, value: i64) -> Result<(), WriteFault>
-    ensures ok { PutsAll W.Sink out.old out.new (key.now ++ codes "=" ++ spelled_number value) result }
-    ensures err { PutsFront W.Sink out.old out.new (key.now ++ codes "=" ++ spelled_number value) result }
+    ensures ok { PutsAll W.Sink out.old out.new (key.now ++ codes "=" ++ spelled_number value)
+        result }
+    ensures err { PutsFront W.Sink out.old out.new (key.now ++ codes "=" ++ spelled_number value)
+        result }
     ensures asked { OnErr result (IsStopped W.Sink out.new) }
 {
     put(out, key.as_bytes())?;

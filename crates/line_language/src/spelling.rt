@@ -59,8 +59,10 @@ fn put_spaced<W: Sink>(
     name: &Name,
     bytes: &[u8],
 ) -> Result<(), WriteFault>
-    ensures ok { PutsAll W.Sink out.old out.new (word.now ++ spelled_name name.now ++ codes " " ++ bytes.now) result }
-    ensures err { PutsFront W.Sink out.old out.new (word.now ++ spelled_name name.now ++ codes " " ++ bytes.now) result }
+    ensures ok { PutsAll W.Sink out.old out.new (word.now ++ spelled_name name.now ++ codes " " ++
+        bytes.now) result }
+    ensures err { PutsFront W.Sink out.old out.new (word.now ++ spelled_name name.now ++ codes " "
+        ++ bytes.now) result }
     ensures asked { OnErr result (IsStopped W.Sink out.new) }
 {
     put_named(out, word, name)?;
@@ -70,8 +72,10 @@ fn put_spaced<W: Sink>(
 
 // A word with its space, a name and a key.
 fn put_keyed<W: Sink>(out: &mut W, word: &[u8], name: &Name, key: &Key) -> Result<(), WriteFault>
-    ensures ok { PutsAll W.Sink out.old out.new (word.now ++ spelled_name name.now ++ codes " " ++ key.now) result }
-    ensures err { PutsFront W.Sink out.old out.new (word.now ++ spelled_name name.now ++ codes " " ++ key.now) result }
+    ensures ok { PutsAll W.Sink out.old out.new (word.now ++ spelled_name name.now ++ codes " " ++
+        key.now) result }
+    ensures err { PutsFront W.Sink out.old out.new (word.now ++ spelled_name name.now ++ codes " "
+        ++ key.now) result }
     ensures asked { OnErr result (IsStopped W.Sink out.new) }
 {
     put_spaced(out, word, name, key.as_bytes())
@@ -86,8 +90,11 @@ fn put_valued<W: Sink>(
     number: i64,
 ) -> Result<(), WriteFault>
     // Wide: a line of three operands.
-    ensures ok { PutsAll W.Sink out.old out.new (word.now ++ spelled_name name.now ++ codes " " ++ key.now ++ codes " " ++ spelled_number number) result }
-    ensures err { PutsFront W.Sink out.old out.new (word.now ++ spelled_name name.now ++ codes " " ++ key.now ++ codes " " ++ spelled_number number) result }
+    ensures ok { PutsAll W.Sink out.old out.new (word.now ++ spelled_name name.now ++ codes " " ++
+        key.now ++ codes " " ++ spelled_number number) result }
+    // Wide: the same.
+    ensures err { PutsFront W.Sink out.old out.new (word.now ++ spelled_name name.now ++ codes " "
+        ++ key.now ++ codes " " ++ spelled_number number) result }
     ensures asked { OnErr result (IsStopped W.Sink out.new) }
 {
     put_keyed(out, word, name, key)?;
@@ -107,8 +114,10 @@ fn put_access<W: Sink>(out: &mut W, name: &Name, key: &Key, op: Op) -> Result<()
 }
 
 fn put_sum<W: Sink>(out: &mut W, name: &Name, group: &Group) -> Result<(), WriteFault>
-    ensures ok { PutsAll W.Sink out.old out.new (codes "sum " ++ spelled_name name.now ++ codes " " ++ group.now) result }
-    ensures err { PutsFront W.Sink out.old out.new (codes "sum " ++ spelled_name name.now ++ codes " " ++ group.now) result }
+    ensures ok { PutsAll W.Sink out.old out.new (codes "sum " ++ spelled_name name.now ++ codes " "
+        ++ group.now) result }
+    ensures err { PutsFront W.Sink out.old out.new (codes "sum " ++ spelled_name name.now ++ codes
+        " " ++ group.now) result }
     ensures asked { OnErr result (IsStopped W.Sink out.new) }
 {
     put_spaced(out, b"sum ", name, group.as_bytes())
@@ -126,8 +135,10 @@ fn put_when<W: Sink>(out: &mut W, when: When) -> Result<(), WriteFault>
 }
 
 fn put_after<W: Sink>(out: &mut W, name: &Name, when: When) -> Result<(), WriteFault>
-    ensures ok { PutsAll W.Sink out.old out.new (codes "after " ++ spelled_name name.now ++ codes " " ++ spelled_when when) result }
-    ensures err { PutsFront W.Sink out.old out.new (codes "after " ++ spelled_name name.now ++ codes " " ++ spelled_when when) result }
+    ensures ok { PutsAll W.Sink out.old out.new (codes "after " ++ spelled_name name.now ++ codes "
+        " ++ spelled_when when) result }
+    ensures err { PutsFront W.Sink out.old out.new (codes "after " ++ spelled_name name.now ++
+        codes " " ++ spelled_when when) result }
     ensures asked { OnErr result (IsStopped W.Sink out.new) }
 {
     put_named(out, b"after ", name)?;

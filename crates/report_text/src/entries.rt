@@ -13,8 +13,10 @@ use txn_names::{Key, Label};
 
 // The line of a row, one part after another.
 fn put_row_parts<W: Sink>(out: &mut W, key: &Key, value: i64) -> Result<(), WriteFault>
-    ensures ok { PutsAll W.Sink out.old out.new (line (key.now ++ codes "=" ++ spelled_number value)) result }
-    ensures err { PutsFront W.Sink out.old out.new (line (key.now ++ codes "=" ++ spelled_number value)) result }
+    ensures ok { PutsAll W.Sink out.old out.new (line (key.now ++ codes "=" ++ spelled_number
+        value)) result }
+    ensures err { PutsFront W.Sink out.old out.new (line (key.now ++ codes "=" ++ spelled_number
+        value)) result }
     ensures asked { OnErr result (IsStopped W.Sink out.new) }
 {
     put_row(out, key, value)?;
@@ -28,8 +30,10 @@ pub(crate) fn put_row_line<W: Sink>(
     key: &Key,
     value: i64,
 ) -> Result<(), WriteFault>
-    ensures ok { PutsAll W.Sink out.old out.new (line (key.now ++ codes "=" ++ spelled_number value)) result }
-    ensures err { PutsFront W.Sink out.old out.new (line (key.now ++ codes "=" ++ spelled_number value)) result }
+    ensures ok { PutsAll W.Sink out.old out.new (line (key.now ++ codes "=" ++ spelled_number
+        value)) result }
+    ensures err { PutsFront W.Sink out.old out.new (line (key.now ++ codes "=" ++ spelled_number
+        value)) result }
     ensures asked { OnErr result (IsStopped W.Sink out.new) }
 {
     buffer.clear();
@@ -47,7 +51,8 @@ fn put_row_at<W: Sink>(
     place: usize,
 ) -> Result<(), WriteFault>
     ensures ok { PutsAll W.Sink out.old out.new (row_lines (slice_get table.now.rows place)) result }
-    ensures err { PutsFront W.Sink out.old out.new (row_lines (slice_get table.now.rows place)) result }
+    ensures err { PutsFront W.Sink out.old out.new (row_lines (slice_get table.now.rows place))
+        result }
     ensures asked { OnErr result (IsStopped W.Sink out.new) }
 {
     match table.at(place) {
@@ -102,8 +107,10 @@ pub(crate) fn put_history<W: Sink>(
     labels: &[Label],
     entries: &[Entry],
 ) -> Result<(), WriteFault>
-    ensures ok { PutsAll W.Sink out.old out.new (spelled_history labels.now (reverse entries.now)) result }
-    ensures err { PutsFront W.Sink out.old out.new (spelled_history labels.now (reverse entries.now)) result }
+    ensures ok { PutsAll W.Sink out.old out.new (spelled_history labels.now (reverse entries.now))
+        result }
+    ensures err { PutsFront W.Sink out.old out.new (spelled_history labels.now (reverse
+        entries.now)) result }
     ensures asked { OnErr result (IsStopped W.Sink out.new) }
 {
     let mut buffer = LineBuffer::new();

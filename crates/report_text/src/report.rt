@@ -57,8 +57,10 @@ pub fn write_entries<W: Sink>(
     entries: &[Entry],
     out: &mut W,
 ) -> Result<(), WriteFault>
-    ensures ok { PutsAll W.Sink out.old out.new (spelled_history labels.now (reverse entries.now)) result }
-    ensures err { PutsFront W.Sink out.old out.new (spelled_history labels.now (reverse entries.now)) result }
+    ensures ok { PutsAll W.Sink out.old out.new (spelled_history labels.now (reverse entries.now))
+        result }
+    ensures err { PutsFront W.Sink out.old out.new (spelled_history labels.now (reverse
+        entries.now)) result }
     ensures asked { OnErr result (IsStopped W.Sink out.new) }
 {
     put_history(out, labels, entries)
@@ -80,10 +82,12 @@ pub fn write_ending<W: Sink>(table: &PlainTable, out: &mut W) -> Result<(), Writ
 /// memory. What was written is accepted by whoever checks reports. After a fault, the only one, the
 /// writer has taken a beginning of it.
 pub fn write_report<W: Sink>(told: &Report, out: &mut W) -> Result<(), WriteFault>
-    ensures ok { PutsAll W.Sink out.old out.new (report told.now.opening told.now.labels told.now.history told.now.table) result }
+    ensures ok { PutsAll W.Sink out.old out.new (report told.now.opening told.now.labels
+        told.now.history told.now.table) result }
     ensures accepted { OnOk result
         (HasVerdict (report told.now.opening told.now.labels told.now.history told.now.table) Yes) }
-    ensures err { PutsFront W.Sink out.old out.new (report told.now.opening told.now.labels told.now.history told.now.table) result }
+    ensures err { PutsFront W.Sink out.old out.new (report told.now.opening told.now.labels
+        told.now.history told.now.table) result }
     ensures asked { OnErr result (IsStopped W.Sink out.new) }
 {
     write_opening(told.opening(), out)?;
