@@ -135,8 +135,8 @@ fn put_when<W: Sink>(out: &mut W, when: When) -> Result<(), WriteFault>
 }
 
 fn put_after<W: Sink>(out: &mut W, name: &Name, when: When) -> Result<(), WriteFault>
-    ensures ok { PutsAll W.Sink out.old out.new (codes "after " ++ spelled_name name.now ++ codes "
-        " ++ spelled_when when) result }
+    ensures ok { PutsAll W.Sink out.old out.new (codes "after " ++ spelled_name name.now ++ codes " "
+        ++ spelled_when when) result }
     ensures err { PutsFront W.Sink out.old out.new (codes "after " ++ spelled_name name.now ++
         codes " " ++ spelled_when when) result }
     ensures asked { OnErr result (IsStopped W.Sink out.new) }
