@@ -1,8 +1,10 @@
+pub mod Bits
 pub mod Sessionless
 pub mod Trails
 pub mod Attempts
 pub mod Numbers
 pub mod Stuck
+pub mod LeftOut
 pub mod Schedules
 pub mod Calls
 pub mod Closed

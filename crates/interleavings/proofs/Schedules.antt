@@ -1,8 +1,9 @@
 -- A run, one call after another.
-use Rattle.std.proofs.Common.{◌≡◌, ℕ, suc, inl, inr, List, [], ◌∷◌, ◌++◌, length, Option, Some, None, Result, Ok, Err, OnErr, refl, sym, ap, subst, ◌∙◌, arith}
+use Rattle.std.proofs.Common.{◌≡◌, ◌≤◌, ◌+◌, ◌-◌, ℕ, zero, suc, false, inl, inr, List, [], ◌∷◌, ◌++◌, length, Option, Some, None, Result, Ok, Err, OnErr, refl, sym, ap, subst, ◌∙◌, arith}
 use Rattle.serial_spec.specs.History.{History}
 use Rattle.serial_spec.specs.Rows.{Rows}
-use Rattle.serial_spec.specs.Interleaving.{Session, AllAnswered, Step, StepsOn, next_event}
+use Rattle.serial_spec.specs.declared.event.Event.{Event}
+use Rattle.serial_spec.specs.Interleaving.{Session, AllAnswered, Answers, Step, StepsOn, next_event, next_line}
 use Rattle.serial_spec.specs.Follows.{Steps, StepOfEach, Unsticks, Round}
 use Rattle.durable_top.specs.declared.store.TopStore.{Ghosts}
 use Rattle.manager_core.specs.State.{State}
@@ -11,7 +12,8 @@ use Rattle.interleavings.specs.declared.turns.Turn.{Turn}
 use Rattle.interleavings.specs.declared.turns.Turn.TheVariants.{OutOfTurn}
 use Rattle.interleavings.specs.Trails.{Trail}
 use Rattle.interleavings.specs.Attempts.{GoesOn}
-use Rattle.interleavings.specs.Turning.{Turning, NoneGoesOn, Stepped, Unstuck, GivesUpLine}
+use Rattle.interleavings.specs.Turning.{Turning, NoneGoesOn, NoneGoesOnFrom, Stepped, Unstuck, GivesUpLine, can_go_on}
+use Rattle.interleavings.proofs.Stuck.{no_answer}
 use Rattle.interleavings.proofs.Trails.{trail_more, trail_none}
 use Rattle.interleavings.specs.Scheduled.{Goes, RunsList, RunsEach, RunsRound, RunsSoFar, RunsSome, RunsAll, SettlesPartly, SettlesSoFar, Settles}
 
@@ -42,6 +44,13 @@ steps_more : (rows : Rows) (ss : List Session) (list : List ℕ) (s : ℕ) (h mi
     → Steps rows ss (list ++ s ∷ []) h h2
 steps_more rows ss [] s h mid h2 same step = (h2, subst (λ x. Step rows ss x s h2) same step, refl)
 steps_more rows ss (t ∷ list) s h mid h2 (next, first, rest) step = (next, first, steps_more rows ss list s next mid h2 rest step)
+
+idle_step : (rows : Rows) (ss : List Session) (h : History) (n : ℕ) → can_go_on rows ss h n ≡ false → Step rows ss h n h
+idle_step rows ss h n stays = by (next_event ss h n) refl
+  where
+    by : (x : Option Event) → next_event ss h n ≡ x → Step rows ss h n h
+    by None is = subst (λ x. StepsOn rows h n x h) (sym is) refl
+    by (Some e) is = subst (λ x. StepsOn rows h n x h) (sym is) (subst (λ x. Answers rows h (next_line h n) e x h) (sym (no_answer ss h rows n stays e is)) refl)
 
 module _ {S : Type 0} (g : Ghosts S) where
   pub goes_same : (t : Turning S) → Goes g t t
@@ -125,6 +134,31 @@ module _ {S : Type 0} (g : Ghosts S) where
     goes = after_step old mid new so_far.goes n turn st;
     each = (mid.core.history, so_far.each, step_back old mid new so_far.goes n turn st);
   }
+
+  -- an attempt of a session that cannot go on does nothing
+  each_idle : (n : ℕ) (old mid : Turning S) → RunsEach g n old mid → can_go_on mid.core.rows mid.sessions mid.core.history n ≡ false → RunsEach g (suc n) old mid
+  each_idle n old mid so_far stays = record {
+    goes = so_far.goes;
+    each = (
+      mid.core.history,
+      so_far.each,
+      back old mid mid so_far.goes (λ r ss. Step r ss mid.core.history n mid.core.history) (idle_step mid.core.rows mid.sessions mid.core.history n stays),
+    );
+  }
+
+  each_far : (k n : ℕ) (old mid : Turning S) → RunsEach g n old mid → NoneGoesOnFrom mid n (n + k) → RunsEach g (n + k) old mid
+  each_far zero n old mid so_far none = let same : n ≡ n + 0 = omega arith in subst (λ m. RunsEach g m old mid) same so_far
+  each_far (suc k) n old mid so_far none =
+      let same : suc n + k ≡ n + suc k = omega arith in
+      subst (λ m. RunsEach g m old mid) same
+      (each_far k (suc n) old mid (each_idle n old mid so_far (none n (omega arith) (omega arith))) (λ u from less. none u (omega (arith, from)) (omega (arith, less))))
+
+  -- so those up to another are attempted where none of them can go on
+  pub each_past : (n m : ℕ) (old mid : Turning S) → RunsEach g n old mid → NoneGoesOnFrom mid n m → n ≤ m → RunsEach g m old mid
+  each_past n m old mid so_far none past =
+      let place : n + (m - n) ≡ m = omega (arith, past) in
+      subst (λ x. RunsEach g x old mid) place
+      (each_far (m - n) n old mid so_far (λ u from less. none u from (omega (arith, less, past))))
 
   unsticks : (old new : Turning S) (line : Option (ℕ × ℕ)) → GivesUpLine old new line → Unsticks old.core.rows old.sessions old.core.history new.core.history
   unsticks old new None told = inr (told.0, ap (λ (t : Turning S). t.core.history) told.1)

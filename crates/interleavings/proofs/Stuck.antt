@@ -18,7 +18,7 @@ use Rattle.interleavings.specs.Turning.{IsDue, IsFirstOpen, SomeGoesOn, has_answ
 
 module _ (ss : List Session) (h : History) where
   -- where there is no session there is no line
-  none_past : (u : ℕ) → length ss ≤ u → next_event ss h u ≡ None
+  pub none_past : (u : ℕ) → length ss ≤ u → next_event ss h u ≡ None
   none_past u past = ap (λ x. slice_get (lines_of x) (answered h u)) (slice_get_past ss u past)
 
   -- of those that are there none has a line left
@@ -105,6 +105,14 @@ module _ (ss : List Session) (h : History) where
         by : (u < s) ⊎ (s ≤ u) → goes u ≡ false
         by (inl before) = none u before
         by (inr from) = let same : s ≡ u = omega (arith, less, from) in subst (λ v. goes v ≡ false) same last
+
+    -- and past those that are passed over
+    pub goes_past : (from end : ℕ) → ((u : ℕ) → u < from → goes u ≡ false) → ((u : ℕ) → from ≤ u → u < end → goes u ≡ false) → (u : ℕ) → u < end → goes u ≡ false
+    goes_past from end none passed u less = by (cases_lt u from)
+      where
+        by : (u < from) ⊎ (from ≤ u) → goes u ≡ false
+        by (inl before) = none u before
+        by (inr past) = passed u past less
 
     -- the manager tells of a next line whether it can go on
     pub told_held_up : IsUnderWay rows ss h → (s l : ℕ) (e : Event) → IsDue ss h s l e → (b : Bool)

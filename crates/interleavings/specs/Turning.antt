@@ -59,6 +59,11 @@ NoneGoesOn rows ss h = (s : ℕ) → can_go_on rows ss h s ≡ false
 abbrev pub TellsGoesOn : Rows → List Session → History → Bool → Type 0
 TellsGoesOn rows ss h goes_on = MatchBool goes_on (SomeGoesOn rows ss h) (NoneGoesOn rows ss h)
 
+-- none of those from one on and before another can
+abbrev pub NoneGoesOnFrom : {S : Type 0} → Turning S → ℕ → ℕ → Type 0
+NoneGoesOnFrom t from end = (u : ℕ) → from ≤ u → u < end
+    → can_go_on t.core.rows t.sessions t.core.history u ≡ false
+
 -- the session whose line must be given up, if one must
 abbrev pub TellsStuck : Rows → List Session → History → Option ℕ → Type 0
 TellsStuck rows ss h None = NoneGivesUp rows ss h

@@ -7,7 +7,9 @@
 #![tactic(auto)]
 
 mod attempt;
+mod noting;
 mod progress;
+mod ready;
 mod report;
 mod run;
 mod schedule;

@@ -17,13 +17,16 @@ fn run_list<S: TopStore>(turns: &mut Turns<S>, schedule: &[u32]) -> Result<(), N
     Ok(())
 }
 
-// An attempt of each session, in order.
+// An attempt of each session, in order. Those that are left out are passed over, since an attempt of
+// them does nothing.
 fn run_each<S: TopStore>(turns: &mut Turns<S>) -> Result<(), NoMemory>
     ensures ok { OnOk result (RunsEach S.TopStore (length turns.old.sessions) turns.old turns.new) }
     ensures err { OnErr result (RunsSome S.TopStore turns.old turns.new) }
 {
-    for session in 0..turns.count() {
+    let mut from = 0;
+    while let Some(session) = turns.next_ready(from) {
         turns.step(session)?;
+        from = session + 1;
     }
     Ok(())
 }

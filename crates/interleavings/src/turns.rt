@@ -1,5 +1,5 @@
 //! Sessions under way, a line at a time.
-ghost use Rattle.std.specs.Prelude.{[], ◌≡◌, ◌↔◌, length, replicate, IfErr, IfNone, IfOk, IfSome, IsOk, IsTrue, None, OnErr, OnOk};
+ghost use Rattle.std.specs.Prelude.{[], ◌≡◌, ◌↔◌, length, replicate, IfErr, IfNone, IfOk, IfSome, IsOk, IsTrue, None, OnErr, OnOk, ◌<◌, ◌≤◌};
 ghost use Rattle.serial_spec.specs.Interleaving.{AllAnswered, next_event};
 ghost use Rattle.serial_spec.specs.Follows.{NoneGivesUp};
 ghost use Rattle.txn_history.specs.Turns.{IsUnderWay};
@@ -9,10 +9,12 @@ ghost use Rattle.manager_core.specs.Opening.{HasCause};
 ghost use Rattle.manager_core.specs.Sound.{IsSound};
 ghost use Rattle.interleavings.specs.Progressing.{AreUnderWay, turning};
 ghost use Rattle.interleavings.specs.Scheduled.{Stands};
-ghost use Rattle.interleavings.specs.Turning.{IsClosed, IsDue, IsFirstOpen, IsStart, Stepped, TellsStuck, Unstuck, can_go_on, next_number, TellsGoesOn};
+ghost use Rattle.interleavings.specs.Turning.{IsClosed, IsDue, IsFirstOpen, IsStart, Stepped, TellsStuck, Unstuck, can_go_on, next_number, TellsGoesOn, NoneGoesOnFrom};
 
 use crate::attempt::attempt;
+use crate::noting::{is_after, note_attempt};
 use crate::progress::Progress;
+use crate::ready::Ready;
 use crate::report::{Report, labels_of, report_of};
 use durable_top::{Row, TopStore};
 use manager_core::{Manager, OpenFault, Outcome};
@@ -89,17 +91,21 @@ pub struct Turns<'a, S: TopStore> {
     next: Vec<u32>,
     // The session that was answered last, or any.
     lead: u32,
+    // Of the others no attempt does anything.
+    ready: Ready,
 }
 
 impl<'a, S: TopStore> Model for Turns<'a, S> {
+    ghost use Rattle.interleavings.specs.LeftOut.{AreLeftOut};
     ghost use Rattle.interleavings.specs.Turning.{AreTurns, Turning};
 
     ghost Value = { Turning S };
 
     ghost view = { λ t. record { sessions = t.sessions.now; core = t.manager.value } };
 
-    ghost invariant = { λ t. AreTurns
-        (record { sessions = t.sessions.now; core = t.manager.value }) t.next.items };
+    ghost invariant = { λ t.
+        AreTurns (record { sessions = t.sessions.now; core = t.manager.value }) t.next.items
+        × AreLeftOut t.manager.value.rows t.sessions.now t.manager.value.history t.ready };
 }
 
 impl<'a, S: TopStore> Turns<'a, S> {
@@ -119,6 +125,7 @@ impl<'a, S: TopStore> Turns<'a, S> {
                     manager,
                     next,
                     lead: 0,
+                    ready: Ready::all(),
                 }),
                 Err(manager) => Err(let_go(manager)),
             },
@@ -203,10 +210,12 @@ impl<'a, S: TopStore> Turns<'a, S> {
             IsOk result }
     {
         let Some((line, due)) = self.due(session) else {
+            self.ready.leave_out(session, false);
             return Ok(Turn::OutOfTurn);
         };
         // A line that waits is mostly kept out still, and to ask for that alone is cheaper.
         if self.manager.stays_parked(By::Line { session, line }) {
+            self.ready.leave_out(session, is_after(due));
             return Ok(Turn::Parked);
         }
         self.attempt_line(session, line, due)
@@ -225,11 +234,16 @@ impl<'a, S: TopStore> Turns<'a, S> {
         // What is known of a text comes with its length: here that a session has few lines.
         let _count = self.sessions.len();
         let by = By::Line { session, line };
+        let before = self.manager.history().len();
         match attempt(&mut self.manager, by, due)? {
-            Outcome::Waits => Ok(Turn::Parked),
+            Outcome::Waits => {
+                note_attempt(&mut self.ready, &self.manager, before, session, due);
+                Ok(Turn::Parked)
+            }
             _ => {
                 self.next[session as usize] = line + 1;
                 self.lead = session;
+                note_attempt(&mut self.ready, &self.manager, before, session, due);
                 Ok(Turn::Answered)
             }
         }
@@ -250,19 +264,38 @@ impl<'a, S: TopStore> Turns<'a, S> {
         !self.manager.held_up(by, due)
     }
 
+    // The first session from this one on that is not left out.
+    #[inline(always)]
+    pub(crate) fn next_ready(&self, from: u32) -> Option<u32>
+        ensures some { IfSome result (λ next. (from ≤ next) × (next < length self.now.sessions)
+            × NoneGoesOnFrom self.now from next) }
+        ensures fits { IfSome result (λ next. next < 64) }
+        ensures none { IfNone result
+            (NoneGoesOnFrom self.now from (length self.now.sessions)) }
+    {
+        let next = self.ready.next(from)?;
+        if next < self.count() {
+            Some(next)
+        } else {
+            None
+        }
+    }
+
     /// Whether the next line of some session may be answered, or begin to wait. It looks first at
-    /// the session that was answered last, which mostly goes on, and takes one look at each session
-    /// where none does.
+    /// the session that was answered last, which mostly goes on, and where that does not takes one
+    /// look at each session that is not known to be held up.
     pub fn goes_on(&self) -> bool
         ensures { TellsGoesOn self.now.core.rows self.now.sessions self.now.core.history result }
     {
         if self.can_go_on(self.lead) {
             return true;
         }
-        for session in 0..self.count() {
+        let mut from = 0;
+        while let Some(session) = self.next_ready(from) {
             if self.can_go_on(session) {
                 return true;
             }
+            from = session + 1;
         }
         false
     }
@@ -298,6 +331,7 @@ impl<'a, S: TopStore> Turns<'a, S> {
         let (line, due) = self.due(session).unwrap();
         self.manager.cancel(By::Line { session, line }, due)?;
         self.next[session as usize] = line + 1;
+        self.ready = Ready::all();
         Ok(Some((session, line)))
     }
 
@@ -332,12 +366,15 @@ impl<'a, S: TopStore> Turns<'a, S> {
             next,
             lead,
         } = progress;
+        // What is known of a text comes with its length: here that it has few sessions.
+        let _count = sessions.len();
         Turns {
             alloc,
             sessions,
             manager,
             next,
             lead,
+            ready: Ready::all(),
         }
     }
 

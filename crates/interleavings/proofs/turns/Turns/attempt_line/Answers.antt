@@ -1,19 +1,21 @@
-use Rattle.std.proofs.Common.{◌+◌, length-set, arith}
-use Rattle.interleavings.proofs.Numbers.{free_or_waits, is_kept, number_fits, stepped_answered, stepped_parked, turns_answered, turns_parked}
+use Rattle.std.proofs.Common.{◌+◌, length, length-set, sym, ap, ◌∙◌, arith}
+use Rattle.std.proofs.lemmas.List.{length-reverse}
+use Rattle.interleavings.proofs.LeftOut.{left_out_after}
+use Rattle.interleavings.proofs.Numbers.{free_or_waits, is_kept, number_fits, session_there, stepped_answered, stepped_parked, turns_answered, turns_parked}
 use Rattle.interleavings.proofs.turns.Turns.attempt_line.Goals as goal
 
 pub attempt-requires-clause-next : goal.attempt-requires-clause-next
 attempt-requires-clause-next g c =
     let due = rw (← c.self.view_is) at c.requires in
     rw c.deref_mut.ensures.value
-    (free_or_waits g.S.TopStore c.self.inside.sessions.now c.self.inside.manager.value c.self.inside.next.items c.self.invariant c.args.session c.args.line c.args.due.now due)
+    (free_or_waits g.S.TopStore c.self.inside.sessions.now c.self.inside.manager.value c.self.inside.next.items c.self.invariant.0 c.args.session c.args.line c.args.due.now due)
 
 pub overflow_add-line : goal.overflow_add-line
 overflow_add-line g c =
     let due = rw (← c.self.view_is) at c.requires in
     omega (
       arith,
-      number_fits g.S.TopStore c.self.inside.sessions.now c.self.inside.manager.value c.self.inside.next.items c.self.invariant c.args.session c.args.line c.args.due.now due
+      number_fits g.S.TopStore c.self.inside.sessions.now c.self.inside.manager.value c.self.inside.next.items c.self.invariant.0 c.args.session c.args.line c.args.due.now due
           c.len-count.ensures.text,
     )
 
@@ -22,34 +24,42 @@ index_mut-requires g c =
     let due = rw (← c.self.view_is) at c.requires in
     omega (
       arith,
-      is_kept g.S.TopStore c.self.inside.sessions.now c.self.inside.manager.value c.self.inside.next.items c.self.invariant c.args.session c.args.line c.args.due.now due,
+      is_kept g.S.TopStore c.self.inside.sessions.now c.self.inside.manager.value c.self.inside.next.items c.self.invariant.0 c.args.session c.args.line c.args.due.now due,
       c.self.inside.next.ok.0,
     )
 
 pub invariant_of-self-in-Waits : goal.invariant_of-self-in-Waits
 invariant_of-self-in-Waits g c =
     let due = rw (← c.self.view_is) at c.requires in
-    let tried = rw c.deref_mut.ensures.value at c.in_ok-attempt.ensures.ok in
-    turns_parked g.S.TopStore c.self.inside.sessions.now c.self.inside.manager.value c.self.inside.next.items c.self.invariant c.args.session c.args.line c.args.due.now due
-    c.attempt.new.manager c.in_ok-attempt.field-0 tried c.in-Waits.is
+    let tried = rw c.deref_mut.ensures.value at c.in_ok-attempt.ensures.ok in (
+      turns_parked g.S.TopStore c.self.inside.sessions.now c.self.inside.manager.value c.self.inside.next.items c.self.invariant.0 c.args.session c.args.line c.args.due.now due
+          c.attempt.new.manager c.in_ok-attempt.field-0 tried c.in-Waits.is,
+      left_out_after g.S.TopStore c.self.inside.sessions.now c.self.inside.manager.value c.self.inside.next.items c.self.invariant.0 c.args.session c.args.line c.args.due.now due
+          c.attempt.new.manager c.in_ok-attempt.field-0 tried c.len-count.ensures.text.few c.self.inside.ready c.note_attempt.new.ready c.self.invariant.1 (length c.history-before.result.now)
+          (sym (length-reverse c.history-before.result.now) ∙ ap length (rw c.deref.ensures at c.history-before.ensures)) (rw c.deref-in-Waits.ensures at c.note_attempt.ensures),
+    )
 
 pub invariant_of-self-in_default : goal.invariant_of-self-in_default
 invariant_of-self-in_default g c =
     let due = rw (← c.self.view_is) at c.requires in
-    let tried = rw c.deref_mut.ensures.value at c.in_ok-attempt.ensures.ok in
-    turns_answered g.S.TopStore c.self.inside.sessions.now c.self.inside.manager.value c.self.inside.next.items c.self.invariant c.args.session c.args.line c.args.due.now due
-    c.attempt.new.manager c.in_ok-attempt.field-0 tried c.in_default.not-Waits (length-set c.self.inside.next.items c.args.session (c.args.line + 1))
+    let tried = rw c.deref_mut.ensures.value at c.in_ok-attempt.ensures.ok in (
+      turns_answered g.S.TopStore c.self.inside.sessions.now c.self.inside.manager.value c.self.inside.next.items c.self.invariant.0 c.args.session c.args.line c.args.due.now due
+          c.attempt.new.manager c.in_ok-attempt.field-0 tried c.in_default.not-Waits (length-set c.self.inside.next.items c.args.session (c.args.line + 1)),
+      left_out_after g.S.TopStore c.self.inside.sessions.now c.self.inside.manager.value c.self.inside.next.items c.self.invariant.0 c.args.session c.args.line c.args.due.now due
+          c.attempt.new.manager c.in_ok-attempt.field-0 tried c.len-count.ensures.text.few c.self.inside.ready c.note_attempt-in_default.new.ready c.self.invariant.1 (length c.history-before.result.now)
+          (sym (length-reverse c.history-before.result.now) ∙ ap length (rw c.deref.ensures at c.history-before.ensures)) (rw c.deref-in_default.ensures at c.note_attempt-in_default.ensures),
+    )
 
 pub returns-in-Waits-clause-ok : goal.returns-in-Waits-clause-ok
 returns-in-Waits-clause-ok g c =
     let due = rw (← c.self.view_is) at c.requires in
     let tried = rw c.deref_mut.ensures.value at c.in_ok-attempt.ensures.ok in
     rw (← c.self.view_is)
-    (stepped_parked g.S.TopStore c.self.inside.sessions.now c.self.inside.manager.value c.self.inside.next.items c.self.invariant c.args.session c.args.line c.args.due.now due
+    (stepped_parked g.S.TopStore c.self.inside.sessions.now c.self.inside.manager.value c.self.inside.next.items c.self.invariant.0 c.args.session c.args.line c.args.due.now due
     c.attempt.new.manager c.in_ok-attempt.field-0 tried c.in-Waits.is)
 
 pub returns-in-Waits-clause-way : goal.returns-in-Waits-clause-way
-returns-in-Waits-clause-way g c = (invariant_of-self-in-Waits g c).way
+returns-in-Waits-clause-way g c = (invariant_of-self-in-Waits g c).0.way
 
 pub returns-in_default : goal.returns-in_default
 returns-in_default g c =
@@ -57,8 +67,18 @@ returns-in_default g c =
     let tried = rw c.deref_mut.ensures.value at c.in_ok-attempt.ensures.ok in
     record {
       ok = rw (← c.self.view_is)
-          (stepped_answered g.S.TopStore c.self.inside.sessions.now c.self.inside.manager.value c.self.inside.next.items c.self.invariant c.args.session c.args.line c.args.due.now due
+          (stepped_answered g.S.TopStore c.self.inside.sessions.now c.self.inside.manager.value c.self.inside.next.items c.self.invariant.0 c.args.session c.args.line c.args.due.now due
           c.attempt.new.manager c.in_ok-attempt.field-0 tried c.in_default.not-Waits);
-      way = (invariant_of-self-in_default g c).way;
+      way = (invariant_of-self-in_default g c).0.way;
       err = tt;
     }
+
+pub note_attempt-requires : goal.note_attempt-requires
+note_attempt-requires g c =
+    let due = rw (← c.self.view_is) at c.requires in
+    omega (arith, session_there c.self.inside.sessions.now c.self.inside.manager.value.history c.args.session c.args.due.now due.event, c.len-count.ensures.text.few)
+
+pub note_attempt-requires-in_default : goal.note_attempt-requires-in_default
+note_attempt-requires-in_default g c =
+    let due = rw (← c.self.view_is) at c.requires in
+    omega (arith, session_there c.self.inside.sessions.now c.self.inside.manager.value.history c.args.session c.args.due.now due.event, c.len-count.ensures.text.few)

@@ -1,9 +1,13 @@
-use Rattle.std.proofs.Common.{true, refl}
+use Rattle.std.proofs.Common.{◌≡◌, true, false, refl, sym, ap, ◌∙◌}
 use Rattle.serial_spec.specs.declared.entry.By.TheVariants.{Line}
 use Rattle.manager_core.specs.declared.outcome.Outcome.TheVariants.{Waits}
 use Rattle.interleavings.proofs.Calls.{kept_out_attempt}
+use Rattle.interleavings.specs.LeftOut.{is_after}
+use Rattle.interleavings.specs.Turning.{can_go_on, has_answer}
+use Rattle.interleavings.proofs.LeftOut.{one_out}
 use Rattle.interleavings.proofs.Numbers.{free_or_waits, stepped_parked}
 use Rattle.interleavings.proofs.Schedules.{stepped_none}
+use Rattle.interleavings.proofs.Stuck.{told_held_up}
 use Rattle.interleavings.proofs.turns.Turns.step.Goals as goal
 
 pub returns-then-stays_parked-clause-ok : goal.returns-then-stays_parked-clause-ok
@@ -14,11 +18,42 @@ returns-then-stays_parked-clause-ok g c =
     let l = c.in-Some.line in
     let event = c.in-Some.due.now in
     let due = rw (← c.self.view_is) at c.in-Some.ensures.some in
-    let next = free_or_waits g.S.TopStore ss m c.self.inside.next.items c.self.invariant s l event due in
+    let next = free_or_waits g.S.TopStore ss m c.self.inside.next.items c.self.invariant.0 s l event due in
     let parked = rw c.deref_mut.ensures.value at c.stays_parked.ensures.parked in
     let tried = kept_out_attempt g.S.TopStore m (Line s l) event true (λ _. parked c.if-stays_parked.true event next, λ _. refl) refl in
     rw (← c.self.view_is, c.stays_parked.ensures.same, c.deref_mut.ensures.value)
-    (stepped_parked g.S.TopStore ss m c.self.inside.next.items c.self.invariant s l event due m Waits tried refl)
+    (stepped_parked g.S.TopStore ss m c.self.inside.next.items c.self.invariant.0 s l event due m Waits tried refl)
 
 pub returns-in_default-clause-ok : goal.returns-in_default-clause-ok
-returns-in_default-clause-ok g c = stepped_none g.S.TopStore c.args.self.now c.args.session c.in_default.ensures.none
+returns-in_default-clause-ok g c =
+    let none = rw (← c.self.view_is) at c.in_default.ensures.none in
+    rw (← c.self.view_is)
+    (stepped_none g.S.TopStore (record { sessions = c.self.inside.sessions.now; core = c.self.inside.manager.value }) c.args.session none)
+
+pub invariant_of-self-then-stays_parked : goal.invariant_of-self-then-stays_parked
+invariant_of-self-then-stays_parked g c =
+    let m = c.self.inside.manager.value in
+    let ss = c.self.inside.sessions.now in
+    let s = c.args.session in
+    let l = c.in-Some.line in
+    let event = c.in-Some.due.now in
+    let due = rw (← c.self.view_is) at c.in-Some.ensures.some in
+    let next = free_or_waits g.S.TopStore ss m c.self.inside.next.items c.self.invariant.0 s l event due in
+    let parked = rw c.deref_mut.ensures.value at c.stays_parked.ensures.parked in
+    let stays : can_go_on m.rows ss m.history s ≡ false =
+    sym (told_held_up ss m.history m.rows c.self.invariant.0.way s l event due true (λ _. parked c.if-stays_parked.true event next, λ _. refl)) in
+    rw (c.stays_parked.ensures.same, c.deref_mut.ensures.value) (
+      c.self.invariant.0,
+      one_out m.rows ss m.history c.self.inside.ready c.leave_out-then-stays_parked.new.self s c.is_after.result c.self.invariant.1 stays
+          (λ plain. ap is_after due.event ∙ sym c.is_after.ensures ∙ plain) c.leave_out-then-stays_parked.ensures.out c.leave_out-then-stays_parked.ensures.begins,
+    )
+
+pub invariant_of-self : goal.invariant_of-self
+invariant_of-self g c =
+    let m = c.self.inside.manager.value in
+    let ss = c.self.inside.sessions.now in
+    let none = rw (← c.self.view_is) at c.in_default.ensures.none in (
+      c.self.invariant.0,
+      one_out m.rows ss m.history c.self.inside.ready c.leave_out.new.self c.args.session false c.self.invariant.1 (ap (has_answer m.rows m.history c.args.session) none)
+          (λ _. ap is_after none) c.leave_out.ensures.out c.leave_out.ensures.begins,
+    )

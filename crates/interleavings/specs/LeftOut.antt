@@ -1,0 +1,51 @@
+-- Which sessions are left out where lines are attempted, and what an attempt does to that.
+use Rattle.std.specs.Prelude.{◌≡◌, ◌⊎◌, ◌<◌, ◌≤◌, ◌+◌, ℕ, Bool, true, false, List, length, Option, Some}
+use Rattle.std.specs.Int.{bit_at}
+use Rattle.serial_spec.specs.declared.event.Event.{Event}
+use Rattle.serial_spec.specs.declared.event.Event.TheVariants.{Begin, Commit, Abort, After}
+use Rattle.serial_spec.specs.History.{History}
+use Rattle.serial_spec.specs.Rows.{Rows}
+use Rattle.serial_spec.specs.Allowed.{known, most_keys}
+use Rattle.serial_spec.specs.Interleaving.{Session, next_event}
+use Rattle.interleavings.specs.declared.ready.Ready.{Ready}
+use Rattle.interleavings.specs.Turning.{can_go_on}
+
+abbrev pub IsLeftOut : Ready → ℕ → Type 0
+IsLeftOut r u = bit_at r.may u ≡ 0
+
+-- and it stays so where a transaction begins
+abbrev pub IsLeftOutByBegins : Ready → ℕ → Type 0
+IsLeftOutByBegins r u = IsLeftOut r u × (bit_at r.afters u ≡ 0)
+
+abbrev pub is_after : Option Event → Bool
+is_after (Some (After t w)) = true
+is_after e = false
+
+-- no session that is left out can go on, nor does one of them wait by an `after` line unless that
+-- is known
+pub record AreLeftOut (rows : Rows) (ss : List Session) (h : History) (r : Ready) : Type 0 where
+  pub held : (u : ℕ) → IsLeftOut r u → can_go_on rows ss h u ≡ false
+  pub begins : (u : ℕ) → IsLeftOutByBegins r u → is_after (next_event ss h u) ≡ false
+
+-- the session is left out where this was answered
+abbrev pub StaysBy : Ready → Event → ℕ → Type 0
+StaysBy r (Begin t) u = IsLeftOutByBegins r u
+StaysBy r (Commit t) u = ⊥
+StaysBy r (Abort t) u = ⊥
+StaysBy r e u = IsLeftOut r u
+
+-- Session u was left out before or is the one that was attempted, and nothing has happened since
+-- there were so many entries; or it was left out, is not the one, and stays so by its one entry,
+-- while few keys are known
+abbrev pub IsStillOut : Ready → Rows → History → ℕ → ℕ → Event → ℕ → Type 0
+IsStillOut r rows h before s due u =
+    ((length h ≤ before) × ((u ≡ s) ⊎ IsLeftOut r u))
+    ⊎ ((length h ≤ before + 1) × (length (known rows h) < most_keys) × (u ≡ s → ⊥)
+    × StaysBy r due u)
+
+-- what is left out after an attempt of session s, of a line that asks this
+pub record IsNoted (old new : Ready) (rows : Rows) (h : History) (before s : ℕ)
+    (due : Event) : Type 0 where
+  pub out : (u : ℕ) → u < 64 → IsLeftOut new u → IsStillOut old rows h before s due u
+  pub begins : (u : ℕ) → u < 64 → IsLeftOutByBegins new u
+      → ((u ≡ s) × (is_after (Some due) ≡ false)) ⊎ IsLeftOutByBegins old u
