@@ -15,10 +15,7 @@ use Rattle.serial_spec.specs.Allowed.{answer, known, most_keys}
 use Rattle.serial_spec.specs.Legal.{AreAllowed}
 use Rattle.serial_spec.specs.Interleaving.{Session, lines_of, answered, next_event, next_line, victim, AfterVictims}
 use Rattle.txn_history.specs.Turns.{may_free}
-use Rattle.txn_history.proofs.HeldUp.{held_up_lasts}
-use Rattle.txn_history.proofs.NextLines.{next_can_give_up}
-use Rattle.txn_history.proofs.OwnLines.{other_session}
-use Rattle.txn_history.proofs.Theorems.{legal_allowed}
+use Rattle.txn_history.proofs.Exports.{held_up_lasts, next_can_give_up, other_session, legal_allowed}
 use Rattle.durable_top.specs.declared.store.TopStore.{Ghosts}
 use Rattle.manager_core.specs.declared.outcome.Outcome.{Outcome}
 use Rattle.manager_core.specs.Outcomes.{answer_of}

@@ -117,10 +117,14 @@ pub use Rattle.txn_history.proofs.Parked.{wait_holds}
 pub use Rattle.txn_history.proofs.KnownKeys.{table_few}
 -- A line is the same line as itself.
 pub use Rattle.txn_history.proofs.OwnLines.{line_self}
+-- TODO
+pub use Rattle.txn_history.proofs.OwnLines.{other_session}
 -- The next line of a session may be answered as stuck where it is held up.
 pub use Rattle.txn_history.proofs.NextLines.{next_can_give_up}
 -- The next line of a session is free for its event, or its access waits by this line.
 pub use Rattle.txn_history.proofs.NextLines.{next_is_free}
+-- TODO
+pub use Rattle.txn_history.proofs.HeldUp.{held_up_lasts}
 -- The close finishes a run that is under way.
 pub use Rattle.txn_history.proofs.Following.{close_finishes}
 -- A run that is under way stays so by a step.

@@ -7,18 +7,16 @@ ghost use Rattle.program_words.specs.Faults.{IsSaid};
 ghost use Rattle.program_words.specs.Tellings.{Accounts};
 ghost use Rattle.session_runs.specs.Ways.{ByWorkers};
 ghost use Rattle.tx_commands.specs.Programs.{Misses, Prints};
-ghost use Rattle.tx_commands.specs.Worlds.{state, world};
+ghost use Rattle.tx_commands.specs.Worlds.{state};
 ghost use Rattle.worker_runs.specs.Workers.{workers_of};
 
 use crate::running::run_text;
-use durable_top::TopStore;
 use program_words::misuse;
-use sql_store::MemoryStore;
 use std::alloc::Global;
 use std::sync::Wait;
 use std::thread::Threads;
 use std::time::Clock;
-use tx_commands::Surroundings;
+use tx_commands::{Setting, Surroundings};
 use txn_bytes::Sink;
 use worker_runs::workers_of;
 
@@ -36,16 +34,12 @@ pub fn run<H: Surroundings, R: Threads + Wait + Clock + Sync, W: Sink, E: Sink>(
     out: &mut W,
     err: &mut E,
 ) -> u8
-    ensures done { result ≡ DONE →
-        Prints (world H.Surroundings H.Text.Source H.Store.TopStore
-        ⟦<MemoryStore as TopStore>⟧ W.Sink E.Sink)
+    ensures done { result ≡ DONE → Prints ⟦<(H, W, E) as Setting>⟧.world
         (state host.old out.old err.old) (state host.new out.new err.new)
-        file.now ByWorkers (option_copied database.entry) }
-    ensures failed { result ≡ FAILED →
-        Misses (world H.Surroundings H.Text.Source H.Store.TopStore
-        ⟦<MemoryStore as TopStore>⟧ W.Sink E.Sink)
+        file.now ByWorkers database.entry }
+    ensures failed { result ≡ FAILED → Misses ⟦<(H, W, E) as Setting>⟧.world
         (state host.old out.old err.old) (state host.new out.new err.new)
-        file.now ByWorkers (option_copied database.entry) }
+        file.now ByWorkers database.entry }
     ensures misused { (result ≡ MISUSED) ↔ IsNone (workers_of (option_copied workers.entry)) }
     ensures unasked { result ≡ MISUSED → (host.new ≡ host.old) × (out.new ≡ out.old) }
     ensures usage { result ≡ MISUSED →
