@@ -1,13 +1,12 @@
 -- What the words of the command line asked for, and whether it was done.
-use Rattle.std.specs.Prelude.{◌≡◌, ◌≤◌, ℕ}
-use Rattle.std.specs.Option.{option_copied}
+use Rattle.std.specs.Prelude.{◌≡◌, ◌≤◌, ◌⊎◌, ℕ}
 use Rattle.txn_bytes.specs.Sources.{Reader}
-use Rattle.program_words.specs.declared.status.TheConstants.{DONE, FAILED}
+use Rattle.program_words.specs.declared.status.TheConstants.{DONE, FAILED, MISUSED}
 use Rattle.program_words.specs.Faults.{IsSaid, spelled_fault}
+use Rattle.program_words.specs.Tellings.{Accounts}
 use Rattle.program_words.specs.declared.fault.Fault.TheVariants.{NoMemory}
-use Rattle.program_words.specs.Schedules.{attempts_of}
-use Rattle.session_runs.specs.Ways.{ByWorkers, Scheduled}
-use Rattle.tx_commands.specs.Programs.{IsCondemned, IsPassed, IsUnpassed, Lists, ListsNot, Misses, MissesReplay, Prints}
+use Rattle.session_runs.specs.Ways.{ByWorkers}
+use Rattle.tx_commands.specs.Programs.{IsCondemned, IsPassed, IsUnpassed, Lists, ListsNot, Misses, Prints, Replays, ReplaysNot}
 use Rattle.tx_commands.specs.Lives.{Lives, LivesNot}
 use Rattle.tx_commands.specs.Worlds.{State, World}
 use Rattle.command_line.specs.declared.task.Task.{Task}
@@ -38,31 +37,27 @@ module _ {H T P N I W E : Type 0} (o : World H T P N W E) (r : Reader I)
   -- the input
   abbrev pub IsDoneAlone : Solo → Type 0
   IsDoneAlone (Replay file list database) =
-      Prints o before after file.now (Scheduled (attempts_of (option_copied list)))
-      (option_copied database)
-      × (in_new ≡ in_old)
-  IsDoneAlone (Live database) = Lives o r before after in_old in_new (option_copied database)
+      Replays o before after file.now list database × (in_new ≡ in_old)
+  IsDoneAlone (Live database) = Lives o r before after in_old in_new database
   IsDoneAlone (Check file) = IsPassed o before after file.now × (in_new ≡ in_old)
   IsDoneAlone (Rows path) = Lists o before after path.now × (in_new ≡ in_old)
 
   abbrev pub IsDone : Task → Type 0
   IsDone (Run file workers database) =
-      Prints o before after file.now ByWorkers (option_copied database) × (in_new ≡ in_old)
+      Prints o before after file.now ByWorkers database × (in_new ≡ in_old)
   IsDone (Alone solo) = IsDoneAlone solo
 
   -- it was not: there is no whole report, or no verdict yes, or not all rows
   abbrev pub IsUndoneAlone : Solo → Type 0
   IsUndoneAlone (Replay file list database) =
-      MissesReplay o before after file.now (option_copied list) (option_copied database)
-      × (in_new ≡ in_old)
-  IsUndoneAlone (Live database) =
-      LivesNot o r before after in_old in_new (option_copied database)
+      ReplaysNot o before after file.now list database × (in_new ≡ in_old)
+  IsUndoneAlone (Live database) = LivesNot o r before after in_old in_new database
   IsUndoneAlone (Check file) = IsUnpassed o before after file.now × (in_new ≡ in_old)
   IsUndoneAlone (Rows path) = ListsNot o before after path.now × (in_new ≡ in_old)
 
   abbrev pub IsUndone : Task → Type 0
   IsUndone (Run file workers database) =
-      Misses o before after file.now ByWorkers (option_copied database) × (in_new ≡ in_old)
+      Misses o before after file.now ByWorkers database × (in_new ≡ in_old)
   IsUndone (Alone solo) = IsUndoneAlone solo
 
   -- memory ran out before the words were read: nothing was asked of the surroundings, of the
@@ -79,11 +74,33 @@ module _ {H T P N I W E : Type 0} (o : World H T P N W E) (r : Reader I)
   IsLiveAlone status (Replay file list database) = ⊥
   IsLiveAlone status (Live database) =
       (status ≤ FAILED)
-      × (status ≡ DONE → Lives o r before after in_old in_new (option_copied database))
-      × (status ≡ FAILED → LivesNot o r before after in_old in_new (option_copied database))
+      × (status ≡ DONE → Lives o r before after in_old in_new database)
+      × (status ≡ FAILED → LivesNot o r before after in_old in_new database)
   IsLiveAlone status (Check file) = ⊥
   IsLiveAlone status (Rows path) = ⊥
 
   abbrev pub IsLiveBy : ℕ → Task → Type 0
   IsLiveBy status (Run file workers database) = ⊥
   IsLiveBy status (Alone solo) = IsLiveAlone status solo
+
+  -- What an exit status says of the two writers. At a verdict no the output got that, and a live
+  -- run says it itself
+  abbrev pub AccountsForAlone : Solo → ℕ → Type 0
+  AccountsForAlone solo status = (status ≡ FAILED) × IsCondemnedAlone o before after solo
+      ⊎ (Accounts o.out o.err after.out before.err after.err status ⊎ IsLiveAlone status solo)
+
+  abbrev pub AccountsForSome : ℕ → Type 0
+  AccountsForSome status = (status ≡ FAILED) × ForSomeTask (IsCondemnedBy o before after)
+      ⊎ (Accounts o.out o.err after.out before.err after.err status
+      ⊎ ForSomeTask (IsLiveBy status))
+
+  -- What the program does, by its exit status. At the first some task was done. At the second it
+  -- was not, or the words were not read. At the last, where they are no command line, nothing was
+  -- asked of the surroundings, of the input or of the output
+  pub record Serves (status : ℕ) : Type 0 where
+    pub done : status ≡ DONE → ForSomeTask IsDone
+    pub failed : status ≡ FAILED → ForSomeTask IsUndone ⊎ IsUnstarted
+    pub misused : status ≡ MISUSED →
+        (after.host ≡ before.host) × (in_new ≡ in_old) × (after.out ≡ before.out)
+    pub accounts : AccountsForSome status
+    pub bounded : status ≤ MISUSED

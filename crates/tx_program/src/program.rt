@@ -3,20 +3,18 @@ ghost use Rattle.std.specs.Prelude.{◌≡◌, ◌≢◌, ◌≤◌, ◌⊎◌};
 ghost use Rattle.program_words.specs.declared.status.TheConstants.{DONE, FAILED, MISUSED};
 ghost use Rattle.program_words.specs.declared.fault.Fault.TheVariants.{NoMemory};
 ghost use Rattle.program_words.specs.Faults.{IsSaid, spelled_fault};
-ghost use Rattle.program_words.specs.Tellings.{Accounts, HasUsageLine};
-ghost use Rattle.tx_commands.specs.Worlds.{state, world};
-ghost use Rattle.tx_program.specs.Programs.{ForSomeTask, IsCondemnedAlone, IsCondemnedBy, IsDone, IsDoneAlone, IsLiveAlone, IsLiveBy, IsUndone, IsUndoneAlone, IsUnstarted};
+ghost use Rattle.program_words.specs.Tellings.{HasUsageLine};
+ghost use Rattle.tx_commands.specs.Worlds.{state};
+ghost use Rattle.tx_program.specs.Programs.{AccountsForAlone, IsDoneAlone, IsUndoneAlone, Serves};
 
 use clap::Error;
 use command_line::{Solo, Task, task_of};
-use durable_top::TopStore;
 use program_words::{Fault, misuse, tell};
-use sql_store::MemoryStore;
 use std::alloc::{AllocError, Global};
 use std::sync::Wait;
 use std::thread::Threads;
 use std::time::Clock;
-use tx_commands::{Surroundings, judge, list, live, replay};
+use tx_commands::{Setting, Surroundings, judge, list, live, replay};
 use txn_bytes::{Sink, Source};
 use worker_commands::run;
 
@@ -35,30 +33,9 @@ pub fn tx_main<H: Surroundings, R: Threads + Wait + Clock + Sync, I: Source, W: 
     out: &mut W,
     err: &mut E,
 ) -> u8
-    ensures done { result ≡ DONE → ForSomeTask
-        (IsDone (world H.Surroundings H.Text.Source H.Store.TopStore
-        ⟦<MemoryStore as TopStore>⟧ W.Sink E.Sink) I.Source
-        (state host.old out.old err.old) (state host.new out.new err.new) input.old input.new) }
-    ensures failed { result ≡ FAILED → ForSomeTask
-        (IsUndone (world H.Surroundings H.Text.Source H.Store.TopStore
-        ⟦<MemoryStore as TopStore>⟧ W.Sink E.Sink) I.Source
-        (state host.old out.old err.old) (state host.new out.new err.new) input.old input.new)
-        ⊎ IsUnstarted (world H.Surroundings H.Text.Source H.Store.TopStore
-        ⟦<MemoryStore as TopStore>⟧ W.Sink E.Sink) I.Source
-        (state host.old out.old err.old) (state host.new out.new err.new) input.old input.new }
-    ensures misused { result ≡ MISUSED →
-        (host.new ≡ host.old) × (input.new ≡ input.old) × (out.new ≡ out.old) }
-    ensures accounts { (result ≡ FAILED) × ForSomeTask
-        (IsCondemnedBy (world H.Surroundings H.Text.Source H.Store.TopStore
-        ⟦<MemoryStore as TopStore>⟧ W.Sink E.Sink)
-        (state host.old out.old err.old) (state host.new out.new err.new))
-        ⊎ (Accounts W.Sink E.Sink out.new err.old err.new result
-        ⊎ ForSomeTask
-        (IsLiveBy (world H.Surroundings H.Text.Source H.Store.TopStore
-        ⟦<MemoryStore as TopStore>⟧ W.Sink E.Sink) I.Source
-        (state host.old out.old err.old) (state host.new out.new err.new) input.old input.new
-        result)) }
-    ensures status { result ≤ MISUSED }
+    ensures { Serves ⟦<(H, W, E) as Setting>⟧.world I.Source
+        (state host.old out.old err.old) (state host.new out.new err.new)
+        input.old input.new result }
 {
     let Ok(all) = command_line(alloc, words) else {
         return tell(err, Fault::NoMemory);
@@ -92,25 +69,15 @@ fn perform<H: Surroundings, I: Source, W: Sink, E: Sink>(
     out: &mut W,
     err: &mut E,
 ) -> u8
-    ensures done { result ≡ DONE →
-        IsDoneAlone (world H.Surroundings H.Text.Source H.Store.TopStore
-        ⟦<MemoryStore as TopStore>⟧ W.Sink E.Sink) I.Source
-        (state host.old out.old err.old) (state host.new out.new err.new) input.old input.new
-        solo.entry }
-    ensures failed { result ≡ FAILED →
-        IsUndoneAlone (world H.Surroundings H.Text.Source H.Store.TopStore
-        ⟦<MemoryStore as TopStore>⟧ W.Sink E.Sink) I.Source
-        (state host.old out.old err.old) (state host.new out.new err.new) input.old input.new
-        solo.entry }
-    ensures accounts { (result ≡ FAILED) ×
-        IsCondemnedAlone (world H.Surroundings H.Text.Source H.Store.TopStore
-        ⟦<MemoryStore as TopStore>⟧ W.Sink E.Sink)
-        (state host.old out.old err.old) (state host.new out.new err.new) solo.entry
-        ⊎ (Accounts W.Sink E.Sink out.new err.old err.new result
-        ⊎ IsLiveAlone (world H.Surroundings H.Text.Source H.Store.TopStore
-        ⟦<MemoryStore as TopStore>⟧ W.Sink E.Sink) I.Source
-        (state host.old out.old err.old) (state host.new out.new err.new) input.old input.new
-        result solo.entry) }
+    ensures done { result ≡ DONE → IsDoneAlone ⟦<(H, W, E) as Setting>⟧.world I.Source
+        (state host.old out.old err.old) (state host.new out.new err.new)
+        input.old input.new solo.entry }
+    ensures failed { result ≡ FAILED → IsUndoneAlone ⟦<(H, W, E) as Setting>⟧.world I.Source
+        (state host.old out.old err.old) (state host.new out.new err.new)
+        input.old input.new solo.entry }
+    ensures accounts { AccountsForAlone ⟦<(H, W, E) as Setting>⟧.world I.Source
+        (state host.old out.old err.old) (state host.new out.new err.new)
+        input.old input.new solo.entry result }
     ensures status { result ≤ FAILED }
 {
     match solo {

@@ -1,22 +1,19 @@
 //! The program from what the system says of its words: these, or that they are no text.
-ghost use Rattle.std.specs.Prelude.{◌≡◌, ◌≤◌, ◌⊎◌, codes, OnErr};
+ghost use Rattle.std.specs.Prelude.{◌≡◌, codes, OnErr};
 ghost use Rattle.line_language.specs.Report.{line};
-ghost use Rattle.program_words.specs.declared.status.TheConstants.{DONE, FAILED, MISUSED};
+ghost use Rattle.program_words.specs.declared.status.TheConstants.{MISUSED};
 ghost use Rattle.program_words.specs.Faults.{IsSaid};
-ghost use Rattle.program_words.specs.Tellings.{Accounts};
-ghost use Rattle.tx_commands.specs.Worlds.{state, world};
-ghost use Rattle.tx_program.specs.Programs.{ForSomeTask, IsCondemnedBy, IsDone, IsLiveBy, IsUndone, IsUnstarted};
+ghost use Rattle.tx_commands.specs.Worlds.{state};
+ghost use Rattle.tx_program.specs.Programs.{Serves};
 
 use crate::program::tx_main;
-use durable_top::TopStore;
 use program_words::misuse;
-use sql_store::MemoryStore;
 use std::alloc::Global;
 use std::io;
 use std::sync::Wait;
 use std::thread::Threads;
 use std::time::Clock;
-use tx_commands::Surroundings;
+use tx_commands::{Setting, Surroundings};
 use txn_bytes::{Sink, Source};
 
 /// The exit status: that of `tx_main` with these words, or that the words are no text, which is told
@@ -33,30 +30,9 @@ pub fn start<H: Surroundings, R: Threads + Wait + Clock + Sync, I: Source, W: Si
     ensures unread { OnErr words
         (IsSaid E.Sink err.old err.new (line (codes "tx: the command line is not text"))) }
     ensures unread_status { OnErr words (result ≡ MISUSED) }
-    ensures done { result ≡ DONE → ForSomeTask
-        (IsDone (world H.Surroundings H.Text.Source H.Store.TopStore
-        ⟦<MemoryStore as TopStore>⟧ W.Sink E.Sink) I.Source
-        (state host.old out.old err.old) (state host.new out.new err.new) input.old input.new) }
-    ensures failed { result ≡ FAILED → ForSomeTask
-        (IsUndone (world H.Surroundings H.Text.Source H.Store.TopStore
-        ⟦<MemoryStore as TopStore>⟧ W.Sink E.Sink) I.Source
-        (state host.old out.old err.old) (state host.new out.new err.new) input.old input.new)
-        ⊎ IsUnstarted (world H.Surroundings H.Text.Source H.Store.TopStore
-        ⟦<MemoryStore as TopStore>⟧ W.Sink E.Sink) I.Source
-        (state host.old out.old err.old) (state host.new out.new err.new) input.old input.new }
-    ensures misused { result ≡ MISUSED →
-        (host.new ≡ host.old) × (input.new ≡ input.old) × (out.new ≡ out.old) }
-    ensures accounts { (result ≡ FAILED) × ForSomeTask
-        (IsCondemnedBy (world H.Surroundings H.Text.Source H.Store.TopStore
-        ⟦<MemoryStore as TopStore>⟧ W.Sink E.Sink)
-        (state host.old out.old err.old) (state host.new out.new err.new))
-        ⊎ (Accounts W.Sink E.Sink out.new err.old err.new result
-        ⊎ ForSomeTask
-        (IsLiveBy (world H.Surroundings H.Text.Source H.Store.TopStore
-        ⟦<MemoryStore as TopStore>⟧ W.Sink E.Sink) I.Source
-        (state host.old out.old err.old) (state host.new out.new err.new) input.old input.new
-        result)) }
-    ensures status { result ≤ MISUSED }
+    ensures served { Serves ⟦<(H, W, E) as Setting>⟧.world I.Source
+        (state host.old out.old err.old) (state host.new out.new err.new)
+        input.old input.new result }
 {
     let Ok(words) = words else {
         return misuse(err, b"tx: the command line is not text");

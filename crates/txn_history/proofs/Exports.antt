@@ -117,13 +117,13 @@ pub use Rattle.txn_history.proofs.Parked.{wait_holds}
 pub use Rattle.txn_history.proofs.KnownKeys.{table_few}
 -- A line is the same line as itself.
 pub use Rattle.txn_history.proofs.OwnLines.{line_self}
--- TODO
+-- A line of another session is another line.
 pub use Rattle.txn_history.proofs.OwnLines.{other_session}
 -- The next line of a session may be answered as stuck where it is held up.
 pub use Rattle.txn_history.proofs.NextLines.{next_can_give_up}
 -- The next line of a session is free for its event, or its access waits by this line.
 pub use Rattle.txn_history.proofs.NextLines.{next_is_free}
--- TODO
+-- A line that is held up stays so by an entry that ends nothing.
 pub use Rattle.txn_history.proofs.HeldUp.{held_up_lasts}
 -- The close finishes a run that is under way.
 pub use Rattle.txn_history.proofs.Following.{close_finishes}

@@ -1,23 +1,31 @@
-use Rattle.std.proofs.Common.{inl, inr}
+use Rattle.std.proofs.Common.{refl}
 use Rattle.std.specs.Prelude.{codes}
-use Rattle.command_line.specs.declared.task.Task.TheVariants.{Alone}
-use Rattle.program_words.specs.declared.fault.Fault.TheVariants.{NoMemory}
-use Rattle.program_words.proofs.Exports.{fault_accounts, misuse_accounts}
-use Rattle.tx_program.proofs.Refused.{refused_accounts}
-use Rattle.tx_program.proofs.Tasks.{for_some}
+use Rattle.tx_program.proofs.Served.{by_one, by_workers, misread, refused, unstarted}
 use Rattle.tx_program.proofs.program.tx_main.Goals as goal
 
-pub returns-in_default-clause-accounts : goal.returns-in_default-clause-accounts
-returns-in_default-clause-accounts g c =
-    inr (inl (fault_accounts _ _ c.args.out.now c.args.err.now c.tell.new.err NoMemory c.tell.result c.tell.ensures.told c.tell.ensures.status))
+pub returns-in_default : goal.returns-in_default
+returns-in_default g c =
+    unstarted _ _ c.args.host.now c.args.out.now c.args.err.now c.tell.new.err c.args.input.now
+    c.tell.result c.tell.ensures.told c.tell.ensures.status
 
-pub returns-in-Ok-None-clause-accounts : goal.returns-in-Ok-None-clause-accounts
-returns-in-Ok-None-clause-accounts g c =
-    inr (inl (misuse_accounts _ _ c.args.out.now c.args.err.now c.misuse.new.err (codes "usage: tx replay FILE [--schedule LIST] [--db PATH], or tx run FILE [--workers N] [--db PATH], or tx live [--db PATH], or tx check REPORT, or tx rows PATH, or tx --help") c.misuse.result c.misuse.ensures.told c.misuse.ensures.status))
+pub returns-in-Ok-None : goal.returns-in-Ok-None
+returns-in-Ok-None g c =
+    misread _ _ c.args.host.now c.args.out.now c.args.err.now c.misuse.new.err c.args.input.now
+    c.misuse.result _ c.misuse.ensures.told c.misuse.ensures.status
 
-pub returns-in-Err-clause-accounts : goal.returns-in-Err-clause-accounts
-returns-in-Err-clause-accounts g c =
-    inr (inl (refused_accounts _ _ c.args.out.now c.args.err.now c.refuse.new.err c.refuse.result c.refuse.ensures.failed c.refuse.ensures.misused c.refuse.ensures.status))
+pub returns-in-Err : goal.returns-in-Err
+returns-in-Err g c =
+    refused _ _ c.args.host.now c.args.out.now c.args.err.now c.refuse.new.err c.args.input.now
+    c.refuse.result c.refuse.ensures.failed c.refuse.ensures.misused c.refuse.ensures.status
 
-pub returns-clause-accounts : goal.returns-clause-accounts
-returns-clause-accounts g c = for_some _ _ (Alone c.in-Alone.solo) c.perform.ensures.accounts
+pub returns-in-Run : goal.returns-in-Run
+returns-in-Run g c =
+    by_workers _ _ _ _ _ _ c.run.result c.in-Run.file c.in-Run.workers c.in-Run.database refl
+    c.run.ensures.done c.run.ensures.failed c.run.ensures.unasked c.run.ensures.accounts
+    c.run.ensures.status
+
+pub returns : goal.returns
+returns g c =
+    by_one _ _ _ _ _ _ c.perform.result c.in-Alone.solo
+    c.perform.ensures.done c.perform.ensures.failed c.perform.ensures.accounts
+    c.perform.ensures.status
