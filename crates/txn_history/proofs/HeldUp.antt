@@ -31,7 +31,8 @@ use Rattle.serial_spec.specs.Items.{Access as Accessed, Items, items, with_item}
 use Rattle.serial_spec.specs.Locks.{conflicts, footprint, greater, is_blocked, is_blocker, mode_of}
 use Rattle.serial_spec.specs.Rows.{Rows}
 use Rattle.serial_spec.specs.Waits.{accesses, is_waits, same_line, wait_of}
-use Rattle.serial_spec.specs.Allowed.{answer, answer_to_access, cause_at_access, cause_at_end, has_come, has_waited, is_full_for, is_other_line, known, most_keys, refused_or, waits_elsewhere, when}
+use Rattle.serial_spec.specs.Allowed.{answer, answer_to_access, cause_at_access, cause_at_end, has_come, has_waited, is_full_for, is_other_line, known, most_keys, refused_or, waits_elsewhere}
+use Rattle.serial_spec.specs.Causes.{when}
 use Rattle.serial_spec.specs.Legal.{AreAllowed}
 use Rattle.txn_history.specs.Lines.{CanGiveUp}
 use Rattle.txn_history.specs.Steps.{acts_next, sets_status, unless_by}
