@@ -4,3 +4,6 @@ use Rattle.tx_server.proofs.main.Goals as goal
 
 pub start-requires-send-H-Store : goal.start-requires-send-H-Store
 start-requires-send-H-Store c κs = search (sendable, database_send)
+
+pub start-requires-send-H-Memory : goal.start-requires-send-H-Memory
+start-requires-send-H-Memory c κs = search sendable
