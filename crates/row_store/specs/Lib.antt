@@ -1,0 +1,5 @@
+pub mod Passes
+pub mod Undo
+pub mod Edit
+pub mod Heading
+pub mod Path

@@ -1,0 +1,36 @@
+//! A write to the rows of one tree, so that the four kinds share the steps around it.
+
+ghost use Rattle.std.specs.Prelude.{◌≡◌, ◌≤◌, IfOk, OnErr, vec_capacity};
+
+use crate::rows::{Change, delete, insert, put, remove};
+use sqlite_value::keys::Order;
+use sqlite_value::row::Row;
+use std::alloc::{AllocError, Global};
+
+#[derive(Clone, Copy)]
+pub(crate) enum Edit<'a> {
+    Put(&'a Row),
+    Delete(i64),
+    Insert(Order, &'a Row),
+    Remove(Order, &'a Row),
+}
+
+impl Edit<'_> {
+    ghost use Rattle.row_store.specs.Edit.{edited, Suits};
+    ghost use Rattle.row_store.specs.Undo.{IsUndoneBy};
+
+    pub(crate) fn apply(self, alloc: Global, rows: &mut Vec<Row>) -> Result<Change, AllocError>
+        requires { Suits self rows.old.items }
+        ensures ok { IfOk result (λ _. rows.new.items ≡ edited self.entry rows.old.items) }
+        ensures undone { IfOk result (λ change. IsUndoneBy change rows.new.items rows.old.items) }
+        ensures err { OnErr result (rows.new.items ≡ rows.old.items) }
+        ensures room { vec_capacity rows.old ≤ vec_capacity rows.new }
+    {
+        match self {
+            Edit::Put(row) => put(rows, row.copy(alloc)?),
+            Edit::Delete(id) => Ok(delete(rows, id)),
+            Edit::Insert(order, entry) => insert(rows, order, entry.copy(alloc)?),
+            Edit::Remove(order, entry) => Ok(remove(rows, order, entry)),
+        }
+    }
+}

@@ -1,0 +1,8 @@
+//! A store of rows in memory under the SQL of `sqlite`. A write is made once: what undoes it stands
+//! in a log until the commit, and a rollback makes the log's entries, the newest first.
+#![tactic(auto)]
+
+mod edit;
+mod log;
+mod probe;
+mod rows;

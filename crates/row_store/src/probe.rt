@@ -1,0 +1,71 @@
+//! A binary search over rows in order.
+
+ghost use Rattle.std.specs.Prelude.{◌≡◌};
+ghost use Rattle.std.specs.Ordering.{is_eq};
+ghost use Rattle.sqlite_value.specs.Value.{owned};
+ghost use Rattle.sqlite_value.specs.Order.{value_cmp};
+ghost use Rattle.sqlite_value.specs.Keys.{entry_cmp};
+ghost use Rattle.sqlite_trees.specs.Tree.{rowid};
+ghost use Rattle.sqlite_trees.specs.Probe.{IsTestAt};
+
+use sqlite_value::keys::Order;
+use sqlite_value::order::compare;
+use sqlite_value::row::Row;
+use sqlite_value::value::ValueRef;
+
+/// A test that the rows of a tree pass up to some place, and fail from there on.
+#[derive(Clone, Copy)]
+pub(crate) enum Probe<'a> {
+    BelowKey(Order, &'a Row),
+    UpToKey(Order, &'a Row),
+    BelowRowid(ValueRef<'a>),
+    BelowEntry(Order, &'a Row),
+}
+
+impl Probe<'_> {
+    ghost use Rattle.sqlite_trees.specs.Probe.{IsCutBy, IsPlaceOf};
+    ghost use Rattle.row_store.specs.Passes.{passes};
+
+    fn passes(self, entry: &Row) -> bool
+        ensures { result ≡ passes self.entry entry.now }
+    {
+        match self {
+            Probe::BelowKey(order, key) => entry.cmp_prefix(order, key).is_lt(),
+            Probe::UpToKey(order, key) => !entry.cmp_prefix(order, key).is_gt(),
+            Probe::BelowRowid(id) => compare(entry.get(0), id).is_lt(),
+            Probe::BelowEntry(order, other) => entry.cmp_entry(order, other).is_lt(),
+        }
+    }
+
+    /// The place of the first row that does not pass, or the end.
+    pub(crate) fn place(self, rows: &[Row]) -> usize
+        requires { IsCutBy (passes self) rows.now }
+        ensures { IsPlaceOf (passes self.entry) rows.now result }
+    {
+        let mut low = 0;
+        let mut high = rows.len();
+        while low < high {
+            let middle = low + (high - low) / 2;
+            if self.passes(&rows[middle]) {
+                low = middle + 1;
+            } else {
+                high = middle;
+            }
+        }
+        low
+    }
+}
+
+/// Whether the row at the place has this rowid.
+pub(crate) fn has_rowid_at(rows: &[Row], at: usize, id: ValueRef<'_>) -> bool
+    ensures { IsTestAt (λ r. is_eq (value_cmp (rowid r) (owned id.entry))) rows.now at result }
+{
+    at < rows.len() && compare(rows[at].get(0), id).is_eq()
+}
+
+/// Whether the entry at the place is this one, in this order.
+pub(crate) fn has_entry_at(order: Order, rows: &[Row], at: usize, entry: &Row) -> bool
+    ensures { IsTestAt (λ e. is_eq (entry_cmp order e entry.now)) rows.now at result }
+{
+    at < rows.len() && rows[at].cmp_entry(order, entry).is_eq()
+}

@@ -1,0 +1,122 @@
+//! The writes to the rows of one tree, and what undoes them.
+
+ghost use Rattle.std.specs.Prelude.{◌≡◌, ◌≤◌, length, IfOk, OnErr, IsTrue, vec_capacity};
+ghost use Rattle.sqlite_trees.specs.Tree.{put_row, without_rowid, insert_entry, remove_entry};
+ghost use Rattle.sqlite_trees.specs.View.{IsShaped, Finds};
+ghost use Rattle.sqlite_trees.specs.declared.store.Shape.TheVariants as shape;
+ghost use Rattle.row_store.specs.Undo.{reverted, IsRevertible, IsUndoneBy};
+
+use crate::probe::{Probe, has_entry_at, has_rowid_at};
+use sqlite_value::keys::Order;
+use sqlite_value::row::Row;
+use sqlite_value::value::ValueRef;
+use std::alloc::AllocError;
+use std::mem;
+
+/// What a write did to the rows of a tree.
+#[derive(Drop)]
+pub(crate) enum Change {
+    Nothing,
+    /// A new row stands at this place.
+    Inserted(usize),
+    /// This row stood at this place, where another stands now.
+    Replaced(usize, Row),
+    /// This row stood before this place, and is gone.
+    Removed(usize, Row),
+}
+
+/// The rows as they were before the change.
+pub(crate) fn revert(rows: &mut Vec<Row>, change: Change)
+    requires fits { IsRevertible change rows.old.items }
+    requires room { length (reverted change rows.old.items) ≤ vec_capacity rows.old }
+    ensures rows { rows.new.items ≡ reverted change rows.old.items }
+    ensures room { vec_capacity rows.new ≡ vec_capacity rows.old }
+{
+    match change {
+        Change::Nothing => {}
+        Change::Inserted(at) => {
+            let _ = rows.remove(at);
+        }
+        Change::Replaced(at, row) => rows[at] = row,
+        Change::Removed(at, row) => {
+            let _ = rows.insert(at, row);
+        }
+    }
+}
+
+/// Writes the row that has the rowid over `row`, or answers false.
+pub(crate) fn get(rows: &[Row], id: i64, row: &mut Row) -> Result<bool, AllocError>
+    requires { IsShaped shape.Table rows.now }
+    ensures { IfOk result (Finds rows.now id row.new) }
+{
+    let at = Probe::BelowRowid(ValueRef::Int(id)).place(rows);
+    if has_rowid_at(rows, at, ValueRef::Int(id)) {
+        row.copy_from(&rows[at])?;
+        Ok(true)
+    } else {
+        Ok(false)
+    }
+}
+
+/// Puts the row in its place, or in the place of the one that has its rowid.
+pub(crate) fn put(rows: &mut Vec<Row>, new: Row) -> Result<Change, AllocError>
+    requires { IsShaped shape.Table rows.old.items }
+    ensures ok { IfOk result (λ _. rows.new.items ≡ put_row new rows.old.items) }
+    ensures undone { IfOk result (λ change. IsUndoneBy change rows.new.items rows.old.items) }
+    ensures err { OnErr result (rows.new.items ≡ rows.old.items) }
+    ensures room { vec_capacity rows.old ≤ vec_capacity rows.new }
+{
+    let at = Probe::BelowRowid(new.get(0)).place(rows.as_slice());
+    if has_rowid_at(rows.as_slice(), at, new.get(0)) {
+        let old = mem::replace(&mut rows[at], new);
+        return Ok(Change::Replaced(at, old));
+    }
+    rows.insert(at, new)?;
+    Ok(Change::Inserted(at))
+}
+
+/// Takes the row that has the rowid.
+pub(crate) fn delete(rows: &mut Vec<Row>, id: i64) -> Change
+    requires { IsShaped shape.Table rows.old.items }
+    ensures rows { rows.new.items ≡ without_rowid id rows.old.items }
+    ensures undone { IsUndoneBy result rows.new.items rows.old.items }
+    ensures room { vec_capacity rows.new ≡ vec_capacity rows.old }
+{
+    let at = Probe::BelowRowid(ValueRef::Int(id)).place(rows.as_slice());
+    if has_rowid_at(rows.as_slice(), at, ValueRef::Int(id)) {
+        Change::Removed(at, rows.remove(at))
+    } else {
+        Change::Nothing
+    }
+}
+
+/// Puts the entry in its place, unless an equal one is there.
+pub(crate) fn insert(rows: &mut Vec<Row>, order: Order, new: Row) -> Result<Change, AllocError>
+    requires { IsShaped (shape.Index order) rows.old.items }
+    ensures ok { IfOk result (λ _. rows.new.items ≡ insert_entry order new rows.old.items) }
+    ensures undone { IfOk result (λ change. IsUndoneBy change rows.new.items rows.old.items) }
+    ensures err { OnErr result (rows.new.items ≡ rows.old.items) }
+    ensures room { vec_capacity rows.old ≤ vec_capacity rows.new }
+{
+    let at = Probe::BelowEntry(order, &new).place(rows.as_slice());
+    if has_entry_at(order, rows.as_slice(), at, &new) {
+        return Ok(Change::Nothing);
+    }
+    rows.insert(at, new)?;
+    Ok(Change::Inserted(at))
+}
+
+/// Takes the entry.
+pub(crate) fn remove(rows: &mut Vec<Row>, order: Order, entry: &Row) -> Change
+    requires { IsShaped (shape.Index order) rows.old.items }
+    ensures rows { rows.new.items ≡ remove_entry order entry.now rows.old.items }
+    ensures undone { IsUndoneBy result rows.new.items rows.old.items }
+    ensures room { vec_capacity rows.new ≡ vec_capacity rows.old }
+{
+    let at = Probe::BelowEntry(order, entry).place(rows.as_slice());
+    if has_entry_at(order, rows.as_slice(), at, entry) {
+        Change::Removed(at, rows.remove(at))
+    } else {
+        Change::Nothing
+    }
+}
