@@ -1,2 +1,11 @@
+pub mod Lists
 pub mod Places
 pub mod Paths
+pub mod Views
+pub mod Calls
+pub mod Edits
+pub mod Kept
+pub mod Relabels
+pub mod Objects
+pub mod Backs
+pub mod Empty

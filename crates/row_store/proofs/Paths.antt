@@ -13,10 +13,6 @@ pub undone-append : (first last : List Undo) (s : State) → undone (first ++ la
 undone-append [] last s = refl
 undone-append (v ∷ first) last s = ap (undo v) (undone-append first last s)
 
-pub path_now : (room : List ℕ) (log : List Undo) (s : State) → IsPath room log s → IsSound room s
-path_now room [] s h = h
-path_now room (u ∷ log) s h = path_now room log s h.0
-
 pub path_push : (room : List ℕ) (log : List Undo) (u : Undo) (old new : State) → undo u new ≡ old → Fits u new → IsSound room new → IsPath room log old
     → IsPath room (log ++ u ∷ []) new
 path_push room [] u old new back fits sound h = (sound, fits, rw back h)

@@ -2,7 +2,7 @@
 
 ghost use Rattle.std.specs.Prelude.{◌≡◌, ◌≤◌, IfOk, OnErr, vec_capacity};
 
-use crate::rows::{Change, delete, insert, put, remove};
+use crate::rows::{Change, delete, empty, insert, put, remove};
 use sqlite_value::keys::Order;
 use sqlite_value::row::Row;
 use std::alloc::{AllocError, Global};
@@ -13,6 +13,7 @@ pub(crate) enum Edit<'a> {
     Delete(i64),
     Insert(Order, &'a Row),
     Remove(Order, &'a Row),
+    Empty,
 }
 
 impl Edit<'_> {
@@ -21,8 +22,8 @@ impl Edit<'_> {
 
     pub(crate) fn apply(self, alloc: Global, rows: &mut Vec<Row>) -> Result<Change, AllocError>
         requires { Suits self rows.old.items }
-        ensures ok { IfOk result (λ _. rows.new.items ≡ edited self.entry rows.old.items) }
-        ensures undone { IfOk result (λ change. IsUndoneBy change rows.new.items rows.old.items) }
+        ensures ok { IfOk result (λ change. (rows.new.items ≡ edited self.entry rows.old.items)
+            × IsUndoneBy change rows.new.items rows.old.items) }
         ensures err { OnErr result (rows.new.items ≡ rows.old.items) }
         ensures room { vec_capacity rows.old ≤ vec_capacity rows.new }
     {
@@ -31,6 +32,7 @@ impl Edit<'_> {
             Edit::Delete(id) => Ok(delete(rows, id)),
             Edit::Insert(order, entry) => insert(rows, order, entry.copy(alloc)?),
             Edit::Remove(order, entry) => Ok(remove(rows, order, entry)),
+            Edit::Empty => empty(alloc, rows),
         }
     }
 }

@@ -4,5 +4,11 @@
 
 mod edit;
 mod log;
+mod open;
 mod probe;
 mod rows;
+mod store;
+mod traits;
+
+pub use open::connect;
+pub use store::RowStore;

@@ -1,14 +1,15 @@
 //! What undoes each write of a transaction.
 
+ghost use Rattle.std.specs.Prelude.{◌≡◌, ◌<◌, ◌^◌, take, IfOk};
+ghost use Rattle.sqlite_trees.specs.Objects.{description, listing};
+ghost use Rattle.sqlite_trees.specs.Listing.{no_heading};
+
 use crate::rows::Change;
 use sqlite_trees::schema::Object;
 use sqlite_trees::store::Shape;
 use sqlite_value::row::Row;
+use sqlite_value::value::ValueRef;
 use std::alloc::{AllocError, Global};
-
-ghost use Rattle.std.specs.Prelude.{◌≡◌, [], IfOk};
-ghost use Rattle.sqlite_trees.specs.Objects.{description};
-ghost use Rattle.sqlite_trees.specs.Listing.{no_heading};
 
 /// How a tree is listed: its shape, its REAL columns, and its type, name, table and SQL text.
 #[derive(Drop)]
@@ -41,6 +42,21 @@ impl Head {
             reals: 0,
             described: Row::new(alloc),
         }
+    }
+
+    /// Its row in the list of objects.
+    pub(crate) fn listing(&self, alloc: Global, tree: usize) -> Result<Row, AllocError>
+        requires { tree < 2 ^ 62 }
+        ensures { IfOk result (λ row.
+            row ≡ take 5 (listing tree self.now.described self.now.shape self.now.reals)) }
+    {
+        let mut row = Row::new(alloc);
+        row.push(ValueRef::Int(tree as i64 + 1))?;
+        row.push(self.described.get(0))?;
+        row.push(self.described.get(1))?;
+        row.push(self.described.get(2))?;
+        row.push(self.described.get(3))?;
+        Ok(row)
     }
 }
 

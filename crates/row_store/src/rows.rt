@@ -1,6 +1,6 @@
 //! The writes to the rows of one tree, and what undoes them.
 
-ghost use Rattle.std.specs.Prelude.{◌≡◌, ◌≤◌, length, IfOk, OnErr, IsTrue, vec_capacity};
+ghost use Rattle.std.specs.Prelude.{◌≡◌, ◌≤◌, [], length, IfOk, OnErr, vec_capacity};
 ghost use Rattle.sqlite_trees.specs.Tree.{put_row, without_rowid, insert_entry, remove_entry};
 ghost use Rattle.sqlite_trees.specs.View.{IsShaped, Finds};
 ghost use Rattle.sqlite_trees.specs.declared.store.Shape.TheVariants as shape;
@@ -10,7 +10,7 @@ use crate::probe::{Probe, has_entry_at, has_rowid_at};
 use sqlite_value::keys::Order;
 use sqlite_value::row::Row;
 use sqlite_value::value::ValueRef;
-use std::alloc::AllocError;
+use std::alloc::{AllocError, Global};
 use std::mem;
 
 /// What a write did to the rows of a tree.
@@ -23,6 +23,8 @@ pub(crate) enum Change {
     Replaced(usize, Row),
     /// This row stood before this place, and is gone.
     Removed(usize, Row),
+    /// These rows stood here, and none is left.
+    Emptied(Vec<Row>),
 }
 
 /// The rows as they were before the change.
@@ -30,7 +32,7 @@ pub(crate) fn revert(rows: &mut Vec<Row>, change: Change)
     requires fits { IsRevertible change rows.old.items }
     requires room { length (reverted change rows.old.items) ≤ vec_capacity rows.old }
     ensures rows { rows.new.items ≡ reverted change rows.old.items }
-    ensures room { vec_capacity rows.new ≡ vec_capacity rows.old }
+    ensures room { vec_capacity rows.old ≤ vec_capacity rows.new }
 {
     match change {
         Change::Nothing => {}
@@ -40,6 +42,9 @@ pub(crate) fn revert(rows: &mut Vec<Row>, change: Change)
         Change::Replaced(at, row) => rows[at] = row,
         Change::Removed(at, row) => {
             let _ = rows.insert(at, row);
+        }
+        Change::Emptied(mut taken) => {
+            let _ = rows.append(&mut taken);
         }
     }
 }
@@ -73,6 +78,18 @@ pub(crate) fn put(rows: &mut Vec<Row>, new: Row) -> Result<Change, AllocError>
     }
     rows.insert(at, new)?;
     Ok(Change::Inserted(at))
+}
+
+/// Takes all rows.
+pub(crate) fn empty(alloc: Global, rows: &mut Vec<Row>) -> Result<Change, AllocError>
+    ensures ok { IfOk result (λ _. rows.new.items ≡ []) }
+    ensures undone { IfOk result (λ change. IsUndoneBy change rows.new.items rows.old.items) }
+    ensures err { OnErr result (rows.new.items ≡ rows.old.items) }
+    ensures room { vec_capacity rows.old ≤ vec_capacity rows.new }
+{
+    let mut taken = Vec::new(alloc);
+    taken.append(rows)?;
+    Ok(Change::Emptied(taken))
 }
 
 /// Takes the row that has the rowid.
