@@ -59,7 +59,7 @@ still_shaped Empty shape rows h s = none_shaped shape
 
 pub rows_back : (edit : Edit) (t : ℕ) (change : Change) (old new : List (Vec Row Global)) → t < length old → EditsRows edit t change old new
     → set (set (map (λ v. v.items) old) t (edited edit (get_or (map (λ v. v.items) old) t []))) t
-      (reverted change (get_or (set (map (λ v. v.items) old) t (edited edit (get_or (map (λ v. v.items) old) t []))) t [])) ≡ map (λ v. v.items) old
+    (reverted change (get_or (set (map (λ v. v.items) old) t (edited edit (get_or (map (λ v. v.items) old) t []))) t [])) ≡ map (λ v. v.items) old
 rows_back edit t change old new within h =
     let all = map (λ (v : Vec Row Global). v.items) old in
     let low : t < length all = omega (arith, within, length-map old (λ (v : Vec Row Global). v.items)) in

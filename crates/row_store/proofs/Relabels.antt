@@ -83,8 +83,8 @@ module _ (s : RowStore) (rest : List Undo) where
   room_popped t change is =
       let prop : IsProp (length (reverted change (rows_in (now s).rows t)) ≤ get_or (map (λ (v : Vec Row Global). vec_capacity v) s.rows.items) t 0) = hlevel props in
       ∥∥₁_elim (path_popped (Rows t change) is) prop (λ h.
-          let same = get_or-set_same (now s).rows t (reverted change (rows_in (now s).rows t)) [] h.1.0 in
-          omega (arith, (path_now _ rest _ h.0).short t, ap length same))
+      let same = get_or-set_same (now s).rows t (reverted change (rows_in (now s).rows t)) [] h.1.0 in
+      omega (arith, (path_now _ rest _ h.0).short t, ap length same))
 
   pub low_head_popped : (t : ℕ) (head : Head) → s.log.items ≡ rest ++ Listed t head ∷ [] → t < length s.headings.items
   low_head_popped t head is =

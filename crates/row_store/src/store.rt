@@ -46,9 +46,9 @@ pub struct RowStore {
     ghost rising: { (i j : ℕ) → i ≤ j → j < length marks.items
         → slice_index marks.items i ≤ slice_index marks.items j },
     ghost path: { ∥ IsPath (map (λ v. vec_capacity v) rows.items) log.items (record {
-        headings = map heading headings.items;
-        rows = map (λ v. v.items) rows.items;
-        version = version;
+      headings = map heading headings.items;
+      rows = map (λ v. v.items) rows.items;
+      version = version;
     }) ∥₁ },
 }
 
@@ -99,7 +99,7 @@ impl RowStore {
     pub(crate) fn placed(&self, tree: usize, key: &Row, direction: Direction) -> Cursor
         ensures { left_of (now self.now).rows result
             ≡ sought (order_of (shape_in (now self.now).headings tree)) direction key.now
-                (rows_in (now self.now).rows tree) }
+            (rows_in (now self.now).rows tree) }
     {
         let order = self.shape_at(tree).order();
         let Some(rows) = self.rows.get(tree) else {
@@ -181,7 +181,8 @@ impl RowStore {
         requires within { tree < 16 }
         requires shape { IsFor edit (shape_in (now self.old).headings tree) }
         ensures ok { OnOk result (Leads self.old self.new (record (now self.old) {
-            rows = set (now self.old).rows tree (edited edit.entry (rows_in (now self.old).rows tree));
+          rows = set (now self.old).rows tree
+              (edited edit.entry (rows_in (now self.old).rows tree));
         })) }
         ensures err { OnErr result (Leads self.old self.new (now self.old)) }
         ensures memory { IfErr result (λ e. e ≡ StoreError.OutOfMemory) }
@@ -211,7 +212,7 @@ impl RowStore {
         requires { tree < 16 → IsShaped head.shape (rows_in (now self.old).rows tree) }
         ensures within { OnOk result (tree < 16) }
         ensures ok { OnOk result (Leads self.old self.new (record (now self.old) {
-            headings = set (now self.old).headings tree (heading head);
+          headings = set (now self.old).headings tree (heading head);
         })) }
         ensures err { OnErr result (Leads self.old self.new (now self.old)) }
         ensures memory { IfErr result (λ e. e ≡ StoreError.OutOfMemory) }
@@ -232,8 +233,8 @@ impl RowStore {
         requires { shape_in (now self.old).headings change.now.0 ≡ change.now.1.shape }
         ensures within { OnOk result (change.now.0 < 16) }
         ensures ok { OnOk result (Leads self.old self.new (record (now self.old) {
-            headings = set (now self.old).headings change.now.0
-                (change.now.1.shape, change.now.1.reals, description change.now.1);
+          headings = set (now self.old).headings change.now.0
+              (change.now.1.shape, change.now.1.reals, description change.now.1);
         })) }
         ensures err { OnErr result (Leads self.old self.new (now self.old)) }
     {
@@ -249,7 +250,7 @@ impl RowStore {
             ≤ slice_index (map (λ v. vec_capacity v) rows.old.items) tree }
         ensures rows { map (λ v. v.items) rows.new.items
             ≡ set (map (λ v. v.items) rows.old.items) tree
-                (reverted change (rows_in (map (λ v. v.items) rows.old.items) tree)) }
+            (reverted change (rows_in (map (λ v. v.items) rows.old.items) tree)) }
         ensures room { HasRoomOf rows.old.items rows.new.items }
     {
         revert(&mut rows[tree], change);

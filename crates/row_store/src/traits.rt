@@ -58,9 +58,14 @@ impl Store for RowStore {
     }
 
     fn reals(&self, tree: u32) -> u64 {
-        self.headings
-            .get(tree as usize)
-            .map_or(0, |head| if head.shape == Shape::Absent { 0 } else { head.reals })
+        self.headings.get(tree as usize).map_or(
+            0,
+            |head| if head.shape == Shape::Absent {
+                0
+            } else {
+                head.reals
+            },
+        )
     }
 
     fn shape(&self, tree: u32) -> Shape {

@@ -6,6 +6,7 @@ use Rattle.sqlite_trees.specs.declared.schema.Object.{Object}
 use Rattle.sqlite_trees.specs.Objects.{Relists, MayRelist}
 use Rattle.sqlite_trees.proofs.Doubt.{no_doubt}
 use Rattle.sqlite_trees.proofs.StoreLemmas.{relists_more}
+use Rattle.row_store.specs.Path.{undone}
 use Rattle.row_store.specs.RowView.{now, row_view, Leads}
 use Rattle.row_store.proofs.Calls.{went, refused, quiet, fails_to_relist}
 use Rattle.row_store.proofs.Kept.{named_shape, low_heads}
@@ -43,3 +44,31 @@ loop-change-preserved c =
           c.loop-change.invariant.listed (relists s new _ _ (omega arith) (low_heads s _ low) may.present shaped led);
       led = led_now c.args.self.now new _ (led_on c.args.self.now s new _ _ c.loop-change.invariant.led led);
     }
+
+pub returns-then-is_err-clause-err : goal.returns-then-is_err-clause-err
+returns-then-is_err-clause-err c =
+    let s = c.args.self.now in
+    let mid = c.loop-change.self in
+    let last = c.relist_one.new.self in
+    let new = c.undo_to.new.self in
+    let second = refused c.relist_one.result _ c.relist_one.ensures.err (sym c.is_err.ensures.value ∙ c.if-is_err.true) in
+    let led = led_on s mid last _ _ c.loop-change.invariant.led second in
+    let n : c.len-from.result ≡ length s.log.items = omega (arith, c.len-from.ensures, s.log.ok.0) in
+    let log : new.log.items ≡ take (length s.log.items) last.log.items = rw n at c.undo_to.ensures.log in
+    let state : now new ≡ undone (drop (length s.log.items) last.log.items) (now last) = rw n at c.undo_to.ensures.state in
+    let back = led_back s last new _ led log state c.undo_to.ensures.marks in
+    fails_to_relist (row_view s) (row_view new) (stayed s new back) _
+
+pub returns-then-is_err-clause-quiet : goal.returns-then-is_err-clause-quiet
+returns-then-is_err-clause-quiet c =
+    let s = c.args.self.now in
+    let mid = c.loop-change.self in
+    let last = c.relist_one.new.self in
+    let new = c.undo_to.new.self in
+    let second = refused c.relist_one.result _ c.relist_one.ensures.err (sym c.is_err.ensures.value ∙ c.if-is_err.true) in
+    let led = led_on s mid last _ _ c.loop-change.invariant.led second in
+    let n : c.len-from.result ≡ length s.log.items = omega (arith, c.len-from.ensures, s.log.ok.0) in
+    let log : new.log.items ≡ take (length s.log.items) last.log.items = rw n at c.undo_to.ensures.log in
+    let state : now new ≡ undone (drop (length s.log.items) last.log.items) (now last) = rw n at c.undo_to.ensures.state in
+    let back = led_back s last new _ led log state c.undo_to.ensures.marks in
+    quiet s new (ap (λ (v : View). v.committed) (stayed s new back))

@@ -22,7 +22,7 @@ get-requires c =
     let table : (row_view s).shape c.args.table ≡ Table = c.requires (no_doubt true refl) in
     let low = low_tree s c.args.table (omega arith) (λ none. cc) in
     let within : c.args.table < length s.rows.items = omega (arith, low, (counted s).1) in
-    let read : rows_in (now s).rows c.args.table ≡ c.index.result.now.items = read_at (λ (v : Vec Row Global). v.items) s.rows.items c.args.table c.index.result.now [] within c.index.ensures.value in
+    let read : rows_in (now s).rows c.args.table ≡ c.index.result.now.items = read_at (λ (v : Vec Row Global). v.items) s.rows.items c.args.table c.index.result.now [] within c.index.ensures in
     let shape : shape_in (now s).headings c.args.table ≡ Table = sym (named_shape s c.args.table (omega arith)) ∙ table in
     let shaped : IsShaped Table (rows_in (now s).rows c.args.table) = rw shape at (shaped_in s c.args.table) in
     rw (c.as_slice.ensures.value, ← read) shaped
@@ -33,6 +33,6 @@ returns-clause-ok c _ =
     let table : (row_view s).shape c.args.table ≡ Table = c.requires (no_doubt true refl) in
     let low = low_tree s c.args.table (omega arith) (λ none. cc) in
     let within : c.args.table < length s.rows.items = omega (arith, low, (counted s).1) in
-    let read : rows_in (now s).rows c.args.table ≡ c.index.result.now.items = read_at (λ (v : Vec Row Global). v.items) s.rows.items c.args.table c.index.result.now [] within c.index.ensures.value in
+    let read : rows_in (now s).rows c.args.table ≡ c.index.result.now.items = read_at (λ (v : Vec Row Global). v.items) s.rows.items c.args.table c.index.result.now [] within c.index.ensures in
     let fits = c.ranges.id in
     rw (named_rows s c.args.table (omega arith), read, ← c.as_slice.ensures.value) (simp to_z-of_z at c.in_ok-get.ensures)

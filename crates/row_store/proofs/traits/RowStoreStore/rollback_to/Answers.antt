@@ -20,8 +20,8 @@ undo_to-requires c =
     let is : kept ≡ get_or s.marks.items (length s.marks.items - 1) 0 = sym (get_or_from_slice_get s.marks.items (length s.marks.items - 1) kept 0 last) in
     rw is (below_newest s)
 
-pub returns-clause-ok : goal.returns-clause-ok
-returns-clause-ok c _ _ =
+pub returns-in-Some-clause-ok : goal.returns-in-Some-clause-ok
+returns-in-Some-clause-ok c _ _ =
     let s = c.args.self.now in
     let mid = c.undo_to.new.self in
     let kept = c.in-Some.field-0.now in
@@ -31,8 +31,8 @@ returns-clause-ok c _ _ =
     let low : kept ≤ length s.log.items = rw is (s.within _ 0 (omega arith)) in
     went_back (now s) s.log.items s.marks.items s.cursors.items (now mid) mid.log.items mid.marks.items c.clear.new.self.items kept is some low (rw is (below_newest s)) c.undo_to.ensures.log c.undo_to.ensures.state (ap (λ v. v.items) c.undo_to.ensures.marks)
 
-pub returns-clause-quiet : goal.returns-clause-quiet
-returns-clause-quiet c =
+pub returns-in-Some-clause-quiet : goal.returns-in-Some-clause-quiet
+returns-in-Some-clause-quiet c =
     let s = c.args.self.now in
     let mid = c.undo_to.new.self in
     let kept = c.in-Some.field-0.now in
