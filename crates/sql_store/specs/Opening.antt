@@ -3,10 +3,11 @@ use Rattle.std.specs.Prelude.{◌≡◌, Bool, IsTrue}
 use Rattle.sqlite.specs.Effect.{Database}
 use Rattle.sqlite.specs.Held.{Held, state}
 use Rattle.sqlite.specs.State.{State, Survives}
-use Rattle.sqlite.specs.Steps.{over_memory, IsEmpty}
+use Rattle.sqlite.specs.Steps.{IsEmpty}
+use Rattle.row_store.specs.Steps.{over_memory}
 use Rattle.sqlite.specs.Store.{Ghosts}
 use Rattle.sqlite.specs.Tree.{Trees}
-use Rattle.sqlite_trees.specs.declared.memory.MemStore.{MemStore}
+use Rattle.row_store.specs.declared.store.RowStore.{RowStore}
 use Rattle.serial_spec.specs.Rows.{value_in}
 use Rattle.serial_spec.specs.Serial.{Map}
 use Rattle.sql_store.specs.Asked.{Made}
@@ -58,7 +59,7 @@ module _ {S : Type 0} (g : Ghosts S) where
   IsFoundStore s = IfClean g s.connection (IsFound (value_in s.numbers) s.connection s.is_known)
 
 -- the tables of a store were made in an empty database in memory
-abbrev pub IsMadeInMemory : Stored MemStore → Type 0
+abbrev pub IsMadeInMemory : Stored RowStore → Type 0
 IsMadeInMemory s =
-    (found : Held MemStore) × IsEmpty (state over_memory found)
+    (found : Held RowStore) × IsEmpty (state over_memory found)
     × Made over_memory (value_in s.numbers) found s.connection

@@ -2,14 +2,14 @@
 ghost use Rattle.std.specs.Prelude.{◌≡◌, ℕ, List, None, false, IfOk, if◌then◌else◌};
 ghost use Rattle.serial_spec.specs.Rows.{value_in};
 ghost use Rattle.durable_top.specs.Numbers.{IsTopIn};
-ghost use Rattle.sqlite.specs.Steps.{over_memory};
+ghost use Rattle.row_store.specs.Steps.{over_memory};
 ghost use Rattle.sql_store.specs.Stored.{numbered, table, may_leave, may_leave_numbered, SqlLoads, SqlCommits};
 ghost use Rattle.sql_store.specs.Opening.{IsMadeInMemory};
 
 use crate::store::SqlStore;
 use durable_top::{Row, StoreFault, TopStore};
 use serial_spec::NoMemory;
-use sqlite::MemStore;
+use row_store::RowStore;
 use std::alloc::{AllocError, Global};
 use std::marker::Model;
 use txn_names::Change;
@@ -18,16 +18,16 @@ use txn_names::Change;
 /// was written, so that what is said of the table always holds.
 #[derive(Drop)]
 pub struct MemoryStore {
-    store: SqlStore<MemStore>,
+    store: SqlStore<RowStore>,
 }
 
 impl Model for MemoryStore {
     ghost use Rattle.std.specs.Prelude.{IsTrue};
-    ghost use Rattle.sqlite_trees.specs.declared.memory.MemStore.{MemStore};
-    ghost use Rattle.sqlite_trees.specs.contracts.memory.MemStore as trees;
+    ghost use Rattle.row_store.specs.declared.store.RowStore.{RowStore};
+    ghost use Rattle.row_store.specs.contracts.store.RowStore as trees;
     ghost use Rattle.sql_store.specs.Stored.{Stored, stored_code};
 
-    ghost Value = { Stored MemStore };
+    ghost Value = { Stored RowStore };
 
     ghost coded = { stored_code trees.the_row.coded };
 
