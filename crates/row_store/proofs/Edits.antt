@@ -16,7 +16,7 @@ use Rattle.row_store.specs.declared.rows.Change.{Change}
 use Rattle.row_store.specs.declared.log.Undo.{Undo}
 use Rattle.row_store.specs.declared.log.Undo.TheVariants.{Rows, Listed, Version}
 use Rattle.row_store.specs.Undo.{reverted, IsRevertible, IsUndoneBy}
-use Rattle.row_store.specs.Edit.{edited, Suits, IsFor, EditsRows, HasRoomOf}
+use Rattle.row_store.specs.inner.Edit.{edited, Suits, IsFor, EditsRows, HasRoomOf}
 use Rattle.row_store.specs.Path.{State, undo, Fits, undone, IsSound, IsPath}
 use Rattle.row_store.proofs.Lists.{map_set, set_at, read_at, set_back}
 use Rattle.row_store.proofs.Paths.{path_push, path_grow}

@@ -17,7 +17,7 @@ pub(crate) enum Edit<'a> {
 }
 
 impl Edit<'_> {
-    ghost use Rattle.row_store.specs.Edit.{edited, Suits};
+    ghost use Rattle.row_store.specs.inner.Edit.{edited, Suits};
     ghost use Rattle.row_store.specs.Undo.{IsUndoneBy};
 
     pub(crate) fn apply(self, alloc: Global, rows: &mut Vec<Row>) -> Result<Change, AllocError>

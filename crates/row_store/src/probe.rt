@@ -24,7 +24,7 @@ pub(crate) enum Probe<'a> {
 
 impl Probe<'_> {
     ghost use Rattle.sqlite_trees.specs.Probe.{IsCutBy, IsPlaceOf};
-    ghost use Rattle.row_store.specs.Passes.{passes};
+    ghost use Rattle.row_store.specs.inner.Passes.{passes};
 
     fn passes(self, entry: &Row) -> bool
         ensures { result ≡ passes self.entry entry.now }

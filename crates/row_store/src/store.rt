@@ -54,10 +54,10 @@ pub struct RowStore {
 
 impl RowStore {
     ghost use Rattle.sqlite_trees.specs.Objects.{version_tree, version_rows, description};
-    ghost use Rattle.row_store.specs.Edit.{edited, Suits, IsFor};
+    ghost use Rattle.row_store.specs.inner.Edit.{edited, Suits, IsFor};
     ghost use Rattle.row_store.specs.Path.{undone};
     ghost use Rattle.row_store.specs.RowView.{now, rows_in, left_of, row_view, SetsCursor, Steps, Leads};
-    ghost use Rattle.row_store.specs.Edit.{EditsRows, HasRoomOf};
+    ghost use Rattle.row_store.specs.inner.Edit.{EditsRows, HasRoomOf};
     ghost use Rattle.row_store.specs.Undo.{reverted, IsRevertible};
 
     /// A store without rows.
@@ -97,6 +97,7 @@ impl RowStore {
 
     /// The cursor of a seek.
     pub(crate) fn placed(&self, tree: usize, key: &Row, direction: Direction) -> Cursor
+        // Wide: the rows, the index and what undoes the write.
         ensures { left_of (now self.now).rows result
             ≡ sought (order_of (shape_in (now self.now).headings tree)) direction key.now
             (rows_in (now self.now).rows tree) }
@@ -180,6 +181,7 @@ impl RowStore {
     pub(crate) fn write(&mut self, tree: u32, edit: Edit<'_>) -> Result<(), StoreError>
         requires within { tree < 16 }
         requires shape { IsFor edit (shape_in (now self.old).headings tree) }
+        // Wide: the rows, the index and what undoes the write.
         ensures ok { OnOk result (Leads self.old self.new (record (now self.old) {
           rows = set (now self.old).rows tree
               (edited edit.entry (rows_in (now self.old).rows tree));
@@ -232,6 +234,7 @@ impl RowStore {
     pub(crate) fn relist_one(&mut self, change: &(u32, Object<'_>)) -> Result<(), StoreError>
         requires { shape_in (now self.old).headings change.now.0 ≡ change.now.1.shape }
         ensures within { OnOk result (change.now.0 < 16) }
+        // Wide: the rows, the index and what undoes the write.
         ensures ok { OnOk result (Leads self.old self.new (record (now self.old) {
           headings = set (now self.old).headings change.now.0
               (change.now.1.shape, change.now.1.reals, description change.now.1);
@@ -246,8 +249,10 @@ impl RowStore {
     fn undo_rows(rows: &mut Vec<Vec<Row>>, tree: usize, change: Change)
         requires within { tree < length rows.old.items }
         requires fits { IsRevertible change (rows_in (map (λ v. v.items) rows.old.items) tree) }
+        // Wide: the rows, the index and what undoes the write.
         requires room { length (reverted change (rows_in (map (λ v. v.items) rows.old.items) tree))
             ≤ slice_index (map (λ v. vec_capacity v) rows.old.items) tree }
+        // Wide: the rows, the index and what undoes the write.
         ensures rows { map (λ v. v.items) rows.new.items
             ≡ set (map (λ v. v.items) rows.old.items) tree
             (reverted change (rows_in (map (λ v. v.items) rows.old.items) tree)) }

@@ -8,8 +8,8 @@ ghost use Rattle.sql_store.specs.Opening.{IsMadeInMemory};
 
 use crate::store::SqlStore;
 use durable_top::{Row, StoreFault, TopStore};
-use serial_spec::NoMemory;
 use row_store::RowStore;
+use serial_spec::NoMemory;
 use std::alloc::{AllocError, Global};
 use std::marker::Model;
 use txn_names::Change;

@@ -1,6 +1,6 @@
 use Rattle.std.proofs.Common.{arith, sym, ◌+◌, ◌-◌, ◌/◌, ◌<◌, length, []}
 use Rattle.std.proofs.lemmas.List.{get_or_read}
-use Rattle.row_store.specs.Passes.{passes}
+use Rattle.row_store.specs.inner.Passes.{passes}
 use Rattle.sqlite_trees.proofs.MemoryLemmas.{passes_before, fails_after}
 use Rattle.row_store.proofs.probe.Probe.place.Goals as goal
 

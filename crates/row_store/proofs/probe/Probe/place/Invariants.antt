@@ -1,5 +1,5 @@
 use Rattle.std.proofs.Common.{◌≡◌, ◌-◌, ◌≤◌, ◌<◌, ℕ, length, true, false, get_or, []}
-use Rattle.row_store.specs.Passes.{passes}
+use Rattle.row_store.specs.inner.Passes.{passes}
 use Rattle.row_store.proofs.probe.Probe.place.Given as goal
 
 abbrev pub invariant-loop-low : goal.invariant-loop-low

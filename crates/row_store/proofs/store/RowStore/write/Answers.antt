@@ -6,7 +6,7 @@ use Rattle.row_store.specs.declared.log.Undo.TheVariants.{Rows}
 use Rattle.row_store.specs.RowView.{now, rows_in}
 use Rattle.row_store.specs.Path.{State, undo, IsPath}
 use Rattle.row_store.specs.Undo.{reverted}
-use Rattle.row_store.specs.Edit.{edited}
+use Rattle.row_store.specs.inner.Edit.{edited}
 use Rattle.row_store.proofs.Kept.{counted, shaped_in}
 use Rattle.row_store.proofs.Edits.{suits, path_edited, rows_back}
 use Rattle.row_store.proofs.Paths.{path_grow}
