@@ -16,7 +16,7 @@ ghost use Rattle.report_tables.specs.Chained.{Known, known_by};
 ghost use Rattle.report_tables.specs.Told.{AreTransactionsOf, Comes};
 ghost use Rattle.report_tables.specs.Valued.{value_at};
 
-use crate::kept::MOST_BYTES;
+use crate::lines::MOST_BYTES;
 use indexmap::IndexMap;
 use line_language::{MOST_ENTRY, ReportEntry, parse_row, read_entry};
 use report_tables::{
