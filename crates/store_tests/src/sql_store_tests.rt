@@ -134,8 +134,8 @@ fn leaves(
 
 // A store over an empty database.
 fn alone(alloc: Global) -> Option<SqlStore<MemStore>> {
-    match SqlStore::in_memory(alloc) {
-        Ok(store) => Some(store),
+    match Connection::open_in_memory(alloc) {
+        Ok(connection) => adopted(alloc, connection),
         Err(_) => None,
     }
 }

@@ -6,9 +6,9 @@ use crate::session_runs_tests::runs::{UNDONE_WITH_PARENT, text_of};
 use crate::session_runs_tests::sessions::is_judged;
 use crate::session_runs_tests::{FIRST, replayed};
 use durable_top::{MemStore, Row, StoreFault, TopStore};
+use row_store::RowStore;
 use session_runs::replay_text;
 use sql_store::SqlStore;
-use sqlite::MemStore as Trees;
 use std::alloc::Global;
 use std::process::Abort;
 use txn_names::{Change, Key};
@@ -211,7 +211,7 @@ fn stores_that_refuse_and_fail(rt: HostRuntime) {
 }
 
 // A database in memory with one row, that of x.
-fn database(rt: &impl Abort, alloc: Global, value: i64) -> SqlStore<Trees> {
+fn database(rt: &impl Abort, alloc: Global, value: i64) -> SqlStore<RowStore> {
     let mut store = SqlStore::in_memory(alloc).expect(rt, "memory");
     let change = Change {
         key: Key::parse(b"x").expect(rt, "key"),
