@@ -1,7 +1,9 @@
 //! The program over files whose first read a signal interrupts.
-use durable_top::StoreFault;
-use sql_store::DatabaseStore;
-use std::alloc::Global;
+ghost use Rattle.std.specs.Prelude.{◌≡◌, ℕ, List, None, IfOk};
+
+use durable_top::{StoreFault, TopStore};
+use sql_store::{DatabaseStore, MemoryStore};
+use std::alloc::{AllocError, Global};
 use std::io::{self, ErrorKind, Read};
 use tx_commands::{Surroundings, judge, live, replay};
 use txn_bytes::ReadFault;
@@ -53,6 +55,8 @@ impl<'a> Surroundings for OneFile<'a> {
 
     type Store = DatabaseStore;
 
+    type Memory = MemoryStore;
+
     ghost finds = { λ old new path answer. Unit {0} };
 
     ghost opens = { λ old new path answer. Unit {0} };
@@ -65,6 +69,13 @@ impl<'a> Surroundings for OneFile<'a> {
 
     fn open(&mut self, _path: &str) -> Result<DatabaseStore, StoreFault> {
         Err(StoreFault::Failed)
+    }
+
+    fn in_memory(alloc: Global) -> Result<MemoryStore, AllocError>
+        ensures empty { IfOk result (λ store.
+            (k : List ℕ) → ⟦<MemoryStore as TopStore>⟧.table store k ≡ None) }
+    {
+        MemoryStore::new(alloc)
     }
 
     fn close(&mut self, _path: &str, left: Option<DatabaseStore>) {
