@@ -78,7 +78,9 @@ impl<'a> Surroundings for OneFile<'a> {
         MemoryStore::new(alloc)
     }
 
-    fn close(&mut self, _path: &str, left: Option<DatabaseStore>) {
+    fn close(&mut self, _path: &str, left: Option<DatabaseStore>)
+        ensures { Unit {0} }
+    {
         drop(left);
     }
 }
