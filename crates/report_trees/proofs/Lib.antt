@@ -1,0 +1,4 @@
+pub mod Changing
+pub mod Earlier
+pub mod Chains
+pub mod Along
