@@ -2,6 +2,5 @@
 #![tactic(auto)]
 
 #[cfg(test)]
-mod interrupted_tests;
 #[cfg(test)]
 mod tx_program_tests;
