@@ -1,5 +1,5 @@
 //! One plain table.
-ghost use Rattle.std.specs.Prelude.{◌≡◌, ℕ, ◌+◌, ◌^◌, ◌<◌, ◌≤◌, ◌↔◌, pos, neg_ℤ, ◌≤ℤ◌, List, [], length, slice_get, Some, None, IsSome, IsTrue, IsOk, OnOk, OnErr, IfOk};
+ghost use Rattle.std.specs.Prelude.{◌≡◌, ℕ, ◌+◌, ◌^◌, ◌<◌, ◌≤◌, ◌↔◌, pos, neg_ℤ, ◌≤ℤ◌, List, [], length, slice_get, Some, None, IfSome, IsSome, IsTrue, IsOk, OnOk, OnErr, IfOk};
 ghost use Rattle.std.specs.Option.{option_map};
 ghost use Rattle.std.specs.List.{AllByRecursion};
 ghost use Rattle.txn_names.specs.Groups.{has};
@@ -9,46 +9,68 @@ ghost use Rattle.serial_spec.specs.Rows.{IsRising, value_in};
 ghost use Rattle.serial_spec.specs.Serial.{put, reply_at};
 ghost use Rattle.serial_spec.specs.Sums.{sum_in};
 ghost use Rattle.serial_spec.specs.declared.target.Asked.TheVariants.{Over};
-ghost use Rattle.serial_spec.specs.Places.{matching, part, rank, sum_rows};
+ghost use Rattle.serial_spec.specs.Places.{is_below, matching, part, rank, sum_rows};
 
 use crate::NoMemory;
-use crate::changing::change_rows;
+use crate::changing::change_all;
 use crate::operation::Reply;
+use slot_list::SlotList;
 use std::alloc::Global;
 use std::marker::Model;
 use txn_names::{Change, Group, Key};
 
-/// A table of keys and their values, in the byte order of the keys.
+/// A table of keys and their values, in the byte order of the keys. A row stays where it lies in
+/// memory while others come and go.
 #[derive(Drop)]
 pub struct PlainTable {
-    rows: Vec<(Key, i64)>,
+    rows: SlotList<(Key, i64)>,
 }
 
 impl Model for PlainTable {
-    ghost use Rattle.std.specs.Prelude.{◌-◌, vec_len, vec_capacity};
+    ghost use Rattle.std.specs.Prelude.{◌-◌, length};
     ghost use Rattle.serial_spec.specs.Rows.{IsRising, Table};
 
     ghost Value = { Table };
 
     ghost view = { λ t. record {
       rows = t.rows.items;
-      room = vec_capacity t.rows - vec_len t.rows;
+      room = t.rows.capacity - length t.rows.items;
     } };
 
     ghost invariant = { λ t. IsRising t.rows.items };
 }
 
-// How many rows have keys below this one, which is its place.
-pub(crate) fn place_of(rows: &[(Key, i64)], key: &Key) -> usize
-    requires { IsRising rows.now }
-    ensures place { result ≡ rank rows.now key.now }
-    ensures within { result ≤ length rows.now }
+// Whether the row at this place, if there is one, has a key below this one.
+fn is_below_at(rows: &SlotList<(Key, i64)>, place: usize, key: &Key) -> bool
+    ensures { IfSome (slice_get rows.now.items place) (λ r. result ≡ is_below r.0 key.now) }
 {
-    rows.partition_point(|row| row.0 < *key)
+    match rows.get(place) {
+        Some(row) => row.0 < *key,
+        None => false,
+    }
 }
 
-pub(crate) fn value_at(rows: &[(Key, i64)], place: usize, key: &Key) -> Option<i64>
-    ensures { result ≡ matching (slice_get rows.now place) key.now }
+// How many rows have keys below this one, which is its place.
+fn place_of(rows: &SlotList<(Key, i64)>, key: &Key) -> usize
+    requires { IsRising rows.now.items }
+    ensures place { result ≡ rank rows.now.items key.now }
+    ensures within { result ≤ length rows.now.items }
+{
+    let mut low = 0;
+    let mut high = rows.len();
+    while low < high {
+        let middle = low + (high - low) / 2;
+        if is_below_at(rows, middle, key) {
+            low = middle + 1;
+        } else {
+            high = middle;
+        }
+    }
+    low
+}
+
+fn value_at(rows: &SlotList<(Key, i64)>, place: usize, key: &Key) -> Option<i64>
+    ensures { result ≡ matching (slice_get rows.now.items place) key.now }
 {
     match rows.get(place) {
         Some(row) => { if row.0 == *key { Some(row.1) } else { None } }
@@ -62,7 +84,7 @@ impl PlainTable {
         ensures { result.rows ≡ [] }
     {
         PlainTable {
-            rows: Vec::new(alloc),
+            rows: SlotList::new(alloc),
         }
     }
 
@@ -70,7 +92,7 @@ impl PlainTable {
     pub fn copy(&self) -> Result<Self, NoMemory>
         ensures { IfOk result (λ t. t.rows ≡ self.now.rows) }
     {
-        let rows = self.rows.clone()?;
+        let rows = self.rows.copy()?;
         Ok(PlainTable { rows })
     }
 
@@ -122,17 +144,16 @@ impl PlainTable {
         }
     }
 
-    /// Makes rising changes, for which there is room, in one pass. It takes no memory. A row moves
-    /// eight times at most, however many rows are put before it, and once more for each row before
-    /// it that is taken out. No row moves where each change is at a key that has a row and keeps
-    /// one.
+    /// Makes rising changes, for which there is room, from the last to the first. It takes no
+    /// memory, and no row moves: of each row behind one that is put in or taken out only its number
+    /// does, of four bytes.
     pub fn change(&mut self, changes: &[Change])
         requires rising { AreRising changes.now }
         requires room { length changes.now ≤ self.old.room }
         ensures values { value_in self.new.rows ≡ overlay changes.now (value_in self.old.rows) }
         ensures room { self.old.room ≤ self.new.room + length changes.now }
     {
-        change_rows(&mut self.rows, changes);
+        change_all(self, changes);
     }
 
     // Gives the key a value.
@@ -147,12 +168,11 @@ impl PlainTable {
         let place = place_of(&self.rows, key);
         let row = (*key, value);
         if value_at(&self.rows, place, key).is_some() {
-            self.rows[place] = row;
+            let _ = self.rows.replace(place, row);
             return Ok(());
         }
-        // Apart from the insertion, which does not tell what room is left where it fails.
         self.rows.reserve(1)?;
-        self.rows.insert(place, row).unwrap();
+        self.rows.insert_reserved(place, row);
         Ok(())
     }
 
@@ -163,7 +183,7 @@ impl PlainTable {
     {
         let place = place_of(&self.rows, key);
         if value_at(&self.rows, place, key).is_some() {
-            let _ = self.rows.remove(place);
+            let _ = self.rows.remove(place, (*key, 0));
         }
     }
 
@@ -180,13 +200,6 @@ impl PlainTable {
         ensures { IsTrue result ↔ (self.now.rows ≡ []) }
     {
         self.rows.is_empty()
-    }
-
-    /// The rows, in byte order of their keys.
-    pub fn rows(&self) -> &[(Key, i64)]
-        ensures { result.now ≡ self.now.rows }
-    {
-        &self.rows
     }
 
     /// The row at this place, from 0, in byte order of the keys.
@@ -211,17 +224,17 @@ fn part_of(row: &(Key, i64), group: &Group) -> i64
 
 // The sum of the values of the group's rows, which stand together. Each is 2 ^ 63 at most by its
 // amount, and rows are fewer than 2 ^ 59.
-fn sum_rows(rows: &[(Key, i64)], group: &Group) -> i128
-    requires { IsRising rows.now }
-    ensures sum { result ≡ sum_rows rows.now group.now }
+fn sum_rows(rows: &SlotList<(Key, i64)>, group: &Group) -> i128
+    requires { IsRising rows.now.items }
+    ensures sum { result ≡ sum_rows rows.now.items group.now }
     ensures least { neg_ℤ (pos (2 ^ 122)) ≤ℤ result }
     ensures most { result ≤ℤ pos (2 ^ 122) }
-    ensures keys { AllByRecursion (λ r. IsTrue (has group.now r.0) → IsKey r.0) rows.now }
+    ensures keys { AllByRecursion (λ r. IsTrue (has group.now r.0) → IsKey r.0) rows.now.items }
 {
     let mut sum: i128 = 0;
     let mut at = place_of(rows, &group.first_key());
-    while at < rows.len() && group.has(&rows[at].0) {
-        sum += i128::from(part_of(&rows[at], group));
+    while at < rows.len() && group.has(&rows.at(at).0) {
+        sum += i128::from(part_of(rows.at(at), group));
         at += 1;
     }
     sum
@@ -234,7 +247,7 @@ pub fn sum_of(table: &PlainTable, group: &Group) -> i128
     ensures least { neg_ℤ (pos (2 ^ 122)) ≤ℤ result }
     ensures most { result ≤ℤ pos (2 ^ 122) }
 {
-    sum_rows(table.rows.as_slice(), group)
+    sum_rows(&table.rows, group)
 }
 
 /// What a sum over the group replies: its value, or overflow where that is not an i64. It takes no

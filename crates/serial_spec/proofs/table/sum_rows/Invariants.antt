@@ -6,10 +6,10 @@ use Rattle.serial_spec.proofs.table.sum_rows.Given as goal
 
 abbrev pub invariant-loop-at : goal.invariant-loop-at
 invariant-loop-at l =
-    (l.sum ≡ sum_rows (take l.at l.rows) l.group)
-    × AllByRecursion (Fine l.group) (take l.at l.rows)
+    (l.sum ≡ sum_rows (take l.at l.rows.items) l.group)
+    × AllByRecursion (Fine l.group) (take l.at l.rows.items)
     × (l.sum ≤ℤ pos (l.at * 2 ^ 63)) × (neg_ℤ (pos (l.at * 2 ^ 63)) ≤ℤ l.sum)
-    × (rank l.rows (l.group ++ 46 ∷ []) ≤ l.at) × (l.at ≤ length l.rows)
+    × (rank l.rows.items (l.group ++ 46 ∷ []) ≤ l.at) × (l.at ≤ length l.rows.items)
 
 abbrev pub decreases-loop-at : goal.decreases-loop-at
-decreases-loop-at l = length l.rows - l.at
+decreases-loop-at l = length l.rows.items - l.at
