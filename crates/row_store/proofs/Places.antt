@@ -24,6 +24,12 @@ insert-remove [] i d h = absurd (omega arith)
 insert-remove (y ∷ xs) zero d h = refl
 insert-remove (y ∷ xs) (suc i) d h = ap (λ l. y ∷ l) (insert-remove xs i d (omega arith))
 
+-- the place of what is removed is within the rest, or behind it
+pub place_left : {X : Type 0} (xs : List X) (i : ℕ) → i < length xs → i ≤ length (remove xs i)
+place_left [] i h = absurd (omega arith)
+place_left (y ∷ xs) zero h = omega arith
+place_left (y ∷ xs) (suc i) h = let e = place_left xs i (omega arith) in omega (arith, e)
+
 pub set-back : {X : Type 0} (xs : List X) (i : ℕ) (x was : X) → i < length xs → was ≡ get_or xs i was → set (set xs i x) i was ≡ xs
 set-back [] i x was h is = absurd (omega arith)
 set-back (y ∷ xs) zero x was h is = ap (λ w. w ∷ xs) is

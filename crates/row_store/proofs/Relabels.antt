@@ -1,5 +1,6 @@
 -- One tree is listed otherwise, and what undoes the newest write is made.
-use Rattle.std.proofs.Common.{◌≡◌, ◌≢◌, ℕ, ◌+◌, ◌-◌, ◌<◌, ◌≤◌, List, [], ◌∷◌, ◌++◌, map, take, drop, length, get_or, set, refl, sym, ap, ◌∙◌, subst, arith, Vec, Global, vec_capacity, inl, inr}
+use Rattle.slot_list.specs.Slotted.{Slotted}
+use Rattle.std.proofs.Common.{◌≡◌, ◌≢◌, ℕ, ◌+◌, ◌-◌, ◌<◌, ◌≤◌, List, [], ◌∷◌, ◌++◌, map, take, drop, length, get_or, set, refl, sym, ap, ◌∙◌, subst, arith, inl, inr}
 use Rattle.std.proofs.lemmas.Bool.{cases_eq}
 use Rattle.std.proofs.Math.Logic.{∥∥₁_elim, ∥∥₁_map}
 use denote.Struct.Props.{props}
@@ -67,21 +68,21 @@ IsRevertible-prop (Emptied taken) rows = Unit-prop
 
 -- the newest entry of the log
 module _ (s : RowStore) (rest : List Undo) where
-  pub path_popped : (u : Undo) → s.log.items ≡ rest ++ u ∷ [] → ∥ IsPath (map (λ v. vec_capacity v) s.rows.items) rest (undo u (now s)) × Fits u (now s) ∥₁
+  pub path_popped : (u : Undo) → s.log.items ≡ rest ++ u ∷ [] → ∥ IsPath (map (λ v. v.capacity) s.rows.items) rest (undo u (now s)) × Fits u (now s) ∥₁
   path_popped u is = ∥∥₁_map s.path (λ h. path_pop _ rest u (now s) (rw is at h))
 
   pub low_rows_popped : (t : ℕ) (change : Change) → s.log.items ≡ rest ++ Rows t change ∷ [] → t < length s.rows.items
   low_rows_popped t change is =
       let prop : IsProp (t < length s.rows.items) = hlevel props in
-      ∥∥₁_elim (path_popped (Rows t change) is) prop (λ h. omega (arith, h.1.0, length-map s.rows.items (λ (v : Vec Row Global). v.items)))
+      ∥∥₁_elim (path_popped (Rows t change) is) prop (λ h. omega (arith, h.1.0, length-map s.rows.items (λ (v : Slotted Row). v.items)))
 
   pub fits_popped : (t : ℕ) (change : Change) → s.log.items ≡ rest ++ Rows t change ∷ [] → IsRevertible change (rows_in (now s).rows t)
   fits_popped t change is = ∥∥₁_elim (path_popped (Rows t change) is) (IsRevertible-prop change _) (λ h. h.1.1)
 
   pub room_popped : (t : ℕ) (change : Change) → s.log.items ≡ rest ++ Rows t change ∷ []
-      → length (reverted change (rows_in (now s).rows t)) ≤ get_or (map (λ (v : Vec Row Global). vec_capacity v) s.rows.items) t 0
+      → length (reverted change (rows_in (now s).rows t)) ≤ get_or (map (λ (v : Slotted Row). v.capacity) s.rows.items) t 0
   room_popped t change is =
-      let prop : IsProp (length (reverted change (rows_in (now s).rows t)) ≤ get_or (map (λ (v : Vec Row Global). vec_capacity v) s.rows.items) t 0) = hlevel props in
+      let prop : IsProp (length (reverted change (rows_in (now s).rows t)) ≤ get_or (map (λ (v : Slotted Row). v.capacity) s.rows.items) t 0) = hlevel props in
       ∥∥₁_elim (path_popped (Rows t change) is) prop (λ h.
       let same = get_or-set_same (now s).rows t (reverted change (rows_in (now s).rows t)) [] h.1.0 in
       omega (arith, (path_now _ rest _ h.0).short t, ap length same))

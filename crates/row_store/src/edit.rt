@@ -1,8 +1,9 @@
 //! A write to the rows of one tree, so that the four kinds share the steps around it.
 
-ghost use Rattle.std.specs.Prelude.{◌≡◌, ◌≤◌, IfOk, OnErr, vec_capacity};
+ghost use Rattle.std.specs.Prelude.{◌≡◌, ◌≤◌, length, IfOk, OnErr};
 
 use crate::rows::{Change, delete, empty, insert, put, remove};
+use slot_list::SlotList;
 use sqlite_value::keys::Order;
 use sqlite_value::row::Row;
 use std::alloc::{AllocError, Global};
@@ -20,19 +21,33 @@ impl Edit<'_> {
     ghost use Rattle.row_store.specs.inner.Edit.{edited, Suits};
     ghost use Rattle.row_store.specs.Undo.{IsUndoneBy};
 
-    pub(crate) fn apply(self, alloc: Global, rows: &mut Vec<Row>) -> Result<Change, AllocError>
+    fn make(self, alloc: Global, rows: &mut SlotList<Row>) -> Result<Change, AllocError>
         requires { Suits self rows.old.items }
         ensures ok { IfOk result (λ change. (rows.new.items ≡ edited self.entry rows.old.items)
             × IsUndoneBy change rows.new.items rows.old.items) }
         ensures err { OnErr result (rows.new.items ≡ rows.old.items) }
-        ensures room { vec_capacity rows.old ≤ vec_capacity rows.new }
+        ensures room { rows.old.capacity ≤ rows.new.capacity }
     {
         match self {
             Edit::Put(row) => put(rows, row.copy(alloc)?),
-            Edit::Delete(id) => Ok(delete(rows, id)),
+            Edit::Delete(id) => Ok(delete(alloc, rows, id)),
             Edit::Insert(order, entry) => insert(rows, order, entry.copy(alloc)?),
-            Edit::Remove(order, entry) => Ok(remove(rows, order, entry)),
+            Edit::Remove(order, entry) => Ok(remove(alloc, rows, order, entry)),
             Edit::Empty => empty(alloc, rows),
         }
+    }
+
+    pub(crate) fn apply(self, alloc: Global, rows: &mut SlotList<Row>) -> Result<Change, AllocError>
+        requires { Suits self rows.old.items }
+        ensures ok { IfOk result (λ change. (rows.new.items ≡ edited self.entry rows.old.items)
+            × IsUndoneBy change rows.new.items rows.old.items) }
+        ensures err { OnErr result (rows.new.items ≡ rows.old.items) }
+        ensures room { rows.old.capacity ≤ rows.new.capacity }
+        ensures within { length rows.new.items ≤ rows.new.capacity }
+    {
+        let made = self.make(alloc, rows);
+        // The length tells the prover that the rows have room.
+        let _len = rows.len();
+        made
     }
 }

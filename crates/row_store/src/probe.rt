@@ -8,6 +8,7 @@ ghost use Rattle.sqlite_value.specs.Keys.{entry_cmp};
 ghost use Rattle.sqlite_trees.specs.Tree.{rowid};
 ghost use Rattle.sqlite_trees.specs.Probe.{IsTestAt};
 
+use slot_list::SlotList;
 use sqlite_value::keys::Order;
 use sqlite_value::order::compare;
 use sqlite_value::row::Row;
@@ -38,15 +39,15 @@ impl Probe<'_> {
     }
 
     /// The place of the first row that does not pass, or the end.
-    pub(crate) fn place(self, rows: &[Row]) -> usize
-        requires { IsCutBy (passes self) rows.now }
-        ensures { IsPlaceOf (passes self.entry) rows.now result }
+    pub(crate) fn place(self, rows: &SlotList<Row>) -> usize
+        requires { IsCutBy (passes self) rows.now.items }
+        ensures { IsPlaceOf (passes self.entry) rows.now.items result }
     {
         let mut low = 0;
         let mut high = rows.len();
         while low < high {
             let middle = low + (high - low) / 2;
-            if self.passes(&rows[middle]) {
+            if self.passes(rows.at(middle)) {
                 low = middle + 1;
             } else {
                 high = middle;
@@ -57,15 +58,15 @@ impl Probe<'_> {
 }
 
 /// Whether the row at the place has this rowid.
-pub(crate) fn has_rowid_at(rows: &[Row], at: usize, id: ValueRef<'_>) -> bool
-    ensures { IsTestAt (λ r. is_eq (value_cmp (rowid r) (owned id.entry))) rows.now at result }
+pub(crate) fn has_rowid_at(rows: &SlotList<Row>, at: usize, id: ValueRef<'_>) -> bool
+    ensures { IsTestAt (λ r. is_eq (value_cmp (rowid r) (owned id.entry))) rows.now.items at result }
 {
-    at < rows.len() && compare(rows[at].get(0), id).is_eq()
+    at < rows.len() && compare(rows.at(at).get(0), id).is_eq()
 }
 
 /// Whether the entry at the place is this one, in this order.
-pub(crate) fn has_entry_at(order: Order, rows: &[Row], at: usize, entry: &Row) -> bool
-    ensures { IsTestAt (λ e. is_eq (entry_cmp order e entry.now)) rows.now at result }
+pub(crate) fn has_entry_at(order: Order, rows: &SlotList<Row>, at: usize, entry: &Row) -> bool
+    ensures { IsTestAt (λ e. is_eq (entry_cmp order e entry.now)) rows.now.items at result }
 {
-    at < rows.len() && rows[at].cmp_entry(order, entry).is_eq()
+    at < rows.len() && rows.at(at).cmp_entry(order, entry).is_eq()
 }

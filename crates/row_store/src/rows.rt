@@ -1,17 +1,17 @@
 //! The writes to the rows of one tree, and what undoes them.
 
-ghost use Rattle.std.specs.Prelude.{◌≡◌, ◌≤◌, [], length, IfOk, OnErr, vec_capacity};
+ghost use Rattle.std.specs.Prelude.{◌≡◌, ◌≤◌, ◌+◌, ◌++◌, [], length, IfOk, OnErr};
 ghost use Rattle.sqlite_trees.specs.Tree.{put_row, without_rowid, insert_entry, remove_entry};
 ghost use Rattle.sqlite_trees.specs.View.{IsShaped, Finds};
 ghost use Rattle.sqlite_trees.specs.declared.store.Shape.TheVariants as shape;
 ghost use Rattle.row_store.specs.Undo.{reverted, IsRevertible, IsUndoneBy};
 
 use crate::probe::{Probe, has_entry_at, has_rowid_at};
+use slot_list::SlotList;
 use sqlite_value::keys::Order;
 use sqlite_value::row::Row;
 use sqlite_value::value::ValueRef;
 use std::alloc::{AllocError, Global};
-use std::mem;
 
 /// What a write did to the rows of a tree.
 #[derive(Drop)]
@@ -27,36 +27,47 @@ pub(crate) enum Change {
     Emptied(Vec<Row>),
 }
 
+// Puts the rows behind the others.
+fn put_back(rows: &mut SlotList<Row>, mut taken: Vec<Row>)
+    requires { length rows.old.items + length taken.items ≤ rows.old.capacity }
+    ensures rows { rows.new.items ≡ rows.old.items ++ taken.items }
+    ensures room { rows.old.capacity ≤ rows.new.capacity }
+{
+    while !taken.is_empty() {
+        let row = taken.remove(0);
+        let end = rows.len();
+        rows.insert_reserved(end, row);
+    }
+}
+
 /// The rows as they were before the change.
-pub(crate) fn revert(rows: &mut Vec<Row>, change: Change)
+pub(crate) fn revert(alloc: Global, rows: &mut SlotList<Row>, change: Change)
     requires fits { IsRevertible change rows.old.items }
-    requires room { length (reverted change rows.old.items) ≤ vec_capacity rows.old }
+    requires room { length (reverted change rows.old.items) ≤ rows.old.capacity }
     ensures rows { rows.new.items ≡ reverted change rows.old.items }
-    ensures room { vec_capacity rows.old ≤ vec_capacity rows.new }
+    ensures room { rows.old.capacity ≤ rows.new.capacity }
 {
     match change {
         Change::Nothing => {}
         Change::Inserted(at) => {
-            let _ = rows.remove(at);
+            let _ = rows.remove(at, Row::new(alloc));
         }
-        Change::Replaced(at, row) => rows[at] = row,
-        Change::Removed(at, row) => {
-            let _ = rows.insert(at, row);
+        Change::Replaced(at, row) => {
+            let _ = rows.replace(at, row);
         }
-        Change::Emptied(mut taken) => {
-            let _ = rows.append(&mut taken);
-        }
+        Change::Removed(at, row) => rows.insert_reserved(at, row),
+        Change::Emptied(taken) => put_back(rows, taken),
     }
 }
 
 /// Writes the row that has the rowid over `row`, or answers false.
-pub(crate) fn get(rows: &[Row], id: i64, row: &mut Row) -> Result<bool, AllocError>
-    requires { IsShaped shape.Table rows.now }
-    ensures { IfOk result (Finds rows.now id row.new) }
+pub(crate) fn get(rows: &SlotList<Row>, id: i64, row: &mut Row) -> Result<bool, AllocError>
+    requires { IsShaped shape.Table rows.now.items }
+    ensures { IfOk result (Finds rows.now.items id row.new) }
 {
     let at = Probe::BelowRowid(ValueRef::Int(id)).place(rows);
     if has_rowid_at(rows, at, ValueRef::Int(id)) {
-        row.copy_from(&rows[at])?;
+        row.copy_from(rows.at(at))?;
         Ok(true)
     } else {
         Ok(false)
@@ -64,16 +75,16 @@ pub(crate) fn get(rows: &[Row], id: i64, row: &mut Row) -> Result<bool, AllocErr
 }
 
 /// Puts the row in its place, or in the place of the one that has its rowid.
-pub(crate) fn put(rows: &mut Vec<Row>, new: Row) -> Result<Change, AllocError>
+pub(crate) fn put(rows: &mut SlotList<Row>, new: Row) -> Result<Change, AllocError>
     requires { IsShaped shape.Table rows.old.items }
     ensures ok { IfOk result (λ _. rows.new.items ≡ put_row new rows.old.items) }
     ensures undone { IfOk result (λ change. IsUndoneBy change rows.new.items rows.old.items) }
     ensures err { OnErr result (rows.new.items ≡ rows.old.items) }
-    ensures room { vec_capacity rows.old ≤ vec_capacity rows.new }
+    ensures room { rows.old.capacity ≤ rows.new.capacity }
 {
-    let at = Probe::BelowRowid(new.get(0)).place(rows.as_slice());
-    if has_rowid_at(rows.as_slice(), at, new.get(0)) {
-        let old = mem::replace(&mut rows[at], new);
+    let at = Probe::BelowRowid(new.get(0)).place(rows);
+    if has_rowid_at(rows, at, new.get(0)) {
+        let old = rows.replace(at, new);
         return Ok(Change::Replaced(at, old));
     }
     rows.insert(at, new)?;
@@ -81,42 +92,45 @@ pub(crate) fn put(rows: &mut Vec<Row>, new: Row) -> Result<Change, AllocError>
 }
 
 /// Takes all rows.
-pub(crate) fn empty(alloc: Global, rows: &mut Vec<Row>) -> Result<Change, AllocError>
+pub(crate) fn empty(alloc: Global, rows: &mut SlotList<Row>) -> Result<Change, AllocError>
     ensures ok { IfOk result (λ _. rows.new.items ≡ []) }
     ensures undone { IfOk result (λ change. IsUndoneBy change rows.new.items rows.old.items) }
     ensures err { OnErr result (rows.new.items ≡ rows.old.items) }
-    ensures room { vec_capacity rows.old ≤ vec_capacity rows.new }
+    ensures room { rows.old.capacity ≤ rows.new.capacity }
 {
     let mut taken = Vec::new(alloc);
-    taken.append(rows)?;
+    taken.reserve(rows.len())?;
+    while !rows.is_empty() {
+        taken.push_reserved(rows.remove(0, Row::new(alloc)));
+    }
     Ok(Change::Emptied(taken))
 }
 
 /// Takes the row that has the rowid.
-pub(crate) fn delete(rows: &mut Vec<Row>, id: i64) -> Change
+pub(crate) fn delete(alloc: Global, rows: &mut SlotList<Row>, id: i64) -> Change
     requires { IsShaped shape.Table rows.old.items }
     ensures rows { rows.new.items ≡ without_rowid id rows.old.items }
     ensures undone { IsUndoneBy result rows.new.items rows.old.items }
-    ensures room { vec_capacity rows.new ≡ vec_capacity rows.old }
+    ensures room { rows.old.capacity ≤ rows.new.capacity }
 {
-    let at = Probe::BelowRowid(ValueRef::Int(id)).place(rows.as_slice());
-    if has_rowid_at(rows.as_slice(), at, ValueRef::Int(id)) {
-        Change::Removed(at, rows.remove(at))
+    let at = Probe::BelowRowid(ValueRef::Int(id)).place(rows);
+    if has_rowid_at(rows, at, ValueRef::Int(id)) {
+        Change::Removed(at, rows.remove(at, Row::new(alloc)))
     } else {
         Change::Nothing
     }
 }
 
 /// Puts the entry in its place, unless an equal one is there.
-pub(crate) fn insert(rows: &mut Vec<Row>, order: Order, new: Row) -> Result<Change, AllocError>
+pub(crate) fn insert(rows: &mut SlotList<Row>, order: Order, new: Row) -> Result<Change, AllocError>
     requires { IsShaped (shape.Index order) rows.old.items }
     ensures ok { IfOk result (λ _. rows.new.items ≡ insert_entry order new rows.old.items) }
     ensures undone { IfOk result (λ change. IsUndoneBy change rows.new.items rows.old.items) }
     ensures err { OnErr result (rows.new.items ≡ rows.old.items) }
-    ensures room { vec_capacity rows.old ≤ vec_capacity rows.new }
+    ensures room { rows.old.capacity ≤ rows.new.capacity }
 {
-    let at = Probe::BelowEntry(order, &new).place(rows.as_slice());
-    if has_entry_at(order, rows.as_slice(), at, &new) {
+    let at = Probe::BelowEntry(order, &new).place(rows);
+    if has_entry_at(order, rows, at, &new) {
         return Ok(Change::Nothing);
     }
     rows.insert(at, new)?;
@@ -124,15 +138,15 @@ pub(crate) fn insert(rows: &mut Vec<Row>, order: Order, new: Row) -> Result<Chan
 }
 
 /// Takes the entry.
-pub(crate) fn remove(rows: &mut Vec<Row>, order: Order, entry: &Row) -> Change
+pub(crate) fn remove(alloc: Global, rows: &mut SlotList<Row>, order: Order, entry: &Row) -> Change
     requires { IsShaped (shape.Index order) rows.old.items }
     ensures rows { rows.new.items ≡ remove_entry order entry.now rows.old.items }
     ensures undone { IsUndoneBy result rows.new.items rows.old.items }
-    ensures room { vec_capacity rows.new ≡ vec_capacity rows.old }
+    ensures room { rows.old.capacity ≤ rows.new.capacity }
 {
-    let at = Probe::BelowEntry(order, entry).place(rows.as_slice());
-    if has_entry_at(order, rows.as_slice(), at, entry) {
-        Change::Removed(at, rows.remove(at))
+    let at = Probe::BelowEntry(order, entry).place(rows);
+    if has_entry_at(order, rows, at, entry) {
+        Change::Removed(at, rows.remove(at, Row::new(alloc)))
     } else {
         Change::Nothing
     }

@@ -1,6 +1,6 @@
 //! The store: the trees, what undoes the writes of the transaction, and the cursors.
 
-ghost use Rattle.std.specs.Prelude.{◌≡◌, ◌≢◌, ◌<◌, ◌≤◌, ◌-◌, ℕ, [], length, map, take, drop, set, slice_index, All, IfOk, IfErr, OnOk, OnErr, vec_capacity};
+ghost use Rattle.std.specs.Prelude.{◌≡◌, ◌≢◌, ◌<◌, ◌≤◌, ◌-◌, ℕ, [], length, map, take, drop, set, slice_index, All, IfOk, IfErr, OnOk, OnErr};
 ghost use Rattle.sqlite_trees.specs.Tree.{order_of, sought};
 ghost use Rattle.sqlite_trees.specs.View.{IsShaped, IsFailure, OnlyWrites, SetsTree};
 ghost use Rattle.sqlite_trees.specs.Listing.{shape_in};
@@ -11,6 +11,7 @@ use crate::edit::Edit;
 use crate::log::{Head, Undo};
 use crate::probe::Probe;
 use crate::rows::{Change, revert};
+use slot_list::SlotList;
 use sqlite_trees::error::StoreError;
 use sqlite_trees::schema::Object;
 use sqlite_trees::store::{Direction, Shape};
@@ -29,14 +30,14 @@ pub(crate) struct Cursor {
     pub direction: Direction,
 }
 
-/// Rows in memory, under the SQL of `sqlite`. Each tree is a vector of rows in order. A write is
-/// made at once, and what undoes it stands in a log until the commit. It holds at most 16 trees: a
-/// further one is answered as memory that is refused.
+/// Rows in memory, under the SQL of `sqlite`. Each tree is a list of rows in order, of which none
+/// moves where another comes or goes. A write is made at once, and what undoes it stands in a log
+/// until the commit. It holds at most 16 trees: a further one is answered as memory that is refused.
 #[derive(Drop)]
 pub struct RowStore {
     pub(crate) alloc: Global,
     pub(crate) headings: Vec<Head>,
-    pub(crate) rows: Vec<Vec<Row>>,
+    pub(crate) rows: Vec<SlotList<Row>>,
     pub(crate) version: u32,
     pub(crate) cursors: Vec<Option<Cursor>>,
     pub(crate) log: Vec<Undo>,
@@ -45,7 +46,7 @@ pub struct RowStore {
     ghost within: { All (λ n. n ≤ length log.items) marks.items },
     ghost rising: { (i j : ℕ) → i ≤ j → j < length marks.items
         → slice_index marks.items i ≤ slice_index marks.items j },
-    ghost path: { ∥ IsPath (map (λ v. vec_capacity v) rows.items) log.items (record {
+    ghost path: { ∥ IsPath (map (λ v. v.capacity) rows.items) log.items (record {
       headings = map heading headings.items;
       rows = map (λ v. v.items) rows.items;
       version = version;
@@ -73,7 +74,7 @@ impl RowStore {
         let mut rows = Vec::new(alloc);
         for _ in 0..TREES {
             headings.push(Head::absent(alloc))?;
-            rows.push(Vec::new(alloc))?;
+            rows.push(SlotList::new(alloc))?;
         }
         Ok(RowStore {
             alloc,
@@ -111,8 +112,8 @@ impl RowStore {
             };
         };
         let at = match direction {
-            Direction::Forward => Probe::BelowKey(order, key).place(rows.as_slice()),
-            Direction::Backward => Probe::UpToKey(order, key).place(rows.as_slice()),
+            Direction::Forward => Probe::BelowKey(order, key).place(rows),
+            Direction::Backward => Probe::UpToKey(order, key).place(rows),
         };
         Cursor {
             tree,
@@ -139,13 +140,12 @@ impl RowStore {
     pub(crate) fn step(&self, cursor: Cursor, row: &mut Row) -> Result<Option<Cursor>, AllocError>
         ensures { IfOk result (Steps (now self.now).rows cursor row.new) }
     {
-        let Some(tree) = self.rows.get(cursor.tree) else {
+        let Some(rows) = self.rows.get(cursor.tree) else {
             return Ok(None);
         };
-        let rows = tree.as_slice();
         match cursor.direction {
             Direction::Forward if cursor.at < rows.len() => {
-                row.copy_from(&rows[cursor.at])?;
+                row.copy_from(rows.at(cursor.at))?;
                 Ok(Some(Cursor {
                     at: cursor.at + 1,
                     ..cursor
@@ -153,7 +153,7 @@ impl RowStore {
             }
             Direction::Backward if 0 < cursor.at.min(rows.len()) => {
                 let at = cursor.at.min(rows.len()) - 1;
-                row.copy_from(&rows[at])?;
+                row.copy_from(rows.at(at))?;
                 Ok(Some(Cursor { at, ..cursor }))
             }
             _ => Ok(None),
@@ -162,7 +162,7 @@ impl RowStore {
 
     fn edit_rows(
         alloc: Global,
-        rows: &mut Vec<Vec<Row>>,
+        rows: &mut Vec<SlotList<Row>>,
         tree: usize,
         edit: Edit<'_>,
     ) -> Result<Change, AllocError>
@@ -246,19 +246,19 @@ impl RowStore {
         self.relabel(*tree, head)
     }
 
-    fn undo_rows(rows: &mut Vec<Vec<Row>>, tree: usize, change: Change)
+    fn undo_rows(alloc: Global, rows: &mut Vec<SlotList<Row>>, tree: usize, change: Change)
         requires within { tree < length rows.old.items }
         requires fits { IsRevertible change (rows_in (map (λ v. v.items) rows.old.items) tree) }
         // Wide: the rows, the index and what undoes the write.
         requires room { length (reverted change (rows_in (map (λ v. v.items) rows.old.items) tree))
-            ≤ slice_index (map (λ v. vec_capacity v) rows.old.items) tree }
+            ≤ slice_index (map (λ v. v.capacity) rows.old.items) tree }
         // Wide: the rows, the index and what undoes the write.
         ensures rows { map (λ v. v.items) rows.new.items
             ≡ set (map (λ v. v.items) rows.old.items) tree
             (reverted change (rows_in (map (λ v. v.items) rows.old.items) tree)) }
         ensures room { HasRoomOf rows.old.items rows.new.items }
     {
-        revert(&mut rows[tree], change);
+        revert(alloc, &mut rows[tree], change);
     }
 
     // What undoes the newest write is made.
@@ -272,7 +272,9 @@ impl RowStore {
     {
         match self.log.pop() {
             None => {}
-            Some(Undo::Rows(tree, change)) => Self::undo_rows(&mut self.rows, tree, change),
+            Some(Undo::Rows(tree, change)) => {
+                Self::undo_rows(self.alloc, &mut self.rows, tree, change)
+            }
             Some(Undo::Listed(tree, head)) => self.headings[tree] = head,
             Some(Undo::Version(version)) => self.version = version,
         }

@@ -95,7 +95,7 @@ impl Store for RowStore {
     }
 
     fn get(&mut self, table: u32, id: i64, row: &mut Row) -> Result<bool, StoreError> {
-        Ok(get(self.rows[table as usize].as_slice(), id, row)?)
+        Ok(get(&self.rows[table as usize], id, row)?)
     }
 
     fn put(&mut self, table: u32, row: &Row) -> Result<(), StoreError> {

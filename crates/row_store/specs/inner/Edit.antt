@@ -1,6 +1,6 @@
 -- A write to the rows of a tree.
-use Rattle.std.specs.Prelude.{◌≡◌, ◌≤◌, ℕ, List, [], IsTrue, map, set, get_or, length, Vec, vec_capacity, ⊤}
-use Rattle.std.specs.declared.alloc.Global.{Global}
+use Rattle.slot_list.specs.Slotted.{Slotted}
+use Rattle.std.specs.Prelude.{◌≡◌, ◌≤◌, ℕ, List, [], IsTrue, map, set, get_or, length, ⊤}
 use Rattle.sqlite_value.specs.Order.{Row}
 use Rattle.sqlite_trees.specs.declared.store.Shape.{Shape}
 use Rattle.sqlite_trees.specs.declared.store.Shape.TheVariants.{Table, Index}
@@ -34,12 +34,12 @@ IsFor (Insert o entry) shape = shape ≡ Index o
 IsFor (Remove o entry) shape = shape ≡ Index o
 IsFor Empty shape = ⊤
 
--- no vector has less room than before
-abbrev pub HasRoomOf : List (Vec Row Global) → List (Vec Row Global) → Type 0
-HasRoomOf old new = (t : ℕ) → get_or (map (λ v. vec_capacity v) old) t 0 ≤ get_or (map (λ v. vec_capacity v) new) t 0
+-- no tree has less room than before
+abbrev pub HasRoomOf : List (Slotted Row) → List (Slotted Row) → Type 0
+HasRoomOf old new = (t : ℕ) → get_or (map (λ v. v.capacity) old) t 0 ≤ get_or (map (λ v. v.capacity) new) t 0
 
--- one tree's rows are edited, the change undoes it, and the rows fit their vector
-pub record EditsRows (edit : Edit) (tree : ℕ) (change : Change) (old new : List (Vec Row Global)) : Type 0 where
+-- one tree's rows are edited, the change undoes it, and the rows fit into its room
+pub record EditsRows (edit : Edit) (tree : ℕ) (change : Change) (old new : List (Slotted Row)) : Type 0 where
   pub rows : map (λ v. v.items) new ≡ set (map (λ v. v.items) old) tree (edited edit (get_or (map (λ v. v.items) old) tree []))
   pub undone : IsUndoneBy change (get_or (map (λ v. v.items) new) tree []) (get_or (map (λ v. v.items) old) tree [])
-  pub short : length (get_or (map (λ v. v.items) new) tree []) ≤ get_or (map (λ v. vec_capacity v) new) tree 0
+  pub short : length (get_or (map (λ v. v.items) new) tree []) ≤ get_or (map (λ v. v.capacity) new) tree 0

@@ -9,33 +9,33 @@ use Rattle.row_store.proofs.Places.{remove-insert, set-back}
 use Rattle.row_store.proofs.rows.put.Goals as goal
 
 pub place-at-requires : goal.place-at-requires
-place-at-requires c = rw c.as_slice.ensures.value (cut_below_rowid _ _ c.requires.0)
+place-at-requires c = cut_below_rowid _ _ c.requires.0
 
 pub returns-then-has_rowid_at-clause-ok : goal.returns-then-has_rowid_at-clause-ok
 returns-then-has_rowid_at-clause-ok c =
-    let place = subst (λ id. IsPlaceOf (λ e. is_lt (value_cmp (rowid e) id)) c.args.rows.now.items c.place-at.result) c.get.ensures (rw c.as_slice.ensures.value at c.place-at.ensures) in
-    let test = rw (c.as_slice-2.ensures.value, c.get-2.ensures) at c.if-has_rowid_at.ensures in
-    rw c.replace-old.ensures.after (set-put_row c.args.new _ _ place test.0 test.1)
+    let place = subst (λ id. IsPlaceOf (λ e. is_lt (value_cmp (rowid e) id)) c.args.rows.now.items c.place-at.result) c.get.ensures c.place-at.ensures in
+    let test = rw c.get-2.ensures at c.if-has_rowid_at.ensures in
+    c.replace-old.ensures.items ∙ set-put_row c.args.new _ _ place test.0 test.1
 
 pub returns-then-has_rowid_at-clause-undone : goal.returns-then-has_rowid_at-clause-undone
 returns-then-has_rowid_at-clause-undone c =
-    let test = rw (c.as_slice-2.ensures.value, c.get-2.ensures) at c.if-has_rowid_at.ensures in
+    let test = rw c.get-2.ensures at c.if-has_rowid_at.ensures in
     record {
-      fits = rw length-set test.0;
-      back = rw c.replace-old.ensures.value (set-back _ _ _ _ test.0 c.index_mut.ensures.value);
+      fits = rw (c.replace-old.ensures.items, length-set) test.0;
+      back = rw c.replace-old.ensures.items (set-back _ _ _ _ test.0 c.replace-old.ensures.member);
     }
 
 pub returns-clause-ok : goal.returns-clause-ok
 returns-clause-ok c =
-    let place = subst (λ id. IsPlaceOf (λ e. is_lt (value_cmp (rowid e) id)) c.args.rows.now.items c.place-at.result) c.get.ensures (rw c.as_slice.ensures.value at c.place-at.ensures) in
-    let test = rw (c.as_slice-2.ensures.value, c.get-2.ensures) at c.if-has_rowid_at.ensures in
-    c.in_ok-insert.ensures.items ∙ insert-put_row c.args.new _ _ place test
+    let place = subst (λ id. IsPlaceOf (λ e. is_lt (value_cmp (rowid e) id)) c.args.rows.now.items c.place-at.result) c.get.ensures c.place-at.ensures in
+    let test = rw c.get-2.ensures at c.if-has_rowid_at.ensures in
+    c.in_ok-insert.ensures.ok ∙ insert-put_row c.args.new _ _ place test
 
 pub returns-clause-undone : goal.returns-clause-undone
 returns-clause-undone c =
-    let place = rw c.as_slice.ensures.value at c.place-at.ensures in
+    let place = c.place-at.ensures in
     let more = length-insert _ c.place-at.result c.args.new place.within in
     record {
-      fits = rw c.in_ok-insert.ensures.items (omega (arith, place.within, more));
-      back = rw c.in_ok-insert.ensures.items (remove-insert _ _ c.args.new place.within);
+      fits = rw c.in_ok-insert.ensures.ok (omega (arith, place.within, more));
+      back = rw c.in_ok-insert.ensures.ok (remove-insert _ _ c.args.new place.within);
     }

@@ -4,9 +4,9 @@ use Rattle.row_store.proofs.probe.Probe.place.Given as goal
 
 abbrev pub invariant-loop-low : goal.invariant-loop-low
 invariant-loop-low l =
-    (l.low ≤ l.high) × (l.high ≤ length l.rows)
-    × ((k : ℕ) → k < l.low → passes l.self (get_or l.rows k []) ≡ true)
-    × ((k : ℕ) → l.high ≤ k → k < length l.rows → passes l.self (get_or l.rows k []) ≡ false)
+    (l.low ≤ l.high) × (l.high ≤ length l.rows.items)
+    × ((k : ℕ) → k < l.low → passes l.self (get_or l.rows.items k []) ≡ true)
+    × ((k : ℕ) → l.high ≤ k → k < length l.rows.items → passes l.self (get_or l.rows.items k []) ≡ false)
 
 abbrev pub decreases-loop-low : goal.decreases-loop-low
 decreases-loop-low l = l.high - l.low

@@ -9,19 +9,19 @@ use Rattle.row_store.proofs.store.RowStore.placed.Goals as goal
 pub place-at-requires : goal.place-at-requires
 place-at-requires c =
     let tree : rows_in (now c.args.self.now).rows c.args.tree ≡ c.in-Some.rows.now.items = grind (arith, common_steps, c.in-Some.ensures.lookup) in
-    rw (c.as_slice.ensures.value, c.order-order.ensures, c.shape_at.ensures) (lemma.cut_below_key _ _ _ (sorted_shape _ _ (rw tree at (shaped_in c.args.self.now c.args.tree))))
+    rw (c.order-order.ensures, c.shape_at.ensures) (lemma.cut_below_key _ _ _ (sorted_shape _ _ (rw tree at (shaped_in c.args.self.now c.args.tree))))
 
 pub place-at-requires-in-Backward : goal.place-at-requires-in-Backward
 place-at-requires-in-Backward c =
     let tree : rows_in (now c.args.self.now).rows c.args.tree ≡ c.in-Some.rows.now.items = grind (arith, common_steps, c.in-Some.ensures.lookup) in
-    rw (c.as_slice-in-Backward.ensures.value, c.order-order.ensures, c.shape_at.ensures) (lemma.cut_up_to_key _ _ _ (sorted_shape _ _ (rw tree at (shaped_in c.args.self.now c.args.tree))))
+    rw (c.order-order.ensures, c.shape_at.ensures) (lemma.cut_up_to_key _ _ _ (sorted_shape _ _ (rw tree at (shaped_in c.args.self.now c.args.tree))))
 
 pub returns-in-Forward : goal.returns-in-Forward
 returns-in-Forward c =
     let tree : rows_in (now c.args.self.now).rows c.args.tree ≡ c.in-Some.rows.now.items = grind (arith, common_steps, c.in-Some.ensures.lookup) in
-    rw (c.in-Forward.is, tree, ← c.shape_at.ensures, ← c.order-order.ensures) (lemma.drop-from_key _ _ _ _ (rw c.as_slice.ensures.value at c.place-at.ensures))
+    rw (c.in-Forward.is, tree, ← c.shape_at.ensures, ← c.order-order.ensures) (lemma.drop-from_key _ _ _ _ c.place-at.ensures)
 
 pub returns-in-Backward : goal.returns-in-Backward
 returns-in-Backward c =
     let tree : rows_in (now c.args.self.now).rows c.args.tree ≡ c.in-Some.rows.now.items = grind (arith, common_steps, c.in-Some.ensures.lookup) in
-    rw (c.in-Backward.is, tree, ← c.shape_at.ensures, ← c.order-order.ensures, lemma.take-up_to_key _ _ _ _ (rw c.as_slice-in-Backward.ensures.value at c.place-at-in-Backward.ensures))
+    rw (c.in-Backward.is, tree, ← c.shape_at.ensures, ← c.order-order.ensures, lemma.take-up_to_key _ _ _ _ c.place-at-in-Backward.ensures)

@@ -1,4 +1,5 @@
-use Rattle.std.proofs.Common.{◌≡◌, ◌+◌, ◌-◌, ◌<◌, ◌≤◌, [], ◌∷◌, ◌++◌, length, map, take, drop, set, refl, ap, ◌∙◌, arith, sym, Vec, Global, vec_capacity}
+use Rattle.slot_list.specs.Slotted.{Slotted}
+use Rattle.std.proofs.Common.{◌≡◌, ◌+◌, ◌-◌, ◌<◌, ◌≤◌, [], ◌∷◌, ◌++◌, length, map, take, drop, set, refl, ap, ◌∙◌, arith, sym}
 use Rattle.std.proofs.lemmas.List.{length_push}
 use Rattle.std.proofs.Math.Logic.{∥∥₁_map}
 use Rattle.sqlite_value.specs.Order.{Row}
@@ -37,7 +38,7 @@ invariant_of-self-in-Some-Rows c =
     let log : s.log.items ≡ rest ++ u ∷ [] = rw c.in-Some-Rows.field-0-is at c.in-Some-Rows.ensures.items in
     let new = c.undo_rows.new.rows.items in
     let rows = c.undo_rows.ensures.rows in
-    let same : undo u (now s) ≡ record { headings = (now s).headings; rows = map (λ (v : Vec Row Global). v.items) new; version = s.version } =
+    let same : undo u (now s) ≡ record { headings = (now s).headings; rows = map (λ (v : Slotted Row). v.items) new; version = s.version } =
     λ i. record { headings = (now s).headings; rows = sym rows i; version = s.version } in
     record {
       within = λ k d low. omega (arith, c.requires k d low, ap length log, length_push rest u);

@@ -1,4 +1,5 @@
-use Rattle.std.proofs.Common.{◌≡◌, ◌<◌, [], ◌∷◌, ◌++◌, length, map, set, refl, ap, ◌∙◌, arith, sym, subst, Vec, Global, vec_capacity}
+use Rattle.slot_list.specs.Slotted.{Slotted}
+use Rattle.std.proofs.Common.{◌≡◌, ◌<◌, [], ◌∷◌, ◌++◌, length, map, set, refl, ap, ◌∙◌, arith, sym, subst}
 use Rattle.std.proofs.lemmas.List.{length_push, length-map}
 use Rattle.std.proofs.Math.Logic.{∥∥₁_map}
 use Rattle.sqlite_value.specs.Order.{Row}
@@ -22,13 +23,13 @@ pub invariant_of-self-in-Break-branch-2 : goal.invariant_of-self-in-Break-branch
 invariant_of-self-in-Break-branch-2 c =
     let s = c.args.self.now in
     let new = c.edit_rows.new.rows.items in
-    let state : State = record { headings = (now s).headings; rows = map (λ (v : Vec Row Global). v.items) new; version = s.version } in
+    let state : State = record { headings = (now s).headings; rows = map (λ (v : Slotted Row). v.items) new; version = s.version } in
     let same : state ≡ now s =
     λ i. record { headings = (now s).headings; rows = c.in_err-change.ensures.err i; version = s.version } in
     record {
       within = rw c.reserve.ensures.items s.within;
       rising = s.rising;
-      path = ∥∥₁_map s.path (λ h. rw c.reserve.ensures.items (subst (IsPath (map (λ (v : Vec Row Global). vec_capacity v) new) s.log.items) (sym same) (path_grow _ _ s.log.items (now s) c.edit_rows.ensures.room h)));
+      path = ∥∥₁_map s.path (λ h. rw c.reserve.ensures.items (subst (IsPath (map (λ (v : Slotted Row). v.capacity) new) s.log.items) (sym same) (path_grow _ _ s.log.items (now s) c.edit_rows.ensures.room h)));
     }
 
 pub invariant_of-self-2 : goal.invariant_of-self-2

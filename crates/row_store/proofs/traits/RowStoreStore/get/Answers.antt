@@ -1,4 +1,5 @@
-use Rattle.std.proofs.Common.{true, refl, arith, ◌≡◌, ◌<◌, sym, ◌∙◌, length, to_z-of_z, get_or, [], Vec, Global}
+use Rattle.slot_list.specs.Slotted.{Slotted}
+use Rattle.std.proofs.Common.{true, refl, arith, ◌≡◌, ◌<◌, sym, ◌∙◌, length, to_z-of_z, get_or, []}
 use Rattle.sqlite_value.specs.Order.{Row}
 use Rattle.sqlite_trees.specs.declared.store.Shape.TheVariants.{Table}
 use Rattle.sqlite_trees.specs.View.{IsShaped}
@@ -22,10 +23,10 @@ get-requires c =
     let table : (row_view s).shape c.args.table ≡ Table = c.requires (no_doubt true refl) in
     let low = low_tree s c.args.table (omega arith) (λ none. cc) in
     let within : c.args.table < length s.rows.items = omega (arith, low, (counted s).1) in
-    let read : rows_in (now s).rows c.args.table ≡ c.index.result.now.items = read_at (λ (v : Vec Row Global). v.items) s.rows.items c.args.table c.index.result.now [] within c.index.ensures in
+    let read : rows_in (now s).rows c.args.table ≡ c.index.result.now.items = read_at (λ (v : Slotted Row). v.items) s.rows.items c.args.table c.index.result.now [] within c.index.ensures in
     let shape : shape_in (now s).headings c.args.table ≡ Table = sym (named_shape s c.args.table (omega arith)) ∙ table in
     let shaped : IsShaped Table (rows_in (now s).rows c.args.table) = rw shape at (shaped_in s c.args.table) in
-    rw (c.as_slice.ensures.value, ← read) shaped
+    rw (← read) shaped
 
 pub returns-clause-ok : goal.returns-clause-ok
 returns-clause-ok c _ =
@@ -33,6 +34,6 @@ returns-clause-ok c _ =
     let table : (row_view s).shape c.args.table ≡ Table = c.requires (no_doubt true refl) in
     let low = low_tree s c.args.table (omega arith) (λ none. cc) in
     let within : c.args.table < length s.rows.items = omega (arith, low, (counted s).1) in
-    let read : rows_in (now s).rows c.args.table ≡ c.index.result.now.items = read_at (λ (v : Vec Row Global). v.items) s.rows.items c.args.table c.index.result.now [] within c.index.ensures in
+    let read : rows_in (now s).rows c.args.table ≡ c.index.result.now.items = read_at (λ (v : Slotted Row). v.items) s.rows.items c.args.table c.index.result.now [] within c.index.ensures in
     let fits = c.ranges.id in
-    rw (named_rows s c.args.table (omega arith), read, ← c.as_slice.ensures.value) (simp to_z-of_z at c.in_ok-get.ensures)
+    rw (named_rows s c.args.table (omega arith), read) (simp to_z-of_z at c.in_ok-get.ensures)
