@@ -1,5 +1,5 @@
 -- Words of a line that asks for an access, of which the last is not searched for a space.
-use Rattle.std.proofs.Common.{◌≡◌, ℕ, ℤ, List, [], ◌∷◌, Bool, true, false, cond, Result, Ok, Err, Option, Some, None, MatchResult, refl, sym, ap, ◌∙◌, subst}
+use Rattle.std.proofs.Common.{◌≡◌, ℕ, ℤ, List, [], ◌∷◌, Result, Ok, Err, Option, Some, None, MatchResult, refl, sym, ap, ◌∙◌, subst}
 use Rattle.std.specs.List.{join_with_byte}
 use Rattle.std.specs.Option.{ok_or}
 use Rattle.txn_names.specs.Path.{Path}

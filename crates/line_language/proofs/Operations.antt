@@ -1,5 +1,5 @@
 -- The operations on a key, row by row: each is told by its word and its number.
-use Rattle.std.proofs.Common.{◌≡◌, ℕ, ℤ, pos, ◌+ℤ◌, List, [], ◌∷◌, length, true, Bool, cond, Option, Some, None, refl, sym, ap, ◌∙◌, subst, ◌≤◌, arith}
+use Rattle.std.proofs.Common.{◌≡◌, ℕ, ℤ, pos, ◌+ℤ◌, List, [], ◌∷◌, length, true, cond, Option, Some, None, refl, sym, ap, ◌∙◌, subst, ◌≤◌, arith}
 use Rattle.std.specs.Prelude.{find}
 use Rattle.std.specs.List.{list_all}
 use Rattle.std.specs.Str.{bytes_eq}

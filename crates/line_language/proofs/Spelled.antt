@@ -23,7 +23,7 @@ use Rattle.line_language.specs.Events.{IsEvent}
 use Rattle.line_language.specs.Words.{cut_at}
 use Rattle.line_language.proofs.Bytes.{Lacks, Lacks-append, Lacks-from_all, cut_joined}
 use Rattle.line_language.proofs.Numerals.{own}
-use Rattle.line_language.proofs.Reading.{access_operands, number_words, words_of, joined_words, command_again}
+use Rattle.line_language.proofs.Reading.{number_words, words_of, joined_words, command_again}
 use Rattle.line_language.proofs.Operations.{word_plain}
 
 -- ---- bytes that no word has

@@ -6,7 +6,10 @@ ghost use Rattle.line_language.specs.Reading.{answer_of, one_word, orphan_of, tw
 
 use crate::number::parse_number;
 use crate::parting::cut;
-use crate::refusals::refusal_of;
+use crate::refusals::{
+    may_refuse_access, may_refuse_begin, may_refuse_commit, may_refuse_end, may_refuse_sum,
+    refusal_of,
+};
 use crate::verbs::may_reply;
 use serial_spec::{Answer, Event, Op, Refusal, Reply};
 use txn_names::Name;
@@ -95,8 +98,7 @@ fn may_begin(answer: &Answer) -> bool
 {
     match answer {
         Answer::Done(Reply::Ok) => true,
-        Answer::Refused(Refusal::Used | Refusal::NoParent | Refusal::Orphan(_) | Refusal::Full) =>
-            true,
+        Answer::Refused(refusal) => may_refuse_begin(refusal),
         _ => false,
     }
 }
@@ -106,28 +108,18 @@ fn may_access(op: Op, answer: &Answer) -> bool
 {
     match answer {
         Answer::Waits | Answer::Stuck => true,
-        Answer::Refused(
-            Refusal::Unknown
-            | Refusal::Orphan(_)
-            | Refusal::Done
-            | Refusal::Waiting
-            | Refusal::Full,
-        ) => true,
+        Answer::Refused(refusal) => may_refuse_access(refusal),
         Answer::Done(reply) => may_reply(op, *reply),
-        _ => false,
     }
 }
 
-// A sum makes no key known, so no limit refuses it.
 fn may_sum(answer: &Answer) -> bool
     ensures { result ≡ may_sum answer.now }
 {
     match answer {
         Answer::Waits | Answer::Stuck => true,
-        Answer::Refused(Refusal::Unknown | Refusal::Orphan(_) | Refusal::Done | Refusal::Waiting) =>
-            true,
-        Answer::Done(Reply::Value(_) | Reply::Overflow) => true,
-        _ => false,
+        Answer::Refused(refusal) => may_refuse_sum(refusal),
+        Answer::Done(reply) => matches!(reply, Reply::Value(_) | Reply::Overflow),
     }
 }
 
@@ -136,14 +128,7 @@ fn may_commit(answer: &Answer) -> bool
 {
     match answer {
         Answer::Done(Reply::Ok) => true,
-        Answer::Refused(
-            Refusal::Unknown
-            | Refusal::Orphan(_)
-            | Refusal::Done
-            | Refusal::Children
-            | Refusal::Waiting
-            | Refusal::Store,
-        ) => true,
+        Answer::Refused(refusal) => may_refuse_commit(refusal),
         _ => false,
     }
 }
@@ -153,7 +138,7 @@ fn may_abort(answer: &Answer) -> bool
 {
     match answer {
         Answer::Done(Reply::Ok) => true,
-        Answer::Refused(Refusal::Unknown | Refusal::Orphan(_) | Refusal::Done) => true,
+        Answer::Refused(refusal) => may_refuse_end(refusal),
         _ => false,
     }
 }

@@ -31,6 +31,7 @@ pub use lengths::{
 pub use line::{Line, parse_event, parse_line};
 pub use number::parse_number;
 pub use parting::{cut, cut_line};
+pub use refusals::{Cause, cause_of, cause_word, causes};
 pub use row::{parse_row, put_row};
 pub use spelling::{put_number, put_size};
 pub use verbs::access_in;

@@ -1,8 +1,75 @@
-//! The words behind `refused`.
+//! The causes of refusal: their words, and which lines may be refused so.
+//!
+//! What stands here of a cause is all that lines and summaries have of it.
 ghost use Rattle.std.specs.Prelude.{◌≡◌, ◌++◌, codes};
-ghost use Rattle.line_language.specs.Refusals.{refusal_of, refusal_word};
+ghost use Rattle.line_language.specs.Refusals.{cause_of, cause_word, causes, refusal_of, refusal_word, may_refuse_access, may_refuse_begin, may_refuse_commit, may_refuse_end, may_refuse_sum};
 
 use serial_spec::Refusal;
+
+/// Why a line was refused, the name of the topmost aborted transaction left aside.
+#[derive(Clone, Copy, Debug, PartialEq, Eq)]
+pub enum Cause {
+    Unknown,
+    Used,
+    NoParent,
+    Orphan,
+    Done,
+    Children,
+    Waiting,
+    Full,
+    Store,
+}
+
+/// Each cause once, in the order in which a summary counts them.
+pub fn causes() -> [Cause; 9]
+    ensures { result ≡ causes }
+{
+    [
+        Cause::Unknown,
+        Cause::Used,
+        Cause::NoParent,
+        Cause::Orphan,
+        Cause::Done,
+        Cause::Children,
+        Cause::Waiting,
+        Cause::Full,
+        Cause::Store,
+    ]
+}
+
+/// The cause that a refusal tells.
+pub fn cause_of(refusal: &Refusal) -> Cause
+    ensures { result ≡ cause_of refusal.now }
+{
+    match refusal {
+        Refusal::Unknown => Cause::Unknown,
+        Refusal::Used => Cause::Used,
+        Refusal::NoParent => Cause::NoParent,
+        Refusal::Done => Cause::Done,
+        Refusal::Orphan(_) => Cause::Orphan,
+        Refusal::Children => Cause::Children,
+        Refusal::Waiting => Cause::Waiting,
+        Refusal::Full => Cause::Full,
+        Refusal::Store => Cause::Store,
+    }
+}
+
+/// The word of a cause.
+pub fn cause_word(cause: Cause) -> &'static [u8]
+    ensures { result.now ≡ cause_word cause }
+{
+    match cause {
+        Cause::Unknown => b"unknown".as_slice(),
+        Cause::Used => b"used".as_slice(),
+        Cause::NoParent => b"no-parent".as_slice(),
+        Cause::Orphan => b"orphan".as_slice(),
+        Cause::Done => b"done".as_slice(),
+        Cause::Children => b"children".as_slice(),
+        Cause::Waiting => b"waiting".as_slice(),
+        Cause::Full => b"full".as_slice(),
+        Cause::Store => b"store".as_slice(),
+    }
+}
 
 /// The refusal that the word behind `refused` tells.
 pub(crate) fn refusal_of(word: &[u8]) -> Option<Refusal>
@@ -49,5 +116,55 @@ pub(crate) fn refused(refusal: &Refusal) -> &'static [u8]
         Refusal::Waiting => b"refused waiting",
         Refusal::Full => b"refused full",
         Refusal::Store => b"refused store",
+    }
+}
+
+/// Whether a begin may be refused so.
+pub(crate) fn may_refuse_begin(refusal: &Refusal) -> bool
+    ensures { result ≡ may_refuse_begin refusal.now }
+{
+    matches!(
+        refusal,
+        Refusal::Used | Refusal::NoParent | Refusal::Orphan(_) | Refusal::Full
+    )
+}
+
+/// Whether every other step of a transaction may be refused so: an access, a commit and an abort.
+pub(crate) fn may_refuse_end(refusal: &Refusal) -> bool
+    ensures { result ≡ may_refuse_end refusal.now }
+{
+    matches!(
+        refusal,
+        Refusal::Unknown | Refusal::Orphan(_) | Refusal::Done
+    )
+}
+
+/// Whether an access of a key may be refused so.
+pub(crate) fn may_refuse_access(refusal: &Refusal) -> bool
+    ensures { result ≡ may_refuse_access refusal.now }
+{
+    match refusal {
+        Refusal::Waiting | Refusal::Full => true,
+        _ => may_refuse_end(refusal),
+    }
+}
+
+/// Whether a sum may be refused so. It makes no key known, so no limit refuses it.
+pub(crate) fn may_refuse_sum(refusal: &Refusal) -> bool
+    ensures { result ≡ may_refuse_sum refusal.now }
+{
+    match refusal {
+        Refusal::Waiting => true,
+        _ => may_refuse_end(refusal),
+    }
+}
+
+/// Whether a commit may be refused so.
+pub(crate) fn may_refuse_commit(refusal: &Refusal) -> bool
+    ensures { result ≡ may_refuse_commit refusal.now }
+{
+    match refusal {
+        Refusal::Children | Refusal::Waiting | Refusal::Store => true,
+        _ => may_refuse_end(refusal),
     }
 }

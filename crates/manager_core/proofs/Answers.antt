@@ -1,11 +1,11 @@
 -- Which answers are allowed: the first cause that holds, else the reply or the wait.
 use Rattle.std.proofs.Common.{◌≡◌, Bool, true, false, nat_le, length, ◌∷◌, Option, Some, None, option_map, refl, sym, ap, subst, ◌∙◌}
-use Rattle.std.proofs.lemmas.Bool.{false≢true}
+use Rattle.std.proofs.lemmas.Bool.{false≢true, true≢false}
 use Rattle.txn_names.specs.Path.{parent}
 use Rattle.serial_spec.specs.declared.entry.By.{By}
 use Rattle.serial_spec.specs.declared.entry.By.TheVariants.{Line, Victim, Close}
 use Rattle.serial_spec.specs.declared.entry.Refusal.{Refusal}
-use Rattle.serial_spec.specs.declared.entry.Refusal.TheVariants.{Unknown, Used, NoParent, Done as HasCommitted, Orphan, Children, Waiting, Full, Store}
+use Rattle.serial_spec.specs.declared.entry.Refusal.TheVariants.{Store}
 use Rattle.serial_spec.specs.declared.target.Asked.{Asked}
 use Rattle.serial_spec.specs.declared.event.Event.{Event}
 use Rattle.serial_spec.specs.declared.event.Event.TheVariants.{Begin, Access, Sum, Commit, Abort}
@@ -20,7 +20,7 @@ use Rattle.serial_spec.specs.Rows.{Rows, value_in}
 use Rattle.serial_spec.specs.Legal.{AreAllowed}
 use Rattle.serial_spec.specs.Allowed.{Allowed, most_transactions, answer, has_waited, cause_at_begin, cause_at_end, cause_at_access, cause_at_commit}
 use Rattle.serial_spec.specs.Causes.{when}
-use Rattle.txn_history.proofs.Exports.{acts_active, line_self, neither, acts_at_end, wait_holds}
+use Rattle.txn_history.proofs.Exports.{IsOther, acts_active, acts_at_end, is_store, line_self, neither, other_at_access, other_at_begin, other_at_commit, other_at_end, wait_holds}
 use Rattle.serial_spec.specs.Waits.{is_waits, same_line}
 use Rattle.manager_core.specs.declared.outcome.Outcome.{Outcome}
 use Rattle.manager_core.specs.declared.outcome.Outcome.TheVariants as made
@@ -43,76 +43,27 @@ allowed_next rows h Close event a before line allowed = absurd line
 
 -- ---- no cause is a refusal of the store
 
-record NoStore (o : Option Refusal) : Type 0 where
-  pub other : (r : Refusal) → o ≡ Some r → is_store_refusal (Refused r) ≡ false
-
-none_of_two : {a b : Option Refusal} → NoStore a → NoStore b → NoStore (or_else a b)
-none_of_two {a} {b} p q = record { other = by a p }
-  where
-    by : (a : Option Refusal) → NoStore a → (r : Refusal) → or_else a b ≡ Some r → is_store_refusal (Refused r) ≡ false
-    by None p r e = q.other r e
-    by (Some x) p r e = p.other r e
-
-when_other : (b : Bool) (x : Refusal) → is_store_refusal (Refused x) ≡ false → NoStore (when b x)
-when_other b x n = record { other = by b }
-  where
-    by : (b : Bool) (r : Refusal) → when b x ≡ Some r → is_store_refusal (Refused r) ≡ false
-    by true r e = let same : x ≡ r = cc in ap (λ y. is_store_refusal (Refused y)) (sym same) ∙ n
-    by false r e = cc
-
-orphan_other : (o : Option Name) → NoStore (option_map (λ a. Orphan a) o)
-orphan_other o = record { other = by o }
-  where
-    by : (o : Option Name) (r : Refusal) → option_map (λ a. Orphan a) o ≡ Some r → is_store_refusal (Refused r) ≡ false
-    by None r e = cc
-    by (Some t) r e = let same : Orphan t ≡ r = cc in ap (λ y. is_store_refusal (Refused y)) (sym same)
-
-no_store_at_begin : (h : History) (t : Name) → NoStore (cause_at_begin h t)
-no_store_at_begin h t =
-    none_of_two (when_other _ Used refl)
-    (none_of_two (when_other (is_absent (status h (parent t))) NoParent refl)
-    (none_of_two (orphan_other (top_aborted h (parent t)))
-    (none_of_two (when_other (is_committed (status h (parent t))) NoParent refl)
-    (when_other (nat_le most_transactions (length (begun h))) Full refl))))
-
-no_store_at_end : (h : History) (t : Name) → NoStore (cause_at_end h t)
-no_store_at_end h t = none_of_two (when_other _ Unknown refl) (none_of_two (orphan_other _) (when_other _ HasCommitted refl))
-
-no_store_at_access : (rows : Rows) (h : History) (by : By) (t : Name) (asked : Asked) → NoStore (cause_at_access rows h by t asked)
-no_store_at_access rows h by t asked = none_of_two (no_store_at_end h t) (none_of_two (when_other _ Waiting refl) (when_other _ Full refl))
-
-no_store_at_commit : (h : History) (by : By) (t : Name) → NoStore (cause_at_commit h by t)
-no_store_at_commit h by t = none_of_two (no_store_at_end h t) (none_of_two (when_other _ Children refl) (when_other _ Waiting refl))
-
--- so nor is an outcome that comes of one
-other_than_store : (o c : Option Refusal) → NoStore c → o ≡ c → is_store_refusal (answer_of (outcome_of o)) ≡ false
-other_than_store None c n e = refl
-other_than_store (Some r) c n e = n.other r (sym e)
+other_than_store : (o c : Option Refusal) → IsOther c → o ≡ c → is_store_refusal (answer_of (outcome_of o)) ≡ false
+other_than_store (Some Store) c n e = absurd (true≢false (ap is_store e ∙ n.other))
+other_than_store o c n e = refl
 
 pub begin_other : (h : History) (t : Name) (o : Option Refusal) → o ≡ cause_at_begin h t → is_store_refusal (answer_of (outcome_of o)) ≡ false
-begin_other h t o e = other_than_store o _ (no_store_at_begin h t) e
+begin_other h t o e = other_than_store o _ (other_at_begin h t) e
 
 pub abort_other : (h : History) (t : Name) (o : Option Refusal) → o ≡ cause_at_end h t → is_store_refusal (answer_of (outcome_of o)) ≡ false
-abort_other h t o e = other_than_store o _ (no_store_at_end h t) e
+abort_other h t o e = other_than_store o _ (other_at_end h t) e
 
 pub access_other : (rows : Rows) (h : History) (by : By) (t : Name) (asked : Asked) (r : Refusal) → Some r ≡ cause_at_access rows h by t asked → is_store_refusal (Refused r) ≡ false
-access_other rows h by t asked r e = (no_store_at_access rows h by t asked).other r (sym e)
+access_other rows h by t asked r e = other_than_store (Some r) _ (other_at_access rows h by t asked) e
 
 pub commit_other : (h : History) (by : By) (t : Name) (o : Option Refusal) → o ≡ cause_at_commit h by t → is_store_refusal (answer_of (outcome_of o)) ≡ false
-commit_other h by t o e = other_than_store o _ (no_store_at_commit h by t) e
+commit_other h by t o e = other_than_store o _ (other_at_commit h by t) e
 
 -- a cause that is found is the answer
 refused_allowed : (rows : Rows) (h : History) (by : By) (e : Event) (r : Refusal) → is_store_refusal (Refused r) ≡ false → answer rows h by e ≡ Some (Refused r)
     → Allowed rows h by e (Refused r)
-refused_allowed rows h by e Unknown n a = a
-refused_allowed rows h by e Used n a = a
-refused_allowed rows h by e NoParent n a = a
-refused_allowed rows h by e HasCommitted n a = a
-refused_allowed rows h by e (Orphan t) n a = a
-refused_allowed rows h by e Children n a = a
-refused_allowed rows h by e Waiting n a = a
-refused_allowed rows h by e Full n a = a
 refused_allowed rows h by e Store n a = absurd (false≢true (sym n))
+refused_allowed rows h by e r n a = a
 
 -- ---- begins, commits and aborts
 

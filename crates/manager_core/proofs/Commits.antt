@@ -12,7 +12,7 @@ use Rattle.inherit.specs.LocksAndVersions.{IsParent}
 use Rattle.serial_spec.specs.declared.entry.By.{By}
 use Rattle.serial_spec.specs.declared.operation.Reply.TheVariants.{Ok}
 use Rattle.serial_spec.specs.declared.entry.Refusal.{Refusal}
-use Rattle.serial_spec.specs.declared.entry.Refusal.TheVariants.{Unknown, Used, NoParent, Done as HasCommitted, Orphan, Children, Waiting, Full, Store}
+use Rattle.serial_spec.specs.declared.entry.Refusal.TheVariants.{Store}
 use Rattle.manager_core.specs.declared.outcome.Outcome.TheVariants as made
 use Rattle.manager_core.specs.Outcomes.{is_of_store}
 use Rattle.serial_spec.specs.declared.event.Event.TheVariants.{Commit}
@@ -31,7 +31,7 @@ use Rattle.serial_spec.specs.Rows.{Rows, value_in}
 use Rattle.serial_spec.specs.Changes.{change_at, overlay, IsChanges}
 use Rattle.serial_spec.specs.Allowed.{cause_at_commit, asks_store, has_live_child, waits_elsewhere, writes}
 use Rattle.serial_spec.specs.Legal.{AreAllowed}
-use Rattle.txn_history.proofs.Exports.{neither, not_when, changes_made, writes_somewhere}
+use Rattle.txn_history.proofs.Exports.{alone_at_commit, changes_made, childless_at_commit, writes_somewhere}
 use Rattle.durable_top.specs.declared.store.TopStore.{Ghosts}
 use Rattle.manager_core.specs.declared.manager.AtOpening.{AtOpening}
 use Rattle.durable_top.specs.Numbered.{entries_in, values_of}
@@ -106,15 +106,8 @@ some_due opening h (l ∷ m ∷ ls) changes one are asks none = absurd (omega (a
 
 -- only done and refused by the store are of the store
 pub of_store : (r : Refusal) → is_of_store (made.Refused r) ≡ is_store_refusal (Refused r)
-of_store Unknown = refl
-of_store Used = refl
-of_store NoParent = refl
-of_store HasCommitted = refl
-of_store (Orphan t) = refl
-of_store Children = refl
-of_store Waiting = refl
-of_store Full = refl
 of_store Store = refl
+of_store r = refl
 
 pub not_first : (a b : Bool) → a ≡ false → a && b ≡ true → ⊥
 not_first true b e both = false≢true (sym e)
@@ -140,7 +133,7 @@ none_counted (suc n) e = absurd (false≢true (sym e ∙ lt-ltb 0 (suc n) (omega
 pub commits_at : (rows : Rows) (h : History) (states : States) (by : By) (t : Name) (n : ℕ) → AreAllowed rows h → IsTreeOf h states → IsNumberOf states t n → None ≡ cause_at_commit h by t
     → (is_active_at states n ≡ true) × (live_children_at states n ≡ 0)
 commits_at rows h states by t n allowed is number none =
-    let childless : has_live_child h t ≡ false = not_when _ _ (neither _ _ (neither _ _ (sym none)).1).0 in
+    let childless : has_live_child h t ≡ false = childless_at_commit h by t (sym none) in
     let named = name_at states t n number in (
       ap (is_active_named states) named ∙ active_in rows h states allowed is t ∙ active_at_commit h by t none,
       ap (live_children_named states) named
@@ -223,7 +216,7 @@ module _ {S : Type 0} (g : Ghosts S) (rows : Rows) (h : History) (old new : Tabl
   waits_committed : (child : ℕ) (above : Option ℕ) → CommitsIn old new t child above → AreWaitsOf (entry by (Commit t) (Done Ok) ∷ h) new.tree new.waits
   waits_committed child above commits =
       let x : Entry = entry by (Commit t) (Done Ok) in
-      let alone : waits_elsewhere h by t ≡ false = not_when _ _ (neither _ _ (neither _ _ (sym none)).1).1 in
+      let alone : waits_elsewhere h by t ≡ false = alone_at_commit h by t (sym none) in
       waits_stay h (x ∷ h) old new kept.are.waiting commits.same_names (λ n. ap (λ (s : Waiting_). kept_wait s n) commits.waits)
       (wait_committed rows x h done_next (Commits t) refl refl (unless_free h by (Commit t) free) t refl (none_waiting h by (Commit t) free t alone))
 

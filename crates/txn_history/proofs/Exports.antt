@@ -43,6 +43,22 @@ pub use Rattle.txn_history.proofs.Causes.{not_refused}
 pub use Rattle.txn_history.proofs.Causes.{not_when}
 -- Each entry that is allowed is sound.
 pub use Rattle.txn_history.proofs.Causes.{sound}
+-- That a cause is not the refusal of the store.
+pub use Rattle.txn_history.proofs.Refusing.{IsOther}
+-- Whether a cause is the refusal of the store.
+pub use Rattle.txn_history.proofs.Refusing.{is_store}
+-- No cause at an access is the refusal of the store.
+pub use Rattle.txn_history.proofs.Refusing.{other_at_access}
+-- No cause at a begin is the refusal of the store.
+pub use Rattle.txn_history.proofs.Refusing.{other_at_begin}
+-- No cause at a commit is the refusal of the store.
+pub use Rattle.txn_history.proofs.Refusing.{other_at_commit}
+-- No cause that access, commit and abort share is the refusal of the store.
+pub use Rattle.txn_history.proofs.Refusing.{other_at_end}
+-- Where no cause refuses a commit, no child is live.
+pub use Rattle.txn_history.proofs.Refusing.{childless_at_commit}
+-- Where no cause refuses a commit, no access of the transaction waits by another line.
+pub use Rattle.txn_history.proofs.Refusing.{alone_at_commit}
 -- Where some begun transaction passes a test, the list of those that began has one that passes.
 pub use Rattle.txn_history.proofs.Begun.{any_begun}
 -- Where no name of the list passes a test, no begun transaction passes it.
