@@ -1,6 +1,7 @@
 -- Whoever is left out where lines are attempted cannot go on.
 use Rattle.std.proofs.Common.{◌≡◌, ◌⊎◌, ◌<◌, ◌≤◌, ◌+◌, ℕ, suc, Bool, false, inl, inr, ⊎_elim, List, [], ◌∷◌, length, slice_get, Option, Some, None, is_some, refl, sym, ap, subst, ◌∙◌, arith}
-use Rattle.std.proofs.lemmas.Bool.{cases_lt, ne_eqb, true≢false}
+use Rattle.std.proofs.lemmas.Bool.{cases_eq, cases_lt, ne_eqb, true≢false}
+use Rattle.std.proofs.lemmas.Option.{none-some}
 use Rattle.serial_spec.specs.declared.event.Event.{Event}
 use Rattle.serial_spec.specs.declared.event.Event.TheVariants.{Begin, Access, Sum, Commit, Abort, After}
 use Rattle.serial_spec.specs.declared.entry.By.TheVariants.{Line}
@@ -22,42 +23,68 @@ use Rattle.manager_core.specs.Outcomes.{answer_of}
 use Rattle.manager_core.specs.State.{State, entry}
 use Rattle.interleavings.specs.declared.ready.Ready.{Ready}
 use Rattle.interleavings.specs.Attempts.{Attempts, Enters, StaysOut}
-use Rattle.interleavings.specs.LeftOut.{AreLeftOut, IsLeftOut, IsLeftOutByBegins, IsNoted, IsStillOut, StaysBy, is_after}
+use Rattle.interleavings.specs.LeftOut.{AreLeftOut, IsIdle, IsLeftOut, IsLeftOutByBegins, IsNoted, IsStillOut, StaysBy, is_after}
 use Rattle.interleavings.specs.Turning.{AreTurns, IsDue, can_go_on, has_answer}
 use Rattle.interleavings.proofs.Attempts.{other_answered, others_count}
 use Rattle.interleavings.proofs.Stuck.{no_answer, none_past}
 
 module _ (rows : Rows) (ss : List Session) (h : History) where
   -- where no session is left out
-  pub all_ready : (r : Ready) → length ss ≤ 64 → ((u : ℕ) → u < 64 → IsLeftOut r u → ⊥) → AreLeftOut rows ss h r
-  all_ready r few all = record {
-    held = λ u out. ap (has_answer rows h u) (none u out);
-    begins = λ u out. ap is_after (none u out.0);
+  pub all_ready : (r : Ready) → length ss ≤ 64 → ((u : ℕ) → u < 64 → IsLeftOut r u → ⊥) → ((u : ℕ) → u < 64 → IsIdle r u → ⊥) → AreLeftOut rows ss h r
+  all_ready r few all busy = record {
+    held = λ u out. ap (has_answer rows h u) (none u (λ low. all u low out));
+    begins = λ u out. ap is_after (none u (λ low. all u low out.0));
+    idle = λ u out. none u (λ low. busy u low out);
   }
     where
-      none : (u : ℕ) → IsLeftOut r u → next_event ss h u ≡ None
+      none : (u : ℕ) → (u < 64 → ⊥) → next_event ss h u ≡ None
       none u out = ⊎_elim
-          (λ (low : u < 64). absurd (all u low out))
+          (λ (low : u < 64). absurd (out low))
           (λ (past : 64 ≤ u). none_past ss h u (omega (arith, few, past)))
           (cases_lt u 64)
 
-  -- one that cannot go on is left out
-  pub one_out : (r r2 : Ready) (s : ℕ) (b : Bool) → AreLeftOut rows ss h r → can_go_on rows ss h s ≡ false → (b ≡ false → is_after (next_event ss h s) ≡ false)
-      → ((u : ℕ) → IsLeftOut r2 u → (u ≡ s) ⊎ IsLeftOut r u)
-      → ((u : ℕ) → IsLeftOutByBegins r2 u → ((u ≡ s) × (b ≡ false)) ⊎ IsLeftOutByBegins r u)
-      → AreLeftOut rows ss h r2
-  one_out r r2 s b left stays plain out begins = record {
-    held = λ u o. ⊎_elim
-        (λ (same : u ≡ s). ap (can_go_on rows ss h) same ∙ stays)
-        (λ (was : IsLeftOut r u). left.held u was)
-        (out u o);
-    begins = λ u o. ⊎_elim
-        (λ (same : (u ≡ s) × (b ≡ false)). ap (λ v. is_after (next_event ss h v)) same.0 ∙ plain same.1)
-        (λ (was : IsLeftOutByBegins r u). left.begins u was)
-        (begins u o);
-  }
+  module _ (r r2 : Ready) (s : ℕ) (left : AreLeftOut rows ss h r) where
+    -- one that cannot go on is left out
+    pub one_out : (b : Bool) → can_go_on rows ss h s ≡ false → (b ≡ false → is_after (next_event ss h s) ≡ false)
+        → ((u : ℕ) → IsLeftOut r2 u → (u ≡ s) ⊎ IsLeftOut r u)
+        → ((u : ℕ) → IsLeftOutByBegins r2 u → ((u ≡ s) × (b ≡ false)) ⊎ IsLeftOutByBegins r u)
+        → ((u : ℕ) → IsIdle r2 u → IsIdle r u)
+        → AreLeftOut rows ss h r2
+    one_out b stays plain out begins idle = record {
+      held = λ u o. ⊎_elim
+          (λ (same : u ≡ s). ap (can_go_on rows ss h) same ∙ stays)
+          (λ (was : IsLeftOut r u). left.held u was)
+          (out u o);
+      begins = λ u o. ⊎_elim
+          (λ (same : (u ≡ s) × (b ≡ false)). ap (λ v. is_after (next_event ss h v)) same.0 ∙ plain same.1)
+          (λ (was : IsLeftOutByBegins r u). left.begins u was)
+          (begins u o);
+      idle = λ u o. left.idle u (idle u o);
+    }
 
--- ---- what is noted
+    -- and so is one that has no line left
+    pub one_idle : next_event ss h s ≡ None
+        → ((u : ℕ) → IsLeftOut r2 u → (u ≡ s) ⊎ IsLeftOut r u)
+        → ((u : ℕ) → IsLeftOutByBegins r2 u → (u ≡ s) ⊎ IsLeftOutByBegins r u)
+        → ((u : ℕ) → IsIdle r2 u → (u ≡ s) ⊎ IsIdle r u)
+        → AreLeftOut rows ss h r2
+    one_idle none out begins idle = record {
+      held = λ u o. ⊎_elim
+          (λ (same : u ≡ s). ap (has_answer rows h u) (there u same))
+          (λ (was : IsLeftOut r u). left.held u was)
+          (out u o);
+      begins = λ u o. ⊎_elim
+          (λ (same : u ≡ s). ap is_after (there u same))
+          (λ (was : IsLeftOutByBegins r u). left.begins u was)
+          (begins u o);
+      idle = λ u o. ⊎_elim
+          (λ (same : u ≡ s). there u same)
+          (λ (was : IsIdle r u). left.idle u was)
+          (idle u o);
+    }
+      where
+        there : (u : ℕ) → u ≡ s → next_event ss h u ≡ None
+        there u same = ap (next_event ss h) same ∙ none
 
 was_left_out : (r : Ready) (u : ℕ) (e : Event) → StaysBy r e u → IsLeftOut r u
 was_left_out r u (Begin t) stays = stays.0
@@ -66,39 +93,6 @@ was_left_out r u (Sum t g) stays = stays
 was_left_out r u (Commit t) stays = absurd stays
 was_left_out r u (Abort t) stays = absurd stays
 was_left_out r u (After t w) stays = stays
-
-module _ (r r2 : Ready) (rows : Rows) (h : History) (before s : ℕ) (e : Event) where
-  pub noted_held : (b : Bool) → b ≡ is_after (Some e) → length h ≤ before → ((u : ℕ) → IsLeftOut r2 u → (u ≡ s) ⊎ IsLeftOut r u)
-      → ((u : ℕ) → IsLeftOutByBegins r2 u → ((u ≡ s) × (b ≡ false)) ⊎ IsLeftOutByBegins r u) → IsNoted r r2 rows h before s e
-  noted_held b plain few out begins = record {
-    out = λ u low o. inl (few, out u o);
-    begins = λ u low o. ⊎_elim
-        (λ (same : (u ≡ s) × (b ≡ false)). inl (same.0, sym plain ∙ same.1))
-        (λ (was : IsLeftOutByBegins r u). inr was)
-        (begins u o);
-  }
-
-  pub noted_all : ((u : ℕ) → u < 64 → IsLeftOut r2 u → ⊥) → IsNoted r r2 rows h before s e
-  noted_all all = record { out = λ u low o. absurd (all u low o); begins = λ u low o. absurd (all u low o.0) }
-
-  stays_by_more : (mid : Ready) (d : Event) (u : ℕ) → (IsLeftOut mid u → IsLeftOut r u) → (IsLeftOutByBegins mid u → IsLeftOutByBegins r u) → StaysBy mid d u → StaysBy r d u
-  stays_by_more mid (Begin t) u out begins stays = begins stays
-  stays_by_more mid (Access t k o) u out begins stays = out stays
-  stays_by_more mid (Sum t g) u out begins stays = out stays
-  stays_by_more mid (Commit t) u out begins stays = stays
-  stays_by_more mid (Abort t) u out begins stays = stays
-  stays_by_more mid (After t w) u out begins stays = out stays
-
-  pub noted_one : (mid : Ready) → length h ≤ before + 1 → length (known rows h) < most_keys
-      → ((u : ℕ) → IsLeftOut mid u → IsLeftOut r u × (u ≡ s → ⊥)) → ((u : ℕ) → IsLeftOutByBegins mid u → IsLeftOutByBegins r u)
-      → ((u : ℕ) → u < 64 → IsLeftOut r2 u → StaysBy mid e u) → ((u : ℕ) → u < 64 → IsLeftOutByBegins r2 u → IsLeftOutByBegins mid u)
-      → IsNoted r r2 rows h before s e
-  noted_one mid few fewer_keys out begins stays plain = record {
-    out = λ u low o.
-        let still = stays u low o in
-        inr (few, fewer_keys, (out u (was_left_out mid u e still)).1, stays_by_more mid e u (λ x. (out u x).0) (begins u) still);
-    begins = λ u low o. inr (begins u (plain u low o));
-  }
 
 -- ---- what an entry frees
 
@@ -215,14 +209,31 @@ module _ {S : Type 0} (g : Ghosts S) (ss : List Session) (old : State S) (number
     still_plain u (inr (few, fewer_keys, other, stays)) (inr was) =
         ap (λ n. is_after (slice_get (lines_of (slice_get ss u)) n)) (others_count g old new s l e o tried u other) ∙ left.begins u was
 
+    -- one that had no line left has none: it was not the one that was attempted
+    still_idle : (u : ℕ) → IsIdle r u → next_event ss new.history u ≡ None
+    still_idle u idle = ⊎_elim
+        (λ (same : u ≡ s). absurd (none-some e (sym (left.idle u idle) ∙ ap (next_event ss h) same ∙ due.event)))
+        (λ (other : u ≡ s → ⊥). ap (λ n. slice_get (lines_of (slice_get ss u)) n) (others_count g old new s l e o tried u other) ∙ left.idle u idle)
+        (cases_eq u s)
+
     pub left_out_after : AreLeftOut new.rows ss new.history r2
     left_out_after = record {
       held = λ u out. ⊎_elim
-          (λ (low : u < 64). still_held u (noted.out u low out))
+          (λ (low : u < 64). ⊎_elim
+          (λ (idle : IsIdle r u). ap (has_answer new.rows new.history u) (still_idle u idle))
+          (λ (still : IsStillOut r new.rows new.history before s e u). still_held u still)
+          (noted.out u low out))
           (λ (past : 64 ≤ u). ap (has_answer new.rows new.history u) (nothing_there u past))
           (cases_lt u 64);
       begins = λ u out. ⊎_elim
-          (λ (low : u < 64). still_plain u (noted.out u low out.0) (noted.begins u low out))
+          (λ (low : u < 64). begins_low u low out (noted.out u low out.0) (noted.begins u low out))
           (λ (past : 64 ≤ u). ap is_after (nothing_there u past))
           (cases_lt u 64);
+      idle = λ u out. still_idle u (noted.idle u out);
     }
+      where
+        begins_low : (u : ℕ) → u < 64 → IsLeftOutByBegins r2 u → IsIdle r u ⊎ IsStillOut r new.rows new.history before s e u
+            → IsIdle r u ⊎ (((u ≡ s) × (is_after (Some e) ≡ false)) ⊎ IsLeftOutByBegins r u) → is_after (next_event ss new.history u) ≡ false
+        begins_low u low out (inl idle) b = ap is_after (still_idle u idle)
+        begins_low u low out (inr still) (inl idle) = ap is_after (still_idle u idle)
+        begins_low u low out (inr still) (inr was) = still_plain u still was

@@ -1,5 +1,5 @@
 -- Which sessions are left out where lines are attempted, and what an attempt does to that.
-use Rattle.std.specs.Prelude.{◌≡◌, ◌⊎◌, ◌<◌, ◌≤◌, ◌+◌, ℕ, Bool, true, false, List, length, Option, Some}
+use Rattle.std.specs.Prelude.{◌≡◌, ◌⊎◌, ◌<◌, ◌≤◌, ◌+◌, ℕ, Bool, true, false, List, length, Option, Some, None}
 use Rattle.std.specs.Int.{bit_at}
 use Rattle.serial_spec.specs.declared.event.Event.{Event}
 use Rattle.serial_spec.specs.declared.event.Event.TheVariants.{Begin, Commit, Abort, After}
@@ -17,15 +17,26 @@ IsLeftOut r u = bit_at r.may u ≡ 0
 abbrev pub IsLeftOutByBegins : Ready → ℕ → Type 0
 IsLeftOutByBegins r u = IsLeftOut r u × (bit_at r.afters u ≡ 0)
 
+-- it has no line left
+abbrev pub IsIdle : Ready → ℕ → Type 0
+IsIdle r u = bit_at r.busy u ≡ 0
+
 abbrev pub is_after : Option Event → Bool
 is_after (Some (After t w)) = true
 is_after e = false
 
--- no session that is left out can go on, nor does one of them wait by an `after` line unless that
--- is known
+-- No session that is left out can go on, nor does one of them wait by an `after` line unless that
+-- is known. One that is idle has no line left
 pub record AreLeftOut (rows : Rows) (ss : List Session) (h : History) (r : Ready) : Type 0 where
   pub held : (u : ℕ) → IsLeftOut r u → can_go_on rows ss h u ≡ false
   pub begins : (u : ℕ) → IsLeftOutByBegins r u → is_after (next_event ss h u) ≡ false
+  pub idle : (u : ℕ) → IsIdle r u → next_event ss h u ≡ None
+
+-- session s got a line, so that of the others alone one may be left out
+pub record IsWoken (old new : Ready) (s : ℕ) : Type 0 where
+  pub out : (u : ℕ) → IsLeftOut new u → IsLeftOut old u × (u ≡ s → ⊥)
+  pub begins : (u : ℕ) → IsLeftOutByBegins new u → IsLeftOutByBegins old u
+  pub idle : (u : ℕ) → IsIdle new u → IsIdle old u × (u ≡ s → ⊥)
 
 -- the session is left out where this was answered
 abbrev pub StaysBy : Ready → Event → ℕ → Type 0
@@ -46,6 +57,8 @@ IsStillOut r rows h before s due u =
 -- what is left out after an attempt of session s, of a line that asks this
 pub record IsNoted (old new : Ready) (rows : Rows) (h : History) (before s : ℕ)
     (due : Event) : Type 0 where
-  pub out : (u : ℕ) → u < 64 → IsLeftOut new u → IsStillOut old rows h before s due u
+  pub out : (u : ℕ) → u < 64 → IsLeftOut new u
+      → IsIdle old u ⊎ IsStillOut old rows h before s due u
   pub begins : (u : ℕ) → u < 64 → IsLeftOutByBegins new u
-      → ((u ≡ s) × (is_after (Some due) ≡ false)) ⊎ IsLeftOutByBegins old u
+      → IsIdle old u ⊎ (((u ≡ s) × (is_after (Some due) ≡ false)) ⊎ IsLeftOutByBegins old u)
+  pub idle : (u : ℕ) → IsIdle new u → IsIdle old u

@@ -1,16 +1,18 @@
 //! What a run keeps beside its sessions, so that these can grow between two attempts.
-ghost use Rattle.std.specs.Prelude.{◌≡◌, ◌++◌, ◌∷◌, [], reverse, slice_get, OnErr, OnOk};
+ghost use Rattle.std.specs.Prelude.{◌≡◌, ◌<◌, ◌++◌, ◌∷◌, [], reverse, slice_get, OnErr, OnOk};
 ghost use Rattle.durable_top.specs.Store.{plain};
 ghost use Rattle.manager_core.specs.Sound.{IsSound};
+ghost use Rattle.interleavings.specs.LeftOut.{IsWoken};
 
+use crate::ready::Ready;
 use durable_top::{Row, TopStore};
 use manager_core::Manager;
 use serial_spec::{Entry, NoMemory};
 use std::alloc::Global;
 use std::marker::Model;
 
-/// The manager, and the number of each session's next line. `Turns` are made of it and of the
-/// sessions, and give it back.
+/// The manager, the number of each session's next line, and which sessions are held up. `Turns` are
+/// made of it and of the sessions, and give it back.
 #[derive(Drop)]
 pub struct Progress<S: TopStore> {
     pub(crate) alloc: Global,
@@ -20,6 +22,8 @@ pub struct Progress<S: TopStore> {
     pub(crate) next: Vec<u32>,
     // The session that was answered last, or any.
     pub(crate) lead: u32,
+    // Of the others no attempt does anything.
+    pub(crate) ready: Ready,
 }
 
 impl<S: TopStore> Model for Progress<S> {
@@ -27,7 +31,11 @@ impl<S: TopStore> Model for Progress<S> {
 
     ghost Value = { Going S };
 
-    ghost view = { λ p. record { core = p.manager.value; next = p.next.items } };
+    ghost view = { λ p. record {
+      core = p.manager.value;
+      next = p.next.items;
+      ready = p.ready;
+    } };
 }
 
 impl<S: TopStore> Progress<S> {
@@ -73,9 +81,20 @@ impl<S: TopStore> Progress<S> {
     pub fn add_session(&mut self) -> Result<(), NoMemory>
         ensures core { self.new.core ≡ self.old.core }
         ensures ok { OnOk result (self.new.next ≡ self.old.next ++ 1 ∷ []) }
+        ensures ready { self.new.ready ≡ self.old.ready }
         ensures err { OnErr result (self.new ≡ self.old) }
     {
         self.next.push(1)?;
         Ok(())
+    }
+
+    /// The session has got a line more: it is attempted again, also where it was left out.
+    pub fn wake(&mut self, session: u32)
+        requires { session < 64 }
+        ensures core { self.new.core ≡ self.old.core }
+        ensures next { self.new.next ≡ self.old.next }
+        ensures ready { IsWoken self.old.ready self.new.ready session }
+    {
+        self.ready.wake(session);
     }
 }

@@ -1,7 +1,7 @@
 //! Which sessions may go on, one bit for each.
 ghost use Rattle.std.specs.Prelude.{◌≡◌, ◌⊎◌, ◌<◌, ◌≤◌, ℕ, false, IfNone, IfSome};
 ghost use Rattle.std.specs.Int.{bit_at};
-ghost use Rattle.interleavings.specs.LeftOut.{IsLeftOut, IsLeftOutByBegins};
+ghost use Rattle.interleavings.specs.LeftOut.{IsIdle, IsLeftOut, IsLeftOutByBegins, IsWoken};
 
 use serial_spec::MOST_SESSIONS;
 
@@ -48,17 +48,21 @@ pub(crate) struct Ready {
     pub(crate) may: u64,
     // Those that may wait by an `after` line where they are left out.
     pub(crate) afters: u64,
+    // Those that may have a line left. No entry lets any other go on.
+    pub(crate) busy: u64,
 }
 
 impl Ready {
     /// All sessions.
     #[inline(always)]
     pub(crate) fn all() -> Ready
-        ensures { (u : ℕ) → u < 64 → IsLeftOut result u → ⊥ }
+        ensures out { (u : ℕ) → u < 64 → IsLeftOut result u → ⊥ }
+        ensures idle { (u : ℕ) → u < 64 → IsIdle result u → ⊥ }
     {
         Ready {
             may: u64::MAX,
             afters: 0,
+            busy: u64::MAX,
         }
     }
 
@@ -68,12 +72,30 @@ impl Ready {
         ensures out { (u : ℕ) → IsLeftOut self.new u → (u ≡ session) ⊎ IsLeftOut self.old u }
         ensures begins { (u : ℕ) → IsLeftOutByBegins self.new u →
             ((u ≡ session) × (is_after ≡ false)) ⊎ IsLeftOutByBegins self.old u }
+        ensures idle { (u : ℕ) → IsIdle self.new u → IsIdle self.old u }
     {
         if (session as usize) < MOST_SESSIONS {
             self.may = without(self.may, session);
             if is_after {
                 self.afters = with(self.afters, session);
+            } else {
+                self.afters = without(self.afters, session);
             }
+        }
+    }
+
+    /// Leaves the session out, which has no line left.
+    #[inline(always)]
+    pub(crate) fn leave_idle(&mut self, session: u32)
+        ensures out { (u : ℕ) → IsLeftOut self.new u → (u ≡ session) ⊎ IsLeftOut self.old u }
+        ensures begins { (u : ℕ) → IsLeftOutByBegins self.new u →
+            (u ≡ session) ⊎ IsLeftOutByBegins self.old u }
+        ensures idle { (u : ℕ) → IsIdle self.new u → (u ≡ session) ⊎ IsIdle self.old u }
+    {
+        if (session as usize) < MOST_SESSIONS {
+            self.may = without(self.may, session);
+            self.afters = without(self.afters, session);
+            self.busy = without(self.busy, session);
         }
     }
 
@@ -83,6 +105,7 @@ impl Ready {
         requires { session < 64 }
         ensures out { (u : ℕ) → IsLeftOut self.new u → IsLeftOut self.old u × (u ≡ session → ⊥) }
         ensures begins { (u : ℕ) → IsLeftOutByBegins self.new u → IsLeftOutByBegins self.old u }
+        ensures idle { (u : ℕ) → IsIdle self.new u → IsIdle self.old u }
     {
         self.may = with(self.may, session);
     }
@@ -90,9 +113,28 @@ impl Ready {
     /// Those that may wait by an `after` line may go on.
     #[inline(always)]
     pub(crate) fn bring_back_afters(&mut self)
-        ensures { (u : ℕ) → IsLeftOut self.new u → IsLeftOutByBegins self.old u }
+        ensures out { (u : ℕ) → IsLeftOut self.new u → IsLeftOutByBegins self.old u }
+        ensures idle { (u : ℕ) → IsIdle self.new u → IsIdle self.old u }
     {
         self.may |= self.afters;
+    }
+
+    /// Those that may have a line left may go on.
+    #[inline(always)]
+    pub(crate) fn bring_back_busy(&mut self)
+        ensures out { (u : ℕ) → IsLeftOut self.new u → IsIdle self.old u }
+        ensures idle { (u : ℕ) → IsIdle self.new u → IsIdle self.old u }
+    {
+        self.may = self.busy;
+    }
+
+    /// The session has a line more, and may go on.
+    pub(crate) fn wake(&mut self, session: u32)
+        requires { session < 64 }
+        ensures { IsWoken self.old self.new session }
+    {
+        self.may = with(self.may, session);
+        self.busy = with(self.busy, session);
     }
 
     /// The first session from this one on that may go on.

@@ -38,7 +38,7 @@ pub fn settle<S: TopStore>(turns: &mut Turns<S>) -> Result<(), NoMemory>
     ensures ok { OnOk result (Settles S.TopStore turns.old turns.new) }
     ensures err { OnErr result (SettlesPartly S.TopStore turns.old turns.new) }
 {
-    while turns.goes_on() {
+    while turns.goes_on_still() {
         run_each(turns)?;
     }
     Ok(())

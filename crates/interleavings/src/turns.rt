@@ -9,7 +9,9 @@ ghost use Rattle.manager_core.specs.Opening.{HasCause};
 ghost use Rattle.manager_core.specs.Sound.{IsSound};
 ghost use Rattle.interleavings.specs.Progressing.{AreUnderWay, turning};
 ghost use Rattle.interleavings.specs.Scheduled.{Stands};
-ghost use Rattle.interleavings.specs.Turning.{IsClosed, IsDue, IsFirstOpen, IsStart, Stepped, TellsStuck, Unstuck, can_go_on, next_number, TellsGoesOn, NoneGoesOnFrom};
+ghost use Rattle.interleavings.specs.Turning.{IsClosed, IsDue, IsFirstOpen, IsStart, Stepped, Unstuck, next_number};
+
+mod looking;
 
 use crate::attempt::attempt;
 use crate::noting::{is_after, note_attempt};
@@ -96,16 +98,15 @@ pub struct Turns<'a, S: TopStore> {
 }
 
 impl<'a, S: TopStore> Model for Turns<'a, S> {
-    ghost use Rattle.interleavings.specs.LeftOut.{AreLeftOut};
-    ghost use Rattle.interleavings.specs.Turning.{AreTurns, Turning};
+    ghost use Rattle.interleavings.specs.Progressing.{AreUnderWay};
+    ghost use Rattle.interleavings.specs.Turning.{Turning};
 
     ghost Value = { Turning S };
 
     ghost view = { λ t. record { sessions = t.sessions.now; core = t.manager.value } };
 
-    ghost invariant = { λ t.
-        AreTurns (record { sessions = t.sessions.now; core = t.manager.value }) t.next.items
-        × AreLeftOut t.manager.value.rows t.sessions.now t.manager.value.history t.ready };
+    ghost invariant = { λ t. AreUnderWay t.sessions.now
+        (record { core = t.manager.value; next = t.next.items; ready = t.ready }) };
 }
 
 impl<'a, S: TopStore> Turns<'a, S> {
@@ -210,7 +211,7 @@ impl<'a, S: TopStore> Turns<'a, S> {
             IsOk result }
     {
         let Some((line, due)) = self.due(session) else {
-            self.ready.leave_out(session, false);
+            self.ready.leave_idle(session);
             return Ok(Turn::OutOfTurn);
         };
         // A line that waits is mostly kept out still, and to ask for that alone is cheaper.
@@ -249,68 +250,6 @@ impl<'a, S: TopStore> Turns<'a, S> {
         }
     }
 
-    // Whether the session's next line may be answered, or begin to wait.
-    fn can_go_on(&self, session: u32) -> bool
-        ensures { result ≡
-            can_go_on self.now.core.rows self.now.sessions self.now.core.history session }
-    {
-        let Some((line, due)) = self.due(session) else {
-            return false;
-        };
-        let by = By::Line { session, line };
-        if self.manager.is_parked(by) {
-            return false;
-        }
-        !self.manager.held_up(by, due)
-    }
-
-    // The first session from this one on that is not left out.
-    #[inline(always)]
-    pub(crate) fn next_ready(&self, from: u32) -> Option<u32>
-        ensures some { IfSome result (λ next. (from ≤ next) × (next < length self.now.sessions)
-            × NoneGoesOnFrom self.now from next) }
-        ensures fits { IfSome result (λ next. next < 64) }
-        ensures none { IfNone result
-            (NoneGoesOnFrom self.now from (length self.now.sessions)) }
-    {
-        let next = self.ready.next(from)?;
-        if next < self.count() {
-            Some(next)
-        } else {
-            None
-        }
-    }
-
-    /// Whether the next line of some session may be answered, or begin to wait. It looks first at
-    /// the session that was answered last, which mostly goes on, and where that does not takes one
-    /// look at each session that is not known to be held up.
-    pub fn goes_on(&self) -> bool
-        ensures { TellsGoesOn self.now.core.rows self.now.sessions self.now.core.history result }
-    {
-        if self.can_go_on(self.lead) {
-            return true;
-        }
-        let mut from = 0;
-        while let Some(session) = self.next_ready(from) {
-            if self.can_go_on(session) {
-                return true;
-            }
-            from = session + 1;
-        }
-        false
-    }
-
-    // The session whose line must be given up, if one must.
-    fn stuck_session(&self) -> Option<u32>
-        ensures { TellsStuck self.now.core.rows self.now.sessions self.now.core.history result }
-    {
-        let first = self.first_open()?;
-        if self.goes_on() {
-            return None;
-        }
-        Some(first)
-    }
-
     /// Applies the stuck rule once: where lines are left and none of the sessions can go on, the
     /// next line of the first session that has one is given up. Answers its session and number. The
     /// only error is that memory runs out, and nothing has changed then. Where no line is given up
@@ -345,6 +284,7 @@ impl<'a, S: TopStore> Turns<'a, S> {
             manager,
             next,
             lead,
+            ready,
             ..
         } = self;
         Progress {
@@ -352,6 +292,7 @@ impl<'a, S: TopStore> Turns<'a, S> {
             manager,
             next,
             lead,
+            ready,
         }
     }
 
@@ -365,16 +306,15 @@ impl<'a, S: TopStore> Turns<'a, S> {
             manager,
             next,
             lead,
+            ready,
         } = progress;
-        // What is known of a text comes with its length: here that it has few sessions.
-        let _count = sessions.len();
         Turns {
             alloc,
             sessions,
             manager,
             next,
             lead,
-            ready: Ready::all(),
+            ready,
         }
     }
 

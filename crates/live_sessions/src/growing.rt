@@ -119,6 +119,9 @@ pub(crate) fn grow<S: TopStore>(
     ensures labels { OnOk result (labels.new.items ≡ labels_in sessions.new) }
 {
     let session = place_for(alloc, sessions, labels, progress, label)?;
+    // What is known of a text comes with its length: here that it has few sessions.
+    let _count = sessions.len();
     sessions.add_line(session, line)?;
+    progress.wake(session);
     Ok(session)
 }

@@ -8,4 +8,4 @@ add_session-requires-2-clause-free g c = places_found.0 c.args.label c.args.sess
 pub returns-clause-way : goal.returns-clause-way
 returns-clause-way g c =
     header_way_of c.args.sessions.now c.args.progress.now c.requires.way c.requires.open_ended c.add_session-2.new.self c.add_session.new.self c.args.label
-    c.in_ok-add_session-2.ensures.ok c.add_session.ensures.core c.in_ok-add_session.ensures.ok
+    c.in_ok-add_session-2.ensures.ok c.add_session.ensures.core c.in_ok-add_session.ensures.ok c.add_session.ensures.ready

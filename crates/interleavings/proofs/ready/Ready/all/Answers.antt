@@ -3,4 +3,7 @@ use Rattle.std.proofs.lemmas.Nat.Bits.{bit_at_ones}
 use Rattle.interleavings.proofs.ready.Ready.all.Goals as goal
 
 pub returns : goal.returns
-returns c u within out = omega (arith, bit_at_ones 64 u within, out)
+returns c = record {
+  out = λ u within out. omega (arith, bit_at_ones 64 u within, out);
+  idle = λ u within out. omega (arith, bit_at_ones 64 u within, out);
+}

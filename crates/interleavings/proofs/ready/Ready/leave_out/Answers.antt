@@ -7,4 +7,7 @@ returns-then-is_after-clause-begins c u out =
 
 pub returns-else-is_after-clause-begins : goal.returns-else-is_after-clause-begins
 returns-else-is_after-clause-begins c u out =
-    ⊎_elim (λ same. inl (same, c.if-is_after.false)) (λ was. inr (was, out.1)) (c.without-self.ensures u out.0)
+    ⊎_elim
+    (λ same. inl (same, c.if-is_after.false))
+    (λ was. ⊎_elim (λ same. inl (same, c.if-is_after.false)) (λ plain. inr (was, plain)) (c.without-self-else-is_after.ensures u out.1))
+    (c.without-self.ensures u out.0)

@@ -1,7 +1,4 @@
-use Rattle.std.proofs.Common.{arith}
 use Rattle.interleavings.proofs.turns.Turns.next_ready.Goals as goal
 
-pub returns-then-next-count-clause-some : goal.returns-then-next-count-clause-some
-returns-then-next-count-clause-some g c =
-    let some = c.in_ok-next.ensures.some in
-    (some.0, omega (arith, c.count.ensures, c.if-next-count.true), λ u from less. rw (← c.self.view_is) (c.self.invariant.1.held u (some.2 u from less)))
+pub next_of-requires : goal.next_of-requires
+next_of-requires g c = rw (← c.self.view_is) c.self.invariant.1

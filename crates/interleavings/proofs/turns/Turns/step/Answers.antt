@@ -3,8 +3,8 @@ use Rattle.serial_spec.specs.declared.entry.By.TheVariants.{Line}
 use Rattle.manager_core.specs.declared.outcome.Outcome.TheVariants.{Waits}
 use Rattle.interleavings.proofs.Calls.{kept_out_attempt}
 use Rattle.interleavings.specs.LeftOut.{is_after}
-use Rattle.interleavings.specs.Turning.{can_go_on, has_answer}
-use Rattle.interleavings.proofs.LeftOut.{one_out}
+use Rattle.interleavings.specs.Turning.{can_go_on}
+use Rattle.interleavings.proofs.LeftOut.{one_idle, one_out}
 use Rattle.interleavings.proofs.Numbers.{free_or_waits, stepped_parked}
 use Rattle.interleavings.proofs.Schedules.{stepped_none}
 use Rattle.interleavings.proofs.Stuck.{told_held_up}
@@ -44,8 +44,8 @@ invariant_of-self-then-stays_parked g c =
     sym (told_held_up ss m.history m.rows c.self.invariant.0.way s l event due true (λ _. parked c.if-stays_parked.true event next, λ _. refl)) in
     rw (c.stays_parked.ensures.same, c.deref_mut.ensures.value) (
       c.self.invariant.0,
-      one_out m.rows ss m.history c.self.inside.ready c.leave_out-then-stays_parked.new.self s c.is_after.result c.self.invariant.1 stays
-          (λ plain. ap is_after due.event ∙ sym c.is_after.ensures ∙ plain) c.leave_out-then-stays_parked.ensures.out c.leave_out-then-stays_parked.ensures.begins,
+      one_out m.rows ss m.history c.self.inside.ready c.leave_out.new.self s c.self.invariant.1 c.is_after.result stays
+          (λ plain. ap is_after due.event ∙ sym c.is_after.ensures ∙ plain) c.leave_out.ensures.out c.leave_out.ensures.begins c.leave_out.ensures.idle,
     )
 
 pub invariant_of-self : goal.invariant_of-self
@@ -54,6 +54,6 @@ invariant_of-self g c =
     let ss = c.self.inside.sessions.now in
     let none = rw (← c.self.view_is) at c.in_default.ensures.none in (
       c.self.invariant.0,
-      one_out m.rows ss m.history c.self.inside.ready c.leave_out.new.self c.args.session false c.self.invariant.1 (ap (has_answer m.rows m.history c.args.session) none)
-          (λ _. ap is_after none) c.leave_out.ensures.out c.leave_out.ensures.begins,
+      one_idle m.rows ss m.history c.self.inside.ready c.leave_idle.new.self c.args.session c.self.invariant.1 none
+          c.leave_idle.ensures.out c.leave_idle.ensures.begins c.leave_idle.ensures.idle,
     )

@@ -6,7 +6,7 @@ pub returns-in-Err-clause-err : goal.returns-in-Err-clause-err
 returns-in-Err-clause-err g c =
     let p = c.self.inside.progress in
     rw (← c.self.view_is)
-    (breaks_here g.S.TopStore c.self.inside.sessions p c.args.label c.args.line c.grow.new.progress c.give_up.result c.self.invariant.way.way c.has_sound_manager.ensures
+    (breaks_here g.S.TopStore c.self.inside.sessions p c.args.label c.args.line c.grow.new.progress c.give_up.result c.self.invariant.way.0.way c.has_sound_manager.ensures
     c.in-Err.ensures.core c.give_up.ensures)
 
 pub invariant_of-result : goal.invariant_of-result
