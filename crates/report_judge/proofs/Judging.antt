@@ -11,8 +11,8 @@ use Rattle.line_language.proofs.Exports.{Lacks-append, cut_behind, cut_lacking}
 use Rattle.report_check.specs.Passing.{Read, Part, Start, Opening, Entries, Final, Ended, has_ended, next, read, read_from, unread}
 use Rattle.report_check.specs.Verdicts.{HasVerdict, IsJudged, IsRun, first_wrong}
 use Rattle.report_check.specs.declared.verdict.Verdict.{Verdict}
-use Rattle.report_check.specs.declared.verdict.Verdict.TheVariants.{No}
-use Rattle.report_judge.specs.Judging.{AreLines, GoesFrom, IsDue, IsLine, IsSettled, IsVerdictOn, Stands, WantsMore, is_over}
+use Rattle.report_check.specs.declared.verdict.Verdict.TheVariants.{No, Yes}
+use Rattle.report_judge.specs.Judging.{AreLines, GoesFrom, IsDue, IsLine, IsReport, IsSettled, IsVerdictOn, Stands, WantsMore, is_over}
 use Rattle.report_judge.specs.Kept.{IsSeen, Steps, line_of, part_of}
 use Rattle.report_judge.specs.declared.lines.Judge.{Judge}
 use Rattle.report_judge.specs.declared.lines.Standing.{Standing}
@@ -196,6 +196,15 @@ module _ {R : Type 0} (r : Reader R) (n : ℕ) (old mid new : R) (bytes piece : 
     verdict = verdict;
   })
 
+  -- and what was kept of it is a report
+  pub report_whole : piece ≡ [] → IsAtEnd (r.remaining new) → HasVerdict bytes v → v ≡ Yes → {kept : List ℕ} → kept ≡ bytes → IsReport r old new kept
+  report_whole none ended verdict is {kept} same = subst (λ (ys : List ℕ). IsReport r old new ys) (sym same) (record {
+    whole = record { calls = n; few = few; before = mid; given = given; wanted = wanted; ended = subst (λ (ys : List ℕ). r.gives mid new (Ok ys)) none last };
+    taken = subst (λ (ys : List ℕ). Consumes (r.remaining old) (r.remaining new) ys) (ap (λ (ys : List ℕ). bytes ++ ys) none ∙ append_none bytes) (Consumes-trans _ _ _ _ _ taken more);
+    ended = ended;
+    verdict = subst (λ (w : Verdict). HasVerdict bytes w) is verdict;
+  })
+
   -- what it gave settled the verdict
   pub verdict_early : piece ≢ [] → IsSettled (bytes ++ piece) v → IsVerdictOn r old new v
   verdict_early some settled = inr (record {
@@ -206,6 +215,10 @@ module _ {R : Type 0} (r : Reader R) (n : ℕ) (old mid new : R) (bytes piece : 
     taken = Consumes-trans _ _ _ _ _ taken more;
     settled = settled;
   })
+
+-- what is kept has the next bytes behind it
+pub kept_more : (old new bytes piece : List ℕ) → new ≡ old ++ piece → old ≡ bytes → new ≡ bytes ++ piece
+kept_more old new bytes piece more same = more ∙ ap (λ (xs : List ℕ). xs ++ piece) same
 
 -- ---- a bytes' worth of steps
 

@@ -9,10 +9,13 @@ use Rattle.line_language.specs.Words.{cut_at}
 use Rattle.report_check.specs.Passing.{Part, Read, has_ended, read, read_from}
 use Rattle.report_check.specs.Verdicts.{HasVerdict, compared}
 use Rattle.report_check.specs.declared.verdict.Verdict.{Verdict}
+use Rattle.report_check.specs.declared.verdict.Verdict.TheVariants.{No, Yes}
 use Rattle.report_tables.specs.Valued.{Values, value_at}
 use Rattle.report_judge.specs.Kept.{IsSeen, line_of}
 use Rattle.report_judge.specs.declared.reading.CheckFault.{CheckFault}
 use Rattle.report_judge.specs.declared.reading.CheckFault.TheVariants as fault
+use Rattle.report_judge.specs.declared.reading.Judged.{Judged}
+use Rattle.report_judge.specs.declared.reading.Judged.TheVariants as judged
 use Rattle.report_judge.specs.declared.lines.TheConstants.{MOST_BYTES}
 use Rattle.report_judge.specs.declared.lines.Judge.{Judge}
 use Rattle.report_judge.specs.declared.lines.Standing.{Standing}
@@ -83,6 +86,18 @@ module _ {R : Type 0} (r : Reader R) (old new : R) where
   -- the bytes that the reader gave have the verdict
   abbrev pub IsVerdictOn : Verdict → Type 0
   IsVerdictOn v = IsJudgedWhole v ⊎ IsJudgedEarly v
+
+  -- the reader gave these bytes up to its end, and they are a report with the verdict yes
+  pub record IsReport (bytes : List ℕ) : Type 0 where
+    pub whole : IsReadWhole r WantsMore old new bytes
+    pub taken : Consumes (r.remaining old) (r.remaining new) bytes
+    pub ended : IsAtEnd (r.remaining new)
+    pub verdict : HasVerdict bytes Yes
+
+  -- these are all bytes that it gave, and a report; or what it gave has the verdict no
+  abbrev pub IsJudgement : Judged → Type 0
+  IsJudgement (judged.Yes bytes) = IsReport bytes.items
+  IsJudgement (judged.No n) = IsVerdictOn (No n)
 
 -- why there is no verdict: a growth was refused while the reader gave bytes, or the reader did not
 -- come to its end

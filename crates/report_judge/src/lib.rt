@@ -6,4 +6,4 @@ mod reading;
 mod seen;
 
 pub use lines::MOST_BYTES;
-pub use reading::{CheckFault, check};
+pub use reading::{CheckFault, Judged, check, check_keeping};

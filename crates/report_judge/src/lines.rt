@@ -2,6 +2,7 @@
 ghost use Rattle.std.specs.Prelude.{◌≡◌, ◌≤◌, ◌<◌, ◌+◌, ◌-◌, ◌^◌, ◌∷◌, ◌++◌, [], ℕ, List, length, slice_get, IfOk, IfSome, IsNone, OnOk};
 ghost use Rattle.report_check.specs.Passing.{Ended, Read};
 ghost use Rattle.report_check.specs.Verdicts.{HasVerdict, IsRun, first_wrong};
+ghost use Rattle.report_check.specs.declared.verdict.Verdict.TheVariants.{No};
 ghost use Rattle.report_tables.specs.Chained.{chain_in};
 ghost use Rattle.report_judge.specs.Judging.{IsComparedBy, IsDue, IsLine, IsSettled, Stands, WantsMore, is_over};
 ghost use Rattle.report_judge.specs.Kept.{IsSeen, line_of, part_of};
@@ -184,14 +185,14 @@ fn is_over(judge: &Judge) -> bool
     !judge.standing.faulty && (judge.kept.is_empty() && judge.standing.seen.has_ended())
 }
 
-/// The verdict, where it is settled whatever bytes come.
-pub(crate) fn settled(judge: &Judge) -> Option<Verdict>
-    ensures settled { IfSome result (λ v.
-        (bs : List ℕ) → Stands bs judge.now → IsSettled bs v) }
+/// The line of the first fault, where the verdict is settled whatever bytes come.
+pub(crate) fn settled(judge: &Judge) -> Option<usize>
+    ensures settled { IfSome result (λ n.
+        (bs : List ℕ) → Stands bs judge.now → IsSettled bs (No n)) }
     ensures wanted { IsNone result → (bs : List ℕ) → Stands bs judge.now → WantsMore bs }
 {
     if judge.standing.faulty {
-        Some(Verdict::No(judge.standing.line))
+        Some(judge.standing.line)
     } else {
         None
     }

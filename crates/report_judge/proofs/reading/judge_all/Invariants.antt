@@ -1,4 +1,4 @@
-use Rattle.std.proofs.Common.{◌≡◌, ℕ, List, ◌+◌, ◌*◌, ◌≤◌, length}
+use Rattle.std.proofs.Common.{◌≡◌, ℕ, List, ◌+◌, ◌*◌, ◌≤◌, IsTrue, length}
 use Rattle.std.specs.Io.KnownBytes.{Consumes}
 use Rattle.txn_bytes.specs.Sources.{HasGiven}
 use Rattle.report_judge.specs.Judging.{Stands, WantsMore}
@@ -11,4 +11,4 @@ invariant-loop-call g l =
     × Consumes (g.R.Read.remaining l.initial.report) (g.R.Read.remaining l.report) bs
     × Stands bs l.judge
     × HasGiven (record { remaining = g.R.Read.remaining; gives = g.R.Source.gives }) WantsMore l._call l.initial.report l.report bs
-    × WantsMore bs)
+    × WantsMore bs × (IsTrue l.wanted → l.kept.items ≡ bs))
