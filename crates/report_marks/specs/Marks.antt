@@ -7,16 +7,13 @@ use Rattle.serial_spec.specs.declared.operation.Reply.{Reply}
 use Rattle.serial_spec.specs.declared.operation.Reply.TheVariants.{Ok}
 use Rattle.serial_spec.specs.declared.event.Event.{Event}
 use Rattle.serial_spec.specs.declared.event.Event.TheVariants.{Begin, Access, Sum, Commit, Abort, After}
-use Rattle.serial_spec.specs.declared.entry.Refusal.{Refusal}
-use Rattle.serial_spec.specs.declared.entry.Refusal.TheVariants as refusal
 use Rattle.serial_spec.specs.declared.entry.Answer.{Answer}
 use Rattle.serial_spec.specs.declared.entry.Answer.TheVariants as answer
 use Rattle.serial_spec.specs.declared.entry.By.{By}
 use Rattle.serial_spec.specs.declared.entry.By.TheVariants as by
 use Rattle.serial_spec.specs.declared.entry.Entry.{Entry}
 use Rattle.serial_spec.specs.History.{History, Name}
-use Rattle.report_marks.specs.declared.deeds.Cause.{Cause}
-use Rattle.report_marks.specs.declared.deeds.Cause.TheVariants as cause
+use Rattle.line_language.specs.Refusals.{cause_of}
 use Rattle.report_marks.specs.declared.deeds.Doer.{Doer}
 use Rattle.report_marks.specs.declared.deeds.Doer.TheVariants as doer
 use Rattle.report_marks.specs.declared.deeds.Deed.{Deed}
@@ -70,17 +67,6 @@ abort_deed None = deed.Other
 abbrev pub wait_deed : Option ℕ → Deed
 wait_deed (Some n) = deed.Waits n
 wait_deed None = deed.Other
-
-abbrev pub cause_of : Refusal → Cause
-cause_of refusal.Unknown = cause.Unknown
-cause_of refusal.Used = cause.Used
-cause_of refusal.NoParent = cause.NoParent
-cause_of refusal.Done = cause.Done
-cause_of (refusal.Orphan t) = cause.Orphan
-cause_of refusal.Children = cause.Children
-cause_of refusal.Waiting = cause.Waiting
-cause_of refusal.Full = cause.Full
-cause_of refusal.Store = cause.Store
 
 abbrev pub done_deed : List Name → Event → Reply → Deed
 done_deed ts (Begin t) r = begin_deed (number_if (is_ok r) ts t)

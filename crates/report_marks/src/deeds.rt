@@ -1,18 +1,6 @@
 //! What an entry did.
 
-/// Why a line was refused, the name of the topmost aborted transaction left aside.
-#[derive(Clone, Copy, Debug, PartialEq, Eq)]
-pub enum Cause {
-    Unknown,
-    Used,
-    NoParent,
-    Done,
-    Orphan,
-    Children,
-    Waiting,
-    Full,
-    Store,
-}
+use line_language::Cause;
 
 /// Whose entry it is.
 #[derive(Clone, Copy, Debug, PartialEq, Eq)]

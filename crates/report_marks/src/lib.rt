@@ -7,5 +7,5 @@ mod marking;
 mod noting;
 mod numbering;
 
-pub use deeds::{Cause, Deed, Doer, Mark};
+pub use deeds::{Deed, Doer, Mark};
 pub use noting::{Notes, notes_of};

@@ -1,11 +1,12 @@
 //! What an entry did, by the numbers of those that have begun with it.
 ghost use Rattle.std.specs.Prelude.{◌≡◌};
-ghost use Rattle.report_marks.specs.Marks.{abort_deed, access_deed, begin_deed, cause_of, commit_deed, deed_of, done_deed, is_ok, wait_deed, waiting_deed};
+ghost use Rattle.report_marks.specs.Marks.{abort_deed, access_deed, begin_deed, commit_deed, deed_of, done_deed, is_ok, wait_deed, waiting_deed};
 
-use crate::deeds::{Cause, Deed};
+use crate::deeds::Deed;
 use crate::numbering::{number_if, number_of};
 use indexmap::IndexSet;
-use serial_spec::{Answer, Event, Refusal, Reply};
+use line_language::cause_of;
+use serial_spec::{Answer, Event, Reply};
 use txn_names::Name;
 
 fn begin_deed(number: Option<usize>) -> Deed
@@ -51,22 +52,6 @@ fn wait_deed(number: Option<usize>) -> Deed
     match number {
         Some(number) => Deed::Waits(number),
         None => Deed::Other,
-    }
-}
-
-fn cause_of(refusal: &Refusal) -> Cause
-    ensures { result ≡ cause_of refusal.now }
-{
-    match refusal {
-        Refusal::Unknown => Cause::Unknown,
-        Refusal::Used => Cause::Used,
-        Refusal::NoParent => Cause::NoParent,
-        Refusal::Done => Cause::Done,
-        Refusal::Orphan(_) => Cause::Orphan,
-        Refusal::Children => Cause::Children,
-        Refusal::Waiting => Cause::Waiting,
-        Refusal::Full => Cause::Full,
-        Refusal::Store => Cause::Store,
     }
 }
 

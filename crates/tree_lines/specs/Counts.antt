@@ -1,7 +1,7 @@
 -- How many transactions and entries are of some kind.
 use Rattle.std.specs.Prelude.{ℕ, suc, ◌==◌, ◌&&◌, ◌||◌, nat_lt, Bool, true, false, not, if◌then◌else◌, List, [], ◌∷◌, Option, Some, None}
-use Rattle.report_marks.specs.declared.deeds.Cause.{Cause}
-use Rattle.report_marks.specs.declared.deeds.Cause.TheVariants as cause
+use Rattle.line_language.specs.declared.refusals.Cause.{Cause}
+use Rattle.line_language.specs.Refusals.{same_cause}
 use Rattle.report_marks.specs.declared.deeds.Deed.{Deed}
 use Rattle.report_marks.specs.declared.deeds.Deed.TheVariants as deed
 use Rattle.report_marks.specs.declared.deeds.Doer.{Doer}
@@ -73,18 +73,6 @@ counts_shown group.PartsAgain s ss = not (is_job s) && was_tried_again s ss
 abbrev pub counted : Group → List Shown → ℕ
 counted g [] = 0
 counted g (s ∷ ss) = if counts_shown g s ss then suc (counted g ss) else counted g ss
-
-abbrev pub same_cause : Cause → Cause → Bool
-same_cause cause.Unknown cause.Unknown = true
-same_cause cause.Used cause.Used = true
-same_cause cause.NoParent cause.NoParent = true
-same_cause cause.Done cause.Done = true
-same_cause cause.Orphan cause.Orphan = true
-same_cause cause.Children cause.Children = true
-same_cause cause.Waiting cause.Waiting = true
-same_cause cause.Full cause.Full = true
-same_cause cause.Store cause.Store = true
-same_cause a b = false
 
 abbrev pub is_victim : Doer → Bool
 is_victim doer.Victim = true

@@ -4,8 +4,6 @@ use Rattle.std.specs.List.{flat_map, list_any}
 use Rattle.line_language.specs.Words.{cut_at}
 use Rattle.txn_names.specs.Text.{spelled_name}
 use Rattle.serial_spec.specs.History.{Name}
-use Rattle.report_marks.specs.declared.deeds.Cause.{Cause}
-use Rattle.report_marks.specs.declared.deeds.Cause.TheVariants as cause
 use Rattle.report_marks.specs.declared.deeds.Deed.{Deed}
 use Rattle.report_marks.specs.declared.deeds.Deed.TheVariants as deed
 use Rattle.report_marks.specs.declared.deeds.Doer.{Doer}

@@ -1,9 +1,10 @@
 -- What `tx show` prints: the lines of the transactions that are shown, and the summary.
-use Rattle.std.specs.Prelude.{ℕ, ◌==◌, ◌||◌, Bool, true, false, if◌then◌else◌, List, [], ◌∷◌, ◌++◌, codes, decimal}
+use Rattle.std.specs.Prelude.{ℕ, ◌==◌, ◌&&◌, ◌||◌, Bool, true, false, not, if◌then◌else◌, List, [], ◌∷◌, ◌++◌, codes, decimal}
 use Rattle.serial_spec.specs.History.{Name}
 use Rattle.line_language.specs.Report.{line}
-use Rattle.report_marks.specs.declared.deeds.Cause.{Cause}
-use Rattle.report_marks.specs.declared.deeds.Cause.TheVariants as cause
+use Rattle.line_language.specs.declared.refusals.Cause.{Cause}
+use Rattle.line_language.specs.declared.refusals.Cause.TheVariants as cause
+use Rattle.line_language.specs.Refusals.{cause_word, causes}
 use Rattle.report_marks.specs.declared.deeds.Mark.{Mark}
 use Rattle.report_trees.specs.declared.outcomes.Shown.{Shown}
 use Rattle.tree_lines.specs.Counts.{counted, has_undone_below, is_undone, marked}
@@ -12,15 +13,13 @@ use Rattle.tree_lines.specs.declared.counting.Group.TheVariants as group
 use Rattle.tree_lines.specs.declared.counting.Kind.{Kind}
 use Rattle.tree_lines.specs.declared.counting.Kind.TheVariants as kind
 use Rattle.tree_lines.specs.declared.lining.Choice.{Choice}
-use Rattle.tree_lines.specs.declared.lining.Choice.TheVariants as choice
 
 -- ---- the transactions that are shown
 
 -- these stand behind the transaction in the order of the tree
 abbrev pub is_chosen : Choice → Shown → List Shown → Bool
-is_chosen choice.All s behind = true
-is_chosen choice.Jobs s behind = s.level == 0
-is_chosen choice.Undone s behind = is_undone s.outcome || has_undone_below s.level behind
+is_chosen c s behind = (not c.jobs || s.level == 0)
+    && (not c.undone || (is_undone s.outcome || has_undone_below s.level behind))
 
 abbrev pub chosen_line : Choice → List Name → Shown → List Shown → List ℕ
 chosen_line c ts s behind = if is_chosen c s behind then shown_line ts s else []
@@ -43,25 +42,20 @@ part_line ss = counted_words (codes "parts: committed ") (counted group.PartsCom
     ++ counted_words (codes ", undone ") (counted group.PartsUndone ss)
     ++ counted_words (codes ", tried again ") (counted group.PartsAgain ss)
 
-abbrev pub cause_word : Cause → List ℕ
-cause_word cause.Unknown = codes " unknown "
-cause_word cause.Used = codes ", used "
-cause_word cause.NoParent = codes ", no-parent "
-cause_word cause.Orphan = codes ", orphan "
-cause_word cause.Done = codes ", done "
-cause_word cause.Children = codes ", children "
-cause_word cause.Waiting = codes ", waiting "
-cause_word cause.Full = codes ", full "
-cause_word cause.Store = codes ", store "
+-- what stands before a cause: the first one stands right behind the colon
+abbrev pub lead : Cause → List ℕ
+lead cause.Unknown = codes " "
+lead c = codes ", "
 
 abbrev pub refused_words : Cause → List Mark → List ℕ
-refused_words c ms = counted_words (cause_word c) (marked (kind.Refused c) ms)
+refused_words c ms = lead c ++ cause_word c ++ counted_words (codes " ") (marked (kind.Refused c) ms)
+
+abbrev pub refused_by : List Cause → List Mark → List ℕ
+refused_by [] ms = []
+refused_by (c ∷ cs) ms = refused_words c ms ++ refused_by cs ms
 
 abbrev pub refused_line : List Mark → List ℕ
-refused_line ms = codes "refused:" ++ refused_words cause.Unknown ms ++ refused_words cause.Used ms
-    ++ refused_words cause.NoParent ms ++ refused_words cause.Orphan ms
-    ++ refused_words cause.Done ms ++ refused_words cause.Children ms
-    ++ refused_words cause.Waiting ms ++ refused_words cause.Full ms ++ refused_words cause.Store ms
+refused_line ms = codes "refused:" ++ refused_by causes ms
 
 abbrev pub kind_line : List ℕ → Kind → List Mark → List ℕ
 kind_line words k ms = counted_words words (marked k ms)

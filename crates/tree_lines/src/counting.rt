@@ -2,7 +2,8 @@
 ghost use Rattle.std.specs.Prelude.{◌≡◌, ◌<◌, ◌^◌, length, Some};
 ghost use Rattle.tree_lines.specs.Counts.{counted, counts_mark, counts_shown, follows, has_undone_below, is_committed, is_job, is_own, is_refused, is_undone, marked, next_beside};
 
-use report_marks::{Cause, Deed, Doer, Mark};
+use line_language::Cause;
+use report_marks::{Deed, Doer, Mark};
 use report_trees::{Ending, Outcome, Shown};
 
 /// Transactions of some kind. A job is a top-level transaction, and a part is one below another.

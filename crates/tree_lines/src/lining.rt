@@ -12,25 +12,21 @@ use serial_spec::NoMemory;
 use std::alloc::Global;
 use txn_names::Name;
 
-/// Which transactions are shown.
+/// Which transactions are shown: all, but for those that this leaves out.
 #[derive(Clone, Copy, Debug, PartialEq, Eq)]
-pub enum Choice {
-    All,
-    /// The top-level ones.
-    Jobs,
-    /// Those that were undone, and their ancestors.
-    Undone,
+pub struct Choice {
+    /// The top-level ones alone.
+    pub jobs: bool,
+    /// Those alone that were undone, and their ancestors.
+    pub undone: bool,
 }
 
 // Whether the transaction is shown, of which these stand behind it.
 fn is_chosen(choice: Choice, shown: &Shown, behind: &[Shown]) -> bool
     ensures { result ≡ is_chosen choice shown.now behind.now }
 {
-    match choice {
-        Choice::All => true,
-        Choice::Jobs => shown.level == 0,
-        Choice::Undone => is_undone(shown) || has_undone_below(shown.level, behind),
-    }
+    (!choice.jobs || shown.level == 0)
+        && (!choice.undone || (is_undone(shown) || has_undone_below(shown.level, behind)))
 }
 
 // Adds the label of the transaction with this number.

@@ -2,12 +2,13 @@
 ghost use Rattle.std.specs.Prelude.{◌≡◌, ◌<◌, ◌^◌, ◌++◌, codes, length, IfOk, OnOk};
 ghost use Rattle.line_language.specs.Report.{line};
 ghost use Rattle.tree_lines.specs.Counts.{counted, marked};
-ghost use Rattle.tree_lines.specs.Shows.{cause_word, counted_words, job_line, kind_line, part_line, refused_line, refused_words, spelled_show, summary_lines};
+ghost use Rattle.tree_lines.specs.Shows.{counted_words, job_line, kind_line, lead, part_line, refused_by, refused_line, refused_words, spelled_show, summary_lines};
 
 use crate::counting::{Group, Kind, counted, marked};
 use crate::lining::{Choice, put_lines};
 use crate::spelling::{put_bytes, put_counted};
-use report_marks::{Cause, Mark, Notes};
+use line_language::{Cause, cause_word, causes};
+use report_marks::{Mark, Notes};
 use report_trees::{Shown, Tree};
 use serial_spec::NoMemory;
 use std::alloc::Global;
@@ -63,27 +64,37 @@ fn put_kind_line(
     put_bytes(out, b"\n")
 }
 
-fn cause_word(cause: Cause) -> &'static [u8]
-    ensures { result.now ≡ cause_word cause }
+// What stands before a cause: the first one stands right behind the colon.
+fn lead(cause: Cause) -> &'static [u8]
+    ensures { result.now ≡ lead cause }
 {
     match cause {
-        Cause::Unknown => b" unknown ".as_slice(),
-        Cause::Used => b", used ".as_slice(),
-        Cause::NoParent => b", no-parent ".as_slice(),
-        Cause::Orphan => b", orphan ".as_slice(),
-        Cause::Done => b", done ".as_slice(),
-        Cause::Children => b", children ".as_slice(),
-        Cause::Waiting => b", waiting ".as_slice(),
-        Cause::Full => b", full ".as_slice(),
-        Cause::Store => b", store ".as_slice(),
+        Cause::Unknown => b" ".as_slice(),
+        _ => b", ".as_slice(),
     }
 }
 
+// Adds the cause and how many entries were refused so.
 fn put_refused(out: &mut Vec<u8>, cause: Cause, marks: &[Mark]) -> Result<(), NoMemory>
     requires { length marks.now < 2 ^ 63 }
     ensures { OnOk result (out.new.items ≡ out.old.items ++ refused_words cause marks.now) }
 {
-    put_kind(out, cause_word(cause), Kind::Refused(cause), marks)
+    put_bytes(out, lead(cause))?;
+    put_bytes(out, cause_word(cause))?;
+    put_kind(out, b" ", Kind::Refused(cause), marks)
+}
+
+// The same of each of these causes.
+fn put_causes(out: &mut Vec<u8>, causes: &[Cause], marks: &[Mark]) -> Result<(), NoMemory>
+    requires { length marks.now < 2 ^ 63 }
+    ensures { OnOk result (out.new.items ≡ out.old.items ++ refused_by causes.now marks.now) }
+{
+    let mut rest = causes;
+    while let [cause, behind @ ..] = rest {
+        put_refused(out, *cause, marks)?;
+        rest = behind;
+    }
+    Ok(())
 }
 
 fn put_refused_line(out: &mut Vec<u8>, marks: &[Mark]) -> Result<(), NoMemory>
@@ -91,15 +102,7 @@ fn put_refused_line(out: &mut Vec<u8>, marks: &[Mark]) -> Result<(), NoMemory>
     ensures { OnOk result (out.new.items ≡ out.old.items ++ line (refused_line marks.now)) }
 {
     put_bytes(out, b"refused:")?;
-    put_refused(out, Cause::Unknown, marks)?;
-    put_refused(out, Cause::Used, marks)?;
-    put_refused(out, Cause::NoParent, marks)?;
-    put_refused(out, Cause::Orphan, marks)?;
-    put_refused(out, Cause::Done, marks)?;
-    put_refused(out, Cause::Children, marks)?;
-    put_refused(out, Cause::Waiting, marks)?;
-    put_refused(out, Cause::Full, marks)?;
-    put_refused(out, Cause::Store, marks)?;
+    put_causes(out, &causes(), marks)?;
     put_bytes(out, b"\n")
 }
 

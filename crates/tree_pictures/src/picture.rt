@@ -1,109 +1,138 @@
 //! The whole picture.
+ghost use Rattle.std.specs.Prelude.{◌≡◌, ◌++◌, ◌+◌, ◌<◌, ◌^◌, length, IfOk, OnOk};
+ghost use Rattle.tree_pictures.specs.Picture.{all_parts, below_bars, marks_of, over_bars, parts_of, picture};
 
-use crate::bars::{Bar, put_bar};
-use crate::frame::{put_head, put_legend, put_lines, put_times};
-use crate::marks::{put_victim, put_wait};
-use crate::scale::Scale;
+use crate::accesses::put_accesses;
+use crate::bars::put_bars;
+use crate::crowds::put_waits_of;
+use crate::frame::{put_head, put_legend, put_notes, put_times};
+use crate::scale::{Scale, plus};
+use crate::victims::put_crosses;
 use indexmap::IndexSet;
-use report_marks::Notes;
-use report_trees::{Ending, Outcome, Shown, Tree, Wait};
+use report_marks::{Mark, Notes};
+use report_trees::{Shown, Tree, Wait};
 use serial_spec::NoMemory;
 use std::alloc::Global;
 use tree_lines::{put_bytes, put_summary};
 use txn_names::Name;
 
-// Where each transaction stands in the tree, by its number.
-fn places_of(alloc: Global, shown: &[Shown]) -> Result<Vec<usize>, NoMemory> {
-    let mut places = Vec::new(alloc);
-    places.resize(shown.len(), 0)?;
-    for (place, one) in shown.iter().enumerate() {
-        if one.number < places.len() {
-            places[one.number] = place;
-        }
-    }
-    Ok(places)
+// Adds what stands on the bars: waits, accesses and the ends of victims.
+fn put_marks(
+    out: &mut Vec<u8>,
+    scale: &Scale,
+    marks: &[Mark],
+    shown: &[Shown],
+    waits: &[Wait],
+) -> Result<(), NoMemory>
+    requires marks { length marks.now < 2 ^ 63 }
+    requires shown { length shown.now < 2 ^ 63 }
+    requires waits { length waits.now < 2 ^ 63 }
+    ensures { OnOk result
+        (out.new.items ≡ out.old.items ++ over_bars scale.now marks.now shown.now waits.now) }
+{
+    put_waits_of(out, scale, marks, shown, waits)?;
+    put_accesses(out, scale, shown, marks)?;
+    put_crosses(out, scale, waits, 0, shown)
 }
 
-// The bar of the transactions from this place on that are drawn together.
-fn bar_at(shown: &[Shown], place: usize, scale: &Scale) -> Option<Bar> {
-    let mut bar = match shown.get(place) {
-        Some(first) => Bar::one(first, scale.entries),
-        None => return None,
-    };
-    for step in 1..scale.together {
-        match shown.get(place.saturating_add(step)) {
-            Some(other) => bar = bar.with(other, scale.entries),
-            None => return Some(bar),
-        }
+// Adds the same where each transaction has a row of its own.
+fn put_marks_if(
+    out: &mut Vec<u8>,
+    scale: &Scale,
+    marks: &[Mark],
+    shown: &[Shown],
+    waits: &[Wait],
+) -> Result<(), NoMemory>
+    requires marks { length marks.now < 2 ^ 63 }
+    requires shown { length shown.now < 2 ^ 63 }
+    requires waits { length waits.now < 2 ^ 63 }
+    ensures { OnOk result
+        (out.new.items ≡ out.old.items ++ marks_of scale.now marks.now shown.now waits.now) }
+{
+    if scale.together == 1 {
+        put_marks(out, scale, marks, shown, waits)
+    } else {
+        Ok(())
     }
-    Some(bar)
 }
 
-fn put_bars(
+// Adds the legend, the summary and the end of the picture.
+fn put_below(
+    alloc: Global,
+    out: &mut Vec<u8>,
+    scale: &Scale,
+    shown: &[Shown],
+    marks: &[Mark],
+) -> Result<(), NoMemory>
+    requires shown { length shown.now < 2 ^ 63 }
+    requires marks { length marks.now < 2 ^ 63 }
+    ensures { OnOk result
+        (out.new.items ≡ out.old.items ++ below_bars scale.now shown.now marks.now) }
+{
+    let mut summary = Vec::new(alloc);
+    put_summary(&mut summary, shown, marks)?;
+    put_legend(out, scale)?;
+    put_notes(out, plus(scale.bottom(), 750), &summary)?;
+    put_bytes(out, b"</svg>\n")
+}
+
+// Adds all parts of a picture with this scale.
+fn put_parts(
     alloc: Global,
     out: &mut Vec<u8>,
     names: &IndexSet<Name>,
-    shown: &[Shown],
     scale: &Scale,
-) -> Result<(), NoMemory> {
-    for row in 0..scale.rows {
-        let place = row.saturating_mul(scale.together);
-        match bar_at(shown, place, scale) {
-            Some(bar) => put_bar(alloc, out, names, scale, &bar, place)?,
-            None => {}
-        }
-    }
-    Ok(())
-}
-
-// Waits and victims, where each transaction has a row of its own.
-fn put_marks(
-    out: &mut Vec<u8>,
-    notes: &Notes,
+    marks: &[Mark],
     shown: &[Shown],
     waits: &[Wait],
-    places: &[usize],
-    scale: &Scale,
-) -> Result<(), NoMemory> {
-    for wait in waits {
-        put_wait(out, scale, &notes.marks, places, shown, wait)?;
-    }
-    for (place, one) in shown.iter().enumerate() {
-        if let Outcome::Undone(Ending::Victim) = one.outcome {
-            if let Some(ended) = one.ended {
-                put_victim(out, scale, place, ended)?;
-            }
-        }
-    }
-    Ok(())
+) -> Result<(), NoMemory>
+    requires marks { length marks.now < 2 ^ 63 }
+    requires shown { length shown.now < 2 ^ 63 }
+    requires waits { length waits.now < 2 ^ 63 }
+    ensures { OnOk result (out.new.items ≡ out.old.items
+        ++ all_parts scale.now names.now.keys marks.now shown.now waits.now) }
+{
+    put_head(out, scale, shown.len())?;
+    put_times(out, scale)?;
+    put_bars(alloc, out, names, scale, shown)?;
+    put_marks_if(out, scale, marks, shown, waits)?;
+    put_below(alloc, out, scale, shown, marks)
 }
 
-/// The picture of a report with these notes and this tree. The only error is that memory runs out.
-pub fn picture_of(alloc: Global, notes: &Notes, tree: &Tree) -> Result<Vec<u8>, NoMemory> {
-    let scale = Scale::new(
-        tree.shown.len(),
-        notes.marks.len(),
-        notes.rows.saturating_add(2),
-    );
-    let places = places_of(alloc, &tree.shown)?;
+// Adds the picture of a report with so many opening rows.
+fn put_picture(
+    alloc: Global,
+    out: &mut Vec<u8>,
+    names: &IndexSet<Name>,
+    rows: usize,
+    marks: &[Mark],
+    shown: &[Shown],
+    waits: &[Wait],
+) -> Result<(), NoMemory>
+    requires marks { length marks.now < 2 ^ 63 }
+    requires shown { length shown.now < 2 ^ 63 }
+    requires waits { length waits.now < 2 ^ 63 }
+    ensures { OnOk result (out.new.items ≡ out.old.items
+        ++ parts_of names.now.keys rows marks.now shown.now waits.now) }
+{
+    let scale = Scale::new(shown.len(), marks.len(), rows.saturating_add(2));
+    put_parts(alloc, out, names, &scale, marks, shown, waits)
+}
+
+/// The picture of a report with these notes and this tree, as bytes of SVG. The only error is that
+/// memory runs out.
+pub fn picture_of(alloc: Global, notes: &Notes, tree: &Tree) -> Result<Vec<u8>, NoMemory>
+    ensures { IfOk result (λ out. out.items ≡ picture notes.now tree.now) }
+{
     let mut out = Vec::new(alloc);
-    put_head(&mut out, &scale, tree.shown.len())?;
-    put_times(&mut out, &scale)?;
-    put_bars(alloc, &mut out, &notes.names, &tree.shown, &scale)?;
-    if scale.together == 1 {
-        put_marks(
-            &mut out,
-            notes,
-            &tree.shown,
-            &tree.telling.waits,
-            &places,
-            &scale,
-        )?;
-    }
-    put_legend(&mut out, &scale)?;
-    let mut summary = Vec::new(alloc);
-    put_summary(&mut summary, &tree.shown, &notes.marks)?;
-    put_lines(&mut out, &scale, &summary)?;
-    put_bytes(&mut out, b"</svg>\n")?;
+    put_picture(
+        alloc,
+        &mut out,
+        &notes.names,
+        notes.rows,
+        &notes.marks,
+        &tree.shown,
+        &tree.telling.waits,
+    )?;
     Ok(out)
 }

@@ -1,13 +1,18 @@
 //! Where entries and rows stand in a picture, in tenths of a unit.
+ghost use Rattle.std.specs.Prelude.{◌≡◌, ◌<◌, ◌^◌};
+ghost use Rattle.tree_pictures.specs.Scale.{bottom_of, line_of, plus, product, row_count, scale_of, x_of, y_of};
 
 /// How wide a picture is.
 pub(crate) const WIDTH: u64 = 12_000;
 
 /// Where the first entry stands. Labels stand before it.
-pub(crate) const LEFT: u64 = 2_300;
+pub(crate) const LEFT: u64 = 2_700;
+
+/// How far the label of a transaction stands to the right of its parent's.
+pub(crate) const INDENT: u64 = 50;
 
 /// How wide the entries are together.
-pub(crate) const SPAN: u64 = 9_500;
+pub(crate) const SPAN: u64 = 9_100;
 
 /// Where the first row begins.
 pub(crate) const TOP: u64 = 560;
@@ -31,10 +36,37 @@ pub(crate) struct Scale {
     pub(crate) first_line: usize,
 }
 
+/// The sum, as far as 64 bits go.
+pub(crate) fn plus(left: u64, right: u64) -> u64
+    ensures { result ≡ plus left right }
+{
+    left.saturating_add(right)
+}
+
+/// The product, as far as 64 bits go.
+pub(crate) fn product(left: u64, right: u64) -> u64
+    ensures { result ≡ product left right }
+{
+    left.saturating_mul(right)
+}
+
+// How many rows there are of so many transactions, with so many in each.
+fn row_count(transactions: usize, together: usize) -> usize
+    requires few { transactions < 2 ^ 63 }
+    requires some { 0 < together }
+    requires fits { together < 2 ^ 63 }
+    ensures { result ≡ row_count transactions together }
+{
+    (transactions + (together - 1)) / together
+}
+
 impl Scale {
     /// Of so many transactions and entries, the first of them in this line.
-    pub(crate) fn new(transactions: usize, entries: usize, first_line: usize) -> Scale {
-        let together = (transactions / MOST_SHOWN).saturating_add(1);
+    pub(crate) fn new(transactions: usize, entries: usize, first_line: usize) -> Scale
+        requires { transactions < 2 ^ 63 }
+        ensures { result ≡ scale_of transactions entries first_line }
+    {
+        let together = transactions / MOST_SHOWN + 1;
         Scale {
             entries,
             together,
@@ -44,40 +76,32 @@ impl Scale {
     }
 
     /// Where the entry stands.
-    pub(crate) fn x(&self, entry: usize) -> u64 {
+    pub(crate) fn x(&self, entry: usize) -> u64
+        ensures { result ≡ x_of self.now entry }
+    {
         let entries = self.entries.max(1) as u64;
         let at = (entry as u64).min(entries);
-        LEFT.saturating_add(part(at.saturating_mul(SPAN), entries))
+        plus(LEFT, product(at, SPAN) / entries)
     }
 
-    /// Where the row of the transaction with this place in the tree begins.
-    pub(crate) fn y(&self, place: usize) -> u64 {
-        let row = part(place as u64, self.together as u64);
-        TOP.saturating_add(row.saturating_mul(ROW))
+    /// Where the row begins.
+    pub(crate) fn y(&self, row: usize) -> u64
+        ensures { result ≡ y_of row }
+    {
+        plus(TOP, product(row as u64, ROW))
     }
 
     /// Where the rows end.
-    pub(crate) fn bottom(&self) -> u64 {
-        TOP.saturating_add((self.rows as u64).saturating_mul(ROW))
+    pub(crate) fn bottom(&self) -> u64
+        ensures { result ≡ bottom_of self.now }
+    {
+        plus(TOP, product(self.rows as u64, ROW))
     }
 
     /// The line of the report of this entry.
-    pub(crate) fn line(&self, entry: usize) -> u64 {
-        (self.first_line as u64).saturating_add(entry as u64)
-    }
-}
-
-// The quotient, and 0 where nothing divides.
-fn part(number: u64, by: u64) -> u64 {
-    match number.checked_div(by) {
-        Some(quotient) => quotient,
-        None => 0,
-    }
-}
-
-fn row_count(transactions: usize, together: usize) -> usize {
-    match transactions.checked_div(together) {
-        Some(rows) => rows.saturating_add(1),
-        None => 0,
+    pub(crate) fn line(&self, entry: usize) -> u64
+        ensures { result ≡ line_of self.now entry }
+    {
+        plus(self.first_line as u64, entry as u64)
     }
 }
