@@ -10,4 +10,4 @@ mod telling;
 pub use fault::Fault;
 pub use schedule::{attempts_of, schedule_of};
 pub use status::{DONE, Ended, FAILED, MISUSED};
-pub use telling::{finish, misuse, tell};
+pub use telling::{finish, misuse, refuse, tell};

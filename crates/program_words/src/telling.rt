@@ -1,15 +1,18 @@
 //! The one line by which the program says why it gave no report, to the error writer.
-ghost use Rattle.std.specs.Prelude.{◌≡◌, ◌≢◌, ◌≤◌, ◌++◌, codes, decimal, Ok, Err};
+ghost use Rattle.std.specs.Prelude.{◌≡◌, ◌≢◌, ◌≤◌, ◌⊎◌, ◌++◌, codes, decimal, Ok, Err};
 ghost use Rattle.std.specs.Io.KnownBytes.{Keeps};
 ghost use Rattle.txn_bytes.specs.Written.{Puts};
 ghost use Rattle.line_language.specs.Report.{line};
-ghost use Rattle.program_words.specs.declared.fault.Fault.TheVariants.{CannotWrite};
+ghost use Rattle.program_words.specs.declared.fault.Fault.TheVariants.{CannotWrite, NoMemory};
 ghost use Rattle.program_words.specs.Faults.{IsSaid, spelled_cause, spelled_fault, spelled_kind};
+ghost use Rattle.program_words.specs.Tellings.{HasUsageLine};
 
 use crate::fault::{Fault, word_of};
 use crate::status::{DONE, FAILED, MISUSED};
 use itoa::Buffer;
 use session_text::LineKind;
+use std::alloc::Global;
+use std::fmt::Display;
 use txn_bytes::{Sink, WriteFault, put};
 
 fn put_number<E: Sink>(err: &mut E, number: usize) -> Result<(), WriteFault>
@@ -95,6 +98,19 @@ pub fn misuse<E: Sink>(err: &mut E, text: &[u8]) -> u8
     match put_behind(err, text, b"\n") {
         Ok(()) => MISUSED,
         Err(_) => MISUSED,
+    }
+}
+
+/// Says of words that are no command line what a library of command lines shows of them: what is
+/// wrong, or the help that they ask for. Where memory runs out for that text, that is told.
+pub fn refuse<E: Sink, T: Display>(alloc: Global, err: &mut E, text: &T) -> u8
+    ensures failed { result ≡ FAILED → IsSaid E.Sink err.old err.new (spelled_fault NoMemory) }
+    ensures misused { result ≢ FAILED → HasUsageLine E.Sink err.old err.new }
+    ensures status { (result ≡ FAILED) ⊎ (result ≡ MISUSED) }
+{
+    match format!(in alloc; "{text}") {
+        Ok(text) => misuse(err, text.as_bytes()),
+        Err(_) => tell(err, Fault::NoMemory),
     }
 }
 

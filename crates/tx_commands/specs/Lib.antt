@@ -1,7 +1,2 @@
-pub mod Sides
-pub mod Worlds
-pub mod Stores
-pub mod Texts
-pub mod Begun
 pub mod Programs
-pub mod Lives
+pub mod Shows

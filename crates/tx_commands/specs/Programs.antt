@@ -1,8 +1,6 @@
--- What the program's exit status says of what it read, of its output, of its store and of the
--- error writer.
-use Rattle.std.specs.Prelude.{◌≡◌, ◌⊎◌, ℕ, List, ◌++◌, Option, Some, IsNone, IsSomeAnd, Err, codes}
-use Rattle.std.specs.Borrow.{Bor}
-use Rattle.std.specs.Option.{option_copied}
+-- What the exit status of a command that reads says of what it read, of its output, of its store
+-- and of the error writer.
+use Rattle.std.specs.Prelude.{◌≡◌, ◌⊎◌, ℕ, List, ◌++◌, Some, IsSomeAnd, Err, codes}
 use Rattle.line_language.specs.Report.{line}
 use Rattle.report_check.specs.declared.verdict.Verdict.{Verdict}
 use Rattle.report_check.specs.declared.verdict.Verdict.TheVariants.{No, Yes}
@@ -10,23 +8,14 @@ use Rattle.report_judge.specs.Judging.{HasCheckCause, IsVerdictOn}
 use Rattle.report_judge.specs.declared.reading.CheckFault.TheVariants as judging
 use Rattle.report_text.specs.Verdicts.{spelled_verdict}
 use Rattle.program_words.specs.Faults.{IsSaid, spelled_fault}
-use Rattle.program_words.specs.Schedules.{attempts_of}
 use Rattle.program_words.specs.Tellings.{Accounts, IsGiven, IsUngiven}
 use Rattle.program_words.specs.declared.fault.Fault.TheVariants.{NoMemory}
 use Rattle.program_words.specs.declared.status.TheConstants.{FAILED}
-use Rattle.session_runs.specs.Ways.{Way, Scheduled}
-use Rattle.session_runs.specs.Printing.{IsPrinted, IsMissed}
 use Rattle.session_runs.specs.Listings.{IsListed, IsUnlisted}
-use Rattle.tx_commands.specs.Begun.{HasNotBegun}
-use Rattle.tx_commands.specs.Stores.{HasUsed, IsRefused}
-use Rattle.tx_commands.specs.Texts.{HasFile, IsWholeText}
-use Rattle.tx_commands.specs.Worlds.{State, World}
-use Rattle.tx_commands.specs.declared.store.EitherStore.{EitherStore}
-
--- nothing was asked of it, and this is why
-pub record IsUntouched {W : Type 0} (old new : W) (HasCause : Type 0) : Type 0 where
-  pub same : new ≡ old
-  pub cause : HasCause
+use Rattle.tx_machine.specs.Runs.{IsUntouched}
+use Rattle.tx_machine.specs.Stores.{HasUsed, IsRefused}
+use Rattle.tx_machine.specs.Texts.{HasFile}
+use Rattle.tx_machine.specs.Worlds.{State, World}
 
 module _ {H T P N W E : Type 0} (o : World H T P N W E) (before after : State H W E) where
   -- ---- the rows of a database, by the exit status
@@ -47,55 +36,6 @@ module _ {H T P N W E : Type 0} (o : World H T P N W E) (before after : State H 
       before.err after.err))
       ⊎ IsUntouched before.out after.out
       (IsRefused o.host before.host after.host o.err before.err after.err path)
-
-  -- ---- a run of a text, by the exit status
-
-  -- the text of this file was run over a store, and has ended
-  pub record HasRun (file : List ℕ) (database : Option (List ℕ))
-      (HasEnded : List ℕ → EitherStore N P → Option (EitherStore N P) → Type 0) : Type 0 where
-    pub text : List ℕ
-    pub found : H
-    pub read : HasFile o.host before.host found file
-        (λ old new. IsWholeText o.file old new text)
-    pub run : HasUsed o.host o.memory found after.host database (HasEnded text)
-
-  -- the whole report of a run of this file's text in this way, over the database that is named, or
-  -- else over a store without rows
-  abbrev pub Prints : List ℕ → Way → Option (Bor (List ℕ)) → Type 0
-  Prints file way database = HasRun file (option_copied database)
-      (λ text store left. IsPrinted o.store (o.out.contents before.out)
-      (o.out.contents after.out) text way store left)
-
-  -- such a run was missed; or nothing was run, and nothing was asked of the output
-  abbrev pub Misses : List ℕ → Way → Option (Bor (List ℕ)) → Type 0
-  Misses file way database =
-      HasRun file (option_copied database)
-      (λ text store left. IsMissed o.store o.out o.err before.out after.out
-      before.err after.err text way store left)
-      ⊎ IsUntouched before.out after.out
-      (HasNotBegun o.host o.file o.err before.host after.host before.err after.err file
-      (option_copied database))
-
-  -- ---- a replay, by the exit status
-
-  -- the whole report of a run by this list, and then in rounds
-  abbrev pub Replays : List ℕ → Option (Bor (List ℕ)) → Option (Bor (List ℕ)) → Type 0
-  Replays file list database =
-      Prints file (Scheduled (attempts_of (option_copied list))) database
-
-  -- There was a list, and memory ran out while it was read. Nothing was asked of the surroundings
-  -- or of the output
-  pub record HasUnreadList (list : Option (List ℕ)) : Type 0 where
-    pub listed : IsNone list → ⊥
-    pub unasked : after.host ≡ before.host
-    pub same : after.out ≡ before.out
-    pub said : IsSaid o.err before.err after.err (spelled_fault NoMemory)
-
-  -- such a run was missed, or its list was not read
-  abbrev pub ReplaysNot : List ℕ → Option (Bor (List ℕ)) → Option (Bor (List ℕ)) → Type 0
-  ReplaysNot file list database =
-      Misses file (Scheduled (attempts_of (option_copied list))) database
-      ⊎ HasUnreadList (option_copied list)
 
   -- ---- a verdict, by the exit status
 

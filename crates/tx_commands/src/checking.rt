@@ -4,20 +4,19 @@ ghost use Rattle.program_words.specs.declared.status.TheConstants.{DONE, FAILED}
 ghost use Rattle.report_text.specs.Verdicts.{spelled_verdict};
 ghost use Rattle.program_words.specs.Tellings.{IsGiven, IsUngiven};
 ghost use Rattle.tx_commands.specs.Programs.{AccountsFor, IsPassed, IsUnpassed};
-ghost use Rattle.tx_commands.specs.Worlds.{state};
+ghost use Rattle.tx_machine.specs.Worlds.{state};
 
-use crate::host::Surroundings;
-use crate::setting::Setting;
 use program_words::{DONE, FAILED, Fault, finish, tell};
 use report_check::Verdict;
 use report_judge::{CheckFault, check};
 use report_text::write_verdict;
 use std::alloc::Global;
+use tx_machine::{Setting, Surroundings};
 use txn_bytes::{ReadFault, Sink};
 
-// The output is asked to take the verdict and to pass it on. The answer is whether it did both;
-// where not, that is told.
-fn is_given<W: Sink, E: Sink>(verdict: Verdict, out: &mut W, err: &mut E) -> bool
+/// The output is asked to take the verdict and to pass it on. The answer is whether it did both;
+/// where not, that is told.
+pub(crate) fn is_given<W: Sink, E: Sink>(verdict: Verdict, out: &mut W, err: &mut E) -> bool
     ensures given { IsTrue result →
         IsGiven W.Sink E.Sink out.old out.new err.old err.new (spelled_verdict verdict) }
     ensures ungiven { result ≡ false →

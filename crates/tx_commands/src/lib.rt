@@ -1,24 +1,12 @@
-//! The commands of the program that wait for nobody, apart from the words that ask for them: over
-//! files and databases by their paths.
+//! The commands of the program that only read, apart from the words that ask for them: the verdict on
+//! a report, its lines or its picture, and the rows of a database. They wait for nobody.
 #![tactic(auto)]
 
-mod beginning;
 mod checking;
-mod commands;
-mod host;
 mod listing;
-mod living;
-mod reading;
-mod running;
-mod setting;
-mod store;
+mod showing;
 
-pub use beginning::{begin, close_store};
 pub use checking::judge;
-pub use commands::replay;
-pub use host::{Machine, Surroundings};
 pub use listing::list;
-pub use living::live;
-pub use reading::{LONGEST_TEXT, TextFault};
-pub use setting::Setting;
-pub use store::EitherStore;
+pub use report_shows::Choice;
+pub use showing::{draw, show};

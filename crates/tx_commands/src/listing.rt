@@ -3,13 +3,11 @@ ghost use Rattle.std.specs.Prelude.{◌≡◌, ◌≤◌};
 ghost use Rattle.program_words.specs.declared.status.TheConstants.{DONE, FAILED};
 ghost use Rattle.program_words.specs.Tellings.{Accounts};
 ghost use Rattle.tx_commands.specs.Programs.{Lists, ListsNot};
-ghost use Rattle.tx_commands.specs.Worlds.{state};
+ghost use Rattle.tx_machine.specs.Worlds.{state};
 
-use crate::beginning::{close_store, open_store};
-use crate::host::Surroundings;
-use crate::setting::Setting;
 use session_runs::list_rows;
 use std::alloc::Global;
+use tx_machine::{Setting, Surroundings, close_store, open_store};
 use txn_bytes::Sink;
 
 /// Prints the rows of the database at this path, which is made where there is none, and answers

@@ -6,8 +6,8 @@ ghost use Rattle.program_words.specs.declared.status.TheConstants.{DONE, FAILED,
 ghost use Rattle.program_words.specs.Faults.{IsSaid};
 ghost use Rattle.program_words.specs.Tellings.{Accounts};
 ghost use Rattle.session_runs.specs.Ways.{ByWorkers};
-ghost use Rattle.tx_commands.specs.Programs.{Misses, Prints};
-ghost use Rattle.tx_commands.specs.Worlds.{state};
+ghost use Rattle.text_commands.specs.Outcomes.{Misses, Prints};
+ghost use Rattle.tx_machine.specs.Worlds.{state};
 ghost use Rattle.worker_runs.specs.Workers.{workers_of};
 
 use crate::running::run_text;
@@ -16,7 +16,7 @@ use std::alloc::Global;
 use std::sync::Wait;
 use std::thread::Threads;
 use std::time::Clock;
-use tx_commands::{Setting, Surroundings};
+use tx_machine::{Setting, Surroundings};
 use txn_bytes::Sink;
 use worker_runs::workers_of;
 

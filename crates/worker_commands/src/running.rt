@@ -3,15 +3,15 @@ ghost use Rattle.std.specs.Prelude.{◌≡◌, ◌≤◌};
 ghost use Rattle.program_words.specs.declared.status.TheConstants.{DONE, FAILED};
 ghost use Rattle.program_words.specs.Tellings.{Accounts};
 ghost use Rattle.session_runs.specs.Ways.{ByWorkers};
-ghost use Rattle.tx_commands.specs.Programs.{Misses, Prints};
-ghost use Rattle.tx_commands.specs.Worlds.{state};
+ghost use Rattle.text_commands.specs.Outcomes.{Misses, Prints};
+ghost use Rattle.tx_machine.specs.Worlds.{state};
 ghost use Rattle.worker_runs.specs.Workers.{AreFew};
 
 use std::alloc::Global;
 use std::sync::Wait;
 use std::thread::Threads;
 use std::time::Clock;
-use tx_commands::{Setting, Surroundings, begin, close_store};
+use tx_machine::{Setting, Surroundings, begin, close_store};
 use txn_bytes::Sink;
 use worker_runs::serve_over;
 

@@ -1,6 +1,6 @@
 use Rattle.std.proofs.Common.{inl, inr, refl, arith}
 use Rattle.std.specs.Prelude.{◌≢◌}
-use Rattle.tx_commands.proofs.Exports.{ran}
+use Rattle.tx_machine.proofs.Exports.{ran}
 use Rattle.worker_commands.proofs.running.run_text.Goals as goal
 
 pub returns-in-Err-clause-failed : goal.returns-in-Err-clause-failed
