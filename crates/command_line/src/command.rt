@@ -1,6 +1,8 @@
 //! The command line of the program, as `clap` reads it.
 
-use crate::notes::{CHECK_NOTES, LIVE_NOTES, NOTES, REPLAY_NOTES, ROWS_NOTES, RUN_NOTES};
+use crate::notes::{
+    CHECK_NOTES, DRAW_NOTES, LIVE_NOTES, NOTES, REPLAY_NOTES, ROWS_NOTES, RUN_NOTES, SHOW_NOTES,
+};
 use clap::{Arg, ArgAction, Command, Error};
 use std::alloc::Global;
 
@@ -20,19 +22,62 @@ fn database_argument<'a>(alloc: Global) -> Arg<'a> {
         .action(ArgAction::Set)
 }
 
-fn check_command<'a>(alloc: Global) -> Result<Command<'a>, Error> {
-    let report = Arg::new(alloc, "report")
+fn report_argument<'a>(alloc: Global, help: &'static str) -> Arg<'a> {
+    Arg::new(alloc, "report")
         .value_name("REPORT")
-        .help("The report to judge")
+        .help(help)
         .required(true)
-        .action(ArgAction::Set);
+        .action(ArgAction::Set)
+}
+
+// An argument that is there or not, and takes no value.
+fn flag<'a>(alloc: Global, name: &'static str, help: &'static str) -> Arg<'a> {
+    Arg::new(alloc, name)
+        .long(name)
+        .help(help)
+        .action(ArgAction::SetTrue)
+}
+
+fn check_command<'a>(alloc: Global) -> Result<Command<'a>, Error> {
     taking(
         Command::new(alloc, "check")
             .about(
                 "Judges a report: whether its table is what a serial run of its transactions leaves",
             )
             .after_help(CHECK_NOTES),
-        report,
+        report_argument(alloc, "The report to judge"),
+    )
+}
+
+fn show_command<'a>(alloc: Global) -> Result<Command<'a>, Error> {
+    let show = Command::new(alloc, "show")
+        .about("Prints what became of each transaction of a report, as a tree, and a summary")
+        .after_help(SHOW_NOTES);
+    let show = taking(show, report_argument(alloc, "The report to show"))?;
+    let show = taking(
+        show,
+        flag(alloc, "jobs", "Shows the top-level transactions alone"),
+    )?;
+    let show = taking(
+        show,
+        flag(
+            alloc,
+            "undone",
+            "Shows those alone that were undone, and their ancestors",
+        ),
+    )?;
+    taking(
+        show,
+        flag(alloc, "strict", "Ends with status 1 unless all was done"),
+    )
+}
+
+fn draw_command<'a>(alloc: Global) -> Result<Command<'a>, Error> {
+    taking(
+        Command::new(alloc, "draw")
+            .about("Prints a picture of a report: its transactions as bars over its entries")
+            .after_help(DRAW_NOTES),
+        report_argument(alloc, "The report to draw"),
     )
 }
 
@@ -102,7 +147,9 @@ pub(crate) fn command<'a>(alloc: Global) -> Result<Command<'a>, Error> {
     let all = with(all, run_command(alloc))?;
     let all = with(all, live_command(alloc))?;
     let all = with(all, check_command(alloc))?;
-    with(all, rows_command(alloc))
+    let all = with(all, rows_command(alloc))?;
+    let all = with(all, show_command(alloc))?;
+    with(all, draw_command(alloc))
 }
 
 // The command with one more below it, or why there is none. Each `?` in one chain would have a way

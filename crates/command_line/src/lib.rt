@@ -5,4 +5,4 @@ mod command;
 mod notes;
 mod task;
 
-pub use task::{Solo, Task, task_of};
+pub use task::{Solo, Task, task_of, with_name};

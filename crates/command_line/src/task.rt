@@ -2,7 +2,7 @@
 
 use crate::command::command;
 use clap::{ArgMatches, Error};
-use std::alloc::Global;
+use std::alloc::{AllocError, Global};
 
 /// What the words ask for.
 #[derive(Clone, Copy, Debug, PartialEq, Eq)]
@@ -41,6 +41,19 @@ pub enum Solo<'a> {
     Rows {
         path: &'a str,
     },
+    /// To print what became of the transactions of this report, and a summary: of the top-level
+    /// ones alone, or of those alone that were undone, with their ancestors. The exit status is to
+    /// say whether all was done.
+    Show {
+        file: &'a str,
+        jobs: bool,
+        undone: bool,
+        strict: bool,
+    },
+    /// To print a picture of this report.
+    Draw {
+        file: &'a str,
+    },
 }
 
 fn read_task<'a>(name: &str, of: &ArgMatches<'a>) -> Option<Task<'a>> {
@@ -70,8 +83,28 @@ fn read_solo<'a>(name: &str, of: &ArgMatches<'a>) -> Option<Solo<'a>> {
         "rows" => Some(Solo::Rows {
             path: of.get_str("path")?,
         }),
+        "show" => Some(Solo::Show {
+            file: of.get_str("report")?,
+            jobs: of.get_flag("jobs"),
+            undone: of.get_flag("undone"),
+            strict: of.get_flag("strict"),
+        }),
+        "draw" => Some(Solo::Draw {
+            file: of.get_str("report")?,
+        }),
         _ => None,
     }
+}
+
+/// The words behind the program's name, and that name before them. The only error is that memory
+/// runs out.
+pub fn with_name<'a>(alloc: Global, words: &'a [String]) -> Result<Vec<&'a str>, AllocError> {
+    let mut all = Vec::new(alloc);
+    all.push("tx")?;
+    for word in words {
+        all.push(word.as_str())?;
+    }
+    Ok(all)
 }
 
 /// What the words ask for, the program's name first, or nothing where no subcommand stands among

@@ -8,11 +8,16 @@ use Rattle.program_words.specs.Tellings.{Accounts, HasUsageLine}
 use Rattle.program_words.specs.declared.fault.Fault.TheVariants.{NoMemory}
 use Rattle.program_words.proofs.Exports.{fault_accounts, misuse_accounts}
 use Rattle.session_runs.specs.Ways.{ByWorkers}
-use Rattle.tx_commands.specs.Programs.{Misses, Prints}
-use Rattle.tx_commands.specs.Worlds.{State, World, state}
+use Rattle.text_commands.specs.Outcomes.{Misses, Prints}
+use Rattle.tx_machine.specs.Worlds.{State, World, state}
 use Rattle.command_line.specs.declared.task.Solo.{Solo}
 use Rattle.command_line.specs.declared.task.Task.TheVariants.{Alone, Run}
 use Rattle.tx_program.specs.Programs.{AccountsForAlone, AccountsForSome, IsDoneAlone, IsUndoneAlone, Serves}
+
+-- what is said of the two writers by a command that is not live
+pub for_alone : {A B C : Type 0} → A ⊎ B → A ⊎ (B ⊎ C)
+for_alone (inl a) = inl a
+for_alone (inr b) = inr (inl b)
 
 module _ {H T P N I W E : Type 0} (o : World H T P N W E) (r : Reader I) (host : H) (out : W)
     (err_old err_new : E) (input : I) (status : ℕ) where

@@ -1,31 +1,42 @@
 -- What the words of the command line asked for, and whether it was done.
-use Rattle.std.specs.Prelude.{◌≡◌, ◌≤◌, ◌⊎◌, ℕ}
+use Rattle.std.specs.Prelude.{◌≡◌, ◌≤◌, ◌⊎◌, ℕ, Bool}
 use Rattle.txn_bytes.specs.Sources.{Reader}
 use Rattle.program_words.specs.declared.status.TheConstants.{DONE, FAILED, MISUSED}
 use Rattle.program_words.specs.Faults.{IsSaid, spelled_fault}
 use Rattle.program_words.specs.Tellings.{Accounts}
 use Rattle.program_words.specs.declared.fault.Fault.TheVariants.{NoMemory}
 use Rattle.session_runs.specs.Ways.{ByWorkers}
-use Rattle.tx_commands.specs.Programs.{IsCondemned, IsPassed, IsUnpassed, Lists, ListsNot, Misses, Prints, Replays, ReplaysNot}
-use Rattle.tx_commands.specs.Lives.{Lives, LivesNot}
-use Rattle.tx_commands.specs.Worlds.{State, World}
+use Rattle.text_commands.specs.Outcomes.{Misses, Prints, Replays, ReplaysNot}
+use Rattle.tx_commands.specs.Programs.{IsCondemned, IsPassed, IsUnpassed, Lists, ListsNot}
+use Rattle.tx_commands.specs.Shows.{Draws, DrawsNot, IsLacking, Shows, ShowsNot}
+use Rattle.tree_lines.specs.declared.lining.Choice.{Choice}
+use Rattle.live_commands.specs.Lives.{Lives, LivesNot}
+use Rattle.tx_machine.specs.Worlds.{State, World}
 use Rattle.command_line.specs.declared.task.Task.{Task}
 use Rattle.command_line.specs.declared.task.Task.TheVariants.{Alone, Run}
 use Rattle.command_line.specs.declared.task.Solo.{Solo}
-use Rattle.command_line.specs.declared.task.Solo.TheVariants.{Check, Live, Replay, Rows}
+use Rattle.command_line.specs.declared.task.Solo.TheVariants.{Check, Draw, Live, Replay, Rows, Show}
 
 -- some task that words may ask for
 pub record ForSomeTask (Holds : Task → Type 0) : Type 0 where
   pub task : Task
   pub so : Holds task
 
+-- what is shown under these options
+abbrev pub choice_of : Bool → Bool → Choice
+choice_of jobs undone = record { jobs = jobs; undone = undone }
+
 module _ {H T P N W E : Type 0} (o : World H T P N W E) (before after : State H W E) where
-  -- a report was to be judged, and the output got the verdict no
+  -- a report was to be judged, shown or drawn, and the output got the verdict no; or the output got
+  -- the lines of a report in which not all was done, which the status was to tell
   abbrev pub IsCondemnedAlone : Solo → Type 0
   IsCondemnedAlone (Replay file list database) = ⊥
   IsCondemnedAlone (Live database) = ⊥
   IsCondemnedAlone (Check file) = IsCondemned o before after file.now
   IsCondemnedAlone (Rows path) = ⊥
+  IsCondemnedAlone (Show file jobs undone strict) = IsCondemned o before after file.now
+      ⊎ IsLacking o before after file.now (choice_of jobs undone) strict
+  IsCondemnedAlone (Draw file) = IsCondemned o before after file.now
 
   abbrev pub IsCondemnedBy : Task → Type 0
   IsCondemnedBy (Run file workers database) = ⊥
@@ -33,27 +44,34 @@ module _ {H T P N W E : Type 0} (o : World H T P N W E) (before after : State H 
 
 module _ {H T P N I W E : Type 0} (o : World H T P N W E) (r : Reader I)
     (before after : State H W E) (in_old in_new : I) where
-  -- it was done: the output got the report, or the verdict yes, or the rows. Only a live run reads
-  -- the input
+  -- it was done: the output got the report, or the verdict yes, or the rows, or a report's lines or
+  -- picture. Only a live run reads the input
   abbrev pub IsDoneAlone : Solo → Type 0
   IsDoneAlone (Replay file list database) =
       Replays o before after file.now list database × (in_new ≡ in_old)
   IsDoneAlone (Live database) = Lives o r before after in_old in_new database
   IsDoneAlone (Check file) = IsPassed o before after file.now × (in_new ≡ in_old)
   IsDoneAlone (Rows path) = Lists o before after path.now × (in_new ≡ in_old)
+  IsDoneAlone (Show file jobs undone strict) =
+      Shows o before after file.now (choice_of jobs undone) strict × (in_new ≡ in_old)
+  IsDoneAlone (Draw file) = Draws o before after file.now × (in_new ≡ in_old)
 
   abbrev pub IsDone : Task → Type 0
   IsDone (Run file workers database) =
       Prints o before after file.now ByWorkers database × (in_new ≡ in_old)
   IsDone (Alone solo) = IsDoneAlone solo
 
-  -- it was not: there is no whole report, or no verdict yes, or not all rows
+  -- it was not: there is no whole report, or no verdict yes, or not all rows, lines or bytes of a
+  -- picture; or not all was done in a report, which the status was to tell
   abbrev pub IsUndoneAlone : Solo → Type 0
   IsUndoneAlone (Replay file list database) =
       ReplaysNot o before after file.now list database × (in_new ≡ in_old)
   IsUndoneAlone (Live database) = LivesNot o r before after in_old in_new database
   IsUndoneAlone (Check file) = IsUnpassed o before after file.now × (in_new ≡ in_old)
   IsUndoneAlone (Rows path) = ListsNot o before after path.now × (in_new ≡ in_old)
+  IsUndoneAlone (Show file jobs undone strict) =
+      ShowsNot o before after file.now (choice_of jobs undone) strict × (in_new ≡ in_old)
+  IsUndoneAlone (Draw file) = DrawsNot o before after file.now × (in_new ≡ in_old)
 
   abbrev pub IsUndone : Task → Type 0
   IsUndone (Run file workers database) =
@@ -78,13 +96,15 @@ module _ {H T P N I W E : Type 0} (o : World H T P N W E) (r : Reader I)
       × (status ≡ FAILED → LivesNot o r before after in_old in_new database)
   IsLiveAlone status (Check file) = ⊥
   IsLiveAlone status (Rows path) = ⊥
+  IsLiveAlone status (Show file jobs undone strict) = ⊥
+  IsLiveAlone status (Draw file) = ⊥
 
   abbrev pub IsLiveBy : ℕ → Task → Type 0
   IsLiveBy status (Run file workers database) = ⊥
   IsLiveBy status (Alone solo) = IsLiveAlone status solo
 
-  -- What an exit status says of the two writers. At a verdict no the output got that, and a live
-  -- run says it itself
+  -- What an exit status says of the two writers. At a verdict no the output got that, and so it got
+  -- the lines of a report in which not all was done; a live run says it itself
   abbrev pub AccountsForAlone : Solo → ℕ → Type 0
   AccountsForAlone solo status = (status ≡ FAILED) × IsCondemnedAlone o before after solo
       ⊎ (Accounts o.out o.err after.out before.err after.err status ⊎ IsLiveAlone status solo)

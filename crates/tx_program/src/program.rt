@@ -1,29 +1,28 @@
 //! The program, apart from where its words come from and where its bytes go.
-ghost use Rattle.std.specs.Prelude.{◌≡◌, ◌≢◌, ◌≤◌, ◌⊎◌};
-ghost use Rattle.program_words.specs.declared.status.TheConstants.{DONE, FAILED, MISUSED};
-ghost use Rattle.program_words.specs.declared.fault.Fault.TheVariants.{NoMemory};
-ghost use Rattle.program_words.specs.Faults.{IsSaid, spelled_fault};
-ghost use Rattle.program_words.specs.Tellings.{HasUsageLine};
-ghost use Rattle.tx_commands.specs.Worlds.{state};
+ghost use Rattle.std.specs.Prelude.{◌≡◌, ◌≤◌};
+ghost use Rattle.program_words.specs.declared.status.TheConstants.{DONE, FAILED};
+ghost use Rattle.tx_machine.specs.Worlds.{state};
 ghost use Rattle.tx_program.specs.Programs.{AccountsForAlone, IsDoneAlone, IsUndoneAlone, Serves};
 
-use clap::Error;
-use command_line::{Solo, Task, task_of};
-use program_words::{Fault, misuse, tell};
-use std::alloc::{AllocError, Global};
+use command_line::{Solo, Task, task_of, with_name};
+use live_commands::live;
+use program_words::{Fault, misuse, refuse, tell};
+use std::alloc::Global;
 use std::sync::Wait;
 use std::thread::Threads;
 use std::time::Clock;
-use tx_commands::{Setting, Surroundings, judge, list, live, replay};
+use text_commands::replay;
+use tx_commands::{Choice, draw, judge, list, show};
+use tx_machine::{Setting, Surroundings};
 use txn_bytes::{Sink, Source};
 use worker_commands::run;
 
 /// Does what the words after the program's name ask for, over the files and databases of `host`,
-/// and answers the exit status. A report, a verdict or rows go to `out`, and a report only where
-/// the whole run was done, unless it is a live run's, which grows; a fault goes to `err`, in one
-/// line. Words that are no command line are told there too. Workers run on `threads`, by which
-/// nothing else is done, and the requests of a live run come from `input`, of which nothing else
-/// reads.
+/// and answers the exit status. A report, a verdict, rows, lines or a picture go to `out`, and a
+/// report only where the whole run was done, unless it is a live run's, which grows; a fault goes to
+/// `err`, in one line. Words that are no command line are told there too. Workers run on `threads`,
+/// by which nothing else is done, and the requests of a live run come from `input`, of which nothing
+/// else reads.
 pub fn tx_main<H: Surroundings, R: Threads + Wait + Clock + Sync, I: Source, W: Sink, E: Sink>(
     host: &mut H,
     threads: &R,
@@ -37,7 +36,7 @@ pub fn tx_main<H: Surroundings, R: Threads + Wait + Clock + Sync, I: Source, W: 
         (state host.old out.old err.old) (state host.new out.new err.new)
         input.old input.new result }
 {
-    let Ok(all) = command_line(alloc, words) else {
+    let Ok(all) = with_name(alloc, words) else {
         return tell(err, Fault::NoMemory);
     };
     let task = match task_of(alloc, all.as_slice()) {
@@ -45,7 +44,7 @@ pub fn tx_main<H: Surroundings, R: Threads + Wait + Clock + Sync, I: Source, W: 
         Ok(None) => {
             return misuse(
                 err,
-                b"usage: tx replay FILE [--schedule LIST] [--db PATH], or tx run FILE [--workers N] [--db PATH], or tx live [--db PATH], or tx check REPORT, or tx rows PATH, or tx --help",
+                b"usage: tx replay FILE [--schedule LIST] [--db PATH], or tx run FILE [--workers N] [--db PATH], or tx live [--db PATH], or tx check REPORT, or tx show REPORT [--jobs] [--undone] [--strict], or tx draw REPORT, or tx rows PATH, or tx --help",
             );
         }
         Err(text) => return refuse(alloc, err, &text),
@@ -89,28 +88,12 @@ fn perform<H: Surroundings, I: Source, W: Sink, E: Sink>(
         Solo::Live { database } => live(host, alloc, input, database, out, err),
         Solo::Check { file } => judge(host, alloc, file, out, err),
         Solo::Rows { path } => list(host, alloc, path, out, err),
-    }
-}
-
-// The words behind the program's name, and that name before them.
-fn command_line<'a>(alloc: Global, words: &'a [String]) -> Result<Vec<&'a str>, AllocError> {
-    let mut all = Vec::new(alloc);
-    all.push("tx")?;
-    for word in words {
-        all.push(word.as_str())?;
-    }
-    Ok(all)
-}
-
-// What the library of command lines says of the words: what is wrong with them, or the help that
-// they ask for.
-fn refuse<E: Sink>(alloc: Global, err: &mut E, text: &Error) -> u8
-    ensures failed { result ≡ FAILED → IsSaid E.Sink err.old err.new (spelled_fault NoMemory) }
-    ensures misused { result ≢ FAILED → HasUsageLine E.Sink err.old err.new }
-    ensures status { (result ≡ FAILED) ⊎ (result ≡ MISUSED) }
-{
-    match format!(in alloc; "{text}") {
-        Ok(text) => misuse(err, text.as_bytes()),
-        Err(_) => tell(err, Fault::NoMemory),
+        Solo::Show {
+            file,
+            jobs,
+            undone,
+            strict,
+        } => show(host, alloc, file, Choice { jobs, undone }, strict, out, err),
+        Solo::Draw { file } => draw(host, alloc, file, out, err),
     }
 }

@@ -3,7 +3,7 @@ ghost use Rattle.std.specs.Prelude.{◌≡◌, codes, OnErr};
 ghost use Rattle.line_language.specs.Report.{line};
 ghost use Rattle.program_words.specs.declared.status.TheConstants.{MISUSED};
 ghost use Rattle.program_words.specs.Faults.{IsSaid};
-ghost use Rattle.tx_commands.specs.Worlds.{state};
+ghost use Rattle.tx_machine.specs.Worlds.{state};
 ghost use Rattle.tx_program.specs.Programs.{Serves};
 
 use crate::program::tx_main;
@@ -13,7 +13,7 @@ use std::io;
 use std::sync::Wait;
 use std::thread::Threads;
 use std::time::Clock;
-use tx_commands::{Setting, Surroundings};
+use tx_machine::{Setting, Surroundings};
 use txn_bytes::{Sink, Source};
 
 /// The exit status: that of `tx_main` with these words, or that the words are no text, which is told

@@ -11,7 +11,7 @@ returns-in_default g c =
 pub returns-in-Ok-None : goal.returns-in-Ok-None
 returns-in-Ok-None g c =
     misread _ _ c.args.host.now c.args.out.now c.args.err.now c.misuse.new.err c.args.input.now
-    c.misuse.result (codes "usage: tx replay FILE [--schedule LIST] [--db PATH], or tx run FILE [--workers N] [--db PATH], or tx live [--db PATH], or tx check REPORT, or tx rows PATH, or tx --help") c.misuse.ensures.told
+    c.misuse.result (codes "usage: tx replay FILE [--schedule LIST] [--db PATH], or tx run FILE [--workers N] [--db PATH], or tx live [--db PATH], or tx check REPORT, or tx show REPORT [--jobs] [--undone] [--strict], or tx draw REPORT, or tx rows PATH, or tx --help") c.misuse.ensures.told
     c.misuse.ensures.status
 
 pub returns-in-Err : goal.returns-in-Err
