@@ -2,5 +2,8 @@
 #![tactic(auto)]
 
 #[cfg(test)]
+mod interrupted_tests;
+#[cfg(test)]
+mod showing_tests;
 #[cfg(test)]
 mod tx_program_tests;

@@ -5,76 +5,44 @@ use std::rt::HostRuntime;
 use std::sync::Wait;
 use std::thread::Threads;
 use std::time::Clock;
-use tx_commands::Machine;
+use test_kit::Told;
+use test_kit::texts::{DONE, DONE_REPORT, EMPTY_REPORT, FIRST, FIRST_REPORT};
+use tx_machine::Machine;
 use tx_program::tx_main;
 
-/// One transaction that reads its own write: a text and its report.
-const FIRST: &[u8] = b"session s\nbegin a\nset a x 5\nget a x\ncommit a\n";
-
-const FIRST_REPORT: &[u8] =
-    b"open\ns 1 begin a -> ok\ns 2 set a x 5 -> ok\ns 3 get a x -> value 5\ns 4 commit a -> ok\ntable\nx=5\nend\n";
-
-/// The empty text.
-const EMPTY_REPORT: &[u8] = b"open\ntable\nend\n";
-
-/// What a committed transaction is answered.
-const DONE: &[u8] = b"session s\nbegin a\ncommit a\nget a x\ncommit a\n";
-
-const DONE_REPORT: &[u8] =
-    b"open\ns 1 begin a -> ok\ns 2 commit a -> ok\ns 3 get a x -> refused done\ns 4 commit a -> refused done\ntable\nend\n";
-
-/// What the program answers, and what its two writers got.
-#[derive(Drop)]
-struct Told {
-    status: u8,
-    out: Vec<u8>,
-    err: Vec<u8>,
+/// What the program has to tell.
+#[derive(Clone, Copy)]
+enum Due<'a> {
+    /// This report or these rows, and nothing else.
+    Whole(&'a [u8]),
+    /// This fault alone.
+    Fault(&'a str),
+    /// This exit status and this output alone.
+    Verdict(u8, &'a str),
+    /// The whole report, and these lines beside it.
+    Beside(&'a [u8], &'a str),
+    /// That the words are no command line.
+    Misuse,
 }
 
-impl Told {
-    // Whether the whole report was written, and nothing else.
-    fn is_report(&self, report: &[u8]) -> bool {
-        self.status == 0 && self.out.as_slice() == report && self.err.is_empty()
-    }
+/// A call: the words, the words of a path behind them, and the bytes on the standard input.
+pub(crate) type Call<'a> = (&'a str, &'a str, &'a [u8]);
 
-    // Whether there is no report, and one line that says why.
-    fn is_fault(&self, line: &str) -> bool {
-        self.status == 1 && self.out.is_empty() && self.err.as_slice() == line.as_bytes()
-    }
-
-    // Whether the verdict was written, and nothing else.
-    fn is_verdict(&self, status: u8, line: &str) -> bool {
-        self.status == status && self.out.as_slice() == line.as_bytes() && self.err.is_empty()
-    }
-
-    // Whether the words are told as no command line.
-    fn is_misuse(&self) -> bool {
-        self.status == 2 && self.out.is_empty() && !self.err.is_empty()
+fn is_due(told: &Told, due: Due<'_>) -> bool {
+    match due {
+        Due::Whole(report) => told.is_report(report),
+        Due::Fault(line) => told.is_fault(line),
+        Due::Verdict(status, line) => told.is(status, line.as_bytes(), b""),
+        Due::Beside(report, lines) => told.is(0, report, lines.as_bytes()),
+        Due::Misuse => told.is_misuse(),
     }
 }
 
 /// What the program does with these words.
-fn run<R: Abort + Threads + Wait + Clock + Sync>(rt: &R, host: &HostRuntime, words: &str) -> Told {
-    run_on(rt, host, words, "")
-}
-
-// The same with the words of a path behind them.
-fn run_on<R: Abort + Threads + Wait + Clock + Sync>(
+pub(crate) fn run_with<R: Abort + Threads + Wait + Clock + Sync>(
     rt: &R,
     host: &HostRuntime,
-    words: &str,
-    path: &str,
-) -> Told {
-    run_with(rt, host, words, path, b"")
-}
-
-// The same with these bytes on its standard input.
-fn run_with<R: Abort + Threads + Wait + Clock + Sync>(
-    rt: &R,
-    host: &HostRuntime,
-    words: &str,
-    path: &str,
-    requests: &[u8],
+    (words, path, requests): Call<'_>,
 ) -> Told {
     let mut input = requests;
     let mut all = Vec::new(host.alloc());
@@ -97,166 +65,247 @@ fn run_with<R: Abort + Threads + Wait + Clock + Sync>(
     Told { status, out, err }
 }
 
+// Makes these calls, one after another, of which each has to tell what is due.
+fn calls<R: Abort + Threads + Wait + Clock + Sync>(
+    rt: &R,
+    host: &HostRuntime,
+    calls: &[(Call<'_>, Due<'_>)],
+) {
+    for (call, due) in calls {
+        let told = run_with(rt, host, *call);
+        assert!(rt; is_due(&told, *due), "{} {}", call.0, call.1);
+    }
+}
+
+// The same in a folder that is new, with these files in it, and removed behind them.
+fn calls_in<R: Abort + Threads + Wait + Clock + Sync>(
+    rt: &R,
+    host: &HostRuntime,
+    folder: &str,
+    files: &[(&str, &[u8])],
+    given: &[(Call<'_>, Due<'_>)],
+) {
+    let _ = fs::remove_dir_all(host, folder);
+    fs::create_dir_all(host, folder).expect(rt, folder);
+    for (file, bytes) in files {
+        fs::write(host, *file, *bytes).expect(rt, *file);
+    }
+    calls(rt, host, given);
+    fs::remove_dir_all(host, folder).expect(rt, folder);
+}
+
+const NO_DATABASE: &[u8] = b"no database, but some text";
+
 #[test]
 fn program_on_files(rt: HostRuntime) {
-    for (file, text) in [
-        ("first.tx", FIRST),
-        ("empty.tx", b"".as_slice()),
-        ("fault.tx", b"session s\nbegin a"),
-    ] {
-        fs::write(&rt, file, text).expect(&rt, file);
-    }
-    assert!(rt; run(&rt, &rt, "replay first.tx").is_report(FIRST_REPORT));
-    assert!(rt; run(&rt, &rt, "replay empty.tx").is_report(EMPTY_REPORT));
-    assert!(rt; run(&rt, &rt, "replay fault.tx").is_fault("tx: line 2: end\n"));
-    assert!(rt; run(&rt, &rt, "replay nosuch.tx").is_fault("tx: cannot read nosuch.tx\n"));
+    let files: [(&str, &[u8]); 3] = [
+        ("file_test/first.tx", FIRST),
+        ("file_test/empty.tx", b""),
+        ("file_test/fault.tx", b"session s\nbegin a"),
+    ];
+    let given: [(Call<'_>, Due<'_>); 4] = [
+        (
+            ("replay file_test/first.tx", "", b""),
+            Due::Whole(FIRST_REPORT),
+        ),
+        (
+            ("replay file_test/empty.tx", "", b""),
+            Due::Whole(EMPTY_REPORT),
+        ),
+        (
+            ("replay file_test/fault.tx", "", b""),
+            Due::Fault("tx: line 2: end\n"),
+        ),
+        (
+            ("replay nosuch.tx", "", b""),
+            Due::Fault("tx: cannot read nosuch.tx\n"),
+        ),
+    ];
+    calls_in(&rt, &rt, "file_test", &files, &given);
 }
 
-/// The same lines as requests, and one that is not taken.
-const FIRST_REQUESTS: &[u8] = b"s begin a\ns set a x 5\nt after a done\ns get a x\ns commit a\n";
+/// The first text's lines as requests, and one that is not taken.
+const REQUESTS: &[u8] = b"s begin a\ns set a x 5\nt after a done\ns get a x\ns commit a\n";
 
-// What a live run leaves in a database is there for the next.
-#[test]
-fn program_on_requests(rt: HostRuntime) {
-    let _ = fs::remove_dir_all(&rt, "live_test");
-    fs::create_dir_all(&rt, "live_test").expect(&rt, "folder");
-    fs::write(&rt, "live_test/no.db", b"no database, but some text").expect(&rt, "file");
-    for (words, path) in [("live", ""), ("live --db", "live_test/a.db")] {
-        let told = run_with(&rt, &rt, words, path, FIRST_REQUESTS);
-        assert!(rt;
-            told.status == 0 && told.out.as_slice() == FIRST_REPORT,
-            "{words}"
-        );
-        assert!(rt;
-            told.err.as_slice() == b"tx: line 3: word\n".as_slice(),
-            "{words}"
-        );
-    }
-    assert!(rt; run_with(&rt, &rt, "live --db", "live_test/a.db", b"").is_report(LATER_REPORT));
-    let told = run_with(&rt, &rt, "live --db", "live_test/no.db", FIRST_REQUESTS);
-    assert!(rt; told.is_fault("tx: cannot open database\n"));
-    fs::remove_dir_all(&rt, "live_test").expect(&rt, "folder");
-}
+const NOT_TAKEN: &str = "tx: line 3: word\n";
 
 /// A run of no session over the row that the first text leaves.
 const LATER_REPORT: &[u8] = b"open\nx=5\ntable\nx=5\nend\n";
 
-// What one run leaves in a database is there for the next.
+// What a live run leaves in a database is there for the next.
+#[test]
+fn program_on_requests(rt: HostRuntime) {
+    let files: [(&str, &[u8]); 1] = [("live_test/no.db", NO_DATABASE)];
+    let given: [(Call<'_>, Due<'_>); 4] = [
+        (("live", "", REQUESTS), Due::Beside(FIRST_REPORT, NOT_TAKEN)),
+        (
+            ("live --db", "live_test/a.db", REQUESTS),
+            Due::Beside(FIRST_REPORT, NOT_TAKEN),
+        ),
+        (
+            ("live --db", "live_test/a.db", b""),
+            Due::Whole(LATER_REPORT),
+        ),
+        (
+            ("live --db", "live_test/no.db", REQUESTS),
+            Due::Fault("tx: cannot open database\n"),
+        ),
+    ];
+    calls_in(&rt, &rt, "live_test", &files, &given);
+}
+
+// What one run leaves in a database is there for the next. The file is read first, then the database
+// is opened, then come the text and the schedule. What was not run stored nothing.
 #[test]
 fn program_on_a_database(rt: HostRuntime) {
-    let _ = fs::remove_dir_all(&rt, "db_test");
-    fs::create_dir_all(&rt, "db_test").expect(&rt, "folder");
-    for (file, text) in [
+    let files: [(&str, &[u8]); 4] = [
         ("db_test/first.tx", FIRST),
-        ("db_test/empty.tx", b"".as_slice()),
-        ("db_test/bad.tx", b"session s\nbegin".as_slice()),
-        ("db_test/no.db", b"no database, but some text".as_slice()),
-    ] {
-        fs::write(&rt, file, text).expect(&rt, file);
-    }
+        ("db_test/empty.tx", b""),
+        ("db_test/bad.tx", b"session s\nbegin"),
+        ("db_test/no.db", NO_DATABASE),
+    ];
     let (first, later) = (
         "replay db_test/first.tx --db",
         "replay db_test/empty.tx --db",
     );
-    assert!(rt; run_on(&rt, &rt, first, "db_test/a.db").is_report(FIRST_REPORT));
-    assert!(rt; run_on(&rt, &rt, later, "db_test/a.db").is_report(LATER_REPORT));
-    assert!(rt; run_on(&rt, &rt, first, "db_test/no.db").is_fault("tx: cannot open database\n"));
-    // The file is read first, then the database is opened, then come the text and the schedule.
-    for (words, path, line) in [
+    let given: [(Call<'_>, Due<'_>); 8] = [
+        ((first, "db_test/a.db", b""), Due::Whole(FIRST_REPORT)),
+        ((later, "db_test/a.db", b""), Due::Whole(LATER_REPORT)),
         (
-            "replay no.tx --db",
-            "db_test/no.db",
-            "tx: cannot read no.tx\n",
+            (first, "db_test/no.db", b""),
+            Due::Fault("tx: cannot open database\n"),
         ),
         (
-            "replay db_test/bad.tx --db",
-            "db_test/no.db",
-            "tx: cannot open database\n",
+            ("replay no.tx --db", "db_test/no.db", b""),
+            Due::Fault("tx: cannot read no.tx\n"),
         ),
         (
-            "replay db_test/bad.tx --schedule 7 --db",
-            "db_test/b.db",
-            "tx: line 2: end\n",
+            ("replay db_test/bad.tx --db", "db_test/no.db", b""),
+            Due::Fault("tx: cannot open database\n"),
         ),
         (
-            "replay db_test/first.tx --schedule 0,1 --db",
-            "db_test/b.db",
-            "tx: schedule: item 2\n",
+            (
+                "replay db_test/bad.tx --schedule 7 --db",
+                "db_test/b.db",
+                b"",
+            ),
+            Due::Fault("tx: line 2: end\n"),
         ),
-    ] {
-        assert!(rt; run_on(&rt, &rt, words, path).is_fault(line), "{line}");
-    }
-    // What was not run stored nothing.
-    assert!(rt; run_on(&rt, &rt, later, "db_test/b.db").is_report(EMPTY_REPORT));
-    fs::remove_dir_all(&rt, "db_test").expect(&rt, "folder");
+        (
+            (
+                "replay db_test/first.tx --schedule 0,1 --db",
+                "db_test/b.db",
+                b"",
+            ),
+            Due::Fault("tx: schedule: item 2\n"),
+        ),
+        ((later, "db_test/b.db", b""), Due::Whole(EMPTY_REPORT)),
+    ];
+    calls_in(&rt, &rt, "db_test", &files, &given);
 }
+
+/// Words that are no command line.
+const MISUSES: [&str; 38] = [
+    "",
+    "--help",
+    "start first.tx",
+    "run",
+    "run a b",
+    "run a --workers",
+    "run a --workers 0",
+    "run a --workers 17",
+    "run a --workers 04",
+    "run a --workers -1",
+    "run a --workers two",
+    "run a --schedule 0",
+    "live a",
+    "live --db",
+    "live --workers 2",
+    "live --help",
+    "replay",
+    "replay a b",
+    "replay a --workers 2",
+    "replay a --db",
+    "replay a --schedule",
+    "check",
+    "check a b",
+    "check a --db b",
+    "check --help",
+    "show",
+    "show a b",
+    "show a --jobs b",
+    "show a --db b",
+    "show --help",
+    "draw",
+    "draw a b",
+    "draw a --jobs",
+    "draw --help",
+    "rows",
+    "rows a b",
+    "rows a --db b",
+    "rows --help",
+];
 
 #[test]
 fn words_that_are_no_command_line(rt: HostRuntime) {
-    for words in [
-        "",
-        "--help",
-        "start first.tx",
-        "run",
-        "run a b",
-        "run a --workers",
-        "run a --workers 0",
-        "run a --workers 17",
-        "run a --workers 04",
-        "run a --workers -1",
-        "run a --workers two",
-        "run a --schedule 0",
-        "live a",
-        "live --db",
-        "live --workers 2",
-        "live --help",
-        "replay",
-        "replay a b",
-        "replay a --workers 2",
-        "replay a --db",
-        "replay a --schedule",
-        "check",
-        "check a b",
-        "check a --db b",
-        "check --help",
-        "rows",
-        "rows a b",
-        "rows a --db b",
-        "rows --help",
-    ] {
-        assert!(rt; run(&rt, &rt, words).is_misuse(), "{words}");
+    for words in MISUSES {
+        calls(&rt, &rt, &[((words, "", b""), Due::Misuse)]);
     }
 }
 
 // A text of one session and a list that names a second one, by the program.
 #[test]
 fn program_by_a_schedule(rt: HostRuntime) {
-    fs::write(&rt, "one.tx", b"session s\nbegin a\ncommit a\n").expect(&rt, "file");
-    let report = b"open\ns 1 begin a -> ok\ns 2 commit a -> ok\ntable\nend\n";
-    assert!(rt; run(&rt, &rt, "replay one.tx --schedule 0,0,0").is_report(report));
-    assert!(rt; run(&rt, &rt, "replay one.tx --schedule 0,1").is_fault("tx: schedule: item 2\n"));
-    assert!(rt; run(&rt, &rt, "replay --schedule 1 one.tx").is_fault("tx: schedule: item 1\n"));
+    let files: [(&str, &[u8]); 1] = [("list_test/one.tx", b"session s\nbegin a\ncommit a\n")];
+    let given: [(Call<'_>, Due<'_>); 3] = [
+        (
+            ("replay list_test/one.tx --schedule 0,0,0", "", b""),
+            Due::Whole(b"open\ns 1 begin a -> ok\ns 2 commit a -> ok\ntable\nend\n"),
+        ),
+        (
+            ("replay list_test/one.tx --schedule 0,1", "", b""),
+            Due::Fault("tx: schedule: item 2\n"),
+        ),
+        (
+            ("replay --schedule 1 list_test/one.tx", "", b""),
+            Due::Fault("tx: schedule: item 1\n"),
+        ),
+    ];
+    calls_in(&rt, &rt, "list_test", &files, &given);
 }
 
 // One session has one order, whoever takes its lines.
 #[test]
 fn program_by_workers(rt: HostRuntime) {
-    let _ = fs::remove_dir_all(&rt, "run_test");
-    fs::create_dir_all(&rt, "run_test").expect(&rt, "folder");
-    for (file, text) in [
+    let files: [(&str, &[u8]); 3] = [
         ("run_test/first.tx", FIRST),
         ("run_test/done.tx", DONE),
-        ("run_test/fault.tx", b"session s\nbegin a".as_slice()),
-    ] {
-        fs::write(&rt, file, text).expect(&rt, file);
-    }
-    assert!(rt; run(&rt, &rt, "run run_test/first.tx").is_report(FIRST_REPORT));
-    assert!(rt; run(&rt, &rt, "run run_test/done.tx --workers 16").is_report(DONE_REPORT));
-    assert!(rt; run(&rt, &rt, "run run_test/fault.tx").is_fault("tx: line 2: end\n"));
-    assert!(rt; run(&rt, &rt, "run nosuch.tx --workers 1").is_fault("tx: cannot read nosuch.tx\n"));
-    let words = "run run_test/first.tx --workers 2 --db";
-    assert!(rt; run_on(&rt, &rt, words, "run_test/a.db").is_report(FIRST_REPORT));
-    fs::remove_dir_all(&rt, "run_test").expect(&rt, "folder");
+        ("run_test/fault.tx", b"session s\nbegin a"),
+    ];
+    let given: [(Call<'_>, Due<'_>); 5] = [
+        (("run run_test/first.tx", "", b""), Due::Whole(FIRST_REPORT)),
+        (
+            ("run run_test/done.tx --workers 16", "", b""),
+            Due::Whole(DONE_REPORT),
+        ),
+        (
+            ("run run_test/fault.tx", "", b""),
+            Due::Fault("tx: line 2: end\n"),
+        ),
+        (
+            ("run nosuch.tx --workers 1", "", b""),
+            Due::Fault("tx: cannot read nosuch.tx\n"),
+        ),
+        (
+            (
+                "run run_test/first.tx --workers 2 --db",
+                "run_test/a.db",
+                b"",
+            ),
+            Due::Whole(FIRST_REPORT),
+        ),
+    ];
+    calls_in(&rt, &rt, "run_test", &files, &given);
 }
 
 /// Two sessions that write one key.
@@ -274,52 +323,85 @@ r 2 set b x 2 -> waits\nl 3 commit a -> ok\nr 2 set b x 2 -> ok\nr 3 commit b ->
 // A list chooses which session goes first, in memory and over a database.
 #[test]
 fn program_of_two_sessions(rt: HostRuntime) {
-    let _ = fs::remove_dir_all(&rt, "two_test");
-    fs::create_dir_all(&rt, "two_test").expect(&rt, "folder");
-    fs::write(&rt, "two_test/two.tx", TWO).expect(&rt, "file");
-    let listed = "replay two_test/two.tx --schedule 1,1,1";
-    assert!(rt; run(&rt, &rt, listed).is_report(SECOND_FIRST));
-    assert!(rt; run(&rt, &rt, "replay two_test/two.tx").is_report(BY_ROUNDS));
-    let over = "replay two_test/two.tx --schedule 1,1,1 --db";
-    assert!(rt; run_on(&rt, &rt, over, "two_test/a.db").is_report(SECOND_FIRST));
-    fs::remove_dir_all(&rt, "two_test").expect(&rt, "folder");
+    let files: [(&str, &[u8]); 1] = [("two_test/two.tx", TWO)];
+    let given: [(Call<'_>, Due<'_>); 3] = [
+        (
+            ("replay two_test/two.tx --schedule 1,1,1", "", b""),
+            Due::Whole(SECOND_FIRST),
+        ),
+        (("replay two_test/two.tx", "", b""), Due::Whole(BY_ROUNDS)),
+        (
+            (
+                "replay two_test/two.tx --schedule 1,1,1 --db",
+                "two_test/a.db",
+                b"",
+            ),
+            Due::Whole(SECOND_FIRST),
+        ),
+    ];
+    calls_in(&rt, &rt, "two_test", &files, &given);
 }
 
 #[test]
 fn program_that_judges(rt: HostRuntime) {
-    let _ = fs::remove_dir_all(&rt, "check_test");
-    fs::create_dir_all(&rt, "check_test").expect(&rt, "folder");
-    for (file, text) in [
+    let files: [(&str, &[u8]); 3] = [
         ("check_test/yes", BY_ROUNDS),
         (
             "check_test/row",
-            b"open\ns 1 begin a -> ok\ns 2 commit a -> ok\ntable\nx=5\nend\n".as_slice(),
+            b"open\ns 1 begin a -> ok\ns 2 commit a -> ok\ntable\nx=5\nend\n",
         ),
-        ("check_test/empty", b"".as_slice()),
-    ] {
-        fs::write(&rt, file, text).expect(&rt, file);
-    }
-    assert!(rt; run(&rt, &rt, "check check_test/yes").is_verdict(0, "yes\n"));
-    assert!(rt; run(&rt, &rt, "check check_test/row").is_verdict(1, "no 5\n"));
-    assert!(rt; run(&rt, &rt, "check check_test/empty").is_verdict(1, "no 1\n"));
-    assert!(rt; run(&rt, &rt, "check nosuch").is_fault("tx: cannot read nosuch\n"));
-    fs::remove_dir_all(&rt, "check_test").expect(&rt, "folder");
+        ("check_test/empty", b""),
+    ];
+    let given: [(Call<'_>, Due<'_>); 4] = [
+        (("check check_test/yes", "", b""), Due::Verdict(0, "yes\n")),
+        (("check check_test/row", "", b""), Due::Verdict(1, "no 5\n")),
+        (
+            ("check check_test/empty", "", b""),
+            Due::Verdict(1, "no 1\n"),
+        ),
+        (
+            ("check nosuch", "", b""),
+            Due::Fault("tx: cannot read nosuch\n"),
+        ),
+    ];
+    calls_in(&rt, &rt, "check_test", &files, &given);
 }
 
 /// Texts that are run over one database, one after another, and what its rows are then.
-const NUMBERED: [(&[u8], &str); 5] = [
-    (b"", ""),
+const NUMBERED: [(&[u8], &[u8]); 5] = [
+    (b"", b""),
     (
         b"session s\nbegin a\nset a y 1\ncommit a\nbegin b\nset b x 2\ncommit b\n",
-        "x=2 2\ny=1 1\n",
+        b"x=2 2\ny=1 1\n",
     ),
     (
         b"session s\nbegin c\ndel c x\nset c z 5\ncommit c\n",
-        "y=1 1\nz=5 3\n",
+        b"y=1 1\nz=5 3\n",
     ),
-    (b"session s\nbegin d\ndel d z\ncommit d\n", "y=1 1\n"),
-    (b"session s\nbegin e\nset e y 7\ncommit e\n", "y=7 2\n"),
+    (b"session s\nbegin d\ndel d z\ncommit d\n", b"y=1 1\n"),
+    (b"session s\nbegin e\nset e y 7\ncommit e\n", b"y=7 2\n"),
 ];
+
+// Runs the text over the database, which then has these rows.
+fn runs_to<R: Abort + Threads + Wait + Clock + Sync>(
+    rt: &R,
+    host: &HostRuntime,
+    text: &[u8],
+    rows: &[u8],
+) {
+    fs::write(host, "rows_test/a.tx", text).expect(rt, "file");
+    let told = run_with(
+        rt,
+        host,
+        ("replay rows_test/a.tx --db rows_test/a.db", "", b""),
+    );
+    assert!(rt; told.status == 0);
+    calls(
+        rt,
+        host,
+        &[(("rows rows_test/a.db", "", b""), Due::Whole(rows))],
+    );
+}
 
 // A commit has the number behind the greatest that is left.
 #[test]
@@ -327,15 +409,15 @@ fn program_that_lists(rt: HostRuntime) {
     let _ = fs::remove_dir_all(&rt, "rows_test");
     fs::create_dir_all(&rt, "rows_test").expect(&rt, "folder");
     for (text, rows) in NUMBERED {
-        fs::write(&rt, "rows_test/a.tx", text).expect(&rt, "file");
-        let told = run(&rt, &rt, "replay rows_test/a.tx --db rows_test/a.db");
-        assert!(rt; told.status == 0, "{rows}");
-        assert!(rt;
-            run(&rt, &rt, "rows rows_test/a.db").is_report(rows.as_bytes()),
-            "{rows}"
-        );
+        runs_to(&rt, &rt, text, rows);
     }
-    assert!(rt; run(&rt, &rt, "rows rows_test/new.db").is_report(b""));
-    assert!(rt; run(&rt, &rt, "rows rows_test").is_fault("tx: cannot open database\n"));
+    let given: [(Call<'_>, Due<'_>); 2] = [
+        (("rows rows_test/new.db", "", b""), Due::Whole(b"")),
+        (
+            ("rows rows_test", "", b""),
+            Due::Fault("tx: cannot open database\n"),
+        ),
+    ];
+    calls(&rt, &rt, &given);
     fs::remove_dir_all(&rt, "rows_test").expect(&rt, "folder");
 }

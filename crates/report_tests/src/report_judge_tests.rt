@@ -4,6 +4,7 @@ use report_check::Verdict;
 use report_judge::{CheckFault, check};
 use std::alloc::Global;
 use std::io::{self, ErrorKind, Read};
+use test_kit::Pieces;
 
 const REPORT: [&str; 8] = [
     "open",
@@ -15,30 +16,6 @@ const REPORT: [&str; 8] = [
     "x=5",
     "end",
 ];
-
-// Bytes that are given at most so many at a time. The call with this number, from 0, fails.
-#[derive(Drop)]
-struct Piecemeal<'a> {
-    rest: &'a [u8],
-    piece: usize,
-    calls_left: Option<usize>,
-}
-
-impl Read for Piecemeal<'_> {
-    fn read(&mut self, buf: &mut [u8]) -> io::Result<usize> {
-        if let Some(calls) = self.calls_left {
-            if calls == 0 {
-                return Err(ErrorKind::Other.into());
-            }
-            self.calls_left = Some(calls - 1);
-        }
-        let len = self.rest.len().min(self.piece).min(buf.len());
-        let (given, rest) = self.rest.split_at(len);
-        buf[..len].copy_from_slice(given);
-        self.rest = rest;
-        Ok(len)
-    }
-}
 
 // A reader that gives this byte for ever.
 #[derive(Drop)]
@@ -62,26 +39,17 @@ fn judged_once(
     alloc: Global,
     text: &str,
     piece: usize,
-    calls_left: Option<usize>,
+    fails_at: usize,
 ) -> Result<Verdict, CheckFault> {
-    let mut reader = Piecemeal {
-        rest: text.as_bytes(),
-        piece,
-        calls_left,
-    };
+    let mut reader = Pieces::new(text.as_bytes(), piece, fails_at, ErrorKind::Other);
     check(alloc, &mut reader)
 }
 
 // What comes of a reader that gives so many bytes at a time, and whose call with this number, from
 // 0, fails. Where a growth is refused, another such reader is judged.
-fn judged(
-    alloc: Global,
-    text: &str,
-    piece: usize,
-    calls_left: Option<usize>,
-) -> Result<Verdict, CheckFault> {
-    match judged_once(alloc, text, piece, calls_left) {
-        Err(CheckFault::NoMemory) => judged_once(alloc, text, piece, calls_left),
+fn judged(alloc: Global, text: &str, piece: usize, fails_at: usize) -> Result<Verdict, CheckFault> {
+    match judged_once(alloc, text, piece, fails_at) {
+        Err(CheckFault::NoMemory) => judged_once(alloc, text, piece, fails_at),
         told => told,
     }
 }
@@ -116,9 +84,7 @@ fn has_verdict(alloc: Global, at: usize, with: Option<&str>, verdict: Verdict) -
 }
 
 fn is_judged(alloc: Global, text: &str, verdict: Verdict) -> bool {
-    [1, 7, 5000]
-        .iter()
-        .all(|piece| judged(alloc, text, *piece, None) == Ok(verdict))
+    [1, 7, 5000].iter().all(|piece| judged(alloc, text, *piece, usize::MAX) == Ok(verdict))
 }
 
 #[test]
@@ -128,12 +94,12 @@ fn a_reader_that_fails(rt: HostRuntime) {
     let calls = text.len() / 7 + 2;
     for call in 0..calls {
         assert_eq!(rt;
-            judged(rt.alloc(), text.as_str(), 7, Some(call)),
+            judged(rt.alloc(), text.as_str(), 7, call),
             Err(CheckFault::Read)
         );
     }
     assert_eq!(rt;
-        judged(rt.alloc(), text.as_str(), 7, Some(calls)),
+        judged(rt.alloc(), text.as_str(), 7, calls),
         Ok(Verdict::Yes)
     );
 }
@@ -146,10 +112,7 @@ fn a_reader_that_fails_behind_a_fault(rt: HostRuntime) {
         ("open\n\nopen\n", 1, 2),
         ("open\nx=1\nw=1\n", 2, 3),
     ] {
-        assert_eq!(rt;
-            judged(rt.alloc(), text, 7, Some(calls)),
-            Ok(Verdict::No(line))
-        );
+        assert_eq!(rt; judged(rt.alloc(), text, 7, calls), Ok(Verdict::No(line)));
     }
 }
 

@@ -1,7 +1,9 @@
-//! The tests of durable_top and sql_store, each in a module of its own.
+//! The tests of durable_top, row_store and sql_store, each in a module of its own.
 #![tactic(auto)]
 
 #[cfg(test)]
 mod durable_top_tests;
+#[cfg(test)]
+mod row_store_tests;
 #[cfg(test)]
 mod sql_store_tests;
