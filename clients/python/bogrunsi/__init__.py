@@ -25,10 +25,11 @@ from .errors import Closed, Error, Failed, Forked, Full, NotTaken, Overflow, Ref
 from .jobs import Jobs
 from .opening import ReportTo
 from .remote import Connected
+from .shown import Shown, ShownTree, Summary
 from .transactions import Manager, Transaction
 from .tries import Attempt, Pauses
 
-__version__ = "0.2.0"
+__version__ = "0.3.0"
 
 __all__ = [
     "Attempt",
@@ -44,7 +45,10 @@ __all__ = [
     "Overflow",
     "Pauses",
     "Refused",
+    "Shown",
+    "ShownTree",
     "Stuck",
+    "Summary",
     "TimedOut",
     "Transaction",
     "Undone",

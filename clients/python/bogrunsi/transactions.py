@@ -11,6 +11,7 @@ from typing import Self, cast
 
 from .errors import Error, Failed
 from .intake import Call
+from .shown import ShownTree, tree_of
 from .tree import UNDONE, Node
 from .tries import MOST_TRIES, Again, Attempt, Pauses, attempts
 from .words import number
@@ -70,6 +71,10 @@ class Manager(ABC):
     @abstractmethod
     def report(self) -> str:
         """The report of the present run, as far as it has come. `tx check` judges it once the run has ended."""
+
+    def tree(self) -> ShownTree:
+        """What became of each transaction of the present run, as far as it was seen: what `tx show` prints of `report`."""
+        return tree_of(self.report)
 
     @abstractmethod
     def keys(self, group: str) -> list[str]:
