@@ -1,0 +1,15 @@
+use Rattle.std.proofs.Common.{◌≡◌, Result, Err, OnErr, subst, sym}
+use Rattle.std.specs.Prelude.{codes}
+use Rattle.replay_program.proofs.Serving.{misread}
+use Rattle.replay_program.proofs.starting.start.Goals as goal
+
+on_err : {T F Q : Type 0} (r : Result T F) (f : F) → r ≡ Err f → Q → OnErr r Q
+on_err {T} {F} {Q} r f is q = subst (λ (x : Result T F). OnErr x Q) (sym is) q
+
+pub returns-in-Err-clause-unread : goal.returns-in-Err-clause-unread
+returns-in-Err-clause-unread g c = on_err _ _ c.in-Err.is c.misuse.ensures.told
+
+pub returns-in-Err-clause-served : goal.returns-in-Err-clause-served
+returns-in-Err-clause-served g c =
+    misread _ c.args.host.now c.args.out.now c.args.err.now c.misuse.new.err c.misuse.result
+    (codes "tx: the command line is not text") c.misuse.ensures.told c.misuse.ensures.status
