@@ -5,7 +5,8 @@ ghost use Rattle.txn_tree.specs.States.{States};
 ghost use Rattle.wait_graph.specs.Edges.{AreAlike, AreLockers, AreOwnBranches, ByLocks, is_held_up, waits_for_in, OfEdges, OfEdgesFrom, is_edge_to};
 ghost use Rattle.wait_graph.specs.Walks.{IsLonger};
 
-use crate::branch::{are_alone_in_branches, are_known_alone, is_in_branch, is_lone_top};
+use crate::branch::{are_known_alone, is_in_branch, is_lone_top};
+use crate::lockers::Lockers;
 use lock_table::TargetLocks;
 use txn_tree::{Tree, TxnNo};
 use wait_cycles::{Wait, Waits};
@@ -174,7 +175,7 @@ fn add_edges_to_blockers(
     locks: &TargetLocks,
     waits: &Waits,
     wait: &Wait,
-    blockers: &[TxnNo],
+    blockers: &Lockers<'_>,
     edges: &mut Vec<(TxnNo, TxnNo)>,
 )
     requires all { AreLockers tree.now locks.now wait.now blockers.now }
@@ -187,7 +188,7 @@ fn add_edges_to_blockers(
     ensures capacity { vec_capacity edges.old ≤ vec_capacity edges.new }
 {
     for place in 0..blockers.len() {
-        let blocker = blockers[place];
+        let blocker = blockers.at(place);
         if is_edge_to_blocker(tree, locks, waits, wait, blocker) {
             edges.push_reserved((wait.txn, blocker));
         }
@@ -209,14 +210,12 @@ pub(crate) fn add_edges_from(
     ensures len { vec_len edges.new ≤ vec_len edges.old + length waits.now.waits }
     ensures capacity { vec_capacity edges.old ≤ vec_capacity edges.new }
 {
-    let Some(blockers) = sole_blockers(locks, wait) else {
-        return add_edges_to_waiting(tree, locks, waits, wait, edges);
-    };
-    if blockers.len() <= waits.len() && are_alone_in_branches(tree, wait.txn, blockers) {
-        add_edges_to_blockers(tree, locks, waits, wait, blockers, edges);
-    } else {
-        add_edges_to_waiting(tree, locks, waits, wait, edges);
+    if let Some(blockers) = Lockers::of(locks, wait) {
+        if blockers.len() <= waits.len() && blockers.are_alone(tree, wait.txn) {
+            return add_edges_to_blockers(tree, locks, waits, wait, &blockers, edges);
+        }
     }
+    add_edges_to_waiting(tree, locks, waits, wait, edges);
 }
 
 /// All edges: the pairs of those that wait of which the first waits for the second, in any order.

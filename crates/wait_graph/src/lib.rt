@@ -5,6 +5,7 @@
 
 mod branch;
 mod edges;
+mod lockers;
 mod search;
 mod walk;
 mod ways;

@@ -1,6 +1,5 @@
-use Rattle.std.proofs.Common.{◌&&◌, ◌∙◌, ℕ, Bool, ap, sym, subst, is_some, Some, arith}
+use Rattle.std.proofs.Common.{◌&&◌, ◌∙◌, ℕ, Bool, sym, subst, is_some, arith}
 use Rattle.std.proofs.lemmas.List.{take_all}
-use Rattle.std.proofs.lemmas.Option.{slice_get-get_or}
 use Rattle.wait_cycles.specs.Waiting.{wait_of}
 use Rattle.wait_graph.specs.Edges.{Keeps, is_held_up}
 use Rattle.wait_graph.proofs.Alike.{MadeBy, all_made, one_passed, one_pushed}
@@ -13,10 +12,10 @@ use Rattle.wait_graph.proofs.edges.add_edges_to_blockers.Goals.{then-is_edge_to_
 pub loop-place-preserved : goal.loop-place-preserved
 loop-place-preserved c =
     let i = c.loop-place.place in
-    let u = c.index-blockers-place.result in
+    let u = c.at-blocker.result in
     let us = c.args.blockers.now in
     let wait = c.args.wait.now in
-    let at = slice_get-get_or us i u (omega (arith, c.loop-place-test.true)) ∙ ap Some (sym c.index-blockers-place.is) in
+    let at = c.at-blocker.ensures in
     let inv = c.loop-place.invariant in
     let holds : Keeps → ℕ → Bool = λ keeps b. is_some (wait_of c.args.waits.now b) && is_held_up c.args.tree.now keeps wait b b in
     elim c.if-is_edge_to_blocker.branch [
@@ -51,4 +50,4 @@ returns-clause-edges c keeps tells =
     (λ b. flat_waited_for tree keeps wait b us out c.requires.alone)
     (λ b none. left_out_holds_nobody tree keeps wait b us out none)
     (subst (λ vs. MadeBy (λ b. is_some (wait_of c.args.waits.now b) && is_held_up tree keeps wait b b) c.args.edges.now.items c.loop-place.edges.items wait.txn vs)
-    (take_all c.loop-place.place us (omega (arith, c.loop-place-test.false))) (c.loop-place.invariant.0 keeps tells))
+    (take_all c.loop-place.place us (omega (arith, c.loop-place-test.false, c.len-place-end.ensures))) (c.loop-place.invariant.0 keeps tells))
