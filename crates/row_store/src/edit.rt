@@ -21,7 +21,12 @@ impl Edit<'_> {
     ghost use Rattle.row_store.specs.inner.Edit.{edited, Suits};
     ghost use Rattle.row_store.specs.Undo.{IsUndoneBy};
 
-    fn make(self, alloc: Global, rows: &mut SlotList<Row>) -> Result<Change, AllocError>
+    fn make(
+        self,
+        alloc: Global,
+        rows: &mut SlotList<Row>,
+        near: &mut usize,
+    ) -> Result<Change, AllocError>
         requires { Suits self rows.old.items }
         ensures ok { IfOk result (λ change. (rows.new.items ≡ edited self.entry rows.old.items)
             × IsUndoneBy change rows.new.items rows.old.items) }
@@ -29,15 +34,20 @@ impl Edit<'_> {
         ensures room { rows.old.capacity ≤ rows.new.capacity }
     {
         match self {
-            Edit::Put(row) => put(rows, row.copy(alloc)?),
-            Edit::Delete(id) => Ok(delete(alloc, rows, id)),
-            Edit::Insert(order, entry) => insert(rows, order, entry.copy(alloc)?),
-            Edit::Remove(order, entry) => Ok(remove(alloc, rows, order, entry)),
+            Edit::Put(row) => put(rows, near, row.copy(alloc)?),
+            Edit::Delete(id) => Ok(delete(alloc, rows, near, id)),
+            Edit::Insert(order, entry) => insert(rows, near, order, entry.copy(alloc)?),
+            Edit::Remove(order, entry) => Ok(remove(alloc, rows, near, order, entry)),
             Edit::Empty => empty(alloc, rows),
         }
     }
 
-    pub(crate) fn apply(self, alloc: Global, rows: &mut SlotList<Row>) -> Result<Change, AllocError>
+    pub(crate) fn apply(
+        self,
+        alloc: Global,
+        rows: &mut SlotList<Row>,
+        near: &mut usize,
+    ) -> Result<Change, AllocError>
         requires { Suits self rows.old.items }
         ensures ok { IfOk result (λ change. (rows.new.items ≡ edited self.entry rows.old.items)
             × IsUndoneBy change rows.new.items rows.old.items) }
@@ -45,7 +55,7 @@ impl Edit<'_> {
         ensures room { rows.old.capacity ≤ rows.new.capacity }
         ensures within { length rows.new.items ≤ rows.new.capacity }
     {
-        let made = self.make(alloc, rows);
+        let made = self.make(alloc, rows, near);
         // The length tells the prover that the rows have room.
         let _len = rows.len();
         made

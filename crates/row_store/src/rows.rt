@@ -1,4 +1,5 @@
-//! The writes to the rows of one tree, and what undoes them.
+//! The writes to the rows of one tree, and what undoes them. A search begins at the place near which
+//! the row is likely to stand.
 
 ghost use Rattle.std.specs.Prelude.{◌≡◌, ◌≤◌, ◌+◌, ◌++◌, [], length, IfOk, OnErr};
 ghost use Rattle.sqlite_trees.specs.Tree.{put_row, without_rowid, insert_entry, remove_entry};
@@ -61,11 +62,16 @@ pub(crate) fn revert(alloc: Global, rows: &mut SlotList<Row>, change: Change)
 }
 
 /// Writes the row that has the rowid over `row`, or answers false.
-pub(crate) fn get(rows: &SlotList<Row>, id: i64, row: &mut Row) -> Result<bool, AllocError>
+pub(crate) fn get(
+    rows: &SlotList<Row>,
+    near: &mut usize,
+    id: i64,
+    row: &mut Row,
+) -> Result<bool, AllocError>
     requires { IsShaped shape.Table rows.now.items }
     ensures { IfOk result (Finds rows.now.items id row.new) }
 {
-    let at = Probe::BelowRowid(ValueRef::Int(id)).place(rows);
+    let at = Probe::BelowRowid(ValueRef::Int(id)).place(rows, near);
     if has_rowid_at(rows, at, ValueRef::Int(id)) {
         row.copy_from(rows.at(at))?;
         Ok(true)
@@ -75,14 +81,18 @@ pub(crate) fn get(rows: &SlotList<Row>, id: i64, row: &mut Row) -> Result<bool, 
 }
 
 /// Puts the row in its place, or in the place of the one that has its rowid.
-pub(crate) fn put(rows: &mut SlotList<Row>, new: Row) -> Result<Change, AllocError>
+pub(crate) fn put(
+    rows: &mut SlotList<Row>,
+    near: &mut usize,
+    new: Row,
+) -> Result<Change, AllocError>
     requires { IsShaped shape.Table rows.old.items }
     ensures ok { IfOk result (λ _. rows.new.items ≡ put_row new rows.old.items) }
     ensures undone { IfOk result (λ change. IsUndoneBy change rows.new.items rows.old.items) }
     ensures err { OnErr result (rows.new.items ≡ rows.old.items) }
     ensures room { rows.old.capacity ≤ rows.new.capacity }
 {
-    let at = Probe::BelowRowid(new.get(0)).place(rows);
+    let at = Probe::BelowRowid(new.get(0)).place(rows, near);
     if has_rowid_at(rows, at, new.get(0)) {
         let old = rows.replace(at, new);
         return Ok(Change::Replaced(at, old));
@@ -107,13 +117,13 @@ pub(crate) fn empty(alloc: Global, rows: &mut SlotList<Row>) -> Result<Change, A
 }
 
 /// Takes the row that has the rowid.
-pub(crate) fn delete(alloc: Global, rows: &mut SlotList<Row>, id: i64) -> Change
+pub(crate) fn delete(alloc: Global, rows: &mut SlotList<Row>, near: &mut usize, id: i64) -> Change
     requires { IsShaped shape.Table rows.old.items }
     ensures rows { rows.new.items ≡ without_rowid id rows.old.items }
     ensures undone { IsUndoneBy result rows.new.items rows.old.items }
     ensures room { rows.old.capacity ≤ rows.new.capacity }
 {
-    let at = Probe::BelowRowid(ValueRef::Int(id)).place(rows);
+    let at = Probe::BelowRowid(ValueRef::Int(id)).place(rows, near);
     if has_rowid_at(rows, at, ValueRef::Int(id)) {
         Change::Removed(at, rows.remove(at, Row::new(alloc)))
     } else {
@@ -122,14 +132,19 @@ pub(crate) fn delete(alloc: Global, rows: &mut SlotList<Row>, id: i64) -> Change
 }
 
 /// Puts the entry in its place, unless an equal one is there.
-pub(crate) fn insert(rows: &mut SlotList<Row>, order: Order, new: Row) -> Result<Change, AllocError>
+pub(crate) fn insert(
+    rows: &mut SlotList<Row>,
+    near: &mut usize,
+    order: Order,
+    new: Row,
+) -> Result<Change, AllocError>
     requires { IsShaped (shape.Index order) rows.old.items }
     ensures ok { IfOk result (λ _. rows.new.items ≡ insert_entry order new rows.old.items) }
     ensures undone { IfOk result (λ change. IsUndoneBy change rows.new.items rows.old.items) }
     ensures err { OnErr result (rows.new.items ≡ rows.old.items) }
     ensures room { rows.old.capacity ≤ rows.new.capacity }
 {
-    let at = Probe::BelowEntry(order, &new).place(rows);
+    let at = Probe::BelowEntry(order, &new).place(rows, near);
     if has_entry_at(order, rows, at, &new) {
         return Ok(Change::Nothing);
     }
@@ -138,13 +153,19 @@ pub(crate) fn insert(rows: &mut SlotList<Row>, order: Order, new: Row) -> Result
 }
 
 /// Takes the entry.
-pub(crate) fn remove(alloc: Global, rows: &mut SlotList<Row>, order: Order, entry: &Row) -> Change
+pub(crate) fn remove(
+    alloc: Global,
+    rows: &mut SlotList<Row>,
+    near: &mut usize,
+    order: Order,
+    entry: &Row,
+) -> Change
     requires { IsShaped (shape.Index order) rows.old.items }
     ensures rows { rows.new.items ≡ remove_entry order entry.now rows.old.items }
     ensures undone { IsUndoneBy result rows.new.items rows.old.items }
     ensures room { rows.old.capacity ≤ rows.new.capacity }
 {
-    let at = Probe::BelowEntry(order, entry).place(rows);
+    let at = Probe::BelowEntry(order, entry).place(rows, near);
     if has_entry_at(order, rows, at, entry) {
         Change::Removed(at, rows.remove(at, Row::new(alloc)))
     } else {

@@ -40,6 +40,8 @@ pub struct RowStore {
     pub(crate) rows: Vec<SlotList<Row>>,
     pub(crate) version: u32,
     pub(crate) cursors: Vec<Option<Cursor>>,
+    /// In each tree the place that the last search found, where the next one begins.
+    pub(crate) places: [usize; TREES],
     pub(crate) log: Vec<Undo>,
     /// The length of the log at each savepoint.
     pub(crate) marks: Vec<usize>,
@@ -82,6 +84,7 @@ impl RowStore {
             rows,
             version: 0,
             cursors: Vec::new(alloc),
+            places: [0; TREES],
             log: Vec::new(alloc),
             marks: Vec::new(alloc),
         })
@@ -96,8 +99,30 @@ impl RowStore {
             .map_or(Shape::Absent, |head| head.shape)
     }
 
+    /// Where a seek begins: at the place that the last search found, or backward at the end.
+    pub(crate) fn near(&self, tree: usize, direction: Direction) -> usize {
+        match direction {
+            Direction::Forward if tree < TREES => self.places[tree],
+            Direction::Forward => 0,
+            Direction::Backward => usize::MAX,
+        }
+    }
+
+    /// Keeps the place that a search in the tree found.
+    pub(crate) fn keep_place(places: &mut [usize; TREES], tree: usize, place: usize) {
+        if tree < TREES {
+            places[tree] = place;
+        }
+    }
+
     /// The cursor of a seek.
-    pub(crate) fn placed(&self, tree: usize, key: &Row, direction: Direction) -> Cursor
+    pub(crate) fn placed(
+        &self,
+        near: &mut usize,
+        tree: usize,
+        key: &Row,
+        direction: Direction,
+    ) -> Cursor
         // Wide: the rows, the index and what undoes the write.
         ensures { left_of (now self.now).rows result
             ≡ sought (order_of (shape_in (now self.now).headings tree)) direction key.now
@@ -112,8 +137,8 @@ impl RowStore {
             };
         };
         let at = match direction {
-            Direction::Forward => Probe::BelowKey(order, key).place(rows),
-            Direction::Backward => Probe::UpToKey(order, key).place(rows),
+            Direction::Forward => Probe::BelowKey(order, key).place(rows, near),
+            Direction::Backward => Probe::UpToKey(order, key).place(rows, near),
         };
         Cursor {
             tree,
@@ -163,6 +188,7 @@ impl RowStore {
     fn edit_rows(
         alloc: Global,
         rows: &mut Vec<SlotList<Row>>,
+        near: &mut usize,
         tree: usize,
         edit: Edit<'_>,
     ) -> Result<Change, AllocError>
@@ -174,7 +200,7 @@ impl RowStore {
             ≡ map (λ v. v.items) rows.old.items) }
         ensures room { HasRoomOf rows.old.items rows.new.items }
     {
-        edit.apply(alloc, &mut rows[tree])
+        edit.apply(alloc, &mut rows[tree], near)
     }
 
     /// Makes one write, and notes what undoes it.
@@ -190,7 +216,8 @@ impl RowStore {
         ensures memory { IfErr result (λ e. e ≡ StoreError.OutOfMemory) }
     {
         self.log.reserve(1)?;
-        let change = Self::edit_rows(self.alloc, &mut self.rows, tree as usize, edit)?;
+        let near = &mut self.places[tree as usize];
+        let change = Self::edit_rows(self.alloc, &mut self.rows, near, tree as usize, edit)?;
         self.log.push_reserved(Undo::Rows(tree as usize, change));
         self.cursors.clear();
         Ok(())

@@ -79,7 +79,9 @@ impl Store for RowStore {
         key: &Row,
         direction: Direction,
     ) -> Result<(), StoreError> {
-        let placed = self.placed(tree as usize, key, direction);
+        let mut near = self.near(tree as usize, direction);
+        let placed = self.placed(&mut near, tree as usize, key, direction);
+        Self::keep_place(&mut self.places, tree as usize, near);
         Ok(Self::set_cursor(&mut self.cursors, usize::from(cursor), placed)?)
     }
 
@@ -95,7 +97,8 @@ impl Store for RowStore {
     }
 
     fn get(&mut self, table: u32, id: i64, row: &mut Row) -> Result<bool, StoreError> {
-        Ok(get(&self.rows[table as usize], id, row)?)
+        let near = &mut self.places[table as usize];
+        Ok(get(&self.rows[table as usize], near, id, row)?)
     }
 
     fn put(&mut self, table: u32, row: &Row) -> Result<(), StoreError> {

@@ -37,3 +37,9 @@ returns-clause-ok c _ =
     let read : rows_in (now s).rows c.args.table ≡ c.index.result.now.items = read_at (λ (v : Slotted Row). v.items) s.rows.items c.args.table c.index.result.now [] within c.index.ensures in
     let fits = c.ranges.id in
     rw (named_rows s c.args.table (omega arith), read) (simp to_z-of_z at c.in_ok-get.ensures)
+
+pub bounds-self-table : goal.bounds-self-table
+bounds-self-table c =
+    let s = c.args.self.now in
+    let table : (row_view s).shape c.args.table ≡ Table = c.requires (no_doubt true refl) in
+    low_tree s c.args.table (omega arith) (λ none. cc)
