@@ -9,6 +9,7 @@ mod probe;
 mod rows;
 mod store;
 mod traits;
+mod typed;
 
 pub use open::connect;
 pub use store::RowStore;

@@ -8,10 +8,10 @@ use crate::edit::Edit;
 use crate::log::{Head, Undo};
 use crate::rows::get;
 use crate::store::RowStore;
+use crate::typed::is_storable;
 use sqlite_trees::error::StoreError;
 use sqlite_trees::schema::Object;
 use sqlite_trees::store::{Alter, Direction, Shape, Store};
-use sqlite_trees::typed::is_typed;
 use sqlite_value::row::Row;
 use sqlite_value::value::ValueRef;
 use std::alloc::{AllocError, Global};
@@ -102,7 +102,7 @@ impl Store for RowStore {
     }
 
     fn put(&mut self, table: u32, row: &Row) -> Result<(), StoreError> {
-        if row.len() < 2 || !is_typed(row, self.reals(table)) {
+        if row.len() < 2 || !is_storable(row, self.reals(table)) {
             return Err(StoreError::Unstorable);
         }
         self.alter(table, Edit::Put(row))
@@ -113,7 +113,7 @@ impl Store for RowStore {
     }
 
     fn insert(&mut self, index: u32, entry: &Row) -> Result<(), StoreError> {
-        if !is_typed(entry, self.reals(index)) {
+        if !is_storable(entry, self.reals(index)) {
             return Err(StoreError::Unstorable);
         }
         self.alter(index, Edit::Insert(self.shape(index).order(), entry))
