@@ -57,7 +57,7 @@ other_answered h s l u e a other = rw (ne_eqb u s other) refl
 pub own_answered : (h : History) (s l : ℕ) (e : Event) (a : Answer) → is_waits a ≡ false → answered (entry (Line s l) e a ∷ h) s ≡ suc (answered h s)
 own_answered h s l e a ends = rw (eq-eqb s s refl, ends) refl
 
-own_waits : (h : History) (s l : ℕ) (e : Event) (a : Answer) → is_waits a ≡ true → answered (entry (Line s l) e a ∷ h) s ≡ answered h s
+pub own_waits : (h : History) (s l : ℕ) (e : Event) (a : Answer) → is_waits a ≡ true → answered (entry (Line s l) e a ∷ h) s ≡ answered h s
 own_waits h s l e a waits = rw (eq-eqb s s refl, waits) refl
 
 module _ {S : Type 0} (g : Ghosts S) (old new : State S) (s l : ℕ) (e : Event) (o : Outcome) (attempt : Attempts g old new (Line s l) e o) where

@@ -3,7 +3,7 @@ use Rattle.std.proofs.Common.{◌≡◌, ◌<◌, ◌≤◌, ◌+◌, ◌-◌, �
 use Rattle.std.specs.Int.{bit_at, bit_not, trailing_zeros}
 use Rattle.std.proofs.lemmas.Bool.{cases_eq, cases_lt}
 use Rattle.std.proofs.Math.Nat.{div-le_self}
-use Rattle.std.proofs.lemmas.Nat.Bits.{bit_at-zero, bit_at_above, bit_at_clear_other, bit_at_or, bit_at_set_other, bit_at_set_same, bit_at-trailing_zeros}
+use Rattle.std.proofs.lemmas.Nat.Bits.{bit_at-zero, bit_at_above, bit_at_and, bit_at_clear_other, bit_at_or, bit_at_set_other, bit_at_set_same, bit_at-trailing_zeros}
 
 -- what is not among them without k
 pub cleared : (n k u : ℕ) → n < 2 ^ 64 → k < 64 → bit_at (bit_and n (bit_not w64 (1 * 2 ^ k % 2 ^ 64))) u ≡ 0 → (u ≡ k) ⊎ (bit_at n u ≡ 0)
@@ -30,6 +30,13 @@ put n k u within out = ⊎_elim
 -- nor among two sets
 pub neither : (a b u : ℕ) → bit_at (bit_or a b) u ≡ 0 → (bit_at a u ≡ 0) × (bit_at b u ≡ 0)
 neither a b u out = (omega (arith, bit_at_or a b u, out), omega (arith, bit_at_or a b u, out))
+
+-- nor among both of two sets
+pub either : (a b u : ℕ) → bit_at (bit_and a b) u ≡ 0 → (bit_at a u ≡ 0) ⊎ (bit_at b u ≡ 0)
+either a b u out = ⊎_elim
+    (λ (some : 0 < bit_at a u). inr (omega (arith, bit_at_and a b u, some, out)))
+    (λ (none : bit_at a u ≤ 0). inl (omega (arith, none)))
+    (cases_lt 0 (bit_at a u))
 
 -- where none is left from one on, none from there on is among them
 pub none_from : (n from u : ℕ) → n / 2 ^ from ≡ 0 → from ≤ u → bit_at n u ≡ 0

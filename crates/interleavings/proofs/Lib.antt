@@ -4,6 +4,7 @@ pub mod Trails
 pub mod Attempts
 pub mod Numbers
 pub mod Stuck
+pub mod Crowds
 pub mod LeftOut
 pub mod Schedules
 pub mod Calls

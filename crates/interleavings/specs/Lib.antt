@@ -3,6 +3,7 @@ pub mod Reports
 pub mod Trails
 pub mod Attempts
 pub mod Turning
+pub mod Crowds
 pub mod LeftOut
 pub mod Scheduled
 pub mod Runs

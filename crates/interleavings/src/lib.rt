@@ -7,6 +7,7 @@
 #![tactic(auto)]
 
 mod attempt;
+mod crowd;
 mod noting;
 mod progress;
 mod ready;
@@ -14,6 +15,7 @@ mod report;
 mod run;
 mod schedule;
 mod served;
+mod sets;
 mod turns;
 
 pub use progress::Progress;

@@ -1,11 +1,32 @@
 //! What an attempt does to who may go on.
-ghost use Rattle.std.specs.Prelude.{◌≡◌, ◌⊎◌, ◌<◌, ℕ, Some};
-ghost use Rattle.interleavings.specs.LeftOut.{IsIdle, IsLeftOut, IsLeftOutByBegins, IsNoted, StaysBy, is_after};
+ghost use Rattle.std.specs.Prelude.{◌≡◌, ◌⊎◌, ◌<◌, ℕ, Some, false};
+ghost use Rattle.interleavings.specs.Crowds.{AreGatheredBy, IsGathered, IsOfWriter, StaysIn, came_of, is_abort, is_write_at};
+ghost use Rattle.interleavings.specs.LeftOut.{IsIdle, IsLeftOut, IsLeftOutByBegins, IsNoted, IsStillPlain, StaysBy, StaysOutBy, is_after};
 
 use crate::ready::Ready;
 use durable_top::TopStore;
-use manager_core::Manager;
-use serial_spec::Event;
+use manager_core::{Manager, Outcome};
+use serial_spec::{Event, Kind};
+
+/// What came of an attempt, its reply and its cause aside.
+#[derive(Clone, Copy)]
+pub(crate) enum Came {
+    Done,
+    Waits,
+    Refused,
+}
+
+/// What came of an attempt that came to this.
+#[inline(always)]
+pub(crate) fn came_of(outcome: &Outcome) -> Came
+    ensures { result ≡ came_of outcome.now }
+{
+    match outcome {
+        Outcome::Done(_) => Came::Done,
+        Outcome::Waits => Came::Waits,
+        Outcome::Refused(_) => Came::Refused,
+    }
+}
 
 /// Whether this is an `after` line.
 #[inline(always)]
@@ -18,6 +39,20 @@ pub(crate) fn is_after(event: &Event) -> bool
     }
 }
 
+// Whether this is an access that writes a key.
+#[inline(always)]
+fn is_write_at(event: &Event) -> bool
+    ensures { result ≡ is_write_at event.now }
+{
+    match event {
+        Event::Access(_, _, op) => match op.kind() {
+            Kind::Write => true,
+            Kind::Read => false,
+        },
+        _ => false,
+    }
+}
+
 // Brings back whom one entry of a line that asks this may let go on.
 #[inline(always)]
 fn bring_back_by(ready: &mut Ready, due: &Event)
@@ -26,18 +61,94 @@ fn bring_back_by(ready: &mut Ready, due: &Event)
     ensures begins { (u : ℕ) → IsLeftOutByBegins ready.new u →
         IsIdle ready.old u ⊎ IsLeftOutByBegins ready.old u }
     ensures idle { (u : ℕ) → IsIdle ready.new u → IsIdle ready.old u }
+    ensures crowd { (u : ℕ) → u < 64 → IsGathered ready.new.crowd u →
+        (is_abort due.now ≡ false) × (ready.new.crowd ≡ ready.old.crowd) }
 {
     match due {
         Event::Begin(_) => ready.bring_back_afters(),
-        Event::Commit(_) | Event::Abort(_) => ready.bring_back_busy(),
+        Event::Commit(_) => ready.bring_back_busy(),
+        Event::Abort(_) => ready.bring_back_all(),
         Event::Access(_, _, _) | Event::Sum(_, _) | Event::After(_, _) => {}
     }
 }
 
-/// Notes who may go on after an attempt of the session's line, which asks this, where there were so
-/// many entries before. A line to which nothing happened is held up. One entry lets no line go on
-/// but by an end, or by a begin for which an `after` line waits, while few keys are known; more than
-/// one are victims too. None gives a session a line more.
+// The session may go on after one entry of its line, which asks this, and so may whom that lets go.
+#[inline(always)]
+fn note_others(ready: &mut Ready, session: u32, due: &Event)
+    requires { session < 64 }
+    ensures out { (u : ℕ) → IsLeftOut ready.new u →
+        IsIdle ready.old u ⊎ ((u ≡ session → ⊥) × StaysBy ready.old due.now u) }
+    ensures begins { (u : ℕ) → IsLeftOutByBegins ready.new u →
+        IsIdle ready.old u ⊎ IsLeftOutByBegins ready.old u }
+    ensures idle { (u : ℕ) → IsIdle ready.new u → IsIdle ready.old u }
+    ensures crowd { (u : ℕ) → u < 64 → IsGathered ready.new.crowd u →
+        StaysIn ready.old.crowd ready.new.crowd session due.now u }
+{
+    bring_back_by(ready, due);
+    ready.bring_back(session);
+}
+
+// Leaves out those that wait at the key that the session, one of them, has written by this line.
+#[inline(always)]
+fn pass_over(ready: &mut Ready, session: u32, due: &Event)
+    requires { session < 64 }
+    ensures out { (u : ℕ) → IsLeftOut ready.new u → IsLeftOut ready.old u
+        ⊎ IsOfWriter ready.old.crowd session due.now u }
+    ensures begins { (u : ℕ) → IsLeftOutByBegins ready.new u → IsLeftOutByBegins ready.old u
+        ⊎ IsOfWriter ready.old.crowd session due.now u }
+    ensures idle { (u : ℕ) → IsIdle ready.new u → IsIdle ready.old u }
+    ensures crowd { ready.new.crowd ≡ ready.old.crowd }
+{
+    if ready.crowd.has(session) && is_write_at(due) {
+        ready.leave_crowd_out();
+    }
+}
+
+// Notes one entry by which the session's line, which asks this, has begun to wait.
+fn note_wait(ready: &mut Ready, session: u32, due: &Event)
+    requires { session < 64 }
+    ensures out { (u : ℕ) → u < 64 → IsLeftOut ready.new u →
+        IsIdle ready.old u ⊎ StaysOutBy ready.old session due.now Came.Waits u }
+    ensures begins { (u : ℕ) → u < 64 → IsLeftOutByBegins ready.new u →
+        IsIdle ready.old u ⊎ IsStillPlain ready.old session due.now u }
+    ensures idle { (u : ℕ) → IsIdle ready.new u → IsIdle ready.old u }
+    ensures crowd { AreGatheredBy ready.old.crowd ready.new.crowd session due.now Came.Waits }
+{
+    match due {
+        Event::Access(name, key, _) => {
+            ready.leave_out(session, false);
+            ready.gather(session, name, key);
+        }
+        _ => note_others(ready, session, due),
+    }
+}
+
+// Notes one entry of the session's line, which asks this: it waits, or others may go on.
+#[inline(always)]
+fn note_entry(ready: &mut Ready, session: u32, due: &Event, came: Came)
+    requires { session < 64 }
+    ensures out { (u : ℕ) → u < 64 → IsLeftOut ready.new u →
+        IsIdle ready.old u ⊎ StaysOutBy ready.old session due.now came u }
+    ensures begins { (u : ℕ) → u < 64 → IsLeftOutByBegins ready.new u →
+        IsIdle ready.old u ⊎ IsStillPlain ready.old session due.now u }
+    ensures idle { (u : ℕ) → IsIdle ready.new u → IsIdle ready.old u }
+    ensures crowd { AreGatheredBy ready.old.crowd ready.new.crowd session due.now came }
+{
+    match came {
+        Came::Waits => note_wait(ready, session, due),
+        Came::Done => {
+            pass_over(ready, session, due);
+            note_others(ready, session, due);
+        }
+        Came::Refused => note_others(ready, session, due),
+    }
+}
+
+/// Notes who may go on after an attempt of the session's line, which asks this and of which this
+/// came, where there were so many entries before. A line to which nothing happened is held up. One
+/// entry lets no line go on but by an end, or by a begin for which an `after` line waits, while few
+/// keys are known; more than one are victims too. None gives a session a line more. Of those that
+/// wait at one key the first that writes it keeps the others out, which need not be looked at.
 #[inline(always)]
 pub(crate) fn note_attempt<S: TopStore>(
     ready: &mut Ready,
@@ -45,18 +156,18 @@ pub(crate) fn note_attempt<S: TopStore>(
     before: usize,
     session: u32,
     due: &Event,
+    came: Came,
 )
     requires { session < 64 }
     ensures { IsNoted ready.old ready.new manager.now.rows manager.now.history before session
-        due.now }
+        due.now came }
 {
     let entries = manager.history().len();
     if entries <= before {
         ready.leave_out(session, is_after(due));
     } else if entries - before > 1 || !manager.knows_few() {
-        ready.bring_back_busy();
+        ready.bring_back_all();
     } else {
-        ready.bring_back(session);
-        bring_back_by(ready, due);
+        note_entry(ready, session, due, came);
     }
 }

@@ -1,44 +1,12 @@
 //! Which sessions may go on, one bit for each.
-ghost use Rattle.std.specs.Prelude.{◌≡◌, ◌⊎◌, ◌<◌, ◌≤◌, ℕ, false, IfNone, IfSome};
-ghost use Rattle.std.specs.Int.{bit_at};
+ghost use Rattle.std.specs.Prelude.{◌≡◌, ◌⊎◌, ◌<◌, ◌≤◌, ℕ, length, false, IfNone, IfSome};
+ghost use Rattle.interleavings.specs.Crowds.{AreJoinedBy, IsGathered, IsStillIn};
 ghost use Rattle.interleavings.specs.LeftOut.{IsIdle, IsLeftOut, IsLeftOutByBegins, IsWoken};
 
+use crate::crowd::Crowd;
+use crate::sets::{first_from, with, without};
 use serial_spec::MOST_SESSIONS;
-
-// The set without this session.
-#[inline(always)]
-fn without(bits: u64, session: u32) -> u64
-    requires { session < 64 }
-    ensures { (u : ℕ) → bit_at result u ≡ 0 → (u ≡ session) ⊎ (bit_at bits u ≡ 0) }
-{
-    bits & !(1 << session)
-}
-
-// The set with this session.
-#[inline(always)]
-fn with(bits: u64, session: u32) -> u64
-    requires { session < 64 }
-    ensures { (u : ℕ) → bit_at result u ≡ 0 → (bit_at bits u ≡ 0) × (u ≡ session → ⊥) }
-{
-    bits | (1 << session)
-}
-
-// The first of the set from this one on.
-#[inline(always)]
-fn first_from(bits: u64, from: u32) -> Option<u32>
-    ensures some { IfSome result (λ next. (from ≤ next) × (next < 64)
-        × ((u : ℕ) → from ≤ u → u < next → bit_at bits u ≡ 0)) }
-    ensures none { IfNone result ((u : ℕ) → from ≤ u → bit_at bits u ≡ 0) }
-{
-    if from >= 64 {
-        return None;
-    }
-    let rest = bits >> from;
-    if rest == 0 {
-        return None;
-    }
-    Some(from + rest.trailing_zeros())
-}
+use txn_names::{Key, Name};
 
 /// The sessions that may go on, by their numbers below `MOST_SESSIONS`. Of those that are left out
 /// it is known that no attempt does anything.
@@ -50,6 +18,8 @@ pub(crate) struct Ready {
     pub(crate) afters: u64,
     // Those that may have a line left. No entry lets any other go on.
     pub(crate) busy: u64,
+    // Some that wait at one key, left out or not.
+    pub(crate) crowd: Crowd,
 }
 
 impl Ready {
@@ -58,11 +28,13 @@ impl Ready {
     pub(crate) fn all() -> Ready
         ensures out { (u : ℕ) → u < 64 → IsLeftOut result u → ⊥ }
         ensures idle { (u : ℕ) → u < 64 → IsIdle result u → ⊥ }
+        ensures crowd { (u : ℕ) → u < 64 → IsGathered result.crowd u → ⊥ }
     {
         Ready {
             may: u64::MAX,
             afters: 0,
             busy: u64::MAX,
+            crowd: Crowd::none(),
         }
     }
 
@@ -73,6 +45,7 @@ impl Ready {
         ensures begins { (u : ℕ) → IsLeftOutByBegins self.new u →
             ((u ≡ session) × (is_after ≡ false)) ⊎ IsLeftOutByBegins self.old u }
         ensures idle { (u : ℕ) → IsIdle self.new u → IsIdle self.old u }
+        ensures crowd { self.new.crowd ≡ self.old.crowd }
     {
         if (session as usize) < MOST_SESSIONS {
             self.may = without(self.may, session);
@@ -91,6 +64,7 @@ impl Ready {
         ensures begins { (u : ℕ) → IsLeftOutByBegins self.new u →
             (u ≡ session) ⊎ IsLeftOutByBegins self.old u }
         ensures idle { (u : ℕ) → IsIdle self.new u → (u ≡ session) ⊎ IsIdle self.old u }
+        ensures crowd { self.new.crowd ≡ self.old.crowd }
     {
         if (session as usize) < MOST_SESSIONS {
             self.may = without(self.may, session);
@@ -99,15 +73,43 @@ impl Ready {
         }
     }
 
-    /// The session may go on.
+    /// Leaves all of the crowd out, which wait for no condition.
+    #[inline(always)]
+    pub(crate) fn leave_crowd_out(&mut self)
+        ensures out { (u : ℕ) → IsLeftOut self.new u →
+            IsLeftOut self.old u ⊎ IsGathered self.old.crowd u }
+        ensures begins { (u : ℕ) → IsLeftOutByBegins self.new u →
+            IsLeftOutByBegins self.old u ⊎ IsGathered self.old.crowd u }
+        ensures idle { (u : ℕ) → IsIdle self.new u → IsIdle self.old u }
+        ensures crowd { self.new.crowd ≡ self.old.crowd }
+    {
+        self.may &= self.crowd.apart;
+    }
+
+    /// The session may go on, and is no more of the crowd.
     #[inline(always)]
     pub(crate) fn bring_back(&mut self, session: u32)
         requires { session < 64 }
         ensures out { (u : ℕ) → IsLeftOut self.new u → IsLeftOut self.old u × (u ≡ session → ⊥) }
         ensures begins { (u : ℕ) → IsLeftOutByBegins self.new u → IsLeftOutByBegins self.old u }
         ensures idle { (u : ℕ) → IsIdle self.new u → IsIdle self.old u }
+        ensures crowd { (u : ℕ) → IsGathered self.new.crowd u →
+            IsStillIn self.old.crowd self.new.crowd session u }
     {
         self.may = with(self.may, session);
+        self.crowd.leave(session);
+    }
+
+    /// The session, whose line waits at this key by this transaction, joins the crowd.
+    pub(crate) fn gather(&mut self, session: u32, name: &Name, key: &Key)
+        requires { session < 64 }
+        ensures out { (u : ℕ) → IsLeftOut self.new u → IsLeftOut self.old u }
+        ensures begins { (u : ℕ) → IsLeftOutByBegins self.new u → IsLeftOutByBegins self.old u }
+        ensures idle { (u : ℕ) → IsIdle self.new u → IsIdle self.old u }
+        ensures crowd { AreJoinedBy self.old.crowd self.new.crowd session key.now
+            (length name.now) }
+    {
+        self.crowd.join(session, name, key);
     }
 
     /// Those that may wait by an `after` line may go on.
@@ -115,6 +117,7 @@ impl Ready {
     pub(crate) fn bring_back_afters(&mut self)
         ensures out { (u : ℕ) → IsLeftOut self.new u → IsLeftOutByBegins self.old u }
         ensures idle { (u : ℕ) → IsIdle self.new u → IsIdle self.old u }
+        ensures crowd { self.new.crowd ≡ self.old.crowd }
     {
         self.may |= self.afters;
     }
@@ -124,8 +127,20 @@ impl Ready {
     pub(crate) fn bring_back_busy(&mut self)
         ensures out { (u : ℕ) → IsLeftOut self.new u → IsIdle self.old u }
         ensures idle { (u : ℕ) → IsIdle self.new u → IsIdle self.old u }
+        ensures crowd { self.new.crowd ≡ self.old.crowd }
     {
         self.may = self.busy;
+    }
+
+    /// As `bring_back_busy`, and nobody is of the crowd any more.
+    #[inline(always)]
+    pub(crate) fn bring_back_all(&mut self)
+        ensures out { (u : ℕ) → IsLeftOut self.new u → IsIdle self.old u }
+        ensures idle { (u : ℕ) → IsIdle self.new u → IsIdle self.old u }
+        ensures crowd { (u : ℕ) → u < 64 → IsGathered self.new.crowd u → ⊥ }
+    {
+        self.may = self.busy;
+        self.crowd = Crowd::none();
     }
 
     /// The session has a line more, and may go on.
@@ -135,6 +150,7 @@ impl Ready {
     {
         self.may = with(self.may, session);
         self.busy = with(self.busy, session);
+        self.crowd.leave(session);
     }
 
     /// The first session from this one on that may go on.

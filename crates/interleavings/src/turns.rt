@@ -14,12 +14,12 @@ ghost use Rattle.interleavings.specs.Turning.{IsClosed, IsDue, IsFirstOpen, IsSt
 mod looking;
 
 use crate::attempt::attempt;
-use crate::noting::{is_after, note_attempt};
+use crate::noting::{Came, came_of, is_after, note_attempt};
 use crate::progress::Progress;
 use crate::ready::Ready;
 use crate::report::{Report, labels_of, report_of};
 use durable_top::{Row, TopStore};
-use manager_core::{Manager, OpenFault, Outcome};
+use manager_core::{Manager, OpenFault};
 use serial_spec::{By, Event, NoMemory};
 use session_text::Sessions;
 use std::alloc::Global;
@@ -236,15 +236,13 @@ impl<'a, S: TopStore> Turns<'a, S> {
         let _count = self.sessions.len();
         let by = By::Line { session, line };
         let before = self.manager.history().len();
-        match attempt(&mut self.manager, by, due)? {
-            Outcome::Waits => {
-                note_attempt(&mut self.ready, &self.manager, before, session, due);
-                Ok(Turn::Parked)
-            }
+        let came = came_of(&attempt(&mut self.manager, by, due)?);
+        note_attempt(&mut self.ready, &self.manager, before, session, due, came);
+        match came {
+            Came::Waits => Ok(Turn::Parked),
             _ => {
                 self.next[session as usize] = line + 1;
                 self.lead = session;
-                note_attempt(&mut self.ready, &self.manager, before, session, due);
                 Ok(Turn::Answered)
             }
         }

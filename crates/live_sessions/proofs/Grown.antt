@@ -13,6 +13,8 @@ use Rattle.growing_sessions.specs.Growing.{IsOpenEnded, labels_in}
 use Rattle.growing_sessions.proofs.Exports.{growth_keeps, new_session_unanswered, line_extends, session_extends}
 use Rattle.manager_core.specs.State.{State}
 use Rattle.interleavings.specs.declared.ready.Ready.{Ready}
+use Rattle.interleavings.specs.declared.crowd.Crowd.{Crowd}
+use Rattle.interleavings.specs.Crowds.{IsGathered, IsSameCrowd, WaitsIn}
 use Rattle.interleavings.specs.LeftOut.{AreLeftOut, IsIdle, IsLeftOut, IsLeftOutByBegins, IsWoken, is_after}
 use Rattle.interleavings.specs.Progressing.{Going, AreUnderWay, turning}
 use Rattle.interleavings.specs.Turning.{AreTurns, has_answer}
@@ -87,16 +89,31 @@ other_session (x ∷ ss) zero e (suc u) other = refl
 other_session (x ∷ ss) (suc s) e zero other = refl
 other_session (x ∷ ss) (suc s) e (suc u) other = other_session ss s e u (λ same. other (ap (λ (n : ℕ). suc n) same))
 
+-- of a crowd each waits by the line that it had
+waits_in_more : (ss more : List Session) (h : History) (c c2 : Crowd) (u : ℕ) → IsSameCrowd c c2 → next_event more h u ≡ next_event ss h u → WaitsIn ss h c u → WaitsIn more h c2 u
+waits_in_more ss more h c c2 u same event w = record {
+  txn = w.txn;
+  key = w.key;
+  op = w.op;
+  at = record { key = same.key ∙ w.at.key; depth = same.depth ∙ w.at.depth };
+  event = event ∙ w.event;
+  begun = w.begun;
+  waited = w.waited;
+  waits = w.waits;
+}
+
 -- of those that are left out still each has the line that it had
 left_more : (rows : Rows) (ss more : List Session) (h : History) (r r2 : Ready) → AreLeftOut rows ss h r
     → ((u : ℕ) → IsLeftOut r2 u → IsLeftOut r u × (next_event more h u ≡ next_event ss h u))
     → ((u : ℕ) → IsLeftOutByBegins r2 u → IsLeftOutByBegins r u)
     → ((u : ℕ) → IsIdle r2 u → IsIdle r u × (next_event more h u ≡ next_event ss h u))
+    → ((u : ℕ) → IsGathered r2.crowd u → IsGathered r.crowd u × IsSameCrowd r.crowd r2.crowd × (next_event more h u ≡ next_event ss h u))
     → AreLeftOut rows more h r2
-left_more rows ss more h r r2 left out begins idle = record {
+left_more rows ss more h r r2 left out begins idle crowd = record {
   held = λ u o. ap (has_answer rows h u) (out u o).1 ∙ left.held u (out u o).0;
   begins = λ u o. ap is_after (out u o.0).1 ∙ left.begins u (begins u o);
   idle = λ u o. (idle u o).1 ∙ left.idle u (idle u o).0;
+  crowd = λ u low o. waits_in_more ss more h r.crowd r2.crowd u (crowd u o).1 (crowd u o).2 (left.crowd u low (crowd u o).0);
 }
 
 module _ {S : Type 0} (ss : List Session) (p : Going S) (way : AreUnderWay ss p) (lasting : IsOpenEnded p.core.history) where
@@ -118,7 +135,8 @@ module _ {S : Type 0} (ss : List Session) (p : Going S) (way : AreUnderWay ss p)
                 (omega (arith, there, more, turns.next.count));
           };
         },
-        left_more p.core.rows ss (with_header ss l) p.core.history p.ready p.ready way.1 (λ u o. (o, same u)) (λ u o. o) (λ u o. (o, same u)),
+        left_more p.core.rows ss (with_header ss l) p.core.history p.ready p.ready way.1 (λ u o. (o, same u)) (λ u o. o) (λ u o. (o, same u))
+            (λ u o. (o, record { key = refl; depth = refl }, same u)),
       )
     where
       same : (u : ℕ) → next_event (with_header ss l) p.core.history u ≡ next_event ss p.core.history u
@@ -137,7 +155,8 @@ module _ {S : Type 0} (ss : List Session) (p : Going S) (way : AreUnderWay ss p)
       };
     },
     left_more p.core.rows ss (with_line_of ss s e) p.core.history p.ready r way.1 (λ u o. ((woken.out u o).0, same u (woken.out u o).1)) woken.begins
-        (λ u o. ((woken.idle u o).0, same u (woken.idle u o).1)),
+        (λ u o. ((woken.idle u o).0, same u (woken.idle u o).1))
+        (λ u o. let still = woken.crowd u o in (still.gathered, still.same, same u still.other)),
   )
     where
       same : (u : ℕ) → (u ≡ s → ⊥) → next_event (with_line_of ss s e) p.core.history u ≡ next_event ss p.core.history u

@@ -6,4 +6,5 @@ pub returns : goal.returns
 returns c = record {
   out = λ u within out. omega (arith, bit_at_ones 64 u within, out);
   idle = λ u within out. omega (arith, bit_at_ones 64 u within, out);
+  crowd = λ u within gathered. c.none.ensures u within gathered;
 }

@@ -5,4 +5,5 @@ returns c = record {
   out = λ u out. c.with-self.ensures u out;
   begins = λ u out. ((c.with-self.ensures u out.0).0, out.1);
   idle = λ u out. c.with-self-2.ensures u out;
+  crowd = λ u gathered. c.leave.ensures u gathered;
 }

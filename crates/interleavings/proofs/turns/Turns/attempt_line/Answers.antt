@@ -1,6 +1,7 @@
 use Rattle.std.proofs.Common.{◌+◌, length, length-set, sym, ap, ◌∙◌, arith}
 use Rattle.std.proofs.lemmas.List.{length-reverse}
-use Rattle.interleavings.proofs.LeftOut.{left_out_after}
+use Rattle.interleavings.specs.Crowds.{came_of}
+use Rattle.interleavings.proofs.LeftOut.{left_out_after, waits_of}
 use Rattle.interleavings.proofs.Numbers.{free_or_waits, is_kept, number_fits, session_there, stepped_answered, stepped_parked, turns_answered, turns_parked}
 use Rattle.interleavings.proofs.turns.Turns.attempt_line.Goals as goal
 
@@ -33,10 +34,11 @@ invariant_of-self-in-Waits g c =
     let due = rw (← c.self.view_is) at c.requires in
     let tried = rw c.deref_mut.ensures.value at c.in_ok-attempt.ensures.ok in (
       turns_parked g.S.TopStore c.self.inside.sessions.now c.self.inside.manager.value c.self.inside.next.items c.self.invariant.0 c.args.session c.args.line c.args.due.now due
-          c.attempt.new.manager c.in_ok-attempt.field-0 tried c.in-Waits.is,
+          c.attempt.new.manager c.in_ok-attempt.field-0 tried (waits_of c.in_ok-attempt.field-0 (sym c.came_of-came.ensures ∙ c.in-Waits.is)),
       left_out_after g.S.TopStore c.self.inside.sessions.now c.self.inside.manager.value c.self.inside.next.items c.self.invariant.0 c.args.session c.args.line c.args.due.now due
           c.attempt.new.manager c.in_ok-attempt.field-0 tried c.len-count.ensures.text.few c.self.inside.ready c.note_attempt.new.ready c.self.invariant.1 (length c.history-before.result.now)
-          (sym (length-reverse c.history-before.result.now) ∙ ap length (rw c.deref.ensures at c.history-before.ensures)) (rw c.deref-in-Waits.ensures at c.note_attempt.ensures),
+          (sym (length-reverse c.history-before.result.now) ∙ ap length (rw c.deref.ensures at c.history-before.ensures)) c.came_of-came.result c.came_of-came.ensures
+          (rw c.deref-2.ensures at c.note_attempt.ensures),
     )
 
 pub invariant_of-self-in_default : goal.invariant_of-self-in_default
@@ -44,10 +46,12 @@ invariant_of-self-in_default g c =
     let due = rw (← c.self.view_is) at c.requires in
     let tried = rw c.deref_mut.ensures.value at c.in_ok-attempt.ensures.ok in (
       turns_answered g.S.TopStore c.self.inside.sessions.now c.self.inside.manager.value c.self.inside.next.items c.self.invariant.0 c.args.session c.args.line c.args.due.now due
-          c.attempt.new.manager c.in_ok-attempt.field-0 tried c.in_default.not-Waits (length-set c.self.inside.next.items c.args.session (c.args.line + 1)),
+          c.attempt.new.manager c.in_ok-attempt.field-0 tried (λ is. c.in_default.not-Waits (c.came_of-came.ensures ∙ ap came_of is))
+          (length-set c.self.inside.next.items c.args.session (c.args.line + 1)),
       left_out_after g.S.TopStore c.self.inside.sessions.now c.self.inside.manager.value c.self.inside.next.items c.self.invariant.0 c.args.session c.args.line c.args.due.now due
-          c.attempt.new.manager c.in_ok-attempt.field-0 tried c.len-count.ensures.text.few c.self.inside.ready c.note_attempt-in_default.new.ready c.self.invariant.1 (length c.history-before.result.now)
-          (sym (length-reverse c.history-before.result.now) ∙ ap length (rw c.deref.ensures at c.history-before.ensures)) (rw c.deref-in_default.ensures at c.note_attempt-in_default.ensures),
+          c.attempt.new.manager c.in_ok-attempt.field-0 tried c.len-count.ensures.text.few c.self.inside.ready c.note_attempt.new.ready c.self.invariant.1 (length c.history-before.result.now)
+          (sym (length-reverse c.history-before.result.now) ∙ ap length (rw c.deref.ensures at c.history-before.ensures)) c.came_of-came.result c.came_of-came.ensures
+          (rw c.deref-2.ensures at c.note_attempt.ensures),
     )
 
 pub returns-in-Waits-clause-ok : goal.returns-in-Waits-clause-ok
@@ -56,7 +60,7 @@ returns-in-Waits-clause-ok g c =
     let tried = rw c.deref_mut.ensures.value at c.in_ok-attempt.ensures.ok in
     rw (← c.self.view_is)
     (stepped_parked g.S.TopStore c.self.inside.sessions.now c.self.inside.manager.value c.self.inside.next.items c.self.invariant.0 c.args.session c.args.line c.args.due.now due
-    c.attempt.new.manager c.in_ok-attempt.field-0 tried c.in-Waits.is)
+    c.attempt.new.manager c.in_ok-attempt.field-0 tried (waits_of c.in_ok-attempt.field-0 (sym c.came_of-came.ensures ∙ c.in-Waits.is)))
 
 pub returns-in-Waits-clause-way : goal.returns-in-Waits-clause-way
 returns-in-Waits-clause-way g c = (invariant_of-self-in-Waits g c).0.way
@@ -68,17 +72,12 @@ returns-in_default g c =
     record {
       ok = rw (← c.self.view_is)
           (stepped_answered g.S.TopStore c.self.inside.sessions.now c.self.inside.manager.value c.self.inside.next.items c.self.invariant.0 c.args.session c.args.line c.args.due.now due
-          c.attempt.new.manager c.in_ok-attempt.field-0 tried c.in_default.not-Waits);
+          c.attempt.new.manager c.in_ok-attempt.field-0 tried (λ is. c.in_default.not-Waits (c.came_of-came.ensures ∙ ap came_of is)));
       way = (invariant_of-self-in_default g c).0.way;
       err = tt;
     }
 
 pub note_attempt-requires : goal.note_attempt-requires
 note_attempt-requires g c =
-    let due = rw (← c.self.view_is) at c.requires in
-    omega (arith, session_there c.self.inside.sessions.now c.self.inside.manager.value.history c.args.session c.args.due.now due.event, c.len-count.ensures.text.few)
-
-pub note_attempt-requires-in_default : goal.note_attempt-requires-in_default
-note_attempt-requires-in_default g c =
     let due = rw (← c.self.view_is) at c.requires in
     omega (arith, session_there c.self.inside.sessions.now c.self.inside.manager.value.history c.args.session c.args.due.now due.event, c.len-count.ensures.text.few)

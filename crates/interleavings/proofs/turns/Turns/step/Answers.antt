@@ -45,7 +45,7 @@ invariant_of-self-then-stays_parked g c =
     rw (c.stays_parked.ensures.same, c.deref_mut.ensures.value) (
       c.self.invariant.0,
       one_out m.rows ss m.history c.self.inside.ready c.leave_out.new.self s c.self.invariant.1 c.is_after.result stays
-          (λ plain. ap is_after due.event ∙ sym c.is_after.ensures ∙ plain) c.leave_out.ensures.out c.leave_out.ensures.begins c.leave_out.ensures.idle,
+          (λ plain. ap is_after due.event ∙ sym c.is_after.ensures ∙ plain) c.leave_out.ensures.out c.leave_out.ensures.begins c.leave_out.ensures.idle c.leave_out.ensures.crowd,
     )
 
 pub invariant_of-self : goal.invariant_of-self
@@ -55,5 +55,5 @@ invariant_of-self g c =
     let none = rw (← c.self.view_is) at c.in_default.ensures.none in (
       c.self.invariant.0,
       one_idle m.rows ss m.history c.self.inside.ready c.leave_idle.new.self c.args.session c.self.invariant.1 none
-          c.leave_idle.ensures.out c.leave_idle.ensures.begins c.leave_idle.ensures.idle,
+          c.leave_idle.ensures.out c.leave_idle.ensures.begins c.leave_idle.ensures.idle c.leave_idle.ensures.crowd,
     )

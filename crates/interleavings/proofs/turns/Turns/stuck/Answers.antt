@@ -56,5 +56,5 @@ invariant_of-self-2 g c =
     let added = rw c.deref_mut.ensures.value at c.in_ok-cancel.ensures.ok in (
       turns_stuck ss m c.cancel.new.self c.self.inside.next.items c.self.invariant.0 s c.unwrap-line.result.0 event due must added
           (length-set c.self.inside.next.items s (c.unwrap-line.result.0 + 1)),
-      all_ready c.cancel.new.self.rows ss c.cancel.new.self.history c.all-self-inside.result c.len-count.ensures.text.few c.all-self-inside.ensures.out c.all-self-inside.ensures.idle,
+      all_ready c.cancel.new.self.rows ss c.cancel.new.self.history c.all-self-inside.result c.len-count.ensures.text.few c.all-self-inside.ensures.out c.all-self-inside.ensures.idle c.all-self-inside.ensures.crowd,
     )
