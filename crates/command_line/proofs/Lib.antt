@@ -1,0 +1,4 @@
+pub mod Texts
+pub mod Flags
+pub mod Reading
+pub mod Parsing
