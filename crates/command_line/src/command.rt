@@ -1,8 +1,8 @@
 //! The command line of the program, as `clap` reads it.
 ghost use Rattle.std.specs.Prelude.{◌≡◌, codes};
 ghost use Rattle.clap.specs.Words.{App, Rule, app_of, new_app, with_rule};
-ghost use Rattle.command_line.specs.CommandLine.{IsArgument, IsJoined, IsMade};
-ghost use Rattle.command_line.specs.CommandLine.{check_app, draw_app, flag_rule, live_app, needed_rule};
+ghost use Rattle.command_line.specs.CommandLine.{IsArgument, IsJoined, IsMade, check_app};
+ghost use Rattle.command_line.specs.CommandLine.{draw_app, flag_rule, live_app, needed_rule};
 ghost use Rattle.command_line.specs.CommandLine.{option_rule, replay_app, rows_app, run_app};
 ghost use Rattle.command_line.specs.CommandLine.{show_app, tx_app};
 
