@@ -1,9 +1,11 @@
 -- Which task the words of a command line ask for.
-use Rattle.std.specs.Prelude.{◌≡◌, ◌↔◌, Bool, List, [], Option, Some, None, IsSomeAnd, IsTrue, codes}
+use Rattle.std.specs.Prelude.{◌≡◌, ◌↔◌, Bool, List, [], Option, Some, None, Result, String, Vec}
+use Rattle.std.specs.Prelude.{IsOkAnd, IsSomeAnd, IsTrue, codes}
 use Rattle.std.specs.Borrow.{Bor}
 use Rattle.std.specs.Option.{option_copied}
 use Rattle.clap.specs.Words.{Row, Text, fault_of, first_of, one_of, subcommand_of}
 use Rattle.command_line.specs.CommandLine.{tx_app}
+use Rattle.command_line.specs.Words.{with_name}
 use Rattle.command_line.specs.declared.task.Solo.{Solo}
 use Rattle.command_line.specs.declared.task.Solo.TheVariants.{Check, Draw, Live, Replay, Rows, Show}
 use Rattle.command_line.specs.declared.task.Task.{Task}
@@ -86,3 +88,13 @@ AskNothing words = (task : Task) → Asks words task → ⊥
 abbrev pub IsRead : List Text → Option Task → Type 0
 IsRead words (Some task) = Asks words task
 IsRead words None = AskNothing words
+
+-- ---- the words behind the program's name
+
+-- they ask for the task
+abbrev pub AskedBy : {Z : Type 0} → List (String Z) → Task → Type 0
+AskedBy words = Asks (with_name words)
+
+-- the system says what they are, and they ask for the task
+abbrev pub AskedIn : {Y Z F : Type 0} → Result (Vec (String Z) Y) F → Task → Type 0
+AskedIn words task = IsOkAnd words (λ w. AskedBy w.items task)
