@@ -1,5 +1,6 @@
 -- What the words of the command line asked for, and whether it was done.
-use Rattle.std.specs.Prelude.{◌≡◌, ◌≤◌, ◌⊎◌, ℕ, Bool}
+use Rattle.std.specs.Prelude.{◌≡◌, ◌≤◌, ◌⊎◌, ℕ, Bool, IsNone}
+use Rattle.std.specs.Option.{option_copied}
 use Rattle.txn_bytes.specs.Sources.{Reader}
 use Rattle.program_words.specs.declared.status.TheConstants.{DONE, FAILED, MISUSED}
 use Rattle.program_words.specs.Faults.{IsSaid, spelled_fault}
@@ -12,15 +13,26 @@ use Rattle.tx_commands.specs.Shows.{Draws, DrawsNot, IsLacking, Shows, ShowsNot}
 use Rattle.tree_lines.specs.declared.lining.Choice.{Choice}
 use Rattle.live_commands.specs.Lives.{Lives, LivesNot}
 use Rattle.tx_machine.specs.Worlds.{State, World}
+use Rattle.worker_runs.specs.Workers.{workers_of}
 use Rattle.command_line.specs.declared.task.Task.{Task}
 use Rattle.command_line.specs.declared.task.Task.TheVariants.{Alone, Run}
 use Rattle.command_line.specs.declared.task.Solo.{Solo}
 use Rattle.command_line.specs.declared.task.Solo.TheVariants.{Check, Draw, Live, Replay, Rows, Show}
 
--- some task that words may ask for
-pub record ForSomeTask (Holds : Task → Type 0) : Type 0 where
+-- a task that is asked for
+pub record ForTask (Asked Holds : Task → Type 0) : Type 0 where
   pub task : Task
+  pub asked : Asked task
   pub so : Holds task
+
+-- none is
+abbrev pub WantsNoTask : (Task → Type 0) → Type 0
+WantsNoTask Asked = (task : Task) → Asked task → ⊥
+
+-- the task is a run, by a word that is no number of workers
+abbrev pub IsMiscounted : Task → Type 0
+IsMiscounted (Run file workers database) = IsNone (workers_of (option_copied workers))
+IsMiscounted (Alone solo) = ⊥
 
 -- what is shown under these options
 abbrev pub choice_of : Bool → Bool → Choice
@@ -109,18 +121,23 @@ module _ {H T P N I W E : Type 0} (o : World H T P N W E) (r : Reader I)
   AccountsForAlone solo status = (status ≡ FAILED) × IsCondemnedAlone o before after solo
       ⊎ (Accounts o.out o.err after.out before.err after.err status ⊎ IsLiveAlone status solo)
 
-  abbrev pub AccountsForSome : ℕ → Type 0
-  AccountsForSome status = (status ≡ FAILED) × ForSomeTask (IsCondemnedBy o before after)
+module _ {H T P N I W E : Type 0} (o : World H T P N W E) (r : Reader I)
+    (before after : State H W E) (in_old in_new : I) (Asked : Task → Type 0) where
+  abbrev pub AccountsForTask : ℕ → Type 0
+  AccountsForTask status = (status ≡ FAILED) × ForTask Asked (IsCondemnedBy o before after)
       ⊎ (Accounts o.out o.err after.out before.err after.err status
-      ⊎ ForSomeTask (IsLiveBy status))
+      ⊎ ForTask Asked (IsLiveBy o r before after in_old in_new status))
 
-  -- What the program does, by its exit status. At the first some task was done. At the second it
-  -- was not, or the words were not read. At the last, where they are no command line, nothing was
-  -- asked of the surroundings, of the input or of the output
+  -- What the program does, by its exit status. At the first a task that is asked for was done. At
+  -- the second it was not, or the words were not read. At the last none is asked for, or a run by a
+  -- wrong number of workers, and nothing was asked of the surroundings, of the input or of the
+  -- output
   pub record Serves (status : ℕ) : Type 0 where
-    pub done : status ≡ DONE → ForSomeTask IsDone
-    pub failed : status ≡ FAILED → ForSomeTask IsUndone ⊎ IsUnstarted
+    pub done : status ≡ DONE → ForTask Asked (IsDone o r before after in_old in_new)
+    pub failed : status ≡ FAILED → ForTask Asked (IsUndone o r before after in_old in_new)
+        ⊎ IsUnstarted o r before after in_old in_new
     pub misused : status ≡ MISUSED →
         (after.host ≡ before.host) × (in_new ≡ in_old) × (after.out ≡ before.out)
-    pub accounts : AccountsForSome status
+    pub unwanted : status ≡ MISUSED → WantsNoTask Asked ⊎ ForTask Asked IsMiscounted
+    pub accounts : AccountsForTask status
     pub bounded : status ≤ MISUSED

@@ -4,6 +4,7 @@ ghost use Rattle.line_language.specs.Report.{line};
 ghost use Rattle.program_words.specs.declared.status.TheConstants.{MISUSED};
 ghost use Rattle.program_words.specs.Faults.{IsSaid};
 ghost use Rattle.tx_machine.specs.Worlds.{state};
+ghost use Rattle.command_line.specs.Tasks.{AskedIn};
 ghost use Rattle.tx_program.specs.Programs.{Serves};
 
 use crate::program::tx_main;
@@ -32,10 +33,10 @@ pub fn start<H: Surroundings, R: Threads + Wait + Clock + Sync, I: Source, W: Si
     ensures unread_status { OnErr words (result ≡ MISUSED) }
     ensures served { Serves ⟦<(H, W, E) as Setting>⟧.world I.Source
         (state host.old out.old err.old) (state host.new out.new err.new)
-        input.old input.new result }
+        input.old input.new (AskedIn words) result }
 {
-    let Ok(words) = words else {
-        return misuse(err, b"tx: the command line is not text");
-    };
-    tx_main(host, threads, alloc, words.as_slice(), input, out, err)
+    match words {
+        Ok(words) => tx_main(host, threads, alloc, words.as_slice(), input, out, err),
+        Err(_) => misuse(err, b"tx: the command line is not text"),
+    }
 }
