@@ -18,7 +18,7 @@ use Rattle.manager_core.specs.StoredNumbers.{IsNumberedAfter}
 use Rattle.manager_core.specs.Sound.{IsSound, store_refusals}
 use Rattle.manager_core.specs.Closing.{closings}
 use Rattle.manager_core.specs.Calls.{Closed}
-use Rattle.interleavings.specs.Told.{Told}
+use Rattle.run_reports.specs.Told.{Told}
 use Rattle.interleavings.specs.Trails.{Trail}
 use Rattle.interleavings.proofs.Trails.{trail_closings, trail_more}
 use Rattle.interleavings.specs.Turning.{Turning, AreTurns, IsStart, IsClosed}

@@ -9,7 +9,7 @@ use Rattle.durable_top.specs.declared.store.TopStore.{Ghosts}
 use Rattle.manager_core.specs.State.{State}
 use Rattle.manager_core.specs.Opening.{most_rows}
 use Rattle.manager_core.specs.Sound.{IsSound}
-use Rattle.interleavings.specs.Reports.{IsOfSessions, IsReport, IsRow}
+use Rattle.run_reports.specs.Reports.{IsOfSessions, IsReport, IsRow}
 
 pub reported : {S : Type 0} (g : Ghosts S) (m : State S) (labels : List (List ℕ)) → IsSound g m → length m.rows ≤ most_rows → IsRising m.table → AllByRecursion IsRow m.rows
     → IsOfSessions (record { opening = m.rows; labels = labels; history = m.history; table = m.table }) → ((l : List ℕ) → IsFalse (is_live m.history (l ∷ [])))

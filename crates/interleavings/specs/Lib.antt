@@ -1,5 +1,3 @@
-pub mod Told
-pub mod Reports
 pub mod Trails
 pub mod Attempts
 pub mod Turning

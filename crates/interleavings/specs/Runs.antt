@@ -13,7 +13,7 @@ use Rattle.manager_core.specs.Opening.{HasCause, most_rows}
 use Rattle.manager_core.specs.StoredNumbers.{IsNumberedAfter}
 use Rattle.txn_history.specs.Turns.{IsUnderWay}
 use Rattle.interleavings.specs.Trails.{Trail}
-use Rattle.interleavings.specs.Told.{Told}
+use Rattle.run_reports.specs.Told.{Told}
 use Rattle.interleavings.specs.declared.run.RunFault.{RunFault}
 use Rattle.interleavings.specs.declared.run.RunFault.TheVariants.{NoMemory, Open, Schedule}
 

@@ -7,7 +7,7 @@ use Rattle.serial_spec.specs.Follows.{Steps, StepOfEach, Round, Rounds}
 use Rattle.durable_top.specs.declared.store.TopStore.{Ghosts}
 use Rattle.txn_history.specs.Turns.{IsUnderWay}
 use Rattle.manager_core.specs.Sound.{IsSound}
-use Rattle.interleavings.specs.Told.{Told}
+use Rattle.run_reports.specs.Told.{Told}
 use Rattle.interleavings.specs.Attempts.{GoesOn}
 use Rattle.interleavings.specs.Turning.{Turning, IsClosed, NoneGoesOn}
 

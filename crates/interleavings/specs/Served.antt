@@ -7,7 +7,7 @@ use Rattle.durable_top.specs.Store.{counted}
 use Rattle.manager_core.specs.Sound.{IsTrusted, store_refusals}
 use Rattle.manager_core.specs.Opening.{HasCause, HasGivenFew}
 use Rattle.manager_core.specs.StoredNumbers.{IsNumberedAfter}
-use Rattle.interleavings.specs.Told.{Told}
+use Rattle.run_reports.specs.Told.{Told}
 use Rattle.interleavings.specs.Turning.{Turning, IsClosed}
 use Rattle.interleavings.specs.Scheduled.{BreaksOff, Goes}
 use Rattle.interleavings.specs.Runs.{IsBrokenOff, WasAsked}

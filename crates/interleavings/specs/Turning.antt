@@ -18,7 +18,7 @@ use Rattle.interleavings.specs.declared.turns.Turn.{Turn}
 use Rattle.interleavings.specs.declared.turns.Turn.TheVariants.{Answered, Parked, OutOfTurn}
 use Rattle.interleavings.specs.Trails.{Trail}
 use Rattle.interleavings.specs.Attempts.{GoesOn}
-use Rattle.interleavings.specs.Told.{Told}
+use Rattle.run_reports.specs.Told.{Told}
 
 pub record Turning (S : Type 0) : Type 0 where
   pub sessions : List Session

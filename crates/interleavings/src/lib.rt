@@ -19,7 +19,6 @@ mod sets;
 mod turns;
 
 pub use progress::Progress;
-pub use report::Report;
 pub use run::{RunFault, run_opened, run_schedule};
 pub use schedule::settle;
 pub use served::ServeFault;

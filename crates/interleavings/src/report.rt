@@ -1,87 +1,20 @@
 //! The report of a finished run.
-ghost use Rattle.std.specs.Prelude.{◌≡◌, ◌≤◌, ℕ, length, List, [], ◌∷◌, map, reverse, IfOk, IsFalse, IsOk};
+ghost use Rattle.std.specs.Prelude.{◌≡◌, ◌≤◌, ℕ, length, List, [], ◌∷◌, map, IfOk, IsFalse, IsOk};
 ghost use Rattle.std.specs.List.{AllByRecursion};
 ghost use Rattle.serial_spec.specs.History.{is_live};
 ghost use Rattle.serial_spec.specs.Interleaving.{IsFinished, IsInterleaving};
 ghost use Rattle.durable_top.specs.Store.{plain};
 ghost use Rattle.manager_core.specs.Opening.{most_rows};
 ghost use Rattle.manager_core.specs.Sound.{IsSound};
-ghost use Rattle.interleavings.specs.Reports.{IsRow};
+ghost use Rattle.run_reports.specs.Reports.{IsRow};
 
 use durable_top::{Row, TopStore};
 use manager_core::Manager;
-use serial_spec::{Entry, NoMemory, PlainTable};
+use run_reports::Report;
+use serial_spec::NoMemory;
 use session_text::Sessions;
 use std::alloc::Global;
-use std::marker::Model;
 use txn_names::Label;
-
-/// What a finished run has to tell: the opening rows, the sessions' labels, each entry of the
-/// history, and the final table.
-#[derive(Drop)]
-pub struct Report {
-    pub(crate) opening: Vec<Row>,
-    pub(crate) labels: Vec<Label>,
-    // The oldest first.
-    pub(crate) history: Vec<Entry>,
-    pub(crate) table: PlainTable,
-}
-
-impl Model for Report {
-    ghost use Rattle.std.specs.Prelude.{reverse};
-    ghost use Rattle.durable_top.specs.Store.{plain};
-    ghost use Rattle.interleavings.specs.Told.{Told};
-    ghost use Rattle.interleavings.specs.Reports.{IsReport};
-
-    ghost Value = { Told };
-
-    ghost view = { λ r. record {
-      opening = plain r.opening.items;
-      labels = r.labels.items;
-      history = reverse r.history.items;
-      table = r.table.rows;
-    } };
-
-    ghost invariant = { λ r. IsReport (record {
-      opening = plain r.opening.items;
-      labels = r.labels.items;
-      history = reverse r.history.items;
-      table = r.table.rows;
-    }) };
-}
-
-impl Report {
-    ghost use Rattle.interleavings.specs.Reports.{IsReport};
-
-    /// The rows that the store gave at the opening, in byte order of their keys.
-    pub fn opening(&self) -> &[Row]
-        ensures { plain result.now ≡ self.now.opening }
-    {
-        &self.opening
-    }
-
-    /// The sessions' labels, in order.
-    pub fn labels(&self) -> &[Label]
-        ensures { result.now ≡ self.now.labels }
-    {
-        &self.labels
-    }
-
-    /// The entries, the oldest first.
-    pub fn history(&self) -> &[Entry]
-        ensures { reverse result.now ≡ self.now.history }
-    {
-        &self.history
-    }
-
-    /// The table that the committed top-level transactions left.
-    pub fn table(&self) -> &PlainTable
-        ensures table { result.now.rows ≡ self.now.table }
-        ensures report { IsReport self.now }
-    {
-        &self.table
-    }
-}
 
 /// The labels of the sessions. Where there are none it takes no memory.
 pub(crate) fn labels_of(alloc: Global, sessions: &Sessions) -> Result<Vec<Label>, NoMemory>
@@ -137,11 +70,6 @@ pub(crate) fn report_of<S: TopStore>(
     // What is known of a table comes with its length: that its keys rise.
     let _rows = parts.table.len();
     know_rows(&parts.opening);
-    let report = Report {
-        opening: parts.opening,
-        labels,
-        history: parts.history,
-        table: parts.table,
-    };
+    let report = Report::of(parts.opening, labels, parts.history, parts.table);
     (report, parts.store)
 }

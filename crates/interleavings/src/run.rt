@@ -4,11 +4,11 @@ ghost use Rattle.interleavings.specs.Runs.{HasRunCause, IsRun, TellsStray};
 ghost use Rattle.interleavings.specs.Scheduled.{BreaksOff, LetsGo, RunsOut};
 ghost use Rattle.interleavings.specs.Turning.{IsClosed};
 
-use crate::report::Report;
 use crate::schedule::run_all;
 use crate::turns::Turns;
 use durable_top::TopStore;
 use manager_core::OpenFault;
+use run_reports::Report;
 use serial_spec::NoMemory;
 use session_text::Sessions;
 use std::alloc::Global;

@@ -3,9 +3,9 @@ use Rattle.std.proofs.Common.{◌≡◌, ℕ, List, [], ◌++◌, length, sym, a
 use Rattle.txn_bytes.specs.Written.{Writer}
 use Rattle.line_language.specs.Report.{spelled_history}
 use Rattle.durable_top.specs.declared.store.TopStore.{Ghosts}
-use Rattle.interleavings.specs.Reports.{IsReport}
+use Rattle.run_reports.specs.Reports.{IsReport}
 use Rattle.interleavings.specs.Scheduled.{RunsOut}
-use Rattle.interleavings.specs.Told.{Told}
+use Rattle.run_reports.specs.Told.{Told}
 use Rattle.interleavings.specs.Turning.{Turning}
 use Rattle.report_text.specs.Lines.{ending_text}
 use Rattle.report_text.specs.Lines.{spelled_report}

@@ -13,7 +13,7 @@ use Rattle.manager_core.specs.declared.manager.AtOpening.{AtOpening}
 use Rattle.manager_core.specs.Sound.{store_refusals}
 use Rattle.interleavings.specs.Attempts.{GoesOn}
 use Rattle.interleavings.specs.Runs.{WasAsked}
-use Rattle.interleavings.specs.Told.{Told}
+use Rattle.run_reports.specs.Told.{Told}
 use Rattle.interleavings.specs.Trails.{Trail}
 use Rattle.interleavings.specs.Turning.{Turning}
 use Rattle.interleavings.proofs.Exports.{numbered_from, on_still, trail_more}

@@ -12,7 +12,7 @@ use Rattle.growing_sessions.specs.Growing.{Extends, labels_in}
 use Rattle.growing_sessions.proofs.Exports.{history_reads_same}
 use Rattle.interleavings.specs.Attempts.{GoesOn}
 use Rattle.interleavings.specs.Scheduled.{Goes, RunsOut}
-use Rattle.interleavings.specs.Told.{Told}
+use Rattle.run_reports.specs.Told.{Told}
 use Rattle.interleavings.specs.Trails.{Trail}
 use Rattle.interleavings.specs.Turning.{Turning}
 use Rattle.interleavings.proofs.Exports.{goes_still, trail_more}

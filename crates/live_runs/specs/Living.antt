@@ -10,10 +10,10 @@ use Rattle.growing_sessions.specs.Growing.{labels_in}
 use Rattle.manager_core.specs.Opening.{HasCause}
 use Rattle.manager_core.specs.Sound.{IsTrusted, store_refusals}
 use Rattle.manager_core.specs.StoredNumbers.{IsNumberedAfter}
-use Rattle.interleavings.specs.Reports.{IsReport}
+use Rattle.run_reports.specs.Reports.{IsReport}
 use Rattle.interleavings.specs.Runs.{WasAsked}
 use Rattle.interleavings.specs.Scheduled.{BreaksOff, LetsGo, RunsOut}
-use Rattle.interleavings.specs.Told.{Told}
+use Rattle.run_reports.specs.Told.{Told}
 use Rattle.interleavings.specs.Turning.{IsStart, Turning}
 use Rattle.report_check.specs.Verdicts.{HasVerdict}
 use Rattle.report_check.specs.declared.verdict.Verdict.TheVariants.{Yes}

@@ -4,7 +4,7 @@ use Rattle.std.specs.Io.KnownBytes.{Appends}
 use Rattle.txn_bytes.specs.Written.{Writer}
 use Rattle.serial_spec.specs.History.{History}
 use Rattle.line_language.specs.Report.{spelled_history}
-use Rattle.interleavings.specs.Told.{Told}
+use Rattle.run_reports.specs.Told.{Told}
 use Rattle.report_text.specs.Lines.{ending_text}
 use Rattle.program_words.specs.Faults.{IsCut}
 use Rattle.program_words.specs.Tellings.{IsFlushed}

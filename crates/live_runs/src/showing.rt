@@ -2,13 +2,13 @@
 ghost use Rattle.std.specs.Prelude.{◌≤◌, length, reverse, OnErr, OnOk};
 ghost use Rattle.line_language.specs.Report.{spelled_history};
 ghost use Rattle.durable_top.specs.Store.{plain};
-ghost use Rattle.interleavings.specs.Reports.{IsReport};
+ghost use Rattle.run_reports.specs.Reports.{IsReport};
 ghost use Rattle.report_text.specs.Lines.{opening_text};
 ghost use Rattle.live_runs.specs.Showing.{IsShown, IsUnshown, entries_behind, rest_behind};
 
 use durable_top::Row;
-use interleavings::Report;
 use report_text::{WriteFault, write_ending, write_entries, write_opening};
+use run_reports::Report;
 use serial_spec::Entry;
 use txn_bytes::Sink;
 use txn_names::Label;

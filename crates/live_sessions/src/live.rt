@@ -11,8 +11,9 @@ ghost use Rattle.live_sessions.specs.Handling.{Attempted, BreaksAt, Breaks, Grow
 
 use crate::growing::{grow, refusal};
 use durable_top::{Row, TopStore};
-use interleavings::{Progress, Report, Turns, run_opened, settle};
+use interleavings::{Progress, Turns, run_opened, settle};
 use manager_core::OpenFault;
+use run_reports::Report;
 use serial_spec::{Entry, NoMemory};
 use session_text::{Line, LineKind, Sessions, parse_request};
 use std::alloc::Global;

@@ -4,9 +4,9 @@ use Rattle.std.specs.Prelude.{OnOk}
 use Rattle.std.specs.List.{AllByRecursion}
 use Rattle.line_language.specs.Report.{report}
 use Rattle.serial_spec.specs.Rows.{Rows}
-use Rattle.interleavings.specs.Reports.{IsReport}
-use Rattle.interleavings.specs.Reports.{IsRow as IsSpelledRow}
-use Rattle.interleavings.specs.Told.{Told}
+use Rattle.run_reports.specs.Reports.{IsReport}
+use Rattle.run_reports.specs.Reports.{IsRow as IsSpelledRow}
+use Rattle.run_reports.specs.Told.{Told}
 use Rattle.report_check.specs.Verdicts.{HasVerdict}
 use Rattle.report_check.specs.declared.verdict.Verdict.TheVariants.{Yes}
 use Rattle.report_laws.specs.Whole.{IsRow, IsWhole}

@@ -4,7 +4,7 @@ use Rattle.serial_spec.specs.declared.entry.Entry.{Entry}
 use Rattle.line_language.specs.Printing.{spelled_number}
 use Rattle.line_language.specs.Report.{line, report, spelled_entry, spelled_rows}
 use Rattle.serial_spec.specs.Rows.{Rows}
-use Rattle.interleavings.specs.Told.{Told}
+use Rattle.run_reports.specs.Told.{Told}
 
 abbrev pub row_line : List ℕ × ℤ → List ℕ
 row_line r = line (r.0 ++ codes "=" ++ spelled_number r.1)

@@ -10,7 +10,7 @@ ghost use Rattle.report_text.specs.Lines.{ending_text, opening_text, row_line};
 use crate::entries::{put_history, put_row_line, put_table};
 use crate::line_buffer::LineBuffer;
 use durable_top::Row;
-use interleavings::Report;
+use run_reports::Report;
 use serial_spec::{Entry, PlainTable};
 use txn_bytes::{Sink, WriteFault, put};
 use txn_names::Label;

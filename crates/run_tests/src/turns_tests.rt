@@ -1,6 +1,7 @@
 //! Sessions under way, and the book over them: each call once.
 use durable_top::{MemStore, Row};
-use interleavings::{Report, Turn, Turns, run_opened, settle};
+use interleavings::{Turn, Turns, run_opened, settle};
+use run_reports::Report;
 use session_text::Sessions;
 use shared_book::Book;
 use std::alloc::Global;

@@ -3,7 +3,7 @@ mod gates;
 mod rows;
 
 use durable_top::MemStore;
-use interleavings::Report;
+use run_reports::Report;
 use session_text::Sessions;
 use std::alloc::Global;
 use std::process::Abort;

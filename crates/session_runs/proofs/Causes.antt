@@ -2,7 +2,7 @@
 use Rattle.std.proofs.Common.{ℕ, List, Option}
 use Rattle.txn_bytes.specs.Written.{Writer}
 use Rattle.durable_top.specs.declared.store.TopStore.{Ghosts}
-use Rattle.interleavings.specs.Told.{Told}
+use Rattle.run_reports.specs.Told.{Told}
 use Rattle.session_runs.specs.Ways.{Way}
 use Rattle.session_runs.specs.Replays.{HasReplayCause, IsTold, IsUnended, IsUnread, IsUnwritten}
 use Rattle.session_runs.specs.Tellings.{IsAnswered}

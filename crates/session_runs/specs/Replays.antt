@@ -5,8 +5,8 @@ use Rattle.txn_bytes.specs.Written.{AppendsFront}
 use Rattle.serial_spec.specs.Interleaving.{Session}
 use Rattle.session_text.specs.Texts.{sessions_of, Tells}
 use Rattle.durable_top.specs.declared.store.TopStore.{Ghosts}
-use Rattle.interleavings.specs.Told.{Told}
-use Rattle.interleavings.specs.Reports.{IsReport}
+use Rattle.run_reports.specs.Told.{Told}
+use Rattle.run_reports.specs.Reports.{IsReport}
 use Rattle.interleavings.specs.Runs.{HasRunCause}
 use Rattle.interleavings.specs.declared.run.RunFault.{RunFault}
 use Rattle.report_text.specs.Lines.{spelled_report}

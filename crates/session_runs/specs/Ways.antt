@@ -2,7 +2,7 @@
 use Rattle.std.specs.Prelude.{ℕ, List}
 use Rattle.serial_spec.specs.Interleaving.{Session}
 use Rattle.durable_top.specs.declared.store.TopStore.{Ghosts}
-use Rattle.interleavings.specs.Told.{Told}
+use Rattle.run_reports.specs.Told.{Told}
 use Rattle.interleavings.specs.Runs.{IsRun}
 use Rattle.interleavings.specs.Served.{IsServed}
 

@@ -16,9 +16,9 @@ ghost use Rattle.session_runs.specs.Tellings.{IsAnswered};
 
 use crate::fault::fault_of;
 use crate::replay::ReplayFault;
-use interleavings::Report;
 use program_words::{Ended, finish, tell};
 use report_text::write_report;
+use run_reports::Report;
 use session_text::Sessions;
 use std::alloc::Global;
 use txn_bytes::Sink;

@@ -12,8 +12,9 @@ ghost use Rattle.shared_book.specs.Attempting.{Attempted, IsNext};
 
 use crate::same::{same_sessions, same_text};
 use durable_top::{Row, TopStore};
-use interleavings::{Report, Turn, Turns};
+use interleavings::{Turn, Turns};
 use manager_core::OpenFault;
+use run_reports::Report;
 use serial_spec::NoMemory;
 use session_text::{Line, Sessions};
 use std::alloc::Global;

@@ -7,7 +7,7 @@ use Rattle.durable_top.specs.declared.store.TopStore.{Ghosts}
 use Rattle.durable_top.specs.Store.{counted}
 use Rattle.manager_core.specs.declared.manager.AtOpening.{AtOpening}
 use Rattle.manager_core.specs.Sound.{store_refusals}
-use Rattle.interleavings.specs.Told.{Told}
+use Rattle.run_reports.specs.Told.{Told}
 use Rattle.interleavings.specs.Turning.{Turning, IsClosed, IsStart}
 use Rattle.interleavings.specs.Scheduled.{Goes, LetsGo}
 use Rattle.interleavings.proofs.Exports.{broken_off, numbered_from, was_asked, given_few}

@@ -11,7 +11,8 @@ ghost use Rattle.worker_pool.specs.inner.Trying.{LooksForStuck, Tries};
 ghost use Rattle.worker_pool.specs.inner.Working.{IsOfWork};
 
 use durable_top::TopStore;
-use interleavings::{Report, ServeFault, Turn};
+use interleavings::{ServeFault, Turn};
+use run_reports::Report;
 use serial_spec::NoMemory;
 use session_text::Line;
 use shared_book::Book;

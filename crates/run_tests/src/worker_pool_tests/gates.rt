@@ -1,7 +1,7 @@
 //! As many lines are under way at once as there are workers, and one is answered while the other is
 //! held up at the gate.
 use super::served;
-use interleavings::Report;
+use run_reports::Report;
 use serial_spec::By;
 use std::rt::HostRuntime;
 use std::sync::atomic::{AtomicBool, AtomicU32, Ordering};

@@ -1,6 +1,6 @@
 //! Texts with their tables, by one worker, by two and by many.
 use super::served;
-use interleavings::Report;
+use run_reports::Report;
 use serial_spec::{Answer, By, Entry, Event, Reply};
 use std::alloc::Global;
 use std::process::Abort;

@@ -1,7 +1,7 @@
 //! A judge of reports apart from the proofs: what the committed transactions were replied is run
 //! again over one table, one transaction after another, and has to lead to the report's table.
 use durable_top::Row;
-use interleavings::Report;
+use run_reports::Report;
 use serial_spec::{Answer, Entry, Event, Item, PlainTable, Reply, run_items};
 use std::alloc::Global;
 use std::process::Abort;

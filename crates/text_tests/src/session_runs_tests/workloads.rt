@@ -2,7 +2,7 @@
 //! each report is judged.
 use crate::session_runs_tests::empty;
 use crate::session_runs_tests::serial::{is_serial, is_serial_spoiled};
-use interleavings::Report;
+use run_reports::Report;
 use session_text::Sessions;
 use std::alloc::Global;
 use std::process::Abort;

@@ -1,7 +1,7 @@
 use Rattle.std.proofs.Common.{take}
 use Rattle.std.specs.List.{AllByRecursion}
 use Rattle.durable_top.specs.Store.{plain}
-use Rattle.interleavings.specs.Reports.{IsRow}
+use Rattle.run_reports.specs.Reports.{IsRow}
 use Rattle.interleavings.proofs.report.know_rows.Given as goal
 
 abbrev pub invariant-loop-row : goal.invariant-loop-row
