@@ -1,5 +1,6 @@
 -- Which words ask for a task, for none, or for no replay, by what was read of them.
 use Rattle.std.proofs.Common.{◌≡◌, ◌∙◌, List, Option, Some, None, Bor, codes, inl, inr, refl, sym, ap, subst}
+use Rattle.std.specs.Option.{option_copied}
 use Rattle.std.specs.Prelude.{IsSomeAnd, map}
 use Rattle.clap.specs.Words.{HasKind, IsAmong, Kinds, Row, Text, fault_of, kind_of, subcommand_of}
 use Rattle.clap.specs.declared.error.Error.{Error}
@@ -79,3 +80,32 @@ pub other_asked : (words : List Text) (solo : Solo) → Asks words (Alone solo) 
     → (file : Bor Text) (list database : Option (Bor Text)) → Asks words (Alone (Replay file list database)) → ⊥
 other_asked words solo asks other file list database replays =
     other_name solo other (one_name words (Alone solo) (Alone (Replay file list database)) asks replays)
+
+-- ---- runs by workers
+
+-- two runs that the same words ask for are by one word
+same_count : (sub : Option (Text × List Row)) (file other : Bor Text) (workers database count path : Option (Bor Text))
+    → IsSomeAnd sub (λ s. IsTaskOf s.0 s.1 (Run file workers database)) → IsSomeAnd sub (λ s. IsTaskOf s.0 s.1 (Run other count path))
+    → option_copied count ≡ option_copied workers
+same_count None file other workers database count path x y = absurd x
+same_count (Some s) file other workers database count path x y = sym y.1.1 ∙ x.1.1
+
+pub one_count : (words : List Text) (file : Bor Text) (workers database : Option (Bor Text)) → Asks words (Run file workers database)
+    → (other : Bor Text) (count path : Option (Bor Text)) → Asks words (Run other count path)
+    → option_copied count ≡ option_copied workers
+one_count words file workers database x other count path y =
+    same_count (subcommand_of tx_app words) file other workers database count path x.named y.named
+
+run_name : (solo : Solo) → name_of_solo solo ≡ codes "run" → ⊥
+run_name (Replay file list database) = differ (codes "replay") (codes "run") refl
+run_name (Live database) = differ (codes "live") (codes "run") refl
+run_name (Check file) = differ (codes "check") (codes "run") refl
+run_name (Rows path) = differ (codes "rows") (codes "run") refl
+run_name (Show file jobs undone strict) = differ (codes "show") (codes "run") refl
+run_name (Draw file) = differ (codes "draw") (codes "run") refl
+
+-- where one thread is to do something, no run by workers is asked for
+pub alone_asked : (words : List Text) (solo : Solo) → Asks words (Alone solo)
+    → (file : Bor Text) (workers database : Option (Bor Text)) → Asks words (Run file workers database) → ⊥
+alone_asked words solo asks file workers database runs =
+    run_name solo (one_name words (Alone solo) (Run file workers database) asks runs)

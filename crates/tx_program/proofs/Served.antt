@@ -16,7 +16,10 @@ use Rattle.command_line.specs.declared.task.Solo.{Solo}
 use Rattle.worker_runs.specs.Workers.{workers_of}
 use Rattle.command_line.specs.declared.task.Task.{Task}
 use Rattle.command_line.specs.declared.task.Task.TheVariants.{Alone, Run}
-use Rattle.tx_program.specs.Programs.{AccountsForAlone, AccountsForTask, IsDoneAlone, IsUndoneAlone, Serves, WantsNoTask}
+use Rattle.asked_tasks.specs.Refused.{IsRefused}
+use Rattle.command_line.specs.Tasks.{Asks}
+use Rattle.command_line.proofs.Exports as words
+use Rattle.tx_program.specs.Programs.{AccountsForAlone, AccountsForTask, ForTask, IsDoneAlone, IsMiscounted, IsUndoneAlone, Serves, WantsNoTask}
 
 -- what is said of the two writers by a command that is not live
 pub for_alone : {A B C : Type 0} → A ⊎ B → A ⊎ (B ⊎ C)
@@ -33,6 +36,7 @@ module _ {H T P N I W E : Type 0} (o : World H T P N W E) (r : Reader I) (Asked 
     failed = λ _. inr (record { unasked = refl; unwritten = refl; unread = refl; said = said });
     misused = λ misused. absurd (omega (arith, is, misused));
     unwanted = λ misused. absurd (omega (arith, is, misused));
+    miscounted = λ _. inr (record { unasked = refl; unwritten = refl; unread = refl; said = said });
     accounts = inr (inl (fault_accounts o.out o.err out err_old err_new NoMemory status said is));
     bounded = omega (arith, is);
   }
@@ -45,18 +49,30 @@ module _ {H T P N I W E : Type 0} (o : World H T P N W E) (r : Reader I) (Asked 
     failed = λ failed. absurd (omega (arith, is, failed));
     misused = λ _. (refl, refl, refl);
     unwanted = λ _. inl none;
+    miscounted = λ _. inl is;
     accounts = inr (inl (misuse_accounts o.out o.err out err_old err_new text status said is));
     bounded = omega (arith, is);
   }
 
-  -- they are none, or memory did not suffice to say so
-  pub refused : (status ≡ 2 → WantsNoTask Asked) → (status ≡ 1 → IsSaid o.err err_old err_new (spelled_fault NoMemory))
-      → (status ≢ 1 → HasUsageLine o.err err_old err_new) → (status ≡ 1) ⊎ (status ≡ 2)
+  -- they come to nothing
+  pub refused : IsRefused o.err err_old err_new (WantsNoTask Asked) status
       → Serves o r (state host out err_old) (state host out err_new) input input Asked status
-  refused none failed misused (inl is) = unstarted (failed is) is
-  refused none failed misused (inr is) =
-      let usage : HasUsageLine o.err err_old err_new = misused (λ one. absurd (omega (arith, is, one))) in
-      misread (none is) usage.text usage.said is
+  refused told = by told.bounded
+    where
+      by : (status ≡ 1) ⊎ (status ≡ 2) → Serves o r (state host out err_old) (state host out err_new) input input Asked status
+      by (inl is) = unstarted (told.failed is) is
+      by (inr is) =
+          let usage : HasUsageLine o.err err_old err_new = told.misused (λ one. absurd (omega (arith, is, one))) in
+          misread (told.unwanted is) usage.text usage.said is
+
+-- the same of texts that are those of words
+pub refused_of : {H T P N I W E : Type 0} (o : World H T P N W E) (r : Reader I) (texts words : List (List ℕ)) → texts ≡ words
+    → (host : H) (out : W) (err_old err_new : E) (input : I) (status : ℕ)
+    → IsRefused o.err err_old err_new (WantsNoTask (Asks texts)) status
+    → Serves o r (state host out err_old) (state host out err_new) input input (Asks words) status
+refused_of o r texts words same host out err_old err_new input status told =
+    subst (λ (ws : List (List ℕ)). Serves o r (state host out err_old) (state host out err_new) input input (Asks ws) status) same
+    (refused o r (Asks texts) host out err_old err_new input status told)
 
 module _ {H T P N I W E : Type 0} (o : World H T P N W E) (r : Reader I) (Asked : Task → Type 0)
     (before after : State H W E) (in_old in_new : I) (status : ℕ) where
@@ -66,14 +82,16 @@ module _ {H T P N I W E : Type 0} (o : World H T P N W E) (r : Reader I) (Asked 
       → (status ≡ 0 → Prints o before after file.now ByWorkers database)
       → (status ≡ 1 → Misses o before after file.now ByWorkers database)
       → (status ≡ 2 → IsNone (workers_of (option_copied workers)))
+      → (ForTask Asked IsMiscounted → status ≡ 2)
       → (status ≡ 2 → (after.host ≡ before.host) × (after.out ≡ before.out))
       → Accounts o.out o.err after.out before.err after.err status → status ≤ 2
       → Serves o r before after in_old in_new Asked status
-  by_workers file workers database asked same done failed miscounted unasked accounts bounded = record {
+  by_workers file workers database asked same done failed miscounted counted unasked accounts bounded = record {
     done = λ is. record { task = Run file workers database; asked = asked; so = (done is, same) };
     failed = λ is. inl (record { task = Run file workers database; asked = asked; so = (failed is, same) });
     misused = λ is. let u = unasked is in (u.0, same, u.1);
     unwanted = λ is. inr (record { task = Run file workers database; asked = asked; so = miscounted is });
+    miscounted = λ it. inl (counted it);
     accounts = inr (inl accounts);
     bounded = bounded;
   }
@@ -87,18 +105,37 @@ module _ {H T P N I W E : Type 0} (o : World H T P N W E) (r : Reader I) (Asked 
   for_task solo asked (inr (inr lived)) = inr (inr (record { task = Alone solo; asked = asked; so = lived }))
 
   -- such a command
-  pub by_one : (solo : Solo) → Asked (Alone solo) → (status ≡ 0 → IsDoneAlone o r before after in_old in_new solo)
+  pub by_one : (solo : Solo) → Asked (Alone solo) → (ForTask Asked IsMiscounted → ⊥) → (status ≡ 0 → IsDoneAlone o r before after in_old in_new solo)
       → (status ≡ 1 → IsUndoneAlone o r before after in_old in_new solo)
       → AccountsForAlone o r before after in_old in_new solo status → status ≤ 1
       → Serves o r before after in_old in_new Asked status
-  by_one solo asked done failed accounts bounded = record {
+  by_one solo asked counted done failed accounts bounded = record {
     done = λ is. record { task = Alone solo; asked = asked; so = done is };
     failed = λ is. inl (record { task = Alone solo; asked = asked; so = failed is });
     misused = λ is. absurd (omega (arith, is, bounded));
     unwanted = λ is. absurd (omega (arith, is, bounded));
+    miscounted = λ it. absurd (counted it);
     accounts = for_task solo asked accounts;
     bounded = omega (arith, bounded);
   }
+
+-- where words ask for a run by a wrong number of workers, each run that they ask for is by that word
+pub miscounts : (ws : List (List ℕ)) (file : Bor (List ℕ)) (workers database : Option (Bor (List ℕ))) → Asks ws (Run file workers database)
+    → ForTask (Asks ws) IsMiscounted → IsNone (workers_of (option_copied workers))
+miscounts ws file workers database asks it = by it.task it.asked it.so
+  where
+    by : (t : Task) → Asks ws t → IsMiscounted t → IsNone (workers_of (option_copied workers))
+    by (Run other count path) runs none =
+        subst (λ word. IsNone (workers_of word)) (words.one_count ws file workers database asks other count path runs) none
+    by (Alone solo) runs none = absurd none
+
+-- where one thread is to do something, no run by a wrong number is asked for
+pub counts : (ws : List (List ℕ)) (solo : Solo) → Asks ws (Alone solo) → ForTask (Asks ws) IsMiscounted → ⊥
+counts ws solo asks it = by it.task it.asked it.so
+  where
+    by : (t : Task) → Asks ws t → IsMiscounted t → ⊥
+    by (Run file workers database) runs none = words.alone_asked ws solo asks file workers database runs
+    by (Alone other) runs none = none
 
 -- the system says what the words are
 pub served_in : {H T P N I W E Y Z F : Type 0} (o : World H T P N W E) (r : Reader I) (before after : State H W E)

@@ -131,7 +131,7 @@ module _ {H T P N I W E : Type 0} (o : World H T P N W E) (r : Reader I)
   -- What the program does, by its exit status. At the first a task that is asked for was done. At
   -- the second it was not, or the words were not read. At the last none is asked for, or a run by a
   -- wrong number of workers, and nothing was asked of the surroundings, of the input or of the
-  -- output
+  -- output. Such a run comes to the last, unless the words were not read
   pub record Serves (status : ℕ) : Type 0 where
     pub done : status ≡ DONE → ForTask Asked (IsDone o r before after in_old in_new)
     pub failed : status ≡ FAILED → ForTask Asked (IsUndone o r before after in_old in_new)
@@ -139,5 +139,7 @@ module _ {H T P N I W E : Type 0} (o : World H T P N W E) (r : Reader I)
     pub misused : status ≡ MISUSED →
         (after.host ≡ before.host) × (in_new ≡ in_old) × (after.out ≡ before.out)
     pub unwanted : status ≡ MISUSED → WantsNoTask Asked ⊎ ForTask Asked IsMiscounted
+    pub miscounted : ForTask Asked IsMiscounted
+        → (status ≡ MISUSED) ⊎ IsUnstarted o r before after in_old in_new
     pub accounts : AccountsForTask status
     pub bounded : status ≤ MISUSED

@@ -1,20 +1,14 @@
 //! The program, apart from where its words come from and where its bytes go.
-ghost use Rattle.std.specs.Prelude.{◌≡◌, ◌≢◌, ◌≤◌, ◌⊎◌};
-ghost use Rattle.clap.specs.Words.{kind_of};
-ghost use Rattle.clap.specs.declared.error.kind.ErrorKind.TheVariants.{OutOfMemory};
-ghost use Rattle.program_words.specs.declared.fault.Fault.TheVariants.{NoMemory};
-ghost use Rattle.program_words.specs.declared.status.TheConstants.{DONE, FAILED, MISUSED};
-ghost use Rattle.program_words.specs.Faults.{IsSaid, spelled_fault};
-ghost use Rattle.program_words.specs.Tellings.{HasUsageLine};
+ghost use Rattle.std.specs.Prelude.{◌≡◌, ◌≤◌};
+ghost use Rattle.program_words.specs.declared.status.TheConstants.{DONE, FAILED};
 ghost use Rattle.tx_machine.specs.Worlds.{state};
 ghost use Rattle.command_line.specs.Tasks.{AskedBy};
 ghost use Rattle.tx_program.specs.Programs.{AccountsForAlone, IsDoneAlone, IsUndoneAlone, Serves};
 
-use clap::Error;
-use clap::error::ErrorKind;
-use command_line::{Solo, Task, task_of, with_name};
+use asked_tasks::task_asked;
+use command_line::{Solo, Task, with_name};
 use live_commands::live;
-use program_words::{Fault, misuse, refuse, tell};
+use program_words::{Fault, tell};
 use std::alloc::Global;
 use std::sync::Wait;
 use std::thread::Threads;
@@ -24,6 +18,10 @@ use tx_commands::{Choice, draw, judge, list, show};
 use tx_machine::{Setting, Surroundings};
 use txn_bytes::{Sink, Source};
 use worker_commands::run;
+
+/// What is told of words that ask for nothing.
+const USAGE: &[u8] =
+    b"usage: tx replay FILE [--schedule LIST] [--db PATH], or tx run FILE [--workers N] [--db PATH], or tx live [--db PATH], or tx check REPORT, or tx show REPORT [--jobs] [--undone] [--strict], or tx draw REPORT, or tx rows PATH, or tx --help";
 
 /// Does what the words after the program's name ask for, over the files and databases of `host`,
 /// and answers the exit status. A report, a verdict, rows, lines or a picture go to `out`, and a
@@ -47,36 +45,16 @@ pub fn tx_main<H: Surroundings, R: Threads + Wait + Clock + Sync, I: Source, W: 
     let Ok(all) = with_name(alloc, words) else {
         return tell(err, Fault::NoMemory);
     };
-    let task = match task_of(alloc, all.as_slice()) {
-        Ok(Some(task)) => task,
-        Ok(None) => {
-            return misuse(
-                err,
-                b"usage: tx replay FILE [--schedule LIST] [--db PATH], or tx run FILE [--workers N] [--db PATH], or tx live [--db PATH], or tx check REPORT, or tx show REPORT [--jobs] [--undone] [--strict], or tx draw REPORT, or tx rows PATH, or tx --help",
-            );
-        }
-        Err(error) => return tell_unread(alloc, err, &error),
-    };
-    match task {
-        Task::Run {
-            file,
-            workers,
-            database,
-        } => run(host, threads, alloc, file, workers, database, out, err),
-        Task::Alone(solo) => perform(host, alloc, solo, input, out, err),
-    }
-}
-
-// What is told of words in which `clap` found a fault, or for which it had no memory.
-fn tell_unread<E: Sink>(alloc: Global, err: &mut E, error: &Error) -> u8
-    ensures failed { result ≡ FAILED → IsSaid E.Sink err.old err.new (spelled_fault NoMemory) }
-    ensures misused { result ≢ FAILED → HasUsageLine E.Sink err.old err.new }
-    ensures memory { kind_of error.now ≡ OutOfMemory → result ≡ FAILED }
-    ensures status { (result ≡ FAILED) ⊎ (result ≡ MISUSED) }
-{
-    match error.kind() {
-        ErrorKind::OutOfMemory => tell(err, Fault::NoMemory),
-        _ => refuse(alloc, err, error),
+    match task_asked(alloc, all.as_slice(), USAGE, err) {
+        Ok(
+            Task::Run {
+                file,
+                workers,
+                database,
+            },
+        ) => run(host, threads, alloc, file, workers, database, out, err),
+        Ok(Task::Alone(solo)) => perform(host, alloc, solo, input, out, err),
+        Err(status) => status,
     }
 }
 

@@ -3,10 +3,10 @@
 #![tactic(auto)]
 
 use program_words::{Fault, tell};
-use replay_program::start;
 use std::env;
 use std::io::{self, BufWriter};
 use std::process::ExitCode;
+use text_commands::start;
 use tx_machine::Machine;
 
 fn main(rt: HostRuntime) -> ExitCode {

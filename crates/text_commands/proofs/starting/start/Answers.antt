@@ -1,7 +1,7 @@
 use Rattle.std.proofs.Common.{◌≡◌, Result, Err, OnErr, subst, sym}
 use Rattle.std.specs.Prelude.{codes}
-use Rattle.replay_program.proofs.Serving.{misread, served_in}
-use Rattle.replay_program.proofs.starting.start.Goals as goal
+use Rattle.text_commands.proofs.Serving.{misread, served_in}
+use Rattle.text_commands.proofs.starting.start.Goals as goal
 
 on_err : {T F Q : Type 0} (r : Result T F) (f : F) → r ≡ Err f → Q → OnErr r Q
 on_err {T} {F} {Q} r f is q = subst (λ (x : Result T F). OnErr x Q) (sym is) q

@@ -8,11 +8,12 @@ use Rattle.program_words.specs.declared.fault.Fault.TheVariants.{NoMemory}
 use Rattle.program_words.proofs.Exports.{fault_accounts, misuse_accounts}
 use Rattle.text_commands.specs.Outcomes.{Replays, ReplaysNot}
 use Rattle.tx_machine.specs.Worlds.{State, World, state}
-use Rattle.command_line.specs.Tasks.{AskedBy, AskedIn}
+use Rattle.command_line.specs.Tasks.{AskedBy, AskedIn, Asks}
 use Rattle.command_line.specs.declared.task.Task.{Task}
 use Rattle.command_line.specs.declared.task.Task.TheVariants.{Alone}
 use Rattle.command_line.specs.declared.task.Solo.TheVariants.{Replay}
-use Rattle.replay_program.specs.Served.{Serves, WantsNoReplay}
+use Rattle.asked_tasks.specs.Refused.{IsRefused, WantsNoReplay}
+use Rattle.text_commands.specs.Served.{Serves}
 
 module _ {H T P N W E : Type 0} (o : World H T P N W E) (Asked : Task → Type 0) (host : H) (out : W)
     (err_old err_new : E) (status : ℕ) where
@@ -40,14 +41,24 @@ module _ {H T P N W E : Type 0} (o : World H T P N W E) (Asked : Task → Type 0
     bounded = omega (arith, is);
   }
 
-  -- they are no command line, or memory did not suffice to say so
-  pub refused : (status ≡ 2 → WantsNoReplay Asked) → (status ≡ 1 → IsSaid o.err err_old err_new (spelled_fault NoMemory))
-      → (status ≢ 1 → HasUsageLine o.err err_old err_new) → (status ≡ 1) ⊎ (status ≡ 2)
+  -- they come to nothing
+  pub refused : IsRefused o.err err_old err_new (WantsNoReplay Asked) status
       → Serves o (state host out err_old) (state host out err_new) Asked status
-  refused none failed misused (inl is) = unstarted (failed is) is
-  refused none failed misused (inr is) =
-      let usage : HasUsageLine o.err err_old err_new = misused (λ one. absurd (omega (arith, is, one))) in
-      misread (none is) usage.text usage.said is
+  refused r = by r.bounded
+    where
+      by : (status ≡ 1) ⊎ (status ≡ 2) → Serves o (state host out err_old) (state host out err_new) Asked status
+      by (inl is) = unstarted (r.failed is) is
+      by (inr is) =
+          let usage : HasUsageLine o.err err_old err_new = r.misused (λ one. absurd (omega (arith, is, one))) in
+          misread (r.unwanted is) usage.text usage.said is
+
+-- the same of texts that are those of words
+pub refused_of : {H T P N W E : Type 0} (o : World H T P N W E) (texts words : List (List ℕ)) → texts ≡ words → (host : H) (out : W)
+    (err_old err_new : E) (status : ℕ) → IsRefused o.err err_old err_new (WantsNoReplay (Asks texts)) status
+    → Serves o (state host out err_old) (state host out err_new) (Asks words) status
+refused_of o texts words same host out err_old err_new status r =
+    subst (λ (ws : List (List ℕ)). Serves o (state host out err_old) (state host out err_new) (Asks ws) status) same
+    (refused o (Asks texts) host out err_old err_new status r)
 
 module _ {H T P N W E : Type 0} (o : World H T P N W E) (Asked : Task → Type 0)
     (before after : State H W E) (status : ℕ) where

@@ -7,6 +7,7 @@ use Rattle.program_words.specs.Faults.{IsSaid, spelled_fault}
 use Rattle.program_words.specs.Tellings.{Accounts}
 use Rattle.text_commands.specs.Outcomes.{Replays, ReplaysNot}
 use Rattle.tx_machine.specs.Worlds.{State, World}
+use Rattle.asked_tasks.specs.Refused.{WantsNoReplay}
 use Rattle.command_line.specs.declared.task.Task.{Task}
 use Rattle.command_line.specs.declared.task.Task.TheVariants.{Alone}
 use Rattle.command_line.specs.declared.task.Solo.TheVariants.{Replay}
@@ -20,11 +21,6 @@ module _ (Asked : Task → Type 0) where
     pub database : Option (Bor (List ℕ))
     pub asked : Asked (Alone (Replay file list database))
     pub so : Holds file.now list database
-
-  -- none is
-  abbrev pub WantsNoReplay : Type 0
-  WantsNoReplay = (file : Bor (List ℕ)) (list database : Option (Bor (List ℕ)))
-      → Asked (Alone (Replay file list database)) → ⊥
 
 module _ {H T P N W E : Type 0} (o : World H T P N W E) (before after : State H W E) where
   -- memory ran out before the words were read: nothing was asked of the surroundings or of the
