@@ -1,25 +1,107 @@
 //! What becomes of locks and values together, and each call once. Under a trial run that refuses a
 //! growth the call is made again.
+use crate::tools::{are_modes, are_named, begins, is_so, is_value, words};
 use inherit::Estate;
-use serial_spec::{Asked, Event, Left, Mode, NoMemory, Op, PlainTable, Reply};
-use std::process::Abort;
+use line_language::parse_event;
+use serial_spec::{Asked, Event, Left, NoMemory, Op, PlainTable, Reply};
+use test_kit::{group, key, name, numbered_key};
 use txn_names::{Change, Group, Key, Name};
 use txn_tree::{Tree, TxnNo};
 
-fn begin_once(tree: &mut Tree, name: &Name) -> Option<TxnNo> {
-    match tree.begin(name) {
-        Ok(number) => Some(number),
-        Err(_) => None,
-    }
-}
-
-fn begin(rt: &impl Abort, tree: &mut Tree, text: &[u8]) -> (Name, TxnNo) {
-    let name = Name::parse(text).expect(rt, "a name");
-    match begin_once(tree, &name) {
-        Some(number) => (name, number),
-        None => (name, begin_once(tree, &name).expect(rt, "begun")),
-    }
-}
+/// The name of a script, the script, and how many rows the base has at last.
+const SCRIPTS: [(&str, &str, usize); 4] = [
+    // What a child wrote goes with it where it is aborted, and the base keeps what it has until the
+    // topmost one commits.
+    (
+        "values and locks nest",
+        "
+        begin a
+        begin a/l
+        begin a/r
+        begin b
+        set a x 1 -> ok
+        get a/l x -> 1
+        set a/l x 2 -> ok
+        get a/r x -> kept-out
+        abort a/l
+        get a/r x -> 1
+        del a/r x -> ok
+        get b x -> kept-out
+        commit a/r
+        only-change a x -> none
+        commit a
+        get b x -> none
+        ",
+        0,
+    ),
+    // An add that overflows writes as any other, though it leaves nothing.
+    (
+        "an overflow locks to write",
+        "
+        begin a
+        begin b
+        set a x 9223372036854775807 -> ok
+        commit a
+        base a x -> 9223372036854775807
+        add b x 1 -> overflow
+        modes b x -> write none
+        left b x -> nothing
+        only-change b x -> 9223372036854775807
+        ",
+        1,
+    ),
+    // A sum sees what its ancestors left over the table, keeps others from writing any key of its
+    // group, and goes up at a commit.
+    (
+        "a sum goes up",
+        "
+        begin o
+        begin a
+        begin a/l
+        begin a/r
+        begin b
+        set o g.x 1 -> ok
+        set o h.x 9 -> ok
+        set o g.y 5 -> ok
+        commit o
+        set a g.y 2 -> ok
+        sum a/l g -> 3
+        sum b g -> kept-out
+        ask set b g.z 4 -> kept-out
+        blocks set b g.z 4 -> a/l
+        set a/r g.z 4 -> kept-out
+        commit a/l
+        group-modes a g -> none read
+        blockers set b g.z 4 -> a
+        set a/r g.z 4 -> ok
+        commit a/r
+        commit a
+        ask sum b g -> 7
+        ask set b g.z 4 -> ok
+        ",
+        4,
+    ),
+    // A sum that is not an i64 locks its group all the same. It is one where a part of it is none.
+    (
+        "a sum that overflows locks",
+        "
+        begin a
+        begin b
+        set a g.a 9223372036854775807 -> ok
+        set a g.b 1 -> ok
+        commit a
+        sum b g -> overflow
+        group-modes b g -> read none
+        may del a g.c -> no
+        set b g.c -1 -> ok
+        sum b g -> 9223372036854775807
+        abort b
+        may del a g.c -> yes
+        may-remembering del a g.c -> yes
+        ",
+        2,
+    ),
+];
 
 fn access_once(
     estate: &mut Estate,
@@ -35,21 +117,6 @@ fn access_once(
     }
 }
 
-/// The reply, or nothing where a lock keeps the transaction out.
-fn access(
-    rt: &impl Abort,
-    estate: &mut Estate,
-    tree: &Tree,
-    name: &Name,
-    key: &Key,
-    op: Op,
-) -> Option<Reply> {
-    match access_once(estate, tree, name, key, op) {
-        Ok(reply) => reply,
-        Err(_) => access_once(estate, tree, name, key, op).expect(rt, "memory"),
-    }
-}
-
 fn sum_once(
     estate: &mut Estate,
     tree: &Tree,
@@ -60,43 +127,6 @@ fn sum_once(
     match tree.no_of(name) {
         Some(txn) => Ok(estate.sum(tree, txn, group)),
         None => Ok(None),
-    }
-}
-
-/// The reply to a sum over the group, or nothing where a lock keeps the transaction out.
-fn sum(
-    rt: &impl Abort,
-    estate: &mut Estate,
-    tree: &Tree,
-    name: &Name,
-    group: &Group,
-) -> Option<Reply> {
-    match sum_once(estate, tree, name, group) {
-        Ok(reply) => reply,
-        Err(_) => sum_once(estate, tree, name, group).expect(rt, "memory"),
-    }
-}
-
-fn ask_once(
-    estate: &mut Estate,
-    tree: &Tree,
-    txn: TxnNo,
-    asked: &Asked,
-) -> Result<Option<Reply>, NoMemory> {
-    estate.reserve_asked(txn, asked)?;
-    Ok(estate.ask(tree, txn, asked))
-}
-
-fn ask(
-    rt: &impl Abort,
-    estate: &mut Estate,
-    tree: &Tree,
-    txn: TxnNo,
-    asked: &Asked,
-) -> Option<Reply> {
-    match ask_once(estate, tree, txn, asked) {
-        Ok(reply) => reply,
-        Err(_) => ask_once(estate, tree, txn, asked).expect(rt, "memory"),
     }
 }
 
@@ -115,229 +145,196 @@ fn commit_once(estate: &mut Estate, tree: &Tree, name: &Name) -> Result<(), NoMe
     Ok(())
 }
 
-fn commit(rt: &impl Abort, estate: &mut Estate, tree: &Tree, name: &Name) {
-    if commit_once(estate, tree, name).is_err() {
-        commit_once(estate, tree, name).expect(rt, "memory");
+// Whether that is the reply, `kept-out` where a lock keeps the transaction out.
+fn is_reply(reply: Option<Reply>, want: &str) -> bool {
+    match reply {
+        Some(Reply::Ok) => want == "ok",
+        Some(Reply::Value(value)) => is_value(Some(value), want),
+        Some(Reply::Absent) => is_value(None, want),
+        Some(Reply::Overflow) => want == "overflow",
+        Some(Reply::New(_)) => false,
+        None => want == "kept-out",
     }
 }
 
-fn changes(rt: &impl Abort, estate: &Estate, tree: &Tree, txn: TxnNo) -> Vec<Change> {
-    match estate.changes(tree, txn) {
-        Ok(changes) => changes,
-        Err(_) => estate.changes(tree, txn).expect(rt, "memory"),
+// Whether an access or a sum is replied to so.
+fn is_replied(estate: &mut Estate, tree: &Tree, event: &Event, want: &str) -> bool {
+    for _ in 0..2 {
+        let reply = match event {
+            Event::Access(name, key, op) => access_once(estate, tree, name, key, *op),
+            Event::Sum(name, group) => sum_once(estate, tree, name, group),
+            _ => Ok(None),
+        };
+        if let Ok(reply) = reply {
+            return is_reply(reply, want);
+        }
+    }
+    false
+}
+
+// The same of what is asked of the estate itself.
+fn is_granted(estate: &mut Estate, tree: &Tree, txn: TxnNo, asked: &Asked, want: &str) -> bool {
+    for _ in 0..2 {
+        if let Ok(()) = estate.reserve_asked(txn, asked) {
+            return is_reply(estate.ask(tree, txn, asked), want);
+        }
+    }
+    false
+}
+
+// Whether these keep the transaction from what it asks, in this order.
+fn is_kept(estate: &Estate, tree: &Tree, txn: TxnNo, asked: &Asked, want: &str) -> bool {
+    for _ in 0..2 {
+        if let Ok(found) = estate.locks().asked_blockers(tree, txn, asked) {
+            return are_named(tree, &found, want);
+        }
+    }
+    false
+}
+
+fn changes(estate: &Estate, tree: &Tree, txn: TxnNo) -> Option<Vec<Change>> {
+    for _ in 0..2 {
+        if let Ok(found) = estate.changes(tree, txn) {
+            return Some(found);
+        }
+    }
+    None
+}
+
+// Who asks by an access or a sum, and what.
+fn asked_by(event: &Event) -> Option<(Name, Asked)> {
+    match event {
+        Event::Access(name, key, op) => Some((*name, Asked::At(*key, *op))),
+        Event::Sum(name, group) => Some((*name, Asked::Over(*group))),
+        _ => None,
     }
 }
 
-// The only change, if there is one alone.
-fn change(rt: &impl Abort, estate: &Estate, tree: &Tree, txn: TxnNo) -> Option<Change> {
-    let found = changes(rt, estate, tree, txn);
-    if found.len() == 1 {
-        found.first().copied()
-    } else {
-        None
-    }
-}
-
-// What a child wrote goes with it where it is aborted, and the base keeps what it has until the
-// topmost one commits.
-fn nest(rt: &impl Abort, tree: &mut Tree, estate: &mut Estate) {
-    let ((a, top), (l, child)) = (begin(rt, tree, b"a"), begin(rt, tree, b"a/l"));
-    let ((r, _), (b, _)) = (begin(rt, tree, b"a/r"), begin(rt, tree, b"b"));
-    let x = numbered_key(rt, 0);
-    for (name, op, reply) in [
-        (a, Op::Set(1), Some(Reply::Ok)),
-        (l, Op::Get, Some(Reply::Value(1))),
-        (l, Op::Set(2), Some(Reply::Ok)),
-        (r, Op::Get, None),
-    ] {
-        assert!(rt; access(rt, estate, tree, &name, &x, op) == reply);
-    }
-    estate.abort(tree, child);
-    for (name, op, reply) in [
-        (r, Op::Get, Some(Reply::Value(1))),
-        (r, Op::Del, Some(Reply::Ok)),
-        (b, Op::Get, None),
-    ] {
-        assert!(rt; access(rt, estate, tree, &name, &x, op) == reply);
-    }
-    commit(rt, estate, tree, &r);
-    assert!(rt;
-        change(rt, estate, tree, top)
-            == Some(Change {
-                key: x,
-                value: None
-            })
-    );
-    commit(rt, estate, tree, &a);
-    assert!(rt; access(rt, estate, tree, &b, &x, Op::Get) == Some(Reply::Absent));
-}
-
-#[test]
-fn values_and_locks_nest(rt: HostRuntime) {
-    let base = PlainTable::new(rt.alloc());
-    let (mut tree, mut estate) = (Tree::new(rt.alloc()), Estate::new(rt.alloc(), base));
-    nest(&rt, &mut tree, &mut estate);
-    assert!(rt; estate.into_base().is_empty());
-}
-
-// An add that overflows writes as any other, though it leaves nothing.
-fn overflow(rt: &impl Abort, tree: &mut Tree, estate: &mut Estate) {
-    let ((a, _), (b, top)) = (begin(rt, tree, b"a"), begin(rt, tree, b"b"));
-    let (x, most) = (numbered_key(rt, 0), 9223372036854775807);
-    assert!(rt; access(rt, estate, tree, &a, &x, Op::Set(most)) == Some(Reply::Ok));
-    commit(rt, estate, tree, &a);
-    assert!(rt; estate.versions().base().get(&x) == Some(most));
-    assert!(rt; access(rt, estate, tree, &b, &x, Op::Add(1)) == Some(Reply::Overflow));
-    assert!(rt; estate.locks().modes_of(top, &x) == (Mode::Write, Mode::None));
-    assert!(rt; estate.versions().left(top, &x) == Left::Nothing);
-    assert!(rt;
-        change(rt, estate, tree, top)
-            == Some(Change {
-                key: x,
-                value: Some(most)
-            })
-    );
-}
-
-#[test]
-fn an_overflow_locks_to_write(rt: HostRuntime) {
-    let base = PlainTable::new(rt.alloc());
-    let (mut tree, mut estate) = (Tree::new(rt.alloc()), Estate::new(rt.alloc(), base));
-    overflow(&rt, &mut tree, &mut estate);
-}
-
-fn key(rt: &impl Abort, text: &[u8]) -> Key {
-    Key::parse(text).expect(rt, "a key")
-}
-
-fn group(rt: &impl Abort, text: &[u8]) -> Group {
-    Group::parse(text).expect(rt, "a group")
-}
-
-fn blockers(
-    rt: &impl Abort,
-    estate: &Estate,
-    tree: &Tree,
-    txn: TxnNo,
-    asked: &Asked,
-) -> Vec<TxnNo> {
-    match estate.locks().asked_blockers(tree, txn, asked) {
-        Ok(found) => found,
-        Err(_) => estate
-            .locks()
-            .asked_blockers(tree, txn, asked)
-            .expect(rt, "memory"),
-    }
-}
-
-fn set(
-    rt: &impl Abort,
+// Whether it holds, by the first word of a line, what the transaction asks.
+fn is_asked_by(
     estate: &mut Estate,
     tree: &Tree,
-    name: &Name,
-    text: &[u8],
-    value: i64,
-) -> Option<Reply> {
-    access(rt, estate, tree, name, &key(rt, text), Op::Set(value))
+    verb: &str,
+    txn: TxnNo,
+    asked: &Asked,
+    want: &str,
+) -> bool {
+    match verb {
+        "ask" => is_granted(estate, tree, txn, asked, want),
+        "may" => is_so(estate.locks().may_ask(tree, txn, asked), want),
+        "may-remembering" => is_so(estate.may_ask_remembering(tree, txn, asked), want),
+        "blocks" => match tree.no_of(&name(want)) {
+            Some(holder) => estate.locks().blocks_asked(tree, holder, txn, asked),
+            None => false,
+        },
+        "blockers" => is_kept(estate, tree, txn, asked, want),
+        _ => false,
+    }
 }
 
-// A sum sees what its ancestors left over the table, keeps others from writing any key of its
-// group, and goes up at a commit.
-fn sum_in_a_child(rt: &impl Abort, tree: &mut Tree, estate: &mut Estate) {
-    let ((o, _), (a, top)) = (begin(rt, tree, b"o"), begin(rt, tree, b"a"));
-    let ((l, child), (r, _)) = (begin(rt, tree, b"a/l"), begin(rt, tree, b"a/r"));
-    let ((b, other), g) = (begin(rt, tree, b"b"), group(rt, b"g"));
-    for (text, value) in [(b"g.x", 1), (b"h.x", 9), (b"g.y", 5)] {
-        assert!(rt; set(rt, estate, tree, &o, text, value) == Some(Reply::Ok));
+// Whether a line holds that asks about an access or a sum, behind its first word.
+fn is_asked(estate: &mut Estate, tree: &Tree, text: &str, want: &str) -> bool {
+    let (verb, text) = text.split_once(' ').unwrap_or((text, ""));
+    let event = &parse_event(text.as_bytes());
+    let Ok(event) = event else {
+        return false;
+    };
+    let Some((who, asked)) = asked_by(event) else {
+        return false;
+    };
+    match tree.no_of(&who) {
+        Some(txn) => is_asked_by(estate, tree, verb, txn, &asked, want),
+        None => false,
     }
-    commit(rt, estate, tree, &o);
-    assert!(rt; set(rt, estate, tree, &a, b"g.y", 2) == Some(Reply::Ok));
-    assert!(rt; sum(rt, estate, tree, &l, &g) == Some(Reply::Value(3)));
-    assert!(rt; sum(rt, estate, tree, &b, &g).is_none());
-    let new = Asked::At(key(rt, b"g.z"), Op::Set(4));
-    assert!(rt; ask(rt, estate, tree, other, &new).is_none());
-    assert!(rt; estate.locks().blocks_asked(tree, child, other, &new));
-    assert!(rt; set(rt, estate, tree, &r, b"g.z", 4).is_none());
-    commit(rt, estate, tree, &l);
-    assert!(rt; estate.locks().group_modes_of(top, &g) == (Mode::None, Mode::Read));
-    assert!(rt; blockers(rt, estate, tree, other, &new).as_slice() == [top].as_slice());
-    assert!(rt; set(rt, estate, tree, &r, b"g.z", 4) == Some(Reply::Ok));
-    commit(rt, estate, tree, &r);
-    commit(rt, estate, tree, &a);
-    assert!(rt; ask(rt, estate, tree, other, &Asked::Over(g)) == Some(Reply::Value(7)));
-    assert!(rt; ask(rt, estate, tree, other, &new) == Some(Reply::Ok));
+}
+
+// Whether a line holds that looks at what a transaction has.
+fn is_seen(estate: &mut Estate, tree: &Tree, text: &str) -> bool {
+    let (verb, who, what, want) = words(text);
+    let (txn, key) = (
+        tree.no_of(&name(who)).unwrap_or(TxnNo::new(u32::MAX)),
+        key(what),
+    );
+    match verb {
+        "modes" => are_modes(estate.locks().modes_of(txn, &key), want),
+        "group-modes" => are_modes(estate.locks().group_modes_of(txn, &group(what)), want),
+        "left" => want == "nothing" && estate.versions().left(txn, &key) == Left::Nothing,
+        "base" => is_value(estate.versions().base().get(&key), want),
+        "only-change" => match changes(estate, tree, txn) {
+            Some(found) => {
+                let value = want.parse().ok();
+                found.as_slice() == [Change { key, value }].as_slice()
+            }
+            None => false,
+        },
+        _ => false,
+    }
+}
+
+// Whether a line of a script holds.
+fn holds(tree: &mut Tree, estate: &mut Estate, text: &str) -> bool {
+    let (asked, want) = text.split_once(" -> ").unwrap_or((text, ""));
+    match &parse_event(asked.as_bytes()) {
+        Ok(Event::Begin(name)) => begins(tree, name),
+        Ok(Event::Commit(name)) => {
+            commit_once(estate, tree, name).is_ok() || commit_once(estate, tree, name).is_ok()
+        }
+        Ok(Event::Abort(name)) => match tree.no_of(name) {
+            Some(txn) => {
+                estate.abort(tree, txn);
+                true
+            }
+            None => false,
+        },
+        Ok(event) => is_replied(estate, tree, event, want),
+        Err(_) => is_asked(estate, tree, asked, want) || is_seen(estate, tree, text),
+    }
 }
 
 #[test]
-fn a_sum_goes_up(rt: HostRuntime) {
-    let base = PlainTable::new(rt.alloc());
-    let (mut tree, mut estate) = (Tree::new(rt.alloc()), Estate::new(rt.alloc(), base));
-    sum_in_a_child(&rt, &mut tree, &mut estate);
-}
-
-// A sum that is not an i64 locks its group all the same. It is one where a part of it is none.
-fn sum_past(rt: &impl Abort, tree: &mut Tree, estate: &mut Estate) {
-    let ((a, top), (b, other)) = (begin(rt, tree, b"a"), begin(rt, tree, b"b"));
-    let (g, most) = (group(rt, b"g"), 9223372036854775807);
-    for (text, value) in [(b"g.a", most), (b"g.b", 1)] {
-        assert!(rt; set(rt, estate, tree, &a, text, value) == Some(Reply::Ok));
+fn scripts_hold(rt: HostRuntime) {
+    for (what, script, rows) in SCRIPTS {
+        let base = PlainTable::new(rt.alloc());
+        let (mut tree, mut estate) = (Tree::new(rt.alloc()), Estate::new(rt.alloc(), base));
+        for text in script.trim().lines() {
+            let text = text.trim();
+            assert!(rt; holds(&mut tree, &mut estate, text), "{what}: {text}");
+        }
+        assert!(rt; estate.into_base().len() == rows, "{what}: the base");
     }
-    commit(rt, estate, tree, &a);
-    assert!(rt; sum(rt, estate, tree, &b, &g) == Some(Reply::Overflow));
-    assert!(rt; estate.locks().group_modes_of(other, &g) == (Mode::Read, Mode::None));
-    let removal = Asked::At(key(rt, b"g.c"), Op::Del);
-    assert!(rt; !estate.locks().may_ask(tree, top, &removal));
-    assert!(rt; set(rt, estate, tree, &b, b"g.c", -1) == Some(Reply::Ok));
-    assert!(rt; sum(rt, estate, tree, &b, &g) == Some(Reply::Value(most)));
-    estate.abort(tree, other);
-    assert!(rt; estate.locks().may_ask(tree, top, &removal));
-    assert!(rt; estate.may_ask_remembering(tree, top, &removal));
-}
-
-#[test]
-fn a_sum_that_overflows_locks(rt: HostRuntime) {
-    let base = PlainTable::new(rt.alloc());
-    let (mut tree, mut estate) = (Tree::new(rt.alloc()), Estate::new(rt.alloc(), base));
-    sum_past(&rt, &mut tree, &mut estate);
 }
 
 const KEYS: u8 = 40;
 
-fn numbered_key(rt: &impl Abort, index: u8) -> Key {
-    Key::parse(&[b'a' + index / 8, b'a' + index % 8]).expect(rt, "a key")
-}
-
-// Every second key is written, from the last to the first, and the others are read.
-fn touch_keys(rt: &impl Abort, tree: &Tree, estate: &mut Estate, name: &Name) {
-    for index in 0..KEYS {
-        let key = numbered_key(rt, (KEYS - 1).wrapping_sub(index));
-        let op = if index % 2 == 0 { Op::Set(7) } else { Op::Get };
-        assert!(rt; access(rt, estate, tree, name, &key, op).is_some());
-    }
-}
-
 // Whether these are the keys that were written, in byte order.
-fn are_written(rt: &impl Abort, found: &[Change]) -> bool {
+fn are_written(found: &[Change]) -> bool {
     for index in 0..found.len().min(20) {
-        let key = numbered_key(rt, (index as u8).wrapping_mul(2).wrapping_add(1));
-        if found[index]
-            != (Change {
-                key,
-                value: Some(7),
-            })
-        {
+        let key = numbered_key((index as u8).wrapping_mul(2).wrapping_add(1));
+        let value = Some(7);
+        if found[index] != (Change { key, value }) {
             return false;
         }
     }
     found.len() == 20
 }
 
-// The keys in byte order, whatever order they were written in, and none that was read alone.
+// Every second key is written, from the last to the first, and the others are read. The changes are
+// the keys in byte order, and none that was read alone.
 #[test]
 fn changes_stand_in_byte_order(rt: HostRuntime) {
     let (mut tree, base) = (Tree::new(rt.alloc()), PlainTable::new(rt.alloc()));
     let mut estate = Estate::new(rt.alloc(), base);
-    let (a, top) = begin(&rt, &mut tree, b"a");
-    touch_keys(&rt, &tree, &mut estate, &a);
-    assert!(rt; are_written(&rt, changes(&rt, &estate, &tree, top).as_slice()));
+    let a = name("a");
+    assert!(rt; begins(&mut tree, &a), "begin");
+    for index in 0..KEYS {
+        let (op, want) = if index % 2 == 0 {
+            (Op::Set(7), "ok")
+        } else {
+            (Op::Get, "none")
+        };
+        let event = Event::Access(a, numbered_key((KEYS - 1).wrapping_sub(index)), op);
+        assert!(rt; is_replied(&mut estate, &tree, &event, want), "{index}");
+    }
+    let found = changes(&estate, &tree, TxnNo::new(0)).expect(&rt, "memory");
+    assert!(rt; are_written(&found));
 }

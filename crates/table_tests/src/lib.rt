@@ -11,6 +11,8 @@ mod orphans_tests;
 #[cfg(test)]
 mod target_locks_tests;
 #[cfg(test)]
+mod tools;
+#[cfg(test)]
 mod txn_cells_tests;
 #[cfg(test)]
 mod txn_tree_tests;

@@ -3,13 +3,9 @@
 ghost use Rattle.std.specs.Prelude.{◌≤◌};
 
 use orphans::Marks;
-use std::alloc::Global;
 use std::process::Abort;
+use test_kit::name;
 use txn_names::Name;
-
-fn name(rt: &impl Abort, text: &str) -> Name {
-    Name::parse(text.as_bytes()).expect(rt, text)
-}
 
 // Makes room. Where that is refused, what is marked stays, and the call made again succeeds.
 fn make_room(rt: &impl Abort, marks: &mut Marks, additional: usize, marked: &Name)
@@ -22,58 +18,56 @@ fn make_room(rt: &impl Abort, marks: &mut Marks, additional: usize, marked: &Nam
     }
 }
 
-fn mark(rt: &impl Abort, marks: &mut Marks, text: &str) {
-    let name = name(rt, text);
-    make_room(rt, marks, 1, &name);
-    marks.mark(&name);
-}
-
-// Whether this is the topmost aborted one, or the text is empty and there is none.
-fn is_top(rt: &impl Abort, marks: &Marks, text: &str, top: &str) -> bool {
-    match marks.top_aborted(&name(rt, text)) {
-        Some(found) => !top.is_empty() && found == name(rt, top),
-        None => top.is_empty(),
-    }
+fn mark(rt: &impl Abort, marks: &mut Marks, name: &Name) {
+    make_room(rt, marks, 1, name);
+    marks.mark(name);
 }
 
 #[test]
 fn answers_the_topmost_mark(rt: HostRuntime) {
     let mut marks = Marks::new(rt.alloc());
-    mark(&rt, &mut marks, "a/b/c");
-    assert!(rt; is_top(&rt, &marks, "a/b/c/d", "a/b/c"));
-    make_room(&rt, &mut marks, 1000, &name(&rt, "a/b/c"));
-    mark(&rt, &mut marks, "a/b");
-    mark(&rt, &mut marks, "a/b");
+    mark(&rt, &mut marks, &name("a/b/c"));
+    assert!(rt;
+        marks.top_aborted(&name("a/b/c/d")) == Some(name("a/b/c")),
+        "one mark"
+    );
+    make_room(&rt, &mut marks, 1000, &name("a/b/c"));
+    for _ in 0..2 {
+        mark(&rt, &mut marks, &name("a/b"));
+    }
     for (text, top) in [
-        ("a/b/c/d", "a/b"),
-        ("a/b/c", "a/b"),
-        ("a/b", "a/b"),
-        ("a", ""),
-        ("a/bc", ""),
-        ("b/a/b", ""),
+        ("a/b/c/d", Some(name("a/b"))),
+        ("a/b/c", Some(name("a/b"))),
+        ("a/b", Some(name("a/b"))),
+        ("a", None),
+        ("a/bc", None),
+        ("b/a/b", None),
     ] {
-        assert!(rt; is_top(&rt, &marks, text, top), "{text}");
+        assert!(rt; marks.top_aborted(&name(text)) == top, "{text}");
     }
 }
 
-// The path of 8 labels to a transaction of this number.
-fn path(rt: &impl Abort, alloc: Global, number: usize) -> String {
-    match format!(in alloc; "a/b/c/d/e/f/t{number}/h") {
-        Ok(text) => text,
-        Err(_) => format!(in alloc; "a/b/c/d/e/f/t{number}/h").expect(rt, "memory"),
-    }
+// One of a hundred paths of 8 labels to a transaction, by its number.
+fn path(rt: &impl Abort, number: u8) -> Name {
+    let (tens, ones) = (b'0' + number / 10 % 10, b'0' + number % 10);
+    let text = [
+        b'a', b'/', b'b', b'/', b'c', b'/', b'd', b'/', b'e', b'/', b'f', b'/', b't', tens, ones,
+        b'/', b'h',
+    ];
+    Name::parse(&text).expect(rt, "a path")
 }
 
 #[test]
 fn holds_a_hundred_marks(rt: HostRuntime) {
     let mut marks = Marks::new(rt.alloc());
     for number in 0..100 {
-        mark(&rt, &mut marks, &path(&rt, rt.alloc(), number));
+        mark(&rt, &mut marks, &path(&rt, number));
     }
     for number in 0..100 {
-        let text = path(&rt, rt.alloc(), number);
-        assert!(rt; is_top(&rt, &marks, &text, &text), "{number}");
+        let path = path(&rt, number);
+        assert!(rt; marks.top_aborted(&path) == Some(path), "{number}");
     }
-    assert!(rt; is_top(&rt, &marks, &path(&rt, rt.alloc(), 100), ""));
-    assert!(rt; is_top(&rt, &marks, "a/b/c/d/e/f/t99", ""));
+    for text in ["a/b/c/d/e/f/t100/h", "a/b/c/d/e/f/t99"] {
+        assert!(rt; marks.top_aborted(&name(text)).is_none(), "{text}");
+    }
 }

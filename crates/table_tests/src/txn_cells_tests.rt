@@ -2,17 +2,17 @@
 //! parent's. Under a trial run that refuses a growth the call is made again.
 ghost use Rattle.std.specs.Prelude.{◌≡◌, false};
 
-use serial_spec::NoMemory;
-use std::process::Abort;
+use crate::tools::{begins, check};
+use test_kit::{child_name, name, numbered_key};
 use txn_cells::{CellTable, Inherit};
-use txn_names::{Key, Name};
+use txn_names::Key;
 use txn_tree::{Tree, TxnNo};
 
 const CHILDREN: u8 = 29;
 
 const KEYS: u8 = 40;
 
-#[derive(Clone, Copy, Debug, PartialEq, Eq)]
+#[derive(Clone, Copy)]
 struct Latest(u32);
 
 impl Inherit for Latest {
@@ -41,132 +41,139 @@ impl Inherit for Latest {
     }
 }
 
-fn begin_once(tree: &mut Tree, name: &Name) -> Option<TxnNo> {
-    match tree.begin(name) {
-        Ok(number) => Some(number),
-        Err(_) => None,
+// Whether that is the value; 0 where there is none.
+fn is_value(value: Option<Latest>, want: u32) -> bool {
+    match value {
+        Some(Latest(value)) => value == want,
+        None => want == 0,
     }
 }
 
-fn begin(rt: &impl Abort, tree: &mut Tree, text: &[u8]) -> TxnNo {
-    let name = Name::parse(text).expect(rt, "a name");
-    match begin_once(tree, &name) {
-        Some(number) => number,
-        None => begin_once(tree, &name).expect(rt, "begun"),
+// Whether the transaction has the value at the key from now on, set or joined to what it had.
+fn is_set(table: &mut CellTable<Latest>, txn: TxnNo, key: &Key, value: u32, joined: bool) -> bool {
+    for _ in 0..2 {
+        if let Ok(()) = table.reserve(txn, key) {
+            if joined {
+                table.join(txn, key, Latest(value));
+            } else {
+                table.set(txn, key, Latest(value));
+            }
+            return true;
+        }
     }
+    false
 }
 
-fn child(rt: &impl Abort, tree: &mut Tree, index: u8) -> TxnNo {
-    begin(rt, tree, &[b'a', b'/', b'a' + index / 8, b'a' + index % 8])
-}
-
-fn key(rt: &impl Abort, index: u8) -> Key {
-    Key::parse(&[b'a' + index / 8, b'a' + index % 8]).expect(rt, "a key")
-}
-
-fn set_once(
-    table: &mut CellTable<Latest>,
-    txn: TxnNo,
-    key: &Key,
-    value: Latest,
-) -> Result<(), NoMemory> {
-    table.reserve(txn, key)?;
-    table.set(txn, key, value);
-    Ok(())
-}
-
-fn set(rt: &impl Abort, table: &mut CellTable<Latest>, txn: TxnNo, key: &Key, value: Latest) {
-    if set_once(table, txn, key, value).is_err() {
-        set_once(table, txn, key, value).expect(rt, "memory");
+// Whether the values go up to the parent.
+fn goes_up(table: &mut CellTable<Latest>, child: TxnNo, parent: TxnNo) -> bool {
+    for _ in 0..2 {
+        if let Ok(()) = table.reserve_for_parent(child, parent) {
+            table.hand_up(child, Some(parent));
+            return true;
+        }
     }
+    false
 }
 
-fn join_once(
-    table: &mut CellTable<Latest>,
-    txn: TxnNo,
-    key: &Key,
-    added: Latest,
-) -> Result<(), NoMemory> {
-    table.reserve(txn, key)?;
-    table.join(txn, key, added);
-    Ok(())
-}
-
-fn hand_up_once(
-    table: &mut CellTable<Latest>,
-    child: TxnNo,
-    parent: TxnNo,
-) -> Result<(), NoMemory> {
-    table.reserve_for_parent(child, parent)?;
-    table.hand_up(child, Some(parent));
-    Ok(())
-}
-
-fn hand_up(rt: &impl Abort, table: &mut CellTable<Latest>, child: TxnNo, parent: TxnNo) {
-    if hand_up_once(table, child, parent).is_err() {
-        hand_up_once(table, child, parent).expect(rt, "memory");
-    }
-}
-
-// A child with a value at each key.
-fn write_all(rt: &impl Abort, table: &mut CellTable<Latest>, txn: TxnNo, value: u32) {
+// Whether the transaction has the value at each key from now on.
+fn sets_all(table: &mut CellTable<Latest>, txn: TxnNo, value: u32) -> bool {
     for index in 0..KEYS {
-        set(rt, table, txn, &key(rt, index), Latest(value));
+        if !is_set(table, txn, &numbered_key(index), value, false) {
+            return false;
+        }
     }
+    true
 }
 
-fn has_all(rt: &impl Abort, table: &CellTable<Latest>, txn: TxnNo, value: Option<Latest>) -> bool {
-    (0..KEYS).all(|index| table.get(txn, &key(rt, index)) == value)
-}
-
-fn count(table: &CellTable<Latest>, txn: TxnNo) -> usize {
-    table.keys(txn).len()
+fn has_all(table: &CellTable<Latest>, txn: TxnNo, value: u32) -> bool {
+    for index in 0..KEYS {
+        if !is_value(table.get(txn, &numbered_key(index)), value) {
+            return false;
+        }
+    }
+    true
 }
 
 // The last child to commit is the one whose values stand.
 #[test]
 fn a_parent_has_what_its_children_left(rt: HostRuntime) {
     let (mut tree, mut table) = (Tree::new(rt.alloc()), CellTable::new(rt.alloc()));
-    let top = begin(&rt, &mut tree, b"a");
-    for index in 0..CHILDREN {
-        let txn = child(&rt, &mut tree, index);
-        write_all(&rt, &mut table, txn, 1 + index as u32);
-        if index % 2 == 0 {
-            hand_up(&rt, &mut table, txn, top);
-            assert!(rt; has_all(&rt, &table, top, Some(Latest(1 + index as u32))));
-            assert!(rt; count(&table, txn) == 0 && count(&table, top) == 40);
+    let (top, last) = (TxnNo::new(0), numbered_key(39));
+    assert!(rt; begins(&mut tree, &name("a")), "begin");
+    for child in 0..CHILDREN {
+        let (txn, value) = (TxnNo::new(1 + child as u32), 1 + child as u32);
+        check(&rt, begins(&mut tree, &child_name(child)), "begin", child);
+        check(&rt, sets_all(&mut table, txn, value), "set by", child);
+        if child % 2 == 0 {
+            check(&rt, goes_up(&mut table, txn, top), "up from", child);
+            check(&rt, has_all(&table, top, value), "left by", child);
+            check(
+                &rt,
+                table.keys(txn).is_empty() && table.keys(top).len() == 40,
+                "the keys of",
+                child,
+            );
         }
     }
-    assert!(rt; table.holders(&key(&rt, 39)).len() == 15);
-    assert!(rt; table.standing_out(&key(&rt, 39)).is_empty());
+    assert!(rt; table.holders(&last).len() == 15 && table.standing_out(&last).is_empty());
     table.drop_under(&tree, TxnNo::new(2));
-    assert!(rt; has_all(&rt, &table, TxnNo::new(2), None));
-    assert!(rt; has_all(&rt, &table, TxnNo::new(4), Some(Latest(4))));
+    for (number, value) in [(2, 0), (4, 4)] {
+        assert!(rt;
+            has_all(&table, TxnNo::new(number), value),
+            "{number} beside a dropped one"
+        );
+    }
     table.drop_under(&tree, top);
-    assert!(rt; has_all(&rt, &table, TxnNo::new(4), None) && count(&table, top) == 0);
+    assert!(rt; has_all(&table, TxnNo::new(4), 0) && table.keys(top).is_empty());
+}
+
+// Whether one look at the first key, also one at the key that was looked at last, tells what each
+// of the first three has there.
+fn tells(table: &mut CellTable<Latest>, values: [u32; 3]) -> bool {
+    let key = numbered_key(0);
+    let Some(seen) = table.at(&key) else {
+        return false;
+    };
+    for (number, value) in [(0, values[0]), (1, values[1]), (2, values[2])] {
+        if !is_value(seen.get(TxnNo::new(number)), value) {
+            return false;
+        }
+    }
+    if seen.holders().len() != 2 {
+        return false;
+    }
+    table.remember(&key);
+    let Some(seen) = table.at_remembered(&key) else {
+        return false;
+    };
+    is_value(seen.get(TxnNo::new(0)), values[0]) && is_value(seen.get(TxnNo::new(1)), values[1])
 }
 
 // One look at a key tells what each of two has there, before and after an access of one of them.
 #[test]
 fn one_look_tells_what_all_have(rt: HostRuntime) {
     let (mut tree, mut table) = (Tree::new(rt.alloc()), CellTable::new(rt.alloc()));
-    let top = begin(&rt, &mut tree, b"a");
-    let txn = child(&rt, &mut tree, 0);
-    write_all(&rt, &mut table, top, 1);
-    write_all(&rt, &mut table, txn, 2);
-    let first = key(&rt, 0);
-    let seen = table.at(&first).expect(&rt, "somebody has a place");
-    assert!(rt; seen.get(top) == Some(Latest(1)) && seen.get(txn) == Some(Latest(2)));
-    assert!(rt; seen.get(TxnNo::new(2)) == None);
-    assert!(rt; seen.holders().len() == 2);
-    assert!(rt; table.at(&key(&rt, KEYS)).is_none());
-    if join_once(&mut table, txn, &first, Latest(3)).is_err() {
-        join_once(&mut table, txn, &first, Latest(3)).expect(&rt, "memory");
-    }
-    table.remember(&first);
-    let seen = table
-        .at_remembered(&first)
-        .expect(&rt, "somebody has a place");
-    assert!(rt; seen.get(top) == Some(Latest(1)) && seen.get(txn) == Some(Latest(3)));
-    assert!(rt; table.get_listed(txn, 1, &key(&rt, 1)) == Some(Latest(2)));
+    let (top, child) = (TxnNo::new(0), TxnNo::new(1));
+    assert!(rt;
+        begins(&mut tree, &name("a")) && begins(&mut tree, &child_name(0)),
+        "begin"
+    );
+    assert!(rt;
+        sets_all(&mut table, top, 1) && sets_all(&mut table, child, 2),
+        "set"
+    );
+    assert!(rt; tells(&mut table, [1, 2, 0]), "before");
+    assert!(rt;
+        table.at(&numbered_key(KEYS)).is_none(),
+        "a key that nobody has"
+    );
+    assert!(rt;
+        is_set(&mut table, child, &numbered_key(0), 3, true),
+        "joined"
+    );
+    assert!(rt; tells(&mut table, [1, 3, 0]), "behind");
+    assert!(rt;
+        is_value(table.get_listed(child, 1, &numbered_key(1)), 2),
+        "listed"
+    );
 }

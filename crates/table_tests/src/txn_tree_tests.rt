@@ -1,42 +1,184 @@
 //! The worked values of the tree, and each refusal once.
+use crate::tools::words;
 use serial_spec::Refusal;
-use std::hash::{DefaultHasher, Hash, Hasher};
 use std::process::Abort;
+use test_kit::{child_name, greater, hash_of, name};
 use txn_names::Name;
 use txn_tree::{MOST_TRANSACTIONS, Status, Tree, TreeFault, TxnNo};
 
-fn name(rt: &impl Abort, text: &str) -> Name {
-    Name::parse(text.as_bytes()).expect(rt, text)
-}
+/// Behind `links` stands a number, and wanted are those of its first child and of its next sibling.
+const SCRIPTS: [(&str, &str); 6] = [
+    (
+        "numbers in order of beginning",
+        "
+        empty
+        begin a -> 0
+        begin b -> 1
+        begin a/l -> 2
+        begin b/l -> 3
+        count tree -> 4
+        lacks c 4
+        ",
+    ),
+    // Also once a child in the middle has ended, and past the last number.
+    (
+        "goes over children",
+        "
+        first tree -> none
+        begin a -> 0
+        begin a/l -> 1
+        begin b -> 2
+        begin a/m -> 3
+        begin a/m/x -> 4
+        begin a/r -> 5
+        abort a/m -> 2
+        first tree -> 0
+        links 0 -> 1 2
+        links 1 -> none 3
+        links 2 -> none none
+        links 3 -> 4 5
+        links 4 -> none none
+        links 5 -> none none
+        links 6 -> none none
+        ",
+    ),
+    // Own states stay below the aborted one.
+    (
+        "aborts what is live",
+        "
+        begin a -> 0
+        begin a/l -> 1
+        begin a/r -> 2
+        commit a/l -> ok
+        children a -> 1
+        abort a -> 2
+        status a -> aborted
+        status a/l -> committed
+        status a/r -> live
+        status b -> absent
+        children a -> 1
+        ",
+    ),
+    (
+        "aborts no orphan twice",
+        "
+        begin a -> 0
+        begin a/b -> 1
+        begin a/b/c -> 2
+        begin a/d -> 3
+        begin ab -> 4
+        abort a/b -> 2
+        abort a -> 2
+        abort ab -> 1
+        ",
+    ),
+    // Of the aborted ones the topmost is named, and not the nearest.
+    (
+        "refuses by the first cause",
+        "
+        begin a -> 0
+        begin a/b -> 1
+        begin a/b/c -> 2
+        begin d -> 3
+        begin e -> 4
+        begin e/f -> 5
+        commit e -> refused children
+        commit d -> ok
+        begin d -> refused used
+        begin d/a -> refused no-parent
+        begin x/a -> refused no-parent
+        commit x -> refused unknown
+        commit d -> refused done
+        abort x -> refused unknown
+        abort d -> refused done
+        abort a/b -> 2
+        abort a -> 1
+        commit a/b/c -> orphan a
+        abort a/b -> orphan a
+        begin a/b/d -> orphan a
+        begin a/b -> refused used
+        ",
+    ),
+    // A chain of the greatest depth, aborted in the middle. Each is the one child of the one above.
+    (
+        "goes up a chain",
+        "
+        begin a -> 0
+        begin a/a -> 1
+        begin a/a/a -> 2
+        begin a/a/a/a -> 3
+        begin a/a/a/a/a -> 4
+        begin a/a/a/a/a/a -> 5
+        begin a/a/a/a/a/a/a -> 6
+        begin a/a/a/a/a/a/a/a -> 7
+        begin a/a/a/a/a/a/a/a/a -> 8
+        begin a/a/a/a/a/a/a/a/a/a -> 9
+        begin a/a/a/a/a/a/a/a/a/a/a -> 10
+        begin a/a/a/a/a/a/a/a/a/a/a/a -> 11
+        begin a/a/a/a/a/a/a/a/a/a/a/a/a -> 12
+        begin a/a/a/a/a/a/a/a/a/a/a/a/a/a -> 13
+        begin a/a/a/a/a/a/a/a/a/a/a/a/a/a/a -> 14
+        begin a/a/a/a/a/a/a/a/a/a/a/a/a/a/a/a -> 15
+        only-child 0 -> 1
+        only-child 1 -> 2
+        only-child 2 -> 3
+        only-child 3 -> 4
+        only-child 4 -> 5
+        only-child 5 -> 6
+        only-child 6 -> 7
+        only-child 7 -> 8
+        only-child 8 -> 9
+        only-child 9 -> 10
+        only-child 10 -> 11
+        only-child 11 -> 12
+        only-child 12 -> 13
+        only-child 13 -> 14
+        only-child 14 -> 15
+        abort a/a/a/a -> 13
+        abort a/a/a/a/a -> orphan a/a/a/a
+        children a/a/a -> 0
+        abort a -> 3
+        tops tree -> 0
+        ",
+    ),
+];
 
-// A cause, spelled as in a report.
-fn cause_of(text: &str) -> Option<Refusal> {
-    match text {
-        "refused unknown" => Some(Refusal::Unknown),
-        "refused used" => Some(Refusal::Used),
-        "refused no-parent" => Some(Refusal::NoParent),
-        "refused done" => Some(Refusal::Done),
-        "refused children" => Some(Refusal::Children),
-        "refused full" => Some(Refusal::Full),
-        _ => {
-            let top = text.strip_prefix("orphan ")?;
-            Some(Refusal::Orphan(Name::parse(top.as_bytes()).ok()?))
-        }
+// Whether that is the cause, spelled as in a report.
+fn is_cause(cause: Refusal, want: &str) -> bool {
+    match cause {
+        Refusal::Unknown => want == "refused unknown",
+        Refusal::Used => want == "refused used",
+        Refusal::NoParent => want == "refused no-parent",
+        Refusal::Done => want == "refused done",
+        Refusal::Children => want == "refused children",
+        Refusal::Full => want == "refused full",
+        Refusal::Orphan(top) => match want.strip_prefix("orphan ") {
+            Some(text) => top == name(text),
+            None => false,
+        },
+        Refusal::Waiting | Refusal::Store => false,
     }
 }
 
-fn status_of(word: &str) -> Option<Status> {
-    match word {
-        "absent" => Some(Status::Absent),
-        "live" => Some(Status::Live),
-        "committed" => Some(Status::Committed),
-        "aborted" => Some(Status::Aborted),
-        _ => None,
+fn is_status(status: Status, want: &str) -> bool {
+    match status {
+        Status::Absent => want == "absent",
+        Status::Live => want == "live",
+        Status::Committed => want == "committed",
+        Status::Aborted => want == "aborted",
     }
 }
 
-fn is_number(text: &str, number: u32) -> bool {
-    text.parse().ok() == Some(number)
+fn is_number(number: u32, want: &str) -> bool {
+    want.parse().ok() == Some(number)
+}
+
+// Whether that is the number of a transaction, or `none`.
+fn is_place(number: Option<TxnNo>, want: &str) -> bool {
+    match number {
+        Some(number) => is_number(number.place(), want),
+        None => want == "none",
+    }
 }
 
 // A begin gives this number, the next one, by which the name is found.
@@ -59,187 +201,85 @@ fn begins(tree: &mut Tree, name: &Name, want: &str) -> bool {
     }
     let count = tree.len();
     match tree.begin(name) {
-        Err(TreeFault::Refused(cause)) => cause_of(want) == Some(cause) && tree.len() == count,
+        Err(TreeFault::Refused(cause)) => is_cause(cause, want) && tree.len() == count,
         _ => false,
     }
 }
 
-fn commits(tree: &mut Tree, name: &Name, want: &str) -> bool {
-    match tree.commit(name) {
-        Ok(()) => want == "ok",
-        Err(cause) => cause_of(want) == Some(cause),
-    }
+// Whether the second is the one child of the first, and both are live.
+fn is_only_child(tree: &Tree, above: TxnNo, below: TxnNo) -> bool {
+    tree.parent_of(below) == Some(above)
+        && tree.is_under(above, below)
+        && !tree.is_under(below, above)
+        && tree.live_children_at(above) == 1
+        && tree.status_at(below) == Status::Live
 }
 
-fn aborts(tree: &mut Tree, name: &Name, want: &str) -> bool {
-    match tree.abort(name) {
-        Ok(ended) => is_number(want, ended),
-        Err(cause) => cause_of(want) == Some(cause),
-    }
+// The number of a transaction that a word is. Of a word that is none nothing has begun.
+fn number(word: &str) -> TxnNo {
+    TxnNo::new(word.parse().unwrap_or(u32::MAX))
 }
 
-fn is_answered_so(tree: &mut Tree, verb: &str, name: &Name, want: &str) -> bool {
+// Whether a line holds that looks at the tree.
+fn is_seen(tree: &Tree, text: &str) -> bool {
+    let (verb, who, what, want) = words(text);
+    let txn = number(who);
     match verb {
-        "begin" => begins(tree, name, want),
-        "commit" => commits(tree, name, want),
-        "abort" => aborts(tree, name, want),
-        "children" => is_number(want, tree.live_children(name)),
-        "status" => status_of(want) == Some(tree.status(name)),
+        "empty" => tree.is_empty(),
+        "count" => want.parse().ok() == Some(tree.len()),
+        "lacks" => { tree.no_of(&name(who)).is_none() && tree.name_of(number(what)).is_none() }
+        "first" => is_place(tree.first_top(), want),
+        "tops" => is_number(tree.live_tops(), want),
+        "links" => {
+            let (child, next) = want.split_once(' ').unwrap_or((want, ""));
+            is_place(tree.first_child(txn), child) && is_place(tree.next_sibling(txn), next)
+        }
+        "only-child" => is_only_child(tree, txn, number(want)),
+        "children-at" => is_number(tree.live_children_at(txn), want),
         _ => false,
     }
 }
 
-// What a line asks of the tree, and what it is answered.
-fn step(rt: &impl Abort, tree: &mut Tree, text: &str) {
-    let (asked, want) = text.split_once(" -> ").expect(rt, text);
-    let (verb, who) = asked.split_once(' ').expect(rt, text);
-    if !is_answered_so(tree, verb, &name(rt, who), want) {
-        rt.panic(text);
+// Whether a line of a script holds.
+fn holds(tree: &mut Tree, text: &str) -> bool {
+    let (verb, who, _, want) = words(text);
+    let name = name(who);
+    match verb {
+        "begin" => begins(tree, &name, want),
+        "commit" => match tree.commit(&name) {
+            Ok(()) => want == "ok",
+            Err(cause) => is_cause(cause, want),
+        },
+        "abort" => match tree.abort(&name) {
+            Ok(ended) => is_number(ended, want),
+            Err(cause) => is_cause(cause, want),
+        },
+        "children" => is_number(tree.live_children(&name), want),
+        "status" => is_status(tree.status(&name), want),
+        _ => is_seen(tree, text),
     }
 }
 
-// Asks these lines in turn. What fails ends the process, so that no tree is dropped on the way.
-fn play(rt: &impl Abort, tree: &mut Tree, script: &str) {
-    for text in script.lines() {
+// What fails ends the process, so that no tree is dropped on the way.
+fn play(rt: &impl Abort, tree: &mut Tree, what: &str, script: &str) {
+    for text in script.trim().lines() {
         let text = text.trim();
-        if !text.is_empty() {
-            step(rt, tree, text);
-        }
+        assert!(rt; holds(tree, text), "{what}: {text}");
     }
 }
 
-fn hash_of<T: Hash>(value: &T) -> u64 {
-    let mut state = DefaultHasher::new();
-    value.hash(&mut state);
-    state.finish()
-}
-
-fn greatest<T: Ord + Copy>(a: T, b: T) -> T {
-    if a < b { b } else { a }
+#[test]
+fn scripts_hold(rt: HostRuntime) {
+    for (what, script) in SCRIPTS {
+        play(&rt, &mut Tree::new(rt.alloc()), what, script);
+    }
 }
 
 #[test]
 fn compares_numbers(rt: HostRuntime) {
     let (early, late) = (TxnNo::new(1), TxnNo::new(2));
-    assert!(rt; greatest(late, early) == late);
+    assert!(rt; greater(late, early) == late);
     assert!(rt; hash_of(&early) != hash_of(&late));
-}
-
-fn lacks(tree: &Tree, name: &Name, number: TxnNo) -> bool {
-    tree.no_of(name) == None && tree.name_of(number) == None
-}
-
-#[test]
-fn numbers_in_order_of_beginning(rt: HostRuntime) {
-    let mut tree = Tree::new(rt.alloc());
-    assert!(rt; tree.is_empty());
-    let script = "
-        begin a -> 0
-        begin b -> 1
-        begin a/l -> 2
-        begin b/l -> 3
-    ";
-    play(&rt, &mut tree, script);
-    assert!(rt; tree.len() == 4);
-    assert!(rt; lacks(&tree, &name(&rt, "c"), TxnNo::new(4)));
-}
-
-fn leads_to(tree: &Tree, txn: u32, child: Option<u32>, next: Option<u32>) -> bool {
-    let txn = TxnNo::new(txn);
-    tree.first_child(txn) == child.map(TxnNo::new) && tree.next_sibling(txn) == next.map(TxnNo::new)
-}
-
-// Also once a child in the middle has ended, and past the last number.
-#[test]
-fn goes_over_children(rt: HostRuntime) {
-    let mut tree = Tree::new(rt.alloc());
-    assert!(rt; tree.first_top() == None);
-    let script = "
-        begin a -> 0
-        begin a/l -> 1
-        begin b -> 2
-        begin a/m -> 3
-        begin a/m/x -> 4
-        begin a/r -> 5
-        abort a/m -> 2
-    ";
-    play(&rt, &mut tree, script);
-    assert!(rt; tree.first_top() == Some(TxnNo::new(0)));
-    let links = [
-        (0, Some(1), Some(2)),
-        (1, None, Some(3)),
-        (2, None, None),
-        (3, Some(4), Some(5)),
-        (4, None, None),
-        (5, None, None),
-        (6, None, None),
-    ];
-    for (txn, child, next) in links {
-        assert!(rt; leads_to(&tree, txn, child, next), "{txn}");
-    }
-}
-
-// Own states stay below the aborted one.
-#[test]
-fn aborts_what_is_live(rt: HostRuntime) {
-    let script = "
-        begin a -> 0
-        begin a/l -> 1
-        begin a/r -> 2
-        commit a/l -> ok
-        children a -> 1
-        abort a -> 2
-        status a -> aborted
-        status a/l -> committed
-        status a/r -> live
-        status b -> absent
-        children a -> 1
-    ";
-    play(&rt, &mut Tree::new(rt.alloc()), script);
-}
-
-#[test]
-fn aborts_no_orphan_twice(rt: HostRuntime) {
-    let script = "
-        begin a -> 0
-        begin a/b -> 1
-        begin a/b/c -> 2
-        begin a/d -> 3
-        begin ab -> 4
-        abort a/b -> 2
-        abort a -> 2
-        abort ab -> 1
-    ";
-    play(&rt, &mut Tree::new(rt.alloc()), script);
-}
-
-// Of the aborted ones the topmost is named, and not the nearest.
-#[test]
-fn refuses_by_the_first_cause(rt: HostRuntime) {
-    let script = "
-        begin a -> 0
-        begin a/b -> 1
-        begin a/b/c -> 2
-        begin d -> 3
-        begin e -> 4
-        begin e/f -> 5
-        commit e -> refused children
-        commit d -> ok
-        begin d -> refused used
-        begin d/a -> refused no-parent
-        begin x/a -> refused no-parent
-        commit x -> refused unknown
-        commit d -> refused done
-        abort x -> refused unknown
-        abort d -> refused done
-        abort a/b -> 2
-        abort a -> 1
-        commit a/b/c -> orphan a
-        abort a/b -> orphan a
-        begin a/b/d -> orphan a
-        begin a/b -> refused used
-    ";
-    play(&rt, &mut Tree::new(rt.alloc()), script);
 }
 
 // Names of three letters or digits: 46,656 of them.
@@ -264,66 +304,26 @@ fn refuses_past_the_limit(rt: HostRuntime) {
         commit 000 -> ok
         begin last -> refused full
     ";
-    play(&rt, &mut tree, script);
-}
-
-// The second is the first's one child, and both are live.
-fn hangs_below(tree: &Tree, above: u32, below: u32) -> bool {
-    let (above, below) = (TxnNo::new(above), TxnNo::new(below));
-    tree.parent_of(below) == Some(above)
-        && tree.is_under(above, below)
-        && !tree.is_under(below, above)
-        && tree.live_children_at(above) == 1
-        && tree.status_at(below) == Status::Live
-}
-
-// A chain of the greatest depth, aborted in the middle.
-#[test]
-fn goes_up_a_chain(rt: HostRuntime) {
-    let mut tree = Tree::new(rt.alloc());
-    let text = b"a/a/a/a/a/a/a/a/a/a/a/a/a/a/a/a";
-    for above in 0..16 {
-        let name = Name::parse(&text[..2 * above + 1]).expect(&rt, "a name");
-        assert!(rt; begins_at(&mut tree, &name, above as u32), "{above}");
-    }
-    for above in 0..15 {
-        assert!(rt; hangs_below(&tree, above, above + 1), "{above}");
-    }
-    let script = "
-        abort a/a/a/a -> 13
-        abort a/a/a/a/a -> orphan a/a/a/a
-        children a/a/a -> 0
-        abort a -> 3
-    ";
-    play(&rt, &mut tree, script);
-    assert!(rt; tree.live_tops() == 0);
-}
-
-// p/00 to p/99.
-fn child_of_p(rt: &impl Abort, place: usize) -> Name {
-    let digits = b"0123456789";
-    let bytes = [b'p', b'/', digits[place / 10 % 10], digits[place % 10]];
-    Name::parse(&bytes).expect(rt, "a name")
+    play(&rt, &mut tree, "past the limit", script);
 }
 
 #[test]
 fn counts_a_hundred_children(rt: HostRuntime) {
     let mut tree = Tree::new(rt.alloc());
-    play(&rt, &mut tree, "begin p -> 0");
+    play(&rt, &mut tree, "the parent", "begin a -> 0");
     for place in 0..100 {
-        let name = child_of_p(&rt, place);
+        let name = child_name(place);
         assert!(rt; begins_at(&mut tree, &name, place as u32 + 1), "{place}");
     }
-    assert!(rt; tree.live_children_at(TxnNo::new(0)) == 100);
+    play(&rt, &mut tree, "all", "children-at 0 -> 100");
     for place in 0..50 {
-        let name = child_of_p(&rt, place);
-        assert!(rt; commits(&mut tree, &name, "ok"), "{place}");
+        assert!(rt; tree.commit(&child_name(place)).is_ok(), "{place}");
     }
     let script = "
-        abort p/70 -> 1
-        children p -> 49
-        commit p -> refused children
-        abort p -> 50
+        abort a/70 -> 1
+        children a -> 49
+        commit a -> refused children
+        abort a -> 50
     ";
-    play(&rt, &mut tree, script);
+    play(&rt, &mut tree, "half of them committed", script);
 }

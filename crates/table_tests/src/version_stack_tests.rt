@@ -1,139 +1,155 @@
 //! The worked values of versions, and each call once. Under a trial run that refuses a growth the
 //! call is made again.
-use serial_spec::{Left, NoMemory, PlainTable};
-use std::process::Abort;
-use txn_names::{Key, Name};
+use crate::tools::{begins, check, is_value, words};
+use serial_spec::{Left, PlainTable};
+use test_kit::{child_name, key, name, numbered_key};
+use txn_names::Key;
 use txn_tree::{Tree, TxnNo};
 use version_stack::Versions;
 
-const CHILDREN: u8 = 29;
+/// A child sees what its parent left until it writes itself; what it wrote goes with it where it is
+/// undone, and up where it commits. Behind `see` stand the values that all see, in the order of
+/// their beginning.
+const SCRIPT: &str = "
+    begin a
+    begin a/l
+    begin a/r
+    begin b
+    put b x 9
+    store b
+    see a x -> 9 9 9 9
+    put a x 1
+    put a/l x 2
+    see a x -> 1 2 1 9
+    drop a/l
+    put a/r x none
+    see a x -> 1 1 none 9
+    up a/r
+    left a x -> absent
+    left a/r x -> nothing
+    see a x -> none none none 9
+    store a
+    see a x -> none none none none
+    put b x 4
+    store b
+    base b x -> 4
+";
 
-const KEYS: u8 = 40;
-
-fn key(rt: &impl Abort, index: u8) -> Key {
-    Key::parse(&[b'a' + index / 8, b'a' + index % 8]).expect(rt, "a key")
-}
-
-fn begin_once(tree: &mut Tree, name: &Name) -> Option<TxnNo> {
-    match tree.begin(name) {
-        Ok(number) => Some(number),
-        Err(_) => None,
-    }
-}
-
-fn begin(rt: &impl Abort, tree: &mut Tree, text: &[u8]) -> TxnNo {
-    let name = Name::parse(text).expect(rt, "a name");
-    match begin_once(tree, &name) {
-        Some(number) => number,
-        None => begin_once(tree, &name).expect(rt, "begun"),
-    }
-}
-
-fn put_once(
-    versions: &mut Versions,
-    txn: TxnNo,
-    key: &Key,
-    value: Option<i64>,
-) -> Result<(), NoMemory> {
-    versions.reserve(txn, key)?;
-    versions.put(txn, key, value);
-    Ok(())
-}
-
-fn put(rt: &impl Abort, versions: &mut Versions, txn: TxnNo, key: &Key, value: Option<i64>) {
-    if put_once(versions, txn, key, value).is_err() {
-        put_once(versions, txn, key, value).expect(rt, "memory");
-    }
-}
-
-fn hand_up_once(versions: &mut Versions, child: TxnNo, parent: TxnNo) -> Result<(), NoMemory> {
-    versions.reserve_for_parent(child, parent)?;
-    versions.hand_up(child, Some(parent));
-    Ok(())
-}
-
-fn hand_up(rt: &impl Abort, versions: &mut Versions, child: TxnNo, parent: TxnNo) {
-    if hand_up_once(versions, child, parent).is_err() {
-        hand_up_once(versions, child, parent).expect(rt, "memory");
-    }
-}
-
-fn store_once(versions: &mut Versions, top: TxnNo) -> Result<(), NoMemory> {
-    versions.reserve_for_base(top)?;
-    versions.hand_up(top, None);
-    Ok(())
-}
-
-fn store(rt: &impl Abort, versions: &mut Versions, top: TxnNo) {
-    if store_once(versions, top).is_err() {
-        store_once(versions, top).expect(rt, "memory");
-    }
-}
-
-// Whether each of the four sees this at the first key.
-fn sees(
-    rt: &impl Abort,
-    versions: &Versions,
-    tree: &Tree,
-    txns: &[TxnNo; 4],
-    wanted: [Option<i64>; 4],
-) -> bool {
-    let x = key(rt, 0);
-    for index in 0..4 {
-        if versions.value_for(tree, txns[index], &x) != wanted[index] {
-            return false;
+// Whether the transaction leaves the value at the key.
+fn is_put(versions: &mut Versions, txn: TxnNo, key: &Key, value: Option<i64>) -> bool {
+    for _ in 0..2 {
+        if let Ok(()) = versions.reserve(txn, key) {
+            versions.put(txn, key, value);
+            return true;
         }
     }
-    true
+    false
 }
 
-// A child sees what its parent left until it writes itself; what it wrote goes with it where it is
-// undone, and up where it commits.
-fn nest(rt: &impl Abort, tree: &mut Tree, versions: &mut Versions) {
-    let (a, l) = (begin(rt, tree, b"a"), begin(rt, tree, b"a/l"));
-    let (r, b) = (begin(rt, tree, b"a/r"), begin(rt, tree, b"b"));
-    let (x, all) = (key(rt, 0), [a, l, r, b]);
-    let (nine, four) = (Some(9), Some(4));
-    put(rt, versions, b, &x, nine);
-    store(rt, versions, b);
-    assert!(rt; sees(rt, versions, tree, &all, [nine, nine, nine, nine]));
-    put(rt, versions, a, &x, Some(1));
-    put(rt, versions, l, &x, Some(2));
-    assert!(rt; sees(rt, versions, tree, &all, [Some(1), Some(2), Some(1), nine]));
-    versions.drop_under(tree, l);
-    put(rt, versions, r, &x, None);
-    assert!(rt; sees(rt, versions, tree, &all, [Some(1), Some(1), None, nine]));
-    hand_up(rt, versions, r, a);
-    assert!(rt; versions.left(a, &x) == Left::Absent && versions.left(r, &x) == Left::Nothing);
-    assert!(rt; sees(rt, versions, tree, &all, [None, None, None, nine]));
-    store(rt, versions, a);
-    assert!(rt; sees(rt, versions, tree, &all, [None, None, None, None]));
-    put(rt, versions, b, &x, four);
-    store(rt, versions, b);
-    assert!(rt; versions.base().get(&x) == four);
+// Whether the values go up to the parent.
+fn goes_up(versions: &mut Versions, child: TxnNo, parent: TxnNo) -> bool {
+    for _ in 0..2 {
+        if let Ok(()) = versions.reserve_for_parent(child, parent) {
+            versions.hand_up(child, Some(parent));
+            return true;
+        }
+    }
+    false
+}
+
+// Whether the values go into the base.
+fn is_stored(versions: &mut Versions, top: TxnNo) -> bool {
+    for _ in 0..2 {
+        if let Ok(()) = versions.reserve_for_base(top) {
+            versions.hand_up(top, None);
+            return true;
+        }
+    }
+    false
+}
+
+// Whether all see these values at the key.
+fn see(versions: &Versions, tree: &Tree, key: &Key, want: &str) -> bool {
+    let mut number: u32 = 0;
+    for word in want.split_whitespace() {
+        if !is_value(versions.value_for(tree, TxnNo::new(number), key), word) {
+            return false;
+        }
+        number = number.wrapping_add(1);
+    }
+    tree.len() == number as usize
+}
+
+// Whether a line holds of a transaction that has begun.
+fn holds(tree: &Tree, versions: &mut Versions, txn: TxnNo, text: &str) -> bool {
+    let (verb, _, what, want) = words(text);
+    let (what, value) = what.split_once(' ').unwrap_or((what, ""));
+    let key = key(what);
+    match verb {
+        "put" => is_put(versions, txn, &key, value.parse().ok()),
+        "up" => match tree.parent_of(txn) {
+            Some(parent) => goes_up(versions, txn, parent),
+            None => false,
+        },
+        "store" => is_stored(versions, txn),
+        "drop" => {
+            versions.drop_under(tree, txn);
+            true
+        }
+        "see" => see(versions, tree, &key, want),
+        "left" => match versions.left(txn, &key) {
+            Left::Absent => want == "absent",
+            Left::Nothing => want == "nothing",
+            Left::Value(value) => is_value(Some(value), want),
+        },
+        "base" => is_value(versions.base().get(&key), want),
+        _ => false,
+    }
 }
 
 #[test]
 fn values_nest(rt: HostRuntime) {
     let base = PlainTable::new(rt.alloc());
     let (mut tree, mut versions) = (Tree::new(rt.alloc()), Versions::new(rt.alloc(), base));
-    nest(&rt, &mut tree, &mut versions);
+    for text in SCRIPT.trim().lines() {
+        let text = text.trim();
+        let who = name(words(text).1);
+        let answered = match tree.no_of(&who) {
+            Some(txn) => holds(&tree, &mut versions, txn, text),
+            None => words(text).0 == "begin" && begins(&mut tree, &who),
+        };
+        assert!(rt; answered, "{text}");
+    }
     assert!(rt; versions.into_base().len() == 1);
 }
 
-fn value_of(index: u8, by: u8) -> Option<i64> {
-    Some(100 * index as i64 + by as i64)
+const CHILDREN: u8 = 29;
+
+const KEYS: u8 = 40;
+
+// What a child leaves at a key: the numbers of both.
+fn value_of(index: u8, child: u8) -> Option<i64> {
+    Some(100 * index as i64 + child as i64)
 }
 
-// The transaction leaves at each key the index of the key and of the child.
-fn put_all(rt: &impl Abort, versions: &mut Versions, txn: TxnNo, by: u8) {
+fn puts_all(versions: &mut Versions, txn: TxnNo, child: u8) -> bool {
     for index in 0..KEYS {
-        put(rt, versions, txn, &key(rt, index), value_of(index, by));
+        if !is_put(versions, txn, &numbered_key(index), value_of(index, child)) {
+            return false;
+        }
     }
+    true
 }
 
-fn sees_all(rt: &impl Abort, versions: &Versions, tree: &Tree, txn: TxnNo, by: u8) -> bool {
-    (0..KEYS).all(|index| versions.value_for(tree, txn, &key(rt, index)) == value_of(index, by))
+// Whether the transaction sees at each key what the child left.
+fn sees_all(versions: &Versions, tree: &Tree, txn: TxnNo, child: u8) -> bool {
+    for index in 0..KEYS {
+        let value = versions.value_for(tree, txn, &numbered_key(index));
+        if value != value_of(index, child) {
+            return false;
+        }
+    }
+    true
 }
 
 // What the last child left at each of many keys comes into the base.
@@ -141,16 +157,28 @@ fn sees_all(rt: &impl Abort, versions: &Versions, tree: &Tree, txn: TxnNo, by: u
 fn the_last_child_counts(rt: HostRuntime) {
     let base = PlainTable::new(rt.alloc());
     let (mut tree, mut versions) = (Tree::new(rt.alloc()), Versions::new(rt.alloc(), base));
-    let top = begin(&rt, &mut tree, b"a");
-    for index in 0..CHILDREN {
-        let text = [b'a', b'/', b'a' + index / 8, b'a' + index % 8];
-        let txn = begin(&rt, &mut tree, &text);
-        put_all(&rt, &mut versions, txn, index);
-        assert!(rt; sees_all(&rt, &versions, &tree, txn, index));
-        hand_up(&rt, &mut versions, txn, top);
+    let top = TxnNo::new(0);
+    assert!(rt; begins(&mut tree, &name("a")), "begin");
+    for child in 0..CHILDREN {
+        let txn = TxnNo::new(1 + child as u32);
+        check(&rt, begins(&mut tree, &child_name(child)), "begin", child);
+        check(&rt, puts_all(&mut versions, txn, child), "put by", child);
+        check(
+            &rt,
+            sees_all(&versions, &tree, txn, child),
+            "seen by",
+            child,
+        );
+        check(&rt, goes_up(&mut versions, txn, top), "up from", child);
     }
-    assert!(rt; sees_all(&rt, &versions, &tree, top, CHILDREN - 1));
-    store(&rt, &mut versions, top);
-    assert!(rt; sees_all(&rt, &versions, &tree, top, CHILDREN - 1));
+    assert!(rt;
+        sees_all(&versions, &tree, top, CHILDREN - 1),
+        "seen by the parent"
+    );
+    assert!(rt; is_stored(&mut versions, top), "stored");
+    assert!(rt;
+        sees_all(&versions, &tree, top, CHILDREN - 1),
+        "seen in the base"
+    );
     assert!(rt; versions.into_base().len() == 40);
 }

@@ -1,7 +1,7 @@
 use Rattle.std.proofs.Common.{None, cond, refl, ap, ◌∙◌}
 use Rattle.std.proofs.lemmas.Bool.{eq-eqb}
 use Rattle.wait_cycles.specs.Waiting.{wait_of}
-use Rattle.table_tests.proofs.wait_cycles_tests.add_once.Goals as goal
+use Rattle.table_tests.proofs.tools.add_once.Goals as goal
 
 pub add-requires : goal.add-requires
 add-requires c =
