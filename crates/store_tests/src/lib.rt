@@ -6,4 +6,6 @@ mod durable_top_tests;
 #[cfg(test)]
 mod row_store_tests;
 #[cfg(test)]
+mod scripts;
+#[cfg(test)]
 mod sql_store_tests;

@@ -1,362 +1,204 @@
 //! Stores over databases in memory and over files that stop. Real files are for the tests of the
 //! program.
-mod hints;
 mod stops;
 
-use durable_top::{Row, StoreFault, TopStore};
+use crate::scripts::{are, commit, follows, serves, word};
+use durable_top::TopStore;
 use sql_store::{MemoryStore, SqlStore};
-use sqlite::{Connection, Error, MemStore};
+use sqlite::{Alter, Connection};
 use std::alloc::Global;
-use std::cmp::Ordering;
-use std::process::Abort;
 use std::rt::HostRuntime;
-use txn_names::{Change, Key};
 
-// A change as in `x=1`, or `x` where the key is to have no row.
-fn change(rt: &impl Abort, text: &str) -> Change {
-    let (what, value) = match text.split_once('=') {
-        Some((what, value)) => (what, Some(value.parse().expect(rt, text))),
-        None => (text, None),
-    };
-    Change {
-        key: Key::parse(what.as_bytes()).expect(rt, text),
-        value,
-    }
+/// Statements that make a database, and what is asked of the stores over it, one after another,
+/// whose texts stand between bars.
+///
+/// The first databases are empty, and have another table too, so that they are not known. Then
+/// there are tables without rows, and with one. A row of the first version is taken over with the
+/// number 0, and the commits of one store after another are counted on. A commit behind the last
+/// number is refused, whatever it changes, and the rows stay.
+///
+/// Then rows change behind the store, by an action of a foreign key: the numbers that it keeps say
+/// what is no longer so, and its commits are made all the same. A row names a key in `p`. Where the
+/// row of that key is deleted, it is deleted too, and an update of `b` meets no row. In the other
+/// database the row of `b` gets the key of that of `a` where this goes, and an insert of `a` meets
+/// a row.
+///
+/// Over the last databases no store is opened.
+const DATABASES: &str = "\
+ => rows; b=2; c=-9223372036854775808; a=9223372036854775807; b=3; c; d; e.f_g-0=0 | rows a=9223372036854775807:3 b=3:4 e.f_g-0=0:5
+CREATE TABLE other (a INTEGER) STRICT => rows; b=2; a=1; c=3; b | rows a=1:2 c=3:3
+CREATE TABLE other (a INTEGER) STRICT => rows
+CREATE TABLE results (k TEXT NOT NULL PRIMARY KEY, v INTEGER NOT NULL) STRICT => rows
+CREATE TABLE results2 (k TEXT, v INTEGER, n INTEGER) STRICT;INSERT INTO results2 VALUES ('a', 1, 0) => rows a=1:0
+CREATE TABLE results (k TEXT NOT NULL PRIMARY KEY, v INTEGER NOT NULL) STRICT;INSERT INTO results VALUES ('x', 9) => rows x=9:0 | y=1; x=2; rows x=2:2 y=1:1 | x,z=5; rows y=1:1 z=5:3 | z; rows y=1:1 | y=7; rows y=7:2 | y=7; rows y=7:3
+CREATE TABLE results2 (k TEXT NOT NULL PRIMARY KEY, v INTEGER NOT NULL, n INTEGER NOT NULL) STRICT;INSERT INTO results2 VALUES ('x', 1, 9223372036854775807) => x -> refused; y=1 -> refused; rows x=1:9223372036854775807
+CREATE TABLE results2 (k TEXT NOT NULL PRIMARY KEY, v INTEGER NOT NULL, n INTEGER NOT NULL, p TEXT DEFAULT 'a' REFERENCES results2 (k) ON DELETE CASCADE) STRICT => rows; a=1; b=2; a; a=4; b=3; rows a=4:3 b=3:4
+CREATE TABLE results2 (k TEXT NOT NULL PRIMARY KEY DEFAULT 'a' REFERENCES results2 (p) ON DELETE SET DEFAULT, v INTEGER NOT NULL, n INTEGER NOT NULL, p TEXT UNIQUE) STRICT;INSERT INTO results2 VALUES ('a', 1, 1, 'b'), ('b', 2, 1, 'a') => rows a=1:1 b=2:1; a; a=7; rows a=7:2
+BEGIN => -> refused
+CREATE TABLE results (k TEXT NOT NULL PRIMARY KEY) STRICT => -> refused
+CREATE TABLE results (a INTEGER, b TEXT) STRICT => -> refused
+CREATE TABLE results (k TEXT NOT NULL PRIMARY KEY, v INTEGER NOT NULL) STRICT;INSERT INTO results VALUES ('A', 1) => -> refused
+CREATE TABLE results (k TEXT, v TEXT) STRICT;INSERT INTO results VALUES ('a', '1') => -> refused
+CREATE TABLE results (k TEXT, v INTEGER) STRICT;INSERT INTO results VALUES ('a', 1);INSERT INTO results VALUES ('a', 1) => -> refused
+CREATE TABLE results (k BLOB, v INTEGER) STRICT;INSERT INTO results VALUES (x'61', 1) => -> refused
+CREATE TABLE results2 (k TEXT NOT NULL PRIMARY KEY, v INTEGER NOT NULL) STRICT => -> refused
+CREATE TABLE results2 (k TEXT, v INTEGER, n INTEGER) STRICT;INSERT INTO results2 VALUES ('A', 1, 1) => -> refused
+CREATE TABLE results2 (k TEXT, v TEXT, n INTEGER) STRICT;INSERT INTO results2 VALUES ('a', '1', 1) => -> refused
+CREATE TABLE results2 (k TEXT, v INTEGER, n INTEGER) STRICT;INSERT INTO results2 VALUES ('a', 1, -1) => -> refused
+CREATE TABLE results2 (k TEXT, v INTEGER, n TEXT) STRICT;INSERT INTO results2 VALUES ('a', 1, '1') => -> refused
+CREATE TABLE results (k TEXT, v INTEGER) STRICT;CREATE TABLE results2 (k TEXT, v INTEGER, n INTEGER) STRICT;INSERT INTO results VALUES ('a', 1);INSERT INTO results2 VALUES ('b', 1, 1) => -> refused";
+
+/// What is asked of a database.
+#[derive(Drop)]
+enum Job<'a> {
+    /// To make these statements, of which there may be none.
+    Execute(&'a str),
+    /// To follow this text, or to be refused so, as by `-> refused`.
+    Follow(&'a str),
+    /// To make these commits, up to the first that is not made.
+    Commit(&'a [&'a str]),
+    /// To give one of these tables, of which the first is that after so many commits.
+    Give(&'a [&'a str], usize),
 }
 
-fn word<T>(answer: &Result<T, StoreFault>) -> &'static str {
-    match answer {
-        Ok(_) => "ok",
-        Err(StoreFault::Memory) => "memory",
-        Err(StoreFault::Refused) => "refused",
-        Err(StoreFault::Failed) => "failed",
-    }
-}
-
-// Commits the one change that a word has, as in `x=1`, or its two, as in `x,y=2`, which stand in
-// byte order of their keys.
-fn commit<S: TopStore>(rt: &impl Abort, store: &mut S, word: &str) -> Result<(), StoreFault> {
-    let Some((first, second)) = word.split_once(',') else {
-        return store.commit(&[change(rt, word)]);
-    };
-    let first = change(rt, first);
-    let second = change(rt, second);
-    match first.key.cmp(&second.key) {
-        Ordering::Less => store.commit(&[first, second]),
-        _ => Err(StoreFault::Refused),
-    }
-}
-
-// Makes one commit after another, up to the first that is not made: whether all were.
-fn commits<S: TopStore>(rt: &impl Abort, store: &mut S, script: &str) -> bool {
-    for word in script.split_whitespace() {
-        if commit(rt, store, word).is_err() {
+fn executes<S: Alter>(connection: &mut Connection<S>, statements: &str) -> bool {
+    for statement in statements.split(';') {
+        if !statement.is_empty() && connection.execute(statement, &[]).is_err() {
             return false;
         }
     }
     true
 }
 
-// A row as in `x=1:2`, of the value 1 and set by commit 2.
-fn row(rt: &impl Abort, text: &str) -> Row {
-    let (what, number) = text.split_once(':').expect(rt, text);
-    let Change { key, value } = change(rt, what);
-    Row {
-        key,
-        value: value.expect(rt, text),
-        commit: number.parse().expect(rt, text),
-    }
-}
-
-// Whether the rows are these, as in `x=1:2 y=2:2`.
-fn are(rt: &impl Abort, rows: &[Row], text: &str) -> bool {
-    let mut words = text.split_whitespace();
-    for given in rows {
-        if words.next().map(|word| row(rt, word)) != Some(*given) {
-            return false;
+// How many of the commits are made.
+fn made<S: TopStore>(store: &mut S, commits: &[&str]) -> usize {
+    let mut made: usize = 0;
+    for text in commits {
+        if commit(store, text) != "ok" {
+            return made;
         }
+        made = made.saturating_add(1);
     }
-    words.next().is_none()
+    made
 }
 
-// Whether the store gives these rows.
-fn gives<S: TopStore>(rt: &impl Abort, alloc: Global, store: &mut S, text: &str) -> bool {
-    match store.load(alloc) {
-        Ok(rows) => are(rt, rows.as_slice(), text),
-        Err(_) => false,
-    }
-}
-
-// Whether the store gives these rows and takes these commits.
-fn serves<S: TopStore>(
-    rt: &impl Abort,
+// How many commits the table tells that the store gives, which is one of these. Any other is none.
+fn given<S: TopStore>(
     alloc: Global,
     store: &mut S,
-    rows: &str,
-    script: &str,
-) -> bool {
-    gives(rt, alloc, store, rows) && commits(rt, store, script)
+    tables: &[&str],
+    first: usize,
+) -> Option<usize> {
+    let rows = store.load(alloc).ok()?;
+    let place = tables.iter().position(|table| are(&rows, table))?;
+    Some(first.saturating_add(place))
 }
 
-fn adopted(alloc: Global, connection: Connection<MemStore>) -> Option<SqlStore<MemStore>> {
-    match SqlStore::adopt(alloc, connection) {
-        Ok(store) => Some(store),
-        Err(_) => None,
+fn some(holds: bool) -> Option<usize> {
+    if holds { Some(0) } else { None }
+}
+
+fn done<S: TopStore>(alloc: Global, store: &mut S, job: &Job<'_>) -> Option<usize> {
+    match job {
+        Job::Execute(_) => None,
+        Job::Follow(script) => some(follows(alloc, store, script)),
+        Job::Commit(commits) => Some(made(store, commits)),
+        Job::Give(tables, first) => given(alloc, store, tables, *first),
     }
 }
 
-// Whether a store that takes the connection over gives these rows.
-fn is_left(rt: &impl Abort, alloc: Global, connection: Connection<MemStore>, rows: &str) -> bool {
-    match adopted(alloc, connection) {
-        Some(mut store) => {
-            let is_given = gives(rt, alloc, &mut store, rows);
-            drop(store);
-            is_given
-        }
-        None => false,
-    }
-}
-
-// Whether the rows that the commits leave are there for the next store over the connection.
-fn leaves(
-    rt: &impl Abort,
+// What the database answers, or a store over it, as a number of commits, or none where it is not as
+// it has to be; and the database. Each call at a store over one kind of database costs the prover
+// much, and so does each function that hands one on, and one at a store over any kind little, so
+// that the calls stand here.
+fn asked<S: Alter + Drop>(
     alloc: Global,
-    store: Option<SqlStore<MemStore>>,
-    script: &str,
-    rows: &str,
-) -> bool {
-    let Some(mut store) = store else {
-        return false;
-    };
-    let served = serves(rt, alloc, &mut store, "", script);
-    served && is_left(rt, alloc, store.into_connection(), rows)
-}
-
-// A store over an empty database.
-fn alone(alloc: Global) -> Option<SqlStore<MemStore>> {
-    match Connection::open_in_memory(alloc) {
-        Ok(connection) => adopted(alloc, connection),
-        Err(_) => None,
+    mut connection: Connection<S>,
+    job: &Job<'_>,
+) -> (Option<usize>, Connection<S>) {
+    if let Job::Execute(statements) = job {
+        let executed = executes(&mut connection, statements);
+        return (some(executed), connection);
+    }
+    match SqlStore::adopt(alloc, connection) {
+        Ok(mut store) => {
+            let done = done(alloc, &mut store, job);
+            (done, store.into_connection())
+        }
+        Err((fault, connection)) => match job {
+            Job::Follow(script) => {
+                let is_due = script.strip_prefix("-> ") == Some(word(Err(fault)));
+                (some(is_due), connection)
+            }
+            _ => (None, connection),
+        },
     }
 }
 
-// A store over a database that has another table too, and so is not known.
-fn beside(alloc: Global) -> Option<SqlStore<MemStore>> {
-    match database(alloc, "CREATE TABLE other (a INTEGER) STRICT") {
-        Ok(connection) => adopted(alloc, connection),
-        Err(_) => None,
+// Whether the stores follow these texts, one after another, over the database that the statements
+// make.
+fn follow<S: Alter + Drop>(
+    alloc: Global,
+    connection: Connection<S>,
+    statements: &str,
+    scripts: &str,
+) -> bool {
+    let (mut answer, mut connection) = asked(alloc, connection, &Job::Execute(statements));
+    for script in scripts.split('|') {
+        if answer.is_none() {
+            return false;
+        }
+        let (next, left) = asked(alloc, connection, &Job::Follow(script.trim()));
+        answer = next;
+        connection = left;
+    }
+    answer.is_some()
+}
+
+// The same over a new database in memory.
+fn follow_over(alloc: Global, statements: &str, scripts: &str) -> bool {
+    match Connection::open_in_memory(alloc) {
+        Ok(connection) => follow(alloc, connection, statements, scripts),
+        Err(_) => false,
     }
 }
 
 // A trial run refuses one growth, and so stands in the way of one of two stores.
 #[test]
-fn rows_stay_for_the_next_store(rt: HostRuntime) {
-    let script = "b=2 c=-9223372036854775808 a=9223372036854775807 b=3 c d e.f_g-0=0";
-    let rows = "a=9223372036854775807:3 b=3:4 e.f_g-0=0:5";
-    let first = leaves(&rt, rt.alloc(), alone(rt.alloc()), script, rows);
-    let second = leaves(&rt, rt.alloc(), alone(rt.alloc()), script, rows);
-    assert!(rt; first || second);
+fn databases_that_are_served_or_refused(rt: HostRuntime) {
+    for line in DATABASES.lines() {
+        let (statements, scripts) = line.split_once("=>").unwrap_or((line, ""));
+        let statements = statements.trim();
+        assert!(rt;
+            follow_over(rt.alloc(), statements, scripts)
+                || follow_over(rt.alloc(), statements, scripts),
+            "{line}"
+        );
+    }
 }
 
-#[test]
-fn rows_stay_beside_another_table(rt: HostRuntime) {
-    let first = leaves(
-        &rt,
-        rt.alloc(),
-        beside(rt.alloc()),
-        "b=2 a=1 c=3 b",
-        "a=1:2 c=3:3",
-    );
-    let second = leaves(
-        &rt,
-        rt.alloc(),
-        beside(rt.alloc()),
-        "b=2 a=1 c=3 b",
-        "a=1:2 c=3:3",
-    );
-    assert!(rt; first || second);
-}
-
-// Whether a store in memory begins without rows, takes the commits and gives the rows that they
-// leave.
-fn keeps(rt: &impl Abort, alloc: Global, script: &str, rows: &str) -> bool {
-    let Ok(mut store) = MemoryStore::new(alloc) else {
-        return false;
-    };
-    let is_kept = serves(rt, alloc, &mut store, "", script) && gives(rt, alloc, &mut store, rows);
-    drop(store);
-    is_kept
-}
-
-#[test]
-fn rows_stay_in_memory(rt: HostRuntime) {
-    let first = keeps(&rt, rt.alloc(), "b=2 a=1 c=3 b", "a=1:2 c=3:3");
-    let second = keeps(&rt, rt.alloc(), "b=2 a=1 c=3 b", "a=1:2 c=3:3");
-    assert!(rt; first || second);
-}
-
-// The same at the second asking, where the first found no memory.
-fn gives_at_last<S: TopStore>(rt: &impl Abort, alloc: Global, store: &mut S, text: &str) -> bool {
-    gives(rt, alloc, store, text) || gives(rt, alloc, store, text)
+// Whether a new store in memory follows the texts, where one is made.
+fn tried(alloc: Global, script: &str, wanting: &str) -> Option<bool> {
+    match MemoryStore::new(alloc) {
+        Ok(mut store) => Some(serves(alloc, &mut store, script, wanting)),
+        Err(_) => None,
+    }
 }
 
 // A commit that finds no memory is a fault, and leaves what the store gives. Made again, it is
 // made.
-fn commits_again<S: TopStore>(rt: &impl Abort, alloc: Global, store: &mut S) -> bool {
-    let (before, faults) = match word(&store.commit(&[change(rt, "b=2")])) {
-        "ok" => ("b=2:1", 0),
-        "memory" => ("", 1),
-        _ => return false,
-    };
-    gives_at_last(rt, alloc, store, before)
-        && (faults == 0 || commits(rt, store, "b=2"))
-        && gives_at_last(rt, alloc, store, "b=2:1")
-        && store.faults() == faults
-}
-
 #[test]
-fn a_commit_that_finds_no_memory(rt: HostRuntime) {
-    let mut store = match MemoryStore::new(rt.alloc()) {
-        Ok(store) => store,
-        Err(_) => MemoryStore::new(rt.alloc()).expect(&rt, "memory"),
-    };
-    assert!(rt; commits_again(&rt, rt.alloc(), &mut store));
-    drop(store);
-}
-
-// A database in memory on which these statements were run.
-fn database(alloc: Global, sql: &str) -> Result<Connection<MemStore>, Error> {
-    let mut connection = Connection::open_in_memory(alloc)?;
-    for statement in sql.split(';') {
-        connection.execute(statement, &[])?;
-    }
-    Ok(connection)
-}
-
-// What a store over it answers: to its opening, or else to the first load.
-fn answer_of(connection: Connection<MemStore>, alloc: Global) -> (&'static str, &'static str) {
-    match SqlStore::adopt(alloc, connection) {
-        Ok(mut store) => {
-            let answer = word(&store.load(alloc));
-            drop(store);
-            ("ok", answer)
-        }
-        Err((fault, _)) => (word::<()>(&Err(fault)), ""),
-    }
-}
-
-fn is_answered(alloc: Global, sql: &str, answer: (&str, &str)) -> bool {
-    match database(alloc, sql) {
-        Ok(connection) => answer_of(connection, alloc) == answer,
-        Err(_) => false,
-    }
-}
-
-#[test]
-fn databases_and_rows_that_are_refused(rt: HostRuntime) {
-    let alloc = rt.alloc();
-    for sql in [
-        "BEGIN",
-        "CREATE TABLE results (k TEXT NOT NULL PRIMARY KEY) STRICT",
-        "CREATE TABLE results (a INTEGER, b TEXT) STRICT",
-        "CREATE TABLE results (k TEXT NOT NULL PRIMARY KEY, v INTEGER NOT NULL) STRICT;INSERT INTO results VALUES ('A', 1)",
-        "CREATE TABLE results (k TEXT, v TEXT) STRICT;INSERT INTO results VALUES ('a', '1')",
-        "CREATE TABLE results (k TEXT, v INTEGER) STRICT;INSERT INTO results VALUES ('a', 1);INSERT INTO results VALUES ('a', 1)",
-        "CREATE TABLE results (k BLOB, v INTEGER) STRICT;INSERT INTO results VALUES (x'61', 1)",
-        "CREATE TABLE results2 (k TEXT NOT NULL PRIMARY KEY, v INTEGER NOT NULL) STRICT",
-        "CREATE TABLE results2 (k TEXT, v INTEGER, n INTEGER) STRICT;INSERT INTO results2 VALUES ('A', 1, 1)",
-        "CREATE TABLE results2 (k TEXT, v TEXT, n INTEGER) STRICT;INSERT INTO results2 VALUES ('a', '1', 1)",
-        "CREATE TABLE results2 (k TEXT, v INTEGER, n INTEGER) STRICT;INSERT INTO results2 VALUES ('a', 1, -1)",
-        "CREATE TABLE results2 (k TEXT, v INTEGER, n TEXT) STRICT;INSERT INTO results2 VALUES ('a', 1, '1')",
-        "CREATE TABLE results (k TEXT, v INTEGER) STRICT;CREATE TABLE results2 (k TEXT, v INTEGER, n INTEGER) STRICT;INSERT INTO results VALUES ('a', 1);INSERT INTO results2 VALUES ('b', 1, 1)",
-    ] {
-        let first = is_answered(alloc, sql, ("refused", ""));
-        let second = is_answered(alloc, sql, ("refused", ""));
-        assert!(rt; first || second, "{sql}");
-    }
-}
-
-#[test]
-fn databases_that_are_served(rt: HostRuntime) {
-    let alloc = rt.alloc();
-    for sql in [
-        "CREATE TABLE other (a INTEGER) STRICT",
-        "CREATE TABLE results (k TEXT NOT NULL PRIMARY KEY, v INTEGER NOT NULL) STRICT",
-        "CREATE TABLE results2 (k TEXT, v INTEGER, n INTEGER) STRICT;INSERT INTO results2 VALUES ('a', 1, 0)",
-    ] {
-        let first = is_answered(alloc, sql, ("ok", "ok"));
-        let second = is_answered(alloc, sql, ("ok", "ok"));
-        assert!(rt; first || second, "{sql}");
-    }
-}
-
-// The connection with what a store over it leaves, where the store takes these commits and then
-// gives these rows.
-fn after(
-    rt: &impl Abort,
-    alloc: Global,
-    connection: Connection<MemStore>,
-    script: &str,
-    rows: &str,
-) -> Option<Connection<MemStore>> {
-    let mut store = adopted(alloc, connection)?;
-    let served = commits(rt, &mut store, script) && gives(rt, alloc, &mut store, rows);
-    let left = store.into_connection();
-    if served { Some(left) } else { None }
-}
-
-// A row of the first version is taken over with the number 0, and the commits of one store after
-// another are counted on.
-fn counts_on(rt: &impl Abort, alloc: Global) -> bool {
-    let old =
-        "CREATE TABLE results (k TEXT NOT NULL PRIMARY KEY, v INTEGER NOT NULL) STRICT;INSERT INTO results VALUES ('x', 9)";
-    let Ok(mut connection) = database(alloc, old) else {
-        return false;
-    };
-    for (script, rows) in [
-        ("", "x=9:0"),
-        ("y=1 x=2", "x=2:2 y=1:1"),
-        ("x,z=5", "y=1:1 z=5:3"),
-        ("z", "y=1:1"),
-        ("y=7", "y=7:2"),
-        ("y=7", "y=7:3"),
-    ] {
-        connection = match after(rt, alloc, connection, script, rows) {
-            Some(left) => left,
-            None => return false,
-        };
-    }
-    drop(connection);
-    true
-}
-
-#[test]
-fn commits_are_counted_on_over_an_old_row(rt: HostRuntime) {
-    let first = counts_on(&rt, rt.alloc());
-    let second = counts_on(&rt, rt.alloc());
-    assert!(rt; first || second);
-}
-
-// A commit behind the last number is refused, whatever it changes, and the rows stay.
-fn ends_at_the_last_number(rt: &impl Abort, alloc: Global) -> bool {
-    let last =
-        "CREATE TABLE results2 (k TEXT NOT NULL PRIMARY KEY, v INTEGER NOT NULL, n INTEGER NOT NULL) STRICT;INSERT INTO results2 VALUES ('x', 1, 9223372036854775807)";
-    let Ok(connection) = database(alloc, last) else {
-        return false;
-    };
-    let Some(mut store) = adopted(alloc, connection) else {
-        return false;
-    };
-    let refused = word(&commit(rt, &mut store, "x")) == "refused"
-        && word(&commit(rt, &mut store, "y=1")) == "refused";
-    let stays = gives_at_last(rt, alloc, &mut store, "x=1:9223372036854775807");
-    drop(store);
-    refused && stays
-}
-
-#[test]
-fn the_last_number_is_the_last(rt: HostRuntime) {
-    let first = ends_at_the_last_number(&rt, rt.alloc());
-    let second = ends_at_the_last_number(&rt, rt.alloc());
-    assert!(rt; first || second);
+fn rows_stay_in_memory(rt: HostRuntime) {
+    let script = "rows; b=2; a=1; c=3; b; rows a=1:2 c=3:3";
+    assert!(rt;
+        tried(rt.alloc(), script, "") == Some(true) || tried(rt.alloc(), script, "") == Some(true)
+    );
+    let (made, wanting) = (
+        "rows b=2:1; faults 0 0",
+        "rows; b=2; faults 1 0; rows b=2:1",
+    );
+    let first = tried(rt.alloc(), made, wanting);
+    assert!(rt;
+        first == Some(true) || first.is_none() && tried(rt.alloc(), made, wanting) == Some(true)
+    );
 }
