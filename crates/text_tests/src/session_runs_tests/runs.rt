@@ -1,14 +1,36 @@
-//! Runs of one session: each report is the one that is due to the texts of its own entries, its
-//! committed transactions are a serial run, and that run leaves its table.
-use crate::session_runs_tests::sessions::is_judged;
-use crate::session_runs_tests::{empty, replayed};
-use durable_top::{MemStore, Row};
-use std::alloc::Global;
-use std::process::Abort;
-use txn_names::Key;
+//! Reports of runs of one session.
 
-/// A committed child is undone with its parent: over the row x=9.
-pub const UNDONE_WITH_PARENT: &str = "\
+/// As `reports` reads them.
+pub const CASES: &str = "\
+#|none|made|The empty text.
+open
+table
+end
+#s|none|made|One transaction that reads its own write.
+open
+s 1 begin a -> ok
+s 2 set a x 5 -> ok
+s 3 get a x -> value 5
+s 4 commit a -> ok
+table
+x=5
+end
+#s|none|made|What a committed transaction is answered.
+open
+s 1 begin a -> ok
+s 2 commit a -> ok
+s 3 get a x -> refused done
+s 4 commit a -> refused done
+table
+end
+#s|none|made|A transaction that is left open.
+open
+s 1 begin a -> ok
+s 2 set a x 1 -> ok
+* close a
+table
+end
+#s|none|made|A committed child is undone with its parent.
 open
 x=9
 s 1 begin a -> ok
@@ -25,10 +47,7 @@ s 11 commit b -> ok
 table
 x=9
 end
-";
-
-/// The parent's own version lies beneath the aborted child's.
-const UNDONE_ALONE: &str = "\
+#s|none|made|The parent's own version lies beneath the aborted child's.
 open
 s 1 begin a -> ok
 s 2 set a x 1 -> ok
@@ -42,10 +61,7 @@ s 9 commit a -> ok
 table
 x=1
 end
-";
-
-/// The topmost aborted ancestor, not the nearest.
-const TOPMOST: &str = "\
+#s|none|made|The topmost aborted ancestor, not the nearest.
 open
 s 1 begin a -> ok
 s 2 begin a/l -> ok
@@ -57,9 +73,7 @@ s 7 get a/l/m x -> orphan a
 s 8 begin a/l/n -> orphan a
 table
 end
-";
-
-const REFUSALS: &str = "\
+#s|none|made|What is refused.
 open
 s 1 begin a -> ok
 s 2 begin a/l -> ok
@@ -74,10 +88,7 @@ s 10 commit a -> ok
 s 11 abort a -> refused done
 table
 end
-";
-
-/// A line that has to wait while nobody else can go on is given up; its transaction goes on.
-const GIVEN_UP: &str = "\
+#s|none|made|A line that has to wait while nobody else can go on is given up; its transaction goes on.
 open
 s 1 begin a -> ok
 s 2 set a x 1 -> ok
@@ -89,10 +100,7 @@ s 6 commit a -> ok
 table
 x=1
 end
-";
-
-/// A parent retains its child's lock until it ends itself.
-const RETAINED: &str = "\
+#s|none|made|A parent retains its child's lock until it ends itself.
 open
 s 1 begin a -> ok
 s 2 begin a/l -> ok
@@ -110,10 +118,7 @@ s 12 commit b -> ok
 table
 x=8
 end
-";
-
-/// A live child keeps its own parent out, and a parent no child.
-const KEPT_OUT: &str = "\
+#s|none|made|A live child keeps its own parent out, and a parent no child.
 open
 s 1 begin a -> ok
 s 2 set a y 1 -> ok
@@ -133,10 +138,7 @@ table
 x=3
 y=2
 end
-";
-
-/// Several readers, and a writer among them.
-const SHARED: &str = "\
+#s|none|made|Several readers, and a writer among them.
 open
 s 1 begin a -> ok
 s 2 begin b -> ok
@@ -150,11 +152,7 @@ s 8 commit b -> ok
 table
 x=1
 end
-";
-
-/// What is live at the end is aborted in the order of beginning; an inferior has no entry of its
-/// own.
-const LEFT_OPEN: &str = "\
+#s|none|made|What is live at the end is aborted in the order of beginning; an inferior has no entry of its own.
 open
 s 1 begin a -> ok
 s 2 begin b -> ok
@@ -169,10 +167,7 @@ s 9 commit b/c -> ok
 * close b
 table
 end
-";
-
-/// An overflow is a write that leaves the value, and a removal leaves none.
-const REMOVED: &str = "\
+#s|none|made|An overflow is a write that leaves the value, and a removal leaves none.
 open
 x=9
 s 1 begin a -> ok
@@ -185,10 +180,7 @@ s 7 get b x -> none
 s 8 commit b -> ok
 table
 end
-";
-
-/// Names at their bounds, and the least number.
-const BOUNDS: &str = "\
+#s|none|made|Names at their bounds, and the least number.
 open
 s 1 begin aaaaaaaaaaaaaaaa/aaaaaaaaaaaaaaaa/aaaaaaaaaaaaaaaa/aaaaaaaaaaaaaaaa/aaaaaaaaaaaaaaaa/aaaaaaaaaaaaaaaa/aaaaaaaaaaaaaaaa/aaaaaaaaaaaaaaaa/aaaaaaaaaaaaaaaa/aaaaaaaaaaaaaaaa/aaaaaaaaaaaaaaaa/aaaaaaaaaaaaaaaa/aaaaaaaaaaaaaaaa/aaaaaaaaaaaaaaaa/aaaaaaaaaaaaaaaa/aaaaaaaaaaaaaaaa -> refused no-parent
 s 2 begin a/b/c/d/e/f/g/h/i -> refused no-parent
@@ -196,71 +188,3 @@ s 3 set a x -9223372036854775808 -> refused unknown
 table
 end
 ";
-
-// The line of an entry, but of one that gives up a line that waited.
-fn command_of(entry: &str) -> Option<&str> {
-    let (line, reply) = entry.split_once(" -> ")?;
-    let (_, numbered) = line.split_once(' ')?;
-    let (_, command) = numbered.split_once(' ')?;
-    if reply == "stuck" {
-        None
-    } else {
-        Some(command)
-    }
-}
-
-// The session whose lines are the texts of the report's entries. A line that waits has two entries.
-pub fn text_of(rt: &impl Abort, alloc: Global, report: &str) -> String {
-    let mut text = String::from_str(alloc, "session s\n").expect(rt, "memory");
-    for entry in report.lines() {
-        if let Some(command) = command_of(entry) {
-            text.push_str(command).expect(rt, "memory");
-            text.push_str("\n").expect(rt, "memory");
-        }
-    }
-    text
-}
-
-// The row x=9, where the report opens with it.
-fn store_of(rt: &impl Abort, alloc: Global, report: &str) -> MemStore {
-    if report.starts_with("open\nx=9\n") {
-        let key = Key::parse(b"x").expect(rt, "key");
-        let row = Row {
-            key,
-            value: 9,
-            commit: 0,
-        };
-        MemStore::new(alloc, &[row]).expect(rt, "memory")
-    } else {
-        empty(rt, alloc)
-    }
-}
-
-// Whether a run of the report's own texts has this report.
-fn is_run_again(rt: &impl Abort, alloc: Global, report: &str) -> bool {
-    let text = text_of(rt, alloc, report);
-    let store = store_of(rt, alloc, report);
-    replayed(alloc, text.as_bytes(), store).is_report(report.as_bytes())
-}
-
-#[test]
-fn reports_of_their_own_texts(rt: HostRuntime) {
-    for report in [
-        UNDONE_WITH_PARENT,
-        UNDONE_ALONE,
-        TOPMOST,
-        REFUSALS,
-        GIVEN_UP,
-        RETAINED,
-        KEPT_OUT,
-        SHARED,
-        LEFT_OPEN,
-        REMOVED,
-        BOUNDS,
-    ] {
-        assert!(rt; is_run_again(&rt, rt.alloc(), report), "{report}");
-        let text = text_of(&rt, rt.alloc(), report);
-        let store = store_of(&rt, rt.alloc(), report);
-        assert!(rt; is_judged(&rt, rt.alloc(), &text, None, store), "{report}");
-    }
-}

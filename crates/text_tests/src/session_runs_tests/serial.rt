@@ -42,10 +42,22 @@ fn commit(rt: &impl Abort, under: &mut Vec<Under>, name: Name) {
     }
 }
 
-fn enter(rt: &impl Abort, alloc: Global, under: &mut Vec<Under>, entry: &Entry) {
+// The reply, or another sum in its place, where that is still to be done.
+fn spoiled(reply: Reply, spoils: &mut bool) -> Reply {
+    match reply {
+        Reply::New(sum) if *spoils => {
+            *spoils = false;
+            Reply::New(sum.wrapping_add(1))
+        }
+        _ => reply,
+    }
+}
+
+fn enter(rt: &impl Abort, alloc: Global, under: &mut Vec<Under>, entry: &Entry, spoils: &mut bool) {
     let Answer::Done(reply) = entry.answer else {
         return;
     };
+    let reply = spoiled(reply, spoils);
     match entry.event {
         Event::Begin(name) => begin(rt, alloc, under, Some(name)),
         Event::Access(name, key, op) => {
@@ -70,42 +82,25 @@ fn is_same(left: &PlainTable, right: &PlainTable) -> bool {
     left.len() == right.len() && (0..left.len()).all(|place| left.at(place) == right.at(place))
 }
 
-// Whether the committed top-level transactions of this history, over the report's opening rows,
-// have these replies and leave the report's table.
-fn is_serial_by(rt: &impl Abort, alloc: Global, report: &Report, history: &[Entry]) -> bool {
-    let mut under = Vec::new(alloc);
-    begin(rt, alloc, &mut under, None);
-    for entry in history {
-        enter(rt, alloc, &mut under, entry);
-    }
-    let Some(root) = under.first() else {
-        return false;
-    };
+// Whether these items lead from the report's opening rows, with these replies, to its table.
+fn leads_to(rt: &impl Abort, alloc: Global, report: &Report, items: &[Item]) -> bool {
     let mut table = table_of(rt, alloc, report.opening());
-    let wrong = run_items(&mut table, root.items.as_slice()).expect(rt, "memory");
+    let wrong = run_items(&mut table, items).expect(rt, "memory");
     wrong.is_none() && is_same(&table, report.table())
 }
 
 /// Whether the committed top-level transactions, one after another, have these replies and leave
-/// this table.
-pub fn is_serial(rt: &impl Abort, alloc: Global, report: &Report) -> bool {
-    is_serial_by(rt, alloc, report, report.history())
-}
-
-/// Whether that were so of the same report with another sum as the reply to the first add. It must
-/// not be.
-pub fn is_serial_spoiled(rt: &impl Abort, alloc: Global, report: &Report) -> bool {
-    let mut history = Vec::new(alloc);
-    let mut spoiled = false;
+/// the report's table. With another sum as the reply to the first add, where that is asked, it must
+/// not be so.
+pub fn is_serial(rt: &impl Abort, alloc: Global, report: &Report, spoils: bool) -> bool {
+    let mut under = Vec::new(alloc);
+    begin(rt, alloc, &mut under, None);
+    let mut spoils = spoils;
     for entry in report.history() {
-        let mut entry = *entry;
-        if let Answer::Done(Reply::New(sum)) = entry.answer {
-            if !spoiled {
-                spoiled = true;
-                entry.answer = Answer::Done(Reply::New(sum.wrapping_add(1)));
-            }
-        }
-        history.push(entry).expect(rt, "memory");
+        enter(rt, alloc, &mut under, entry, &mut spoils);
     }
-    is_serial_by(rt, alloc, report, history.as_slice())
+    match under.first() {
+        Some(root) => leads_to(rt, alloc, report, root.items.as_slice()),
+        None => false,
+    }
 }

@@ -1,10 +1,9 @@
 //! A session text over a database file and its log. Each of the two stops at some call and the
 //! machine with it: what is opened then has the table of the commits that were acknowledged, or of
 //! one more where that one was not answered.
-use durable_top::TopStore;
 use session_runs::replay_text;
 use sql_store::SqlStore;
-use sqlite::{Connection, FileStore, Files, Options};
+use sqlite::{Alter, Connection, FileStore, Files, Options};
 use sqlite_disk::{Crash, Disk, Fuse, Memory};
 use std::alloc::Global;
 use std::process::Abort;
@@ -25,22 +24,24 @@ const TABLES: [&[u8]; 4] = [
 /// No run makes so many calls of one file.
 const MOST: u64 = 100;
 
-/// What a run over files that stop comes to.
-#[derive(Clone, Copy, Debug, PartialEq, Eq)]
-enum Ended {
-    /// Before its first reply.
-    Unopened,
-    /// In the commit behind so many, or past it.
-    Stopped(usize),
-    /// Nothing stopped.
-    Whole,
-}
-
 // Each opening makes all pages of the cache, so that there are few.
 fn options() -> Options {
     let mut options = Options::new(7);
     options.cache_pages = 8;
     options
+}
+
+// The text's report over a connection, and the connection. A call at a store over files costs the
+// prover much, and one at a store over anything little, so that the calls stand here.
+fn told<S: Alter + Drop>(
+    alloc: Global,
+    text: &[u8],
+    connection: Connection<S>,
+) -> Option<(Vec<u8>, Connection<S>)> {
+    let store = SqlStore::adopt(alloc, connection).ok()?;
+    let mut out = Vec::new(alloc);
+    let left = replay_text(alloc, text, &[], store, &mut out).ok()?;
+    Some((out, left.into_connection()))
 }
 
 // The files of a connection, and whether what is in the log was copied into the database.
@@ -51,21 +52,6 @@ fn closed<D: Disk + Drop>(connection: Connection<FileStore<D>>) -> (Files<D>, bo
     }
 }
 
-fn opened<D: Disk + Drop>(alloc: Global, files: Files<D>) -> Option<SqlStore<FileStore<D>>> {
-    if !files.may_be_used() {
-        return None;
-    }
-    let connection = Connection::open_files(alloc, files, options()).ok()?;
-    SqlStore::adopt(alloc, connection).ok()
-}
-
-// The text's report over the store, and the store.
-fn told<S: TopStore>(alloc: Global, text: &[u8], store: S) -> Option<(Vec<u8>, S)> {
-    let mut out = Vec::new(alloc);
-    let left = replay_text(alloc, text, &[], store, &mut out).ok()?;
-    Some((out, left))
-}
-
 // The text's report over the files and the files, where there is a report, and whether they were
 // closed without a stop.
 fn run<D: Disk + Drop>(
@@ -73,37 +59,40 @@ fn run<D: Disk + Drop>(
     files: Files<D>,
     text: &[u8],
 ) -> Option<(Vec<u8>, Files<D>, bool)> {
-    let (out, left) = told(alloc, text, opened(alloc, files)?)?;
-    let (files, is_whole) = closed(left.into_connection());
+    if !files.may_be_used() {
+        return None;
+    }
+    let connection = Connection::open_files(alloc, files, options()).ok()?;
+    let (out, left) = told(alloc, text, connection)?;
+    let (files, is_whole) = closed(left);
     Some((out, files, is_whole))
 }
 
-// How many commits were acknowledged before the first that was not, and whether there is such a
-// one.
-fn acknowledged(report: &str) -> (usize, bool) {
+// How many commits were acknowledged before the first that was not, and how many may have been
+// made: one more where there is such a one.
+fn acknowledged(report: &str) -> (usize, usize) {
     let mut count: usize = 0;
     for entry in report.lines() {
         if entry.ends_with(" -> refused store") {
-            return (count, true);
+            return (count, count.saturating_add(1));
         }
         if entry.contains(" commit ") && entry.ends_with(" -> ok") {
             count = count.saturating_add(1);
         }
     }
-    (count, false)
-}
-
-// The files after a crash of the machine, with nothing more that stops.
-fn crashed<D: Crash + Drop>(mut files: Files<D>) -> Files<D> {
-    files.log.crash();
-    files.db.crash();
-    files
+    (count, count)
 }
 
 // Whether the empty text reports the table after one of the numbers of commits from the least to
-// the most.
-fn is_left<D: Crash + Drop>(alloc: Global, files: Files<D>, least: usize, most: usize) -> bool {
-    let Some((report, _, _)) = run(alloc, crashed(files), b"") else {
+// the most, over the files behind a crash of the machine, with nothing more that stops.
+fn is_left<D: Crash + Drop>(
+    alloc: Global,
+    mut files: Files<D>,
+    (least, most): (usize, usize),
+) -> bool {
+    files.log.crash();
+    files.db.crash();
+    let Some((report, _, _)) = run(alloc, files, b"") else {
         return false;
     };
     for (count, table) in TABLES.iter().enumerate() {
@@ -114,26 +103,30 @@ fn is_left<D: Crash + Drop>(alloc: Global, files: Files<D>, least: usize, most: 
     false
 }
 
-// What a run comes to whose log and database stop after so many calls, or none where the files then
-// have another table than they may.
-fn stopped(rt: &impl Abort, alloc: Global, log: u64, db: u64) -> Option<Ended> {
+// What a run comes to over files that stop: whether the files then have a table that they may have,
+// behind how many acknowledged commits, and whether nothing stopped. There is none where the run
+// stops before its first reply.
+fn stopped<D: Crash + Drop>(
+    rt: &impl Abort,
+    alloc: Global,
+    files: Files<D>,
+) -> Option<(bool, usize, bool)> {
+    let (report, files, is_whole) = run(alloc, files, TEXT)?;
+    let commits = acknowledged(str::from_utf8(report.as_slice()).expect(rt, "text"));
+    Some((is_left(alloc, files, commits), commits.0, is_whole))
+}
+
+// The same over a log and a database that stop after so many calls.
+fn stopped_after(
+    rt: &impl Abort,
+    alloc: Global,
+    (log, db): (u64, u64),
+) -> Option<(bool, usize, bool)> {
     let files = Files {
         log: Fuse::new(Memory::new(alloc), log),
         db: Fuse::new(Memory::new(alloc), db),
     };
-    let Some((report, files, is_closed)) = run(alloc, files, TEXT) else {
-        return Some(Ended::Unopened);
-    };
-    let (count, is_refused) = acknowledged(str::from_utf8(report.as_slice()).expect(rt, "text"));
-    let most = count.saturating_add(usize::from(is_refused));
-    if !is_left(alloc, files, count, most) {
-        return None;
-    }
-    if is_closed {
-        Some(Ended::Whole)
-    } else {
-        Some(Ended::Stopped(count))
-    }
+    stopped(rt, alloc, files)
 }
 
 // Behind how many commits a stop was met, up to the first run that meets none: the log stops after
@@ -141,19 +134,22 @@ fn stopped(rt: &impl Abort, alloc: Global, log: u64, db: u64) -> Option<Ended> {
 fn stops(rt: &impl Abort, alloc: Global, is_log: bool) -> Option<[bool; 4]> {
     let mut met = [false; 4];
     for calls in 0..MOST {
-        let (log, db) = if is_log {
+        let fuses = if is_log {
             (calls, u64::MAX)
         } else {
             (u64::MAX, calls)
         };
-        match stopped(rt, alloc, log, db).expect(rt, "another table") {
-            Ended::Unopened => {}
-            Ended::Stopped(count) => {
-                if let Some(place) = met.get_mut(count) {
-                    *place = true;
-                }
+        if let Some((is_right, count, is_whole)) = stopped_after(rt, alloc, fuses) {
+            assert!(rt;
+                is_right,
+                "another table behind {calls} calls, of the log: {is_log}"
+            );
+            if is_whole {
+                return Some(met);
             }
-            Ended::Whole => return Some(met),
+            if let Some(place) = met.get_mut(count) {
+                *place = true;
+            }
         }
     }
     None
@@ -165,6 +161,9 @@ fn a_stop_at_each_call_of_a_file(rt: HostRuntime) {
         (true, [true, true, true, true]),
         (false, [false, false, false, true]),
     ] {
-        assert!(rt; stops(&rt, rt.alloc(), is_log) == Some(met), "{is_log}");
+        assert!(rt;
+            stops(&rt, rt.alloc(), is_log) == Some(met),
+            "of the log: {is_log}"
+        );
     }
 }
