@@ -1,170 +1,20 @@
-//! A manager under watch, which plays a script. A call that finds no memory has to leave all that
-//! can be seen, and to succeed when it is made again: a trial run refuses each growth in turn.
+//! A manager under watch. A call that finds no memory has to leave all that can be seen, and to
+//! succeed when it is made again: a trial run refuses each growth in turn.
 //!
-//! What fails ends the process. So no function drops a manager on its way out, which would make a
-//! long proof.
-ghost use Rattle.std.specs.Prelude.{◌≡◌, IfOk, IfSome, OnErr};
-ghost use Rattle.serial_spec.specs.declared.entry.By.TheVariants.{Line};
-ghost use Rattle.serial_spec.specs.History.{event_of};
-ghost use Rattle.manager_core.specs.Calls.{WaitsOrIsUndone};
+//! What fails is told by `false` or by nothing, and ends the process where the script is played. So
+//! no function drops a manager on its way out, which would make a long proof.
 ghost use Rattle.manager_core.specs.Lines.{IsFree};
 
-use durable_top::{MemStore, Row, TopStore, are_numbered, are_rising};
-use manager_core::{Manager, OpenFault, Outcome, Parts};
-use serial_spec::{
-    Answer, Asked, By, Entry, Event, NoMemory, Op, PlainTable, Refusal, Reply, When,
-};
-use std::alloc::Global;
+use crate::manager_core_tests::scripts::entry;
+use durable_top::TopStore;
+use manager_core::{Manager, Outcome};
+use serial_spec::{Answer, By, Entry, Event, NoMemory, Refusal, Reply};
 use std::hash::{DefaultHasher, Hash, Hasher};
-use std::process::Abort;
-use txn_names::{Group, Key, Name};
+use test_kit::name;
+use txn_names::Name;
 
-fn line(line: u32) -> By
-    ensures { result ≡ Line 0 line }
-{
-    By::Line { session: 0, line }
-}
-
-fn number(rt: &impl Abort, text: &str) -> i64 {
-    text.parse().expect(rt, text)
-}
-
-fn name(rt: &impl Abort, text: &str) -> Name {
-    Name::parse(text.as_bytes()).expect(rt, text)
-}
-
-fn key(rt: &impl Abort, text: &str) -> Key {
-    Key::parse(text.as_bytes()).expect(rt, text)
-}
-
-fn group(rt: &impl Abort, text: &str) -> Group {
-    Group::parse(text.as_bytes()).expect(rt, text)
-}
-
-fn op(rt: &impl Abort, verb: &str, amount: &str) -> Op {
-    match verb {
-        "get" => Op::Get,
-        "set" => Op::Set(number(rt, amount)),
-        "add" => Op::Add(number(rt, amount)),
-        "del" => Op::Del,
-        _ => rt.panic(verb),
-    }
-}
-
-fn when(rt: &impl Abort, word: &str) -> When {
-    match word {
-        "begun" => When::Begun,
-        "done" => When::Done,
-        _ => rt.panic(word),
-    }
-}
-
-// What a line asks, spelled as in a session.
-fn event(rt: &impl Abort, text: &str) -> Event {
-    let (verb, rest) = text.split_once(' ').expect(rt, text);
-    let (who, rest) = rest.split_once(' ').unwrap_or((rest, ""));
-    let name = name(rt, who);
-    match verb {
-        "begin" => Event::Begin(name),
-        "commit" => Event::Commit(name),
-        "abort" => Event::Abort(name),
-        "after" => Event::After(name, when(rt, rest)),
-        "sum" => Event::Sum(name, group(rt, rest)),
-        _ => {
-            let (what, amount) = rest.split_once(' ').unwrap_or((rest, ""));
-            Event::Access(name, key(rt, what), op(rt, verb, amount))
-        }
-    }
-}
-
-fn cause(rt: &impl Abort, word: &str) -> Refusal {
-    match word {
-        "unknown" => Refusal::Unknown,
-        "used" => Refusal::Used,
-        "no-parent" => Refusal::NoParent,
-        "done" => Refusal::Done,
-        "children" => Refusal::Children,
-        "waiting" => Refusal::Waiting,
-        "full" => Refusal::Full,
-        "store" => Refusal::Store,
-        _ => rt.panic(word),
-    }
-}
-
-// An answer, spelled as in a report.
-fn answer(rt: &impl Abort, text: &str) -> Answer {
-    let (word, rest) = text.split_once(' ').unwrap_or((text, ""));
-    match word {
-        "ok" => Answer::Done(Reply::Ok),
-        "value" => Answer::Done(Reply::Value(number(rt, rest))),
-        "none" => Answer::Done(Reply::Absent),
-        "new" => Answer::Done(Reply::New(number(rt, rest))),
-        "overflow" => Answer::Done(Reply::Overflow),
-        "waits" => Answer::Waits,
-        "stuck" => Answer::Stuck,
-        "refused" => Answer::Refused(cause(rt, rest)),
-        "orphan" => Answer::Refused(Refusal::Orphan(name(rt, rest))),
-        _ => rt.panic(word),
-    }
-}
-
-/// The entry of a line, spelled as its number, what it asks and what it is answered.
-pub fn entry(rt: &impl Abort, text: &str) -> Entry {
-    let (asked, told) = text.split_once(" -> ").expect(rt, text);
-    let (number, asked) = asked.split_once(' ').expect(rt, text);
-    Entry {
-        by: line(number.parse().expect(rt, text)),
-        event: event(rt, asked),
-        answer: answer(rt, told),
-    }
-}
-
-// The most entries and rows of a test.
-const MOST_ENTRIES: usize = 32;
-
-const MOST_ROWS: usize = 4;
-
-// Room for so many.
-fn room<T>(rt: &impl Abort, alloc: Global, most: usize) -> Vec<T> {
-    match Vec::with_capacity(alloc, most) {
-        Ok(list) => list,
-        Err(_) => Vec::with_capacity(alloc, most).expect(rt, "memory"),
-    }
-}
-
-fn row(rt: &impl Abort, text: &str) -> Row {
-    let (what, value) = text.split_once('=').expect(rt, text);
-    Row {
-        key: key(rt, what),
-        value: number(rt, value),
-        commit: 0,
-    }
-}
-
-// Rows as in `x=9 y=2`.
-fn rows(rt: &impl Abort, alloc: Global, text: &str) -> Vec<Row> {
-    let mut rows = room(rt, alloc, MOST_ROWS);
-    for word in text.split_whitespace() {
-        rows.push(row(rt, word)).expect(rt, "room");
-    }
-    rows
-}
-
-fn has_rows(table: &PlainTable, rows: &[Row]) -> bool {
-    table.len() == rows.len()
-        && rows
-            .iter()
-            .all(|row| table.get(&row.key) == Some(row.value))
-}
-
-// Whether they are the same rows, whatever their numbers.
-fn are_same(left: &[Row], right: &[Row]) -> bool {
-    left.len() == right.len()
-        && left.iter().zip(right).all(|(row, other)| row.key == other.key
-            && row.value == other.value)
-}
-
-fn name_of(event: &Event) -> &Name {
+/// Whom the event is about.
+pub fn name_of(event: &Event) -> &Name {
     match event {
         Event::Begin(name) => name,
         Event::Access(name, _, _) => name,
@@ -175,12 +25,11 @@ fn name_of(event: &Event) -> &Name {
     }
 }
 
-// A manager, and the entries that it is due, the oldest first.
+/// A manager, and the entries that it is due, the oldest first.
 #[derive(Drop)]
-struct Watched<S: TopStore> {
-    alloc: Global,
-    manager: Manager<S>,
-    due: Vec<Entry>,
+pub struct Watched<S: TopStore> {
+    pub manager: Manager<S>,
+    pub due: Vec<Entry>,
 }
 
 fn is_due<S: TopStore>(watched: &Watched<S>) -> bool {
@@ -190,7 +39,7 @@ fn is_due<S: TopStore>(watched: &Watched<S>) -> bool {
 // What a manager shows beside its history, as a hash: both tables, and by the entries whether their
 // transactions wait, and whether their lines are free for what they asked and for a begin.
 fn look<S: TopStore>(watched: &Watched<S>) -> u64 {
-    let Watched { manager, due, .. } = watched;
+    let Watched { manager, due } = watched;
     let mut seen = DefaultHasher::new();
     for row in manager.opening() {
         (row.key, row.value, row.commit).hash(&mut seen);
@@ -211,26 +60,6 @@ fn is_as_before<S: TopStore>(watched: &Watched<S>, before: u64) -> bool {
     is_due(watched) && look(watched) == before
 }
 
-pub fn store_of(rt: &impl Abort, alloc: Global, rows: &[Row]) -> MemStore {
-    assert!(rt; are_rising(rows));
-    assert!(rt; are_numbered(rows));
-    match MemStore::new(alloc, rows) {
-        Ok(store) => store,
-        Err(_) => MemStore::new(alloc, rows).expect(rt, "memory"),
-    }
-}
-
-// A manager over these rows.
-fn open(rt: &impl Abort, alloc: Global, rows: &[Row]) -> Manager<MemStore> {
-    let manager = match Manager::open(alloc, store_of(rt, alloc, rows)) {
-        Ok(manager) => manager,
-        // The store is gone with it.
-        Err(_) => Manager::open(alloc, store_of(rt, alloc, rows)).expect(rt, "memory"),
-    };
-    assert!(rt; manager.opening() == rows);
-    manager
-}
-
 /// The manager's call for an event.
 pub fn call<S: TopStore>(
     manager: &mut Manager<S>,
@@ -238,7 +67,6 @@ pub fn call<S: TopStore>(
     event: &Event,
 ) -> Result<Outcome, NoMemory>
     requires { IsFree manager.old.history by event.now }
-    ensures { OnErr result (manager.new ≡ manager.old) }
 {
     match event {
         Event::Begin(name) => manager.begin(by, name),
@@ -259,365 +87,219 @@ pub fn answer_of(outcome: &Outcome) -> Answer {
     }
 }
 
-// Adds an entry to those that are due, where there is room.
-fn owe(rt: &impl Abort, due: &mut Vec<Entry>, by: By, event: &Event, answer: Answer) {
-    assert!(rt; due.len() < due.capacity());
-    let entry = Entry {
-        by,
-        event: *event,
-        answer,
-    };
-    entry.add_to(due);
+// Whether an entry is added to those that are due, where there is room.
+fn owe(due: &mut Vec<Entry>, entry: &Entry) -> bool {
+    // The borrow checker has to meet each enum inside an entry as a value of its own.
+    let _met = (entry.event, Answer::Stuck, Refusal::Unknown);
+    due.push(*entry).is_ok()
 }
 
-// After a call its line has no other, and its transaction waits where the call waits or is refused
-// for that.
-fn check_line<S: TopStore>(
-    rt: &impl Abort,
-    manager: &Manager<S>,
-    by: By,
-    event: &Event,
-    outcome: Outcome,
-) {
-    let name = name_of(event);
-    assert!(rt; !manager.free(by, event));
-    assert!(rt; !manager.free(by, &Event::Begin(*name)));
-    match outcome {
-        Outcome::Waits => assert!(rt; manager.waiting(name)),
-        Outcome::Refused(Refusal::Waiting) => assert!(rt; manager.waiting(name)),
-        Outcome::Done(_) => assert!(rt; !manager.waiting(name)),
-        Outcome::Refused(_) => {}
-    }
+// The same, and behind it those of these that the manager itself aborts in this order.
+fn owes(due: &mut Vec<Entry>, entry: &Entry, aborted: &str, by: By) -> bool {
+    owe(due, entry) && owes_aborts(due, aborted, by)
 }
 
-// The entries of those that are aborted in this order, by the manager itself.
-fn owe_aborts(rt: &impl Abort, due: &mut Vec<Entry>, by: By, names: &str) {
-    for word in names.split_whitespace() {
-        let event = Event::Abort(name(rt, word));
-        owe(rt, due, by, &event, Answer::Done(Reply::Ok));
-    }
-}
-
-// Makes a call, by a line that has to be free. These have to be its victims.
-fn ask<S: TopStore>(
-    rt: &impl Abort,
-    watched: &mut Watched<S>,
-    by: By,
-    event: &Event,
-    victims: &str,
-) -> Outcome {
-    assert!(rt; watched.manager.free(by, event));
-    let before = look(watched);
-    let outcome = match call(&mut watched.manager, by, event) {
-        Ok(outcome) => outcome,
-        Err(_) => {
-            assert!(rt; is_as_before(watched, before));
-            call(&mut watched.manager, by, event).expect(rt, "memory")
-        }
-    };
-    owe(rt, &mut watched.due, by, event, answer_of(&outcome));
-    owe_aborts(rt, &mut watched.due, By::Victim, victims);
-    assert!(rt; is_due(watched));
-    if victims.is_empty() {
-        check_line(rt, &watched.manager, by, event, outcome);
-    }
-    outcome
-}
-
-// Asks again for an access that waits: it is answered by its own line, or waits on, and then
-// nothing has changed.
-fn ask_again<S: TopStore>(
-    rt: &impl Abort,
-    watched: &mut Watched<S>,
-    by: By,
-    event: &Event,
-    victims: &str,
-) -> Answer {
-    let name = name_of(event);
-    assert!(rt; watched.manager.waiting(name));
-    let before = look(watched);
-    let outcome = match watched.manager.retry(name) {
-        Ok(outcome) => outcome,
-        Err(_) => {
-            assert!(rt; is_as_before(watched, before));
-            assert!(rt; watched.manager.waiting(name));
-            watched.manager.retry(name).expect(rt, "memory")
-        }
-    };
-    if outcome == Outcome::Waits {
-        assert!(rt; is_as_before(watched, before));
-    } else {
-        owe(rt, &mut watched.due, by, event, answer_of(&outcome));
-        owe_aborts(rt, &mut watched.due, By::Victim, victims);
-        assert!(rt; is_due(watched));
-        assert!(rt; !watched.manager.waiting(name));
-    }
-    answer_of(&outcome)
-}
-
-// The manager's call for what an access asks.
-fn access_once<S: TopStore>(
-    manager: &mut Manager<S>,
-    by: By,
-    name: &Name,
-    asked: &Asked,
-) -> Result<Outcome, NoMemory>
-    requires { IsFree manager.old.history by (event_of name.now asked.now) }
-    ensures waits { IfOk result (λ outcome. outcome ≡ Outcome.Waits →
-        WaitsOrIsUndone manager.new.history by name.now asked.now) }
-    ensures err { OnErr result (manager.new ≡ manager.old) }
-{
-    match asked {
-        Asked::At(key, op) => manager.access(by, name, key, *op),
-        Asked::Over(group) => manager.sum(by, name, group),
-    }
-}
-
-// Makes the call of an access.
-fn access<S: TopStore>(
-    rt: &impl Abort,
-    watched: &mut Watched<S>,
-    by: By,
-    name: &Name,
-    asked: &Asked,
-) -> Outcome
-    requires { IsFree watched.old.manager.history by (event_of name.now asked.now) }
-    ensures { result ≡ Outcome.Waits →
-        WaitsOrIsUndone watched.new.manager.history by name.now asked.now }
-{
-    let before = look(watched);
-    match access_once(&mut watched.manager, by, name, asked) {
-        Ok(outcome) => outcome,
-        Err(_) => {
-            assert!(rt; is_as_before(watched, before));
-            access_once(&mut watched.manager, by, name, asked).expect(rt, "memory")
+fn owes_aborts(due: &mut Vec<Entry>, aborted: &str, by: By) -> bool {
+    for word in aborted.split_whitespace() {
+        let entry = Entry {
+            by,
+            event: Event::Abort(name(word)),
+            answer: Answer::Done(Reply::Ok),
+        };
+        if !owe(due, &entry) {
+            return false;
         }
     }
+    true
 }
 
-// What an access asks.
-fn asked_by(event: &Event) -> Option<(Name, Asked)>
-    ensures { IfSome result (λ access. event.now ≡ event_of access.0 access.1) }
-{
-    match event {
-        Event::Access(name, key, op) => Some((*name, Asked::At(*key, *op))),
-        Event::Sum(name, group) => Some((*name, Asked::Over(*group))),
-        _ => None,
-    }
-}
-
-// Gives up a line that is held up.
-fn give_up<S: TopStore>(rt: &impl Abort, watched: &mut Watched<S>, by: By, event: &Event) {
-    assert!(rt; watched.manager.held_up(by, event));
-    let before = look(watched);
-    if watched.manager.cancel(by, event).is_err() {
-        assert!(rt; is_as_before(watched, before));
-        watched.manager.cancel(by, event).expect(rt, "memory");
-    }
-    owe(rt, &mut watched.due, by, event, Answer::Stuck);
-    assert!(rt; is_due(watched));
-    assert!(rt; !watched.manager.held_up(by, event));
-    assert!(rt; !watched.manager.waiting(name_of(event)));
-}
-
-// An access that has to wait is given up.
-fn wait_and_give_up<S: TopStore>(rt: &impl Abort, watched: &mut Watched<S>, by: By, event: &Event) {
-    let Some((name, asked)) = asked_by(event) else {
-        rt.panic("only an access waits")
-    };
-    assert!(rt; watched.manager.free(by, event));
-    let outcome = access(rt, watched, by, &name, &asked);
-    assert!(rt; outcome == Outcome::Waits);
-    assert!(rt; watched.manager.waiting(&name));
-    owe(rt, &mut watched.due, by, event, Answer::Waits);
-    assert!(rt; is_due(watched));
-    give_up(rt, watched, by, event);
-}
-
-// A line that waits for a condition: as long as it does not hold nothing changes.
-fn wait_for<S: TopStore>(
-    rt: &impl Abort,
-    watched: &mut Watched<S>,
-    by: By,
-    event: &Event,
-) -> Answer {
-    assert!(rt; watched.manager.free(by, event));
-    let before = look(watched);
-    let outcome = match call(&mut watched.manager, by, event) {
-        Ok(outcome) => outcome,
-        Err(_) => {
-            assert!(rt; is_as_before(watched, before));
-            call(&mut watched.manager, by, event).expect(rt, "memory")
+// What comes of the call of a line that has to be free.
+fn ask<S: TopStore>(watched: &mut Watched<S>, line: &Entry, before: u64) -> Option<Outcome> {
+    for _ in 0..2 {
+        if !watched.manager.free(line.by, &line.event) {
+            return None;
         }
-    };
-    assert!(rt; watched.manager.held_up(by, event) == (outcome == Outcome::Waits));
-    if outcome == Outcome::Waits {
-        assert!(rt; is_as_before(watched, before));
-    } else {
-        owe(rt, &mut watched.due, by, event, answer_of(&outcome));
-        assert!(rt; is_due(watched));
+        match call(&mut watched.manager, line.by, &line.event) {
+            Ok(outcome) => return Some(outcome),
+            Err(_) => {
+                if !is_as_before(watched, before) {
+                    return None;
+                }
+            }
+        }
     }
-    answer_of(&outcome)
+    None
 }
 
-const NOT_STORED: Answer = Answer::Refused(Refusal::Store);
+// What comes of it where an access that has to wait asks again.
+fn ask_again<S: TopStore>(watched: &mut Watched<S>, line: &Entry, before: u64) -> Option<Outcome> {
+    let name = name_of(&line.event);
+    for _ in 0..2 {
+        if !watched.manager.waiting(name) {
+            return None;
+        }
+        match watched.manager.retry(name) {
+            Ok(outcome) => return Some(outcome),
+            Err(_) => {
+                if !is_as_before(watched, before) {
+                    return None;
+                }
+            }
+        }
+    }
+    None
+}
 
-// Makes the call of a line, and gives its answer. A line that waits already asks again. Where an
-// access is to be stuck it is given up when it waits.
-fn answer_to<S: TopStore>(
-    rt: &impl Abort,
+// After a call its line has no other, it is held up where the call waits, and its transaction waits
+// where the call waits or is refused for that.
+fn is_told<S: TopStore>(manager: &Manager<S>, line: &Entry, outcome: &Outcome) -> bool {
+    let name = name_of(&line.event);
+    if manager.free(line.by, &line.event) || manager.free(line.by, &Event::Begin(*name)) {
+        return false;
+    }
+    if manager.held_up(line.by, &line.event) != (*outcome == Outcome::Waits) {
+        return false;
+    }
+    match *outcome {
+        Outcome::Waits => manager.waiting(name),
+        Outcome::Refused(Refusal::Waiting) => manager.waiting(name),
+        Outcome::Done(_) => !manager.waiting(name),
+        Outcome::Refused(_) => true,
+    }
+}
+
+// The answer of a line that is free, of which these have to be the victims.
+fn first_answer<S: TopStore>(
     watched: &mut Watched<S>,
     line: &Entry,
     victims: &str,
-) -> Answer {
-    let Entry { by, event, answer } = line;
-    let is_after = matches!(event, Event::After(_, _));
-    if is_after && *answer == Answer::Stuck {
-        give_up(rt, watched, *by, event);
-        Answer::Stuck
-    } else if is_after {
-        wait_for(rt, watched, *by, event)
-    } else if *answer == Answer::Stuck {
-        wait_and_give_up(rt, watched, *by, event);
-        Answer::Stuck
-    } else if watched.manager.free(*by, event) {
-        answer_of(&ask(rt, watched, *by, event, victims))
-    } else {
-        ask_again(rt, watched, *by, event, victims)
-    }
-}
-
-// The line that asks once more.
-fn again(by: By) -> By {
-    match by {
-        By::Line { line: number, .. } => line(number.saturating_add(1000)),
-        other => other,
-    }
-}
-
-// A line has to be answered so, and behind a star stand the victims that come of it.
-fn tell<S: TopStore>(rt: &impl Abort, watched: &mut Watched<S>, text: &str) {
-    let (told, victims) = text.split_once(" * ").unwrap_or((text, ""));
-    let line = entry(rt, told);
-    let mut answer = answer_to(rt, watched, &line, victims);
-    // A store in memory has refused since memory ran out.
-    if answer == NOT_STORED && line.answer == Answer::Done(Reply::Ok) {
-        answer = answer_of(&ask(rt, watched, again(line.by), &line.event, victims));
-    }
-    assert!(rt; answer == line.answer, "{text}");
-}
-
-// Closes the manager: these have to be aborted, in this order, and no others.
-fn close<S: TopStore>(rt: &impl Abort, watched: &mut Watched<S>, ended: &str) {
+) -> Option<Answer> {
     let before = look(watched);
-    if watched.manager.close().is_err() {
-        assert!(rt; is_as_before(watched, before));
-        watched.manager.close().expect(rt, "memory");
-    }
-    owe_aborts(rt, &mut watched.due, By::Close, ended);
-    assert!(rt; is_due(watched));
-}
-
-fn load<S: TopStore>(rt: &impl Abort, alloc: Global, store: &mut S) -> Vec<Row> {
-    match store.load(alloc) {
-        Ok(rows) => rows,
-        Err(_) => store.load(alloc).expect(rt, "memory"),
-    }
-}
-
-// The history is the one that is due, the table and the store have these rows, and each fault of
-// the store is an entry.
-fn check_parts<S: TopStore>(
-    rt: &impl Abort,
-    alloc: Global,
-    parts: &mut Parts<S>,
-    due: &[Entry],
-    rows: &[Row],
-) {
-    assert!(rt; parts.history.as_slice() == due);
-    assert!(rt; has_rows(&parts.table, rows));
-    let faults = due
-        .iter()
-        .filter(|entry| entry.answer == NOT_STORED)
-        .count();
-    assert!(rt; parts.store.faults() == faults as u64);
-    let loaded = load(rt, alloc, &mut parts.store);
-    assert!(rt; are_same(loaded.as_slice(), rows));
-}
-
-// Takes the manager apart.
-fn leaves<S: TopStore>(rt: &impl Abort, watched: Watched<S>, text: &str) {
-    let Watched {
-        alloc,
-        manager,
-        due,
-    } = watched;
-    let first = manager.opening().first().copied();
-    let mut parts = manager.into_parts();
-    assert!(rt; parts.opening.first().copied() == first);
-    check_parts(rt, alloc, &mut parts, &due, &rows(rt, alloc, text));
-}
-
-fn check_table<S: TopStore>(rt: &impl Abort, watched: &Watched<S>, text: &str) {
-    let rows = rows(rt, watched.alloc, text);
-    assert!(rt; has_rows(watched.manager.table(), &rows), "table {text}");
-}
-
-fn is_among(rt: &impl Abort, who: &Name, names: &str) -> bool {
-    names.split_whitespace().any(|word| name(rt, word) == *who)
-}
-
-// So many entries stand, and of those that they name these wait and no others.
-fn check_standing<S: TopStore>(rt: &impl Abort, watched: &Watched<S>, text: &str) {
-    let (count, waiting) = text.split_once(' ').unwrap_or((text, ""));
-    let entries = watched.manager.history();
-    assert!(rt; entries.len() as i64 == number(rt, count), "stand {text}");
-    for entry in entries {
-        let who = name_of(&entry.event);
-        assert!(rt;
-            watched.manager.waiting(who) == is_among(rt, who, waiting),
-            "stand {text}"
-        );
-    }
-}
-
-// A line of a script: a call with its answer, `close` with what has to be aborted, `table` with its
-// rows, or `stand` with how many entries there are and who waits.
-fn step<S: TopStore>(rt: &impl Abort, watched: &mut Watched<S>, text: &str) {
-    let (word, rest) = text.split_once(' ').unwrap_or((text, ""));
-    match word {
-        "close" => close(rt, watched, rest),
-        "table" => check_table(rt, watched, rest),
-        "stand" => check_standing(rt, watched, rest),
-        _ => tell(rt, watched, text),
-    }
-}
-
-/// Plays a script to its end: what is left then has these rows.
-pub fn play_over<S: TopStore>(
-    rt: &impl Abort,
-    alloc: Global,
-    manager: Manager<S>,
-    script: &str,
-    rows: &str,
-) {
-    let due = room(rt, alloc, MOST_ENTRIES);
-    let mut watched = Watched {
-        alloc,
-        manager,
-        due,
+    let outcome = ask(watched, line, before)?;
+    let told = Entry {
+        by: line.by,
+        event: line.event,
+        answer: answer_of(&outcome),
     };
-    for text in script.lines() {
-        let text = text.trim();
-        if !text.is_empty() {
-            step(rt, &mut watched, text);
+    if !owes(&mut watched.due, &told, victims, By::Victim) || !is_due(watched) {
+        return None;
+    }
+    if victims.is_empty() && !is_told(&watched.manager, line, &outcome) {
+        return None;
+    }
+    Some(answer_of(&outcome))
+}
+
+// The answer of an access that waits and asks again: it is answered by its own line, or waits on,
+// and then nothing has changed.
+fn later_answer<S: TopStore>(
+    watched: &mut Watched<S>,
+    line: &Entry,
+    victims: &str,
+) -> Option<Answer> {
+    let before = look(watched);
+    let answer = answer_of(&ask_again(watched, line, before)?);
+    if answer == Answer::Waits {
+        return if is_as_before(watched, before) {
+            Some(answer)
+        } else {
+            None
+        };
+    }
+    let told = Entry {
+        by: line.by,
+        event: line.event,
+        answer,
+    };
+    if !owes(&mut watched.due, &told, victims, By::Victim) || !is_due(watched) {
+        return None;
+    }
+    if watched.manager.waiting(name_of(&line.event)) {
+        None
+    } else {
+        Some(answer)
+    }
+}
+
+/// Whether a line that waits for a condition is held up, and nothing changes.
+pub fn is_held<S: TopStore>(watched: &mut Watched<S>, text: &str) -> bool {
+    let Some(line) = entry(text) else {
+        return false;
+    };
+    let before = look(watched);
+    ask(watched, &line, before) == Some(Outcome::Waits)
+        && is_as_before(watched, before)
+        && watched.manager.held_up(line.by, &line.event)
+}
+
+// Whether a line that is held up is given up.
+fn gives_up<S: TopStore>(watched: &mut Watched<S>, line: &Entry) -> bool {
+    let before = look(watched);
+    for _ in 0..2 {
+        if !watched.manager.held_up(line.by, &line.event) {
+            return false;
+        }
+        if watched.manager.cancel(line.by, &line.event).is_ok() {
+            return owes(&mut watched.due, line, "", By::Victim)
+                && is_due(watched)
+                && !watched.manager.held_up(line.by, &line.event)
+                && !watched.manager.waiting(name_of(&line.event));
+        }
+        if !is_as_before(watched, before) {
+            return false;
         }
     }
-    leaves(rt, watched, rows);
+    false
 }
 
-/// Plays a script over a store in memory of the first rows: what is left has the last.
-pub fn play(rt: &impl Abort, alloc: Global, opening: &str, script: &str, left: &str) {
-    let manager = open(rt, alloc, &rows(rt, alloc, opening));
-    play_over(rt, alloc, manager, script, left);
+/// What a line is answered where the store refuses.
+pub const NOT_STORED: Answer = Answer::Refused(Refusal::Store);
+
+// Whose line asks once more where a store has refused because memory ran out.
+const ONCE_MORE: By = By::Line {
+    session: 1,
+    line: 1,
+};
+
+/// Whether a line is answered so, and behind a star stand the victims that come of it. A line that
+/// waits already asks again. An access that is to be stuck waits first, and is given up then.
+pub fn is_answered<S: TopStore>(watched: &mut Watched<S>, text: &str) -> bool {
+    let (told, victims) = text.split_once(" * ").unwrap_or((text, ""));
+    let Some(line) = entry(told) else {
+        return false;
+    };
+    if line.answer == Answer::Stuck {
+        if let Event::After(_, _) = line.event {
+            return gives_up(watched, &line);
+        }
+        return first_answer(watched, &line, victims) == Some(Answer::Waits)
+            && gives_up(watched, &line);
+    }
+    if !watched.manager.free(line.by, &line.event) {
+        return later_answer(watched, &line, victims) == Some(line.answer);
+    }
+    let answer = first_answer(watched, &line, victims);
+    // A store in memory has refused since memory ran out.
+    if answer == Some(NOT_STORED) && line.answer == Answer::Done(Reply::Ok) {
+        let again = Entry {
+            by: ONCE_MORE,
+            ..line
+        };
+        return first_answer(watched, &again, victims) == Some(line.answer);
+    }
+    answer == Some(line.answer)
+}
+
+/// Whether the close aborts these, in this order, and no others.
+pub fn is_closed<S: TopStore>(watched: &mut Watched<S>, ended: &str) -> bool {
+    let before = look(watched);
+    for _ in 0..2 {
+        if watched.manager.close().is_ok() {
+            return owes_aborts(&mut watched.due, ended, By::Close) && is_due(watched);
+        }
+        if !is_as_before(watched, before) {
+            return false;
+        }
+    }
+    false
 }

@@ -23,85 +23,59 @@ session e\nbegin e\nsession f\nbegin f\nsession g\nbegin g\nsession h\nbegin h\n
 session i\nbegin i\nsession j\nbegin j\nsession k\nbegin k\nsession l\nbegin l\n\
 session m\nbegin m\nsession n\nbegin n\nsession o\nbegin o\nsession p\nbegin p\n";
 
-/// Which first lines are held up at the gate, and until when.
-#[derive(Clone, Copy, PartialEq, Eq)]
-enum Held {
-    /// Both, until the other comes to the gate.
-    Both,
-    /// The first session's, until the second's is answered.
-    First,
-    /// The second session's, until the first's is answered.
-    Second,
-    /// None before its attempt; both once they are answered, until the other is answered too.
-    Answered,
-}
+// What becomes of the first lines of the two sessions, a bit each. None of them is `NOTHING`.
+const NOTHING: u32 = 0;
 
+const FIRST_CAME: u32 = 1;
+
+const SECOND_CAME: u32 = 2;
+
+const FIRST_ANSWERED: u32 = 4;
+
+const SECOND_ANSWERED: u32 = 8;
+
+/// What is told of the two first lines, and until when they are held up, of the first session and
+/// of the second: before an attempt, and behind the answer.
 #[derive(Drop)]
 struct Meeting {
-    held: Held,
-    first_came: AtomicBool,
-    second_came: AtomicBool,
-    first_answered: AtomicBool,
-    second_answered: AtomicBool,
+    before: (u32, u32),
+    behind: (u32, u32),
+    told: AtomicU32,
     late: AtomicBool,
 }
 
 impl Meeting {
-    fn new(held: Held) -> Meeting {
-        Meeting {
-            held,
-            first_came: AtomicBool::new(false),
-            second_came: AtomicBool::new(false),
-            first_answered: AtomicBool::new(false),
-            second_answered: AtomicBool::new(false),
-            late: AtomicBool::new(false),
-        }
-    }
-
-    // Waits for a flag, for so many turns at most.
-    fn wait_for(&self, flag: &AtomicBool) {
+    // Tells this, and waits until the other is told, for so many turns at most.
+    fn meet(&self, mine: u32, other: u32) {
+        self.told.fetch_or(mine, Ordering::SeqCst);
         for _ in 0..MOST_TURNS {
-            if flag.load(Ordering::SeqCst) {
+            if self.told.load(Ordering::SeqCst) & other == other {
                 return;
             }
             thread::yield_now();
         }
         self.late.store(true, Ordering::SeqCst);
     }
+}
 
-    fn first_passes(&self) {
-        self.first_came.store(true, Ordering::SeqCst);
-        match self.held {
-            Held::Both => self.wait_for(&self.second_came),
-            Held::First => self.wait_for(&self.second_answered),
-            Held::Second | Held::Answered => {}
+impl Gate for Meeting {
+    fn pass(&self, session: u32, line: u32) {
+        if line == 1 {
+            if session == 0 {
+                self.meet(FIRST_CAME, self.before.0);
+            } else {
+                self.meet(SECOND_CAME, self.before.1);
+            }
         }
     }
 
-    fn second_passes(&self) {
-        self.second_came.store(true, Ordering::SeqCst);
-        match self.held {
-            Held::Both => self.wait_for(&self.first_came),
-            Held::Second => self.wait_for(&self.first_answered),
-            Held::First | Held::Answered => {}
-        }
-    }
-
-    // Tells that a first line is answered, and waits for the other's answer where both are held up
-    // so.
-    fn told(&self, mine: &AtomicBool, other: &AtomicBool) {
-        mine.store(true, Ordering::SeqCst);
-        if self.held == Held::Answered {
-            self.wait_for(other);
-        }
-    }
-
-    // Whether the first entry is of the session that was not held up before its attempt.
-    fn begins(&self, report: &Report) -> bool {
-        match self.held {
-            Held::First => first_session(report) == Some(1),
-            Held::Second => first_session(report) == Some(0),
-            Held::Both | Held::Answered => true,
+    fn answered(&self, session: u32, line: u32) {
+        if line == 1 {
+            if session == 0 {
+                self.meet(FIRST_ANSWERED, self.behind.0);
+            } else {
+                self.meet(SECOND_ANSWERED, self.behind.1);
+            }
         }
     }
 }
@@ -114,36 +88,45 @@ fn first_session(report: &Report) -> Option<u32> {
     }
 }
 
-impl Gate for Meeting {
-    fn pass(&self, session: u32, line: u32) {
-        if line == 1 {
-            if session == 0 {
-                self.first_passes();
-            } else {
-                self.second_passes();
-            }
-        }
-    }
-
-    fn answered(&self, session: u32, line: u32) {
-        if line == 1 {
-            if session == 0 {
-                self.told(&self.first_answered, &self.second_answered);
-            } else {
-                self.told(&self.second_answered, &self.first_answered);
-            }
-        }
-    }
-}
-
+// Where one line alone is held up, the first entry is of the other's session.
 #[test]
 fn two_at_once(rt: HostRuntime) {
-    for held in [Held::Both, Held::First, Held::Second, Held::Answered] {
-        let gate = Meeting::new(held);
+    for (held, before, behind, first) in [
+        (
+            "both until they come",
+            (SECOND_CAME, FIRST_CAME),
+            (NOTHING, NOTHING),
+            None,
+        ),
+        (
+            "the first",
+            (SECOND_ANSWERED, NOTHING),
+            (NOTHING, NOTHING),
+            Some(1),
+        ),
+        (
+            "the second",
+            (NOTHING, FIRST_ANSWERED),
+            (NOTHING, NOTHING),
+            Some(0),
+        ),
+        (
+            "both once answered",
+            (NOTHING, NOTHING),
+            (SECOND_ANSWERED, FIRST_ANSWERED),
+            None,
+        ),
+    ] {
+        let gate = Meeting {
+            before,
+            behind,
+            told: AtomicU32::new(NOTHING),
+            late: AtomicBool::new(false),
+        };
         let report = served(&rt, rt.alloc(), TWO, 2, &gate);
-        assert!(rt; !gate.late.load(Ordering::SeqCst));
-        assert!(rt; report.history().len() == 4);
-        assert!(rt; gate.begins(&report));
+        let in_time = !gate.late.load(Ordering::SeqCst) && report.history().len() == 4;
+        let is_first = first.is_none() || first == first_session(&report);
+        assert!(rt; in_time && is_first, "{held}");
         drop(report);
     }
 }
@@ -158,27 +141,6 @@ struct Crowd {
     answered: AtomicU32,
 }
 
-impl Crowd {
-    fn new(expected: u32) -> Crowd {
-        Crowd {
-            expected,
-            here: AtomicU32::new(0),
-            most: AtomicU32::new(0),
-            answered: AtomicU32::new(0),
-        }
-    }
-
-    // Stays for so many turns at most, until one more than expected has come.
-    fn wait_for_one_more(&self) {
-        for _ in 0..LINGER {
-            if self.most.load(Ordering::SeqCst) > self.expected {
-                return;
-            }
-            thread::yield_now();
-        }
-    }
-}
-
 impl Gate for Crowd {
     fn pass(&self, _session: u32, _line: u32) {
         let here = self.here.fetch_add(1, Ordering::SeqCst).saturating_add(1);
@@ -189,7 +151,12 @@ impl Gate for Crowd {
             }
             thread::yield_now();
         }
-        self.wait_for_one_more();
+        for _ in 0..LINGER {
+            if self.most.load(Ordering::SeqCst) > self.expected {
+                break;
+            }
+            thread::yield_now();
+        }
         self.here.fetch_sub(1, Ordering::SeqCst);
     }
 
@@ -202,10 +169,16 @@ impl Gate for Crowd {
 #[test]
 fn as_many_as_workers(rt: HostRuntime) {
     for workers in [1, 2, 5, 16] {
-        let gate = Crowd::new(workers);
+        let gate = Crowd {
+            expected: workers,
+            here: AtomicU32::new(0),
+            most: AtomicU32::new(0),
+            answered: AtomicU32::new(0),
+        };
         let report = served(&rt, rt.alloc(), SIXTEEN, workers, &gate);
-        assert!(rt; gate.most.load(Ordering::SeqCst) == workers, "{workers}");
-        assert!(rt; gate.answered.load(Ordering::SeqCst) == 16, "{workers}");
+        let most = gate.most.load(Ordering::SeqCst);
+        let answered = gate.answered.load(Ordering::SeqCst);
+        assert!(rt; most == workers && answered == 16, "{workers}");
         drop(report);
     }
 }
