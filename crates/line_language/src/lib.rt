@@ -33,5 +33,5 @@ pub use number::parse_number;
 pub use parting::{cut, cut_line};
 pub use refusals::{Cause, cause_of, cause_word, causes};
 pub use row::{parse_row, put_row};
-pub use spelling::{put_number, put_size};
+pub use spelling::{put_event, put_number, put_size};
 pub use verbs::access_in;

@@ -146,7 +146,10 @@ fn put_after<W: Sink>(out: &mut W, name: &Name, when: When) -> Result<(), WriteF
     put_when(out, when)
 }
 
-pub(crate) fn put_event<W: Sink>(out: &mut W, event: &Event) -> Result<(), WriteFault>
+/// Writes an event as the command line that asks it, without its line feed: the one text of such a
+/// line, of at most 329 bytes. It takes no memory. After a fault, the only one, the writer has taken
+/// a beginning of that.
+pub fn put_event<W: Sink>(out: &mut W, event: &Event) -> Result<(), WriteFault>
     ensures ok { PutsAll W.Sink out.old out.new (spelled_event event.now) result }
     ensures err { PutsFront W.Sink out.old out.new (spelled_event event.now) result }
     ensures asked { OnErr result (IsStopped W.Sink out.new) }

@@ -4,12 +4,13 @@ ghost use Rattle.serial_spec.specs.Interleaving.{lines_of};
 ghost use Rattle.session_text.specs.Texts.{label_at};
 
 use session_text::{Line, Sessions};
+use txn_history::is_same;
 
-/// Whether two lines have the same text.
+/// Whether two lines have the same text: they ask the same, which has one spelling.
 pub(crate) fn same_text(a: &Line, b: &Line) -> bool
     ensures { IsTrue result ↔ a.now ≡ b.now }
 {
-    a.text() == b.text()
+    is_same(a.event(), b.event())
 }
 
 // Whether a session has the same lines in both.

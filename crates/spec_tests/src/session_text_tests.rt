@@ -1,8 +1,10 @@
 //! Texts with the faults that they are due, and what is read of those without one.
+use line_language::{MOST_COMMAND, put_event};
 use serial_spec::{Event, Op, When};
 use session_text::{Line, LineKind, Sessions, TextFault, parse_line, parse_number, parse_request};
 use std::alloc::Global;
 use std::process::Abort;
+use txn_bytes::Bytes;
 use txn_names::{Group, Key, Label, Name};
 
 fn name(rt: &impl Abort, text: &str) -> Name {
@@ -33,10 +35,16 @@ fn is_fault(alloc: Global, text: &[u8], fault: Option<(usize, LineKind)>) -> boo
     }
 }
 
+// Whether the text is that of the line.
+fn is_spelled(line: &Line, text: &str) -> bool {
+    let mut spelled = Bytes::<MOST_COMMAND>::new();
+    put_event(&mut spelled, line.event()).is_ok() && spelled.as_bytes() == text.as_bytes()
+}
+
 // Whether the session has this line, which asks this and is spelled so.
 fn is_line(sessions: &Sessions, session: u32, line: u32, event: Event, spelled: &str) -> bool {
     match sessions.line(session, line) {
-        Some(found) => *found.event() == event && found.text() == spelled.as_bytes(),
+        Some(found) => *found.event() == event && is_spelled(found, spelled),
         None => false,
     }
 }
@@ -272,7 +280,7 @@ fn lines_of_several_transactions_are_looked_up(rt: HostRuntime) {
 // Whether the line is read, asks this, and is spelled as it was read.
 fn asks(text: &str, event: Event) -> bool {
     match parse_line(text.as_bytes()) {
-        Ok(line) => *line.event() == event && line.text() == text.as_bytes(),
+        Ok(line) => *line.event() == event && is_spelled(&line, text),
         Err(_) => false,
     }
 }
@@ -392,7 +400,7 @@ fn numbers_have_one_spelling(rt: HostRuntime) {
 fn is_request(text: &str, wanted: Result<(&str, &str), LineKind>) -> bool {
     match (parse_request(text.as_bytes()), wanted) {
         (Ok((label, line)), Ok((name, spelled))) => {
-            label.as_bytes() == name.as_bytes() && line.text() == spelled.as_bytes()
+            label.as_bytes() == name.as_bytes() && is_spelled(&line, spelled)
         }
         (Err(kind), Err(due)) => kind == due,
         _ => false,
