@@ -1,7 +1,6 @@
 -- Which answers are allowed: the first cause that holds, else the reply or the wait.
-use Rattle.std.proofs.Common.{◌≡◌, Bool, true, false, nat_le, length, ◌∷◌, Option, Some, None, option_map, refl, sym, ap, subst, ◌∙◌}
+use Rattle.std.proofs.Common.{◌≡◌, true, false, ◌∷◌, Option, Some, None, refl, sym, ap, subst, ◌∙◌}
 use Rattle.std.proofs.lemmas.Bool.{false≢true, true≢false}
-use Rattle.txn_names.specs.Path.{parent}
 use Rattle.serial_spec.specs.declared.entry.By.{By}
 use Rattle.serial_spec.specs.declared.entry.By.TheVariants.{Line, Victim, Close}
 use Rattle.serial_spec.specs.declared.entry.Refusal.{Refusal}
@@ -12,14 +11,13 @@ use Rattle.serial_spec.specs.declared.event.Event.TheVariants.{Begin, Access, Su
 use Rattle.serial_spec.specs.declared.entry.Answer.{Answer}
 use Rattle.serial_spec.specs.declared.entry.Entry.{Entry}
 use Rattle.serial_spec.specs.declared.entry.Answer.TheVariants.{Done, Waits, Stuck, Refused}
-use Rattle.serial_spec.specs.History.{Name, History, event_of, or_else, status, is_absent, is_committed, begun, top_aborted, is_active}
+use Rattle.serial_spec.specs.History.{Name, History, event_of, is_active}
 use Rattle.serial_spec.specs.Serial.{reply_at}
 use Rattle.serial_spec.specs.Locks.{is_blocked}
 use Rattle.serial_spec.specs.Values.{seen}
 use Rattle.serial_spec.specs.Rows.{Rows, value_in}
 use Rattle.serial_spec.specs.Legal.{AreAllowed}
-use Rattle.serial_spec.specs.Allowed.{Allowed, most_transactions, answer, has_waited, cause_at_begin, cause_at_end, cause_at_access, cause_at_commit}
-use Rattle.serial_spec.specs.Causes.{when}
+use Rattle.serial_spec.specs.Allowed.{Allowed, answer, has_waited, cause_at_begin, cause_at_end, cause_at_access, cause_at_commit}
 use Rattle.txn_history.proofs.Exports.{IsOther, acts_active, acts_at_end, is_store, line_self, neither, other_at_access, other_at_begin, other_at_commit, other_at_end, wait_holds}
 use Rattle.serial_spec.specs.Waits.{is_waits, same_line}
 use Rattle.manager_core.specs.declared.outcome.Outcome.{Outcome}

@@ -26,7 +26,7 @@ use Rattle.serial_spec.specs.Causes.{when}
 use Rattle.serial_spec.specs.Legal.{AreAllowed}
 use Rattle.manager_core.specs.Kept.{AreTablesOf}
 use Rattle.manager_core.specs.Lines.{IsWaitOf, access_by, waiting_access}
-use Rattle.lock_table.specs.ByAsked.{MayAsk}
+use Rattle.lock_table.specs.ByAsked.{BlocksAsked, MayAsk}
 use Rattle.std.specs.List.{IsDistinct}
 use Rattle.txn_names.specs.Path.{path_eq}
 use Rattle.txn_tree.specs.States.{names}
@@ -164,8 +164,8 @@ parked rows h tables allowed are by t asked n waits blocked event next =
 module _ (rows : Rows) (h : History) (tables : Tabled) (allowed : AreAllowed rows h) (are : AreTablesOf rows h tables) (distinct : IsDistinct path_eq (names tables.tree))
     (by : By) (n : ℕ) where
   -- so is the line of one that was seen, where its key is none too many
-  pub parked_as : (kept : IsKeptFrom tables.tree tables.estate.locks tables.waits.waits by n) → is_full_for rows h kept.asked ≡ false → IsParked rows h by
-  parked_as kept room =
+  pub parked_as : (m : ℕ) (kept : IsKeptFrom tables.tree tables.estate.locks tables.waits.waits by n m) → is_full_for rows h kept.asked ≡ false → IsParked rows h by
+  parked_as m kept room =
       let named = numbered tables.tree distinct n kept.begun in
       let found = sym (kept_access_of h tables.tree tables.waits are.waiting named.0 n named.1) ∙ ap access_of kept.waiting in
       let is = waiting_is rows h allowed named.0 by kept.asked found in
@@ -175,19 +175,19 @@ module _ (rows : Rows) (h : History) (tables : Tabled) (allowed : AreAllowed row
         waits = is_wait h by named.0 kept.asked (record { wait = is.wait; waits = is.waits; of_line = is.of_line; event_is = is.event_is });
         room = room;
       })
-      kept.blocked
+      (λ may. may m kept.blocks)
 
-  -- one that waits by this line, and may not have what it asks, is kept from it
-  abbrev pub kept_as : (w : Wait) → kept_wait tables.waits n ≡ Some w → same_line w.by by ≡ true → (MayAsk tables.tree tables.estate.locks n w.asked → ⊥)
-      → IsKeptFrom tables.tree tables.estate.locks tables.waits.waits by n
-  kept_as w is line blocked =
+  -- one that waits by this line is kept from what it asks by whoever blocks it
+  abbrev pub kept_as : (w : Wait) → kept_wait tables.waits n ≡ Some w → same_line w.by by ≡ true → (m : ℕ) → BlocksAsked tables.tree tables.estate.locks n w.asked m
+      → IsKeptFrom tables.tree tables.estate.locks tables.waits.waits by n m
+  kept_as w is line m blocks =
       let known = (tell_waits rows h tables allowed are).known n w is in
       let same : w ≡ record { txn = n; asked = w.asked; by = by } = λ i. record { txn = known.5 i; asked = w.asked; by = same_by w.by by line i } in
       record {
         begun = ap is_some known.2;
         asked = w.asked;
         waiting = is ∙ ap (λ v. Some v) same;
-        blocked = blocked;
+        blocks = blocks;
       }
 
 -- where nobody waits no wait stands at any number

@@ -5,7 +5,6 @@ use Rattle.std.proofs.lemmas.List.{reverse-append}
 use Rattle.txn_names.specs.Path.{path_eq}
 use Rattle.txn_tree.specs.States.{States, names, status_in}
 use Rattle.txn_tree.proofs.Exports.{status_set}
-use Rattle.txn_tree.specs.declared.status.Status.{Status as State}
 use Rattle.txn_tree.specs.declared.status.Status.TheVariants as state
 use Rattle.orphans.specs.Marked.{Marked, is_marked}
 use Rattle.serial_spec.specs.declared.entry.Entry.{Entry}

@@ -1,6 +1,5 @@
 -- The tree and the marks give what the definitions read off the history.
-use Rattle.std.proofs.Common.{◌≡◌, ℕ, ◌<◌, Bool, true, false, not, cond, ◌&&◌, List, [], ◌∷◌, length, Some, is_some, option_map, refl, sym, ap, ◌∙◌, arith}
-use Rattle.std.proofs.lemmas.Bool.{false≢true}
+use Rattle.std.proofs.Common.{◌≡◌, ◌<◌, not, ◌&&◌, [], ◌∷◌, length, is_some, refl, sym, ap, ◌∙◌, arith}
 use Rattle.std.proofs.lemmas.List.{length-reverse}
 use Rattle.std.proofs.lemmas.Map.Entries.{length-keys_of}
 use Rattle.std.specs.List.{list_any}
@@ -10,16 +9,13 @@ use Rattle.txn_tree.proofs.Exports.{absent_as, live_as, committed_as, is_aborted
 use Rattle.txn_names.proofs.Exports.{top_as}
 use Rattle.txn_tree.specs.Asked.{is_absent_in, is_active_in, is_live_in, has_committed_in, has_aborted_in, top_aborted_in, is_live_child_in}
 use Rattle.txn_tree.specs.Causes as tree
-use Rattle.txn_tree.specs.declared.status.Status.{Status as State}
-use Rattle.txn_tree.specs.declared.status.Status.TheVariants as state
 use Rattle.orphans.specs.Marked.{Marked, is_marked}
-use Rattle.serial_spec.specs.History.{Name, History, Status, Absent, Live, Committed, Aborted, status, is_absent, is_committed, is_live, is_live_status, top_aborted, begun, has_begun, has_aborted, has_committed, is_active}
+use Rattle.serial_spec.specs.History.{Name, History, status, is_absent, is_committed, is_live, is_live_status, top_aborted, begun, has_begun, has_aborted, has_committed, is_active}
 use Rattle.serial_spec.specs.Rows.{Rows}
 use Rattle.serial_spec.specs.Legal.{AreAllowed}
 use Rattle.serial_spec.specs.Allowed.{has_live_child, cause_at_begin, cause_at_end}
 use Rattle.txn_history.proofs.Exports.{ended_begun, any_reversed}
 use Rattle.manager_core.specs.Kept.{IsTreeOf, AreMarksOf, AreTablesOf}
-use Rattle.txn_tree.specs.Statuses.{status_of}
 use Rattle.manager_core.specs.Tables.{Tabled, cause_in}
 
 -- ---- topmost fronts

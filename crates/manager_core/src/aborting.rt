@@ -18,11 +18,12 @@ impl Tables {
         ensures fewer { result ≡ None → FewerWaitBelow self.old self.new name.now }
         ensures room { self.old.marks.room ≤ self.new.marks.room + 1 }
     {
-        self.looks.clear();
         match self.tree.abort(name) {
             Ok(_) => {
                 self.marks.mark(name);
-                let txn = self.number_of(name);
+                let txn = self.tree.no_of(name).unwrap();
+                self.looks
+                    .forget_under(&self.tree, txn, self.waits.is_empty());
                 self.estate.abort(&self.tree, txn);
                 self.waits.drop_under(&self.tree, txn);
                 None

@@ -49,7 +49,8 @@ impl Tables {
         ensures { (t : Path) → slice_get (names self.old.tree) child ≡ Some t
             → CommitsIn self.old self.new t child (Some parent) }
     {
-        self.looks.clear();
+        self.looks
+            .forget_under(&self.tree, child, self.waits.is_empty());
         self.tree.commit_at(child);
         self.estate.commit_child(child, parent);
     }
@@ -66,7 +67,8 @@ impl Tables {
         ensures { (t : Path) → slice_get (names self.old.tree) txn ≡ Some t
             → CommitsIn self.old self.new t txn None }
     {
-        self.looks.clear();
+        self.looks
+            .forget_under(&self.tree, txn, self.waits.is_empty());
         self.tree.commit_at(txn);
         self.estate.commit_changes(txn, changes);
     }

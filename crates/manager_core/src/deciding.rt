@@ -28,7 +28,9 @@ pub(crate) fn is_full_for(log: &Log, asked: &Asked) -> bool
 
 impl Tables {
     /// The number of a transaction that is live and has no aborted ancestor, or the cause that
-    /// access, commit and abort share. An aborted ancestor is looked for by name.
+    /// access, commit and abort share. An aborted ancestor is looked for by name. It is part of its
+    /// callers, so that a refusal, which has room for a name, is made where they want it.
+    #[inline(always)]
     pub(crate) fn number_by_marks(&self, name: &Name) -> Result<TxnNo, Refusal>
         ensures cause { result_err result ≡ cause_in self.now name.now }
         ensures number { IfOk result (IsNumberOf self.now.tree name.now) }

@@ -1,56 +1,65 @@
 //! Accesses that were seen kept out, by session.
-ghost use Rattle.std.specs.Prelude.{◌≡◌, ◌⊎◌, ℕ, IfSome};
+ghost use Rattle.std.specs.Prelude.{◌≡◌, ◌⊎◌, ℕ, true, false, IfSome, IsTrue};
+ghost use Rattle.txn_tree.specs.Numbered.{is_under};
 ghost use Rattle.serial_spec.specs.declared.entry.By.{By};
-ghost use Rattle.manager_core.specs.Looked.{HasSeen, IsLast};
+ghost use Rattle.manager_core.specs.Looked.{HasSeen, IsApart, IsLast};
 
 use serial_spec::{By, MOST_SESSIONS};
-use txn_tree::TxnNo;
+use txn_tree::{Tree, TxnNo};
 
-/// An access that was seen kept out: by the number of its transaction, and that of its line in the
-/// session.
+/// An access that was seen kept out: by the number of its transaction, that of its line in the
+/// session, and that of somebody who keeps it out.
 #[derive(Clone, Copy)]
 pub(crate) struct Look {
     pub(crate) txn: TxnNo,
     pub(crate) line: u32,
+    pub(crate) keeper: TxnNo,
 }
 
 /// For each session, of `MOST_SESSIONS` at most, the access of it that was last seen kept out.
 /// Locks only rise until a transaction ends (Moss 1981), so that it is kept out still, and stands,
-/// as long as it waits and none has ended since.
+/// as long as it waits and neither its own transaction nor the keeper has ended since.
 #[derive(Drop)]
 pub(crate) struct Looks {
     pub(crate) last: [Option<Look>; MOST_SESSIONS],
     pub(crate) stands: [bool; MOST_SESSIONS],
+    // Whether any may stand.
+    pub(crate) some: bool,
 }
 
 impl Looks {
     /// Nothing was seen.
     pub(crate) fn new() -> Looks
-        ensures { (by : By) (n : ℕ) → HasSeen result by n → ⊥ }
+        ensures { (by : By) (n m : ℕ) → HasSeen result by n m → ⊥ }
     {
         Looks {
             last: [None; MOST_SESSIONS],
             stands: [false; MOST_SESSIONS],
+            some: false,
         }
     }
 
-    /// The transaction of the access that was last seen kept out by this line, whether or not it
-    /// stands.
-    pub(crate) fn last_at(&self, by: By) -> Option<TxnNo>
-        ensures { IfSome result (IsLast self.now by) }
+    /// Whether any access may be seen kept out. It is a hint.
+    pub(crate) fn has_some(&self) -> bool {
+        self.some
+    }
+
+    /// The access that was last seen kept out by this line, whether or not it stands.
+    pub(crate) fn last_at(&self, by: By) -> Option<Look>
+        ensures { IfSome result (λ look. IsLast self.now by look.txn look.keeper) }
     {
         let By::Line { session, line } = by else {
             return None;
         };
         match self.last.get(session as usize) {
-            Some(Some(look)) if look.line == line => Some(look.txn),
+            Some(Some(look)) if look.line == line => Some(*look),
             _ => None,
         }
     }
 
-    /// The transaction of the access by this line that was seen kept out and stands.
-    pub(crate) fn at(&self, by: By) -> Option<TxnNo>
-        ensures { IfSome result (HasSeen self.now by) }
+    /// The access by this line that was seen kept out and stands.
+    pub(crate) fn at(&self, by: By) -> Option<Look>
+        ensures { IfSome result (λ look. HasSeen self.now by look.txn look.keeper) }
     {
         let By::Line { session, .. } = by else {
             return None;
@@ -61,23 +70,25 @@ impl Looks {
         }
     }
 
-    /// Keeps that the transaction's access by this line was seen kept out.
-    pub(crate) fn put(&mut self, by: By, txn: TxnNo)
-        ensures { (b : By) (n : ℕ) → HasSeen self.new b n
-            → HasSeen self.old b n ⊎ ((b ≡ by) × (n ≡ txn)) }
+    /// Keeps that the transaction's access by this line was seen kept out by the keeper.
+    pub(crate) fn put(&mut self, by: By, txn: TxnNo, keeper: TxnNo)
+        ensures { (b : By) (n m : ℕ) → HasSeen self.new b n m
+            → HasSeen self.old b n m ⊎ ((b ≡ by) × (n ≡ txn) × (m ≡ keeper)) }
     {
         if let By::Line { session, line } = by {
             let place = session as usize;
             if place < MOST_SESSIONS {
-                self.last[place] = Some(Look { txn, line });
+                self.last[place] = Some(Look { txn, line, keeper });
                 self.stands[place] = true;
+                self.some = true;
             }
         }
     }
 
     /// Forgets what was seen of this line, which waits no more.
     pub(crate) fn forget(&mut self, by: By)
-        ensures { (b : By) (n : ℕ) → HasSeen self.new b n → HasSeen self.old b n × (b ≡ by → ⊥) }
+        ensures { (b : By) (n m : ℕ) → HasSeen self.new b n m →
+            HasSeen self.old b n m × (b ≡ by → ⊥) }
     {
         if let By::Line { session, .. } = by {
             let place = session as usize;
@@ -87,10 +98,69 @@ impl Looks {
         }
     }
 
-    /// Forgets all that was seen, since a lock may have been let go.
-    pub(crate) fn clear(&mut self)
-        ensures { (by : By) (n : ℕ) → HasSeen self.new by n → ⊥ }
+    // Forgets all that was seen.
+    fn clear(&mut self)
+        ensures { (by : By) (n m : ℕ) → HasSeen self.new by n m → ⊥ }
     {
         self.stands = [false; MOST_SESSIONS];
+        self.some = false;
+    }
+
+    /// Forgets who waits at or below the transaction, which ends, and whom one at or below it keeps
+    /// out, since that lock may be let go. Where nobody waits nothing stands.
+    pub(crate) fn forget_under(&mut self, tree: &Tree, txn: TxnNo, nobody_waits: bool)
+        ensures { (by : By) (n m : ℕ) → HasSeen self.new by n m →
+            HasSeen self.old by n m × IsApart tree.now txn n m }
+    {
+        if nobody_waits {
+            self.clear();
+            return;
+        }
+        let is_leaf = has_nobody_below(tree, txn);
+        let mut some = false;
+        for place in 0..MOST_SESSIONS {
+            let stood = self.stands[place];
+            let stands = still_stands(stood, &self.last[place], tree, txn, is_leaf);
+            self.stands[place] = stands;
+            some |= stands;
+        }
+        self.some = some;
+    }
+}
+
+// Whether it is seen at once that nobody has begun below the transaction.
+fn has_nobody_below(tree: &Tree, txn: TxnNo) -> bool
+    ensures { IsTrue result → (u : ℕ) → is_under tree.now txn u ≡ true → u ≡ txn }
+{
+    tree.first_child(txn).is_none()
+}
+
+// Whether the other is neither the transaction, which may have nobody below it, nor below it.
+#[inline(always)]
+fn is_apart(tree: &Tree, txn: TxnNo, other: TxnNo, is_leaf: bool) -> bool
+    requires { IsTrue is_leaf → (u : ℕ) → is_under tree.now txn u ≡ true → u ≡ txn }
+    ensures { IsTrue result → is_under tree.now txn other ≡ false }
+{
+    if is_leaf {
+        other != txn
+    } else {
+        !tree.is_under(txn, other)
+    }
+}
+
+// Whether a look stands still: it stood, and neither the one who waits nor the one who keeps it out
+// is at or below the transaction.
+#[inline(always)]
+fn still_stands(stands: bool, last: &Option<Look>, tree: &Tree, txn: TxnNo, is_leaf: bool) -> bool
+    requires { IsTrue is_leaf → (u : ℕ) → is_under tree.now txn u ≡ true → u ≡ txn }
+    ensures stood { IsTrue result → IsTrue stands }
+    ensures apart { IsTrue result →
+        IfSome last.now (λ look. IsApart tree.now txn look.txn look.keeper) }
+{
+    match last {
+        Some(look) if stands => {
+            is_apart(tree, txn, look.keeper, is_leaf) && is_apart(tree, txn, look.txn, is_leaf)
+        }
+        _ => false,
     }
 }

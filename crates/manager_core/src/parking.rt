@@ -14,6 +14,7 @@ ghost use Rattle.manager_core.specs.Parking.{IsKeptOut, IsParked, NobodyWaits, W
 ghost use Rattle.manager_core.specs.Tables.{wait_at};
 
 use crate::deciding::is_full_for;
+use crate::keepers::keeper_of;
 use crate::log::Log;
 use crate::tables::Tables;
 use crate::waiting::same_line;
@@ -147,7 +148,7 @@ impl Tables {
     }
 
     /// Whether an access that waits by this line is seen at once to be kept out still: it was seen
-    /// so, and nothing has ended since.
+    /// so, and who kept it out has not ended since.
     #[inline(always)]
     pub(crate) fn is_parked(&self, log: &Log, by: By) -> bool
         requires allowed { AreAllowed log.now.rows log.now.entries }
@@ -156,33 +157,33 @@ impl Tables {
     {
         self.tree.has_distinct_names();
         match self.looks.at(by) {
-            Some(txn) => !self.is_full_at(log, txn),
+            Some(look) => !self.is_full_at(log, look.txn),
             None => false,
         }
     }
 
-    // Whether the transaction with this number waits by this line, and is kept out.
-    fn is_out_by(&self, log: &Log, by: By, txn: TxnNo) -> bool
+    // Somebody who keeps the access of the transaction with this number out, if it waits by this
+    // line and nothing else refuses it.
+    fn keeper_by(&self, log: &Log, by: By, txn: TxnNo) -> Option<TxnNo>
         requires allowed { AreAllowed log.now.rows log.now.entries }
         requires are { AreTablesOf log.now.rows log.now.entries self.now }
-        ensures parked { IsTrue result → IsParked log.now.rows log.now.entries by }
-        ensures kept { IsTrue result
-            → IsKeptFrom self.now.tree self.now.estate.locks self.now.waits.waits by txn }
+        ensures parked { IfSome result (λ keeper. IsParked log.now.rows log.now.entries by) }
+        ensures kept { IfSome result
+            (IsKeptFrom self.now.tree self.now.estate.locks self.now.waits.waits by txn) }
     {
         self.tree.has_distinct_names();
-        let Some(wait) = self.waits.of(txn) else {
-            return false;
-        };
+        let wait = self.waits.of(txn)?;
         if !same_line(wait.by, by) {
-            return false;
+            return None;
         }
         if is_full_for(log, &wait.asked) {
-            return false;
+            return None;
         }
-        !self.may(txn, &wait.asked)
+        let keeper = keeper_of(&self.tree, self.estate.locks(), txn, &wait.asked)?;
+        Some(keeper)
     }
 
-    // As `stays_parked`, of an access that was not seen kept out since a transaction ended.
+    // As `stays_parked`, of an access that was not seen kept out since its keeper ended.
     #[inline(never)]
     fn is_seen_again(&mut self, log: &Log, by: By) -> bool
         requires allowed { AreAllowed log.now.rows log.now.entries }
@@ -190,18 +191,18 @@ impl Tables {
         ensures parked { IsTrue result → IsParked log.now.rows log.now.entries by }
         ensures same { self.new ≡ self.old }
     {
-        let Some(txn) = self.looks.last_at(by) else {
+        let Some(look) = self.looks.last_at(by) else {
             return false;
         };
-        if !self.is_out_by(log, by, txn) {
+        let Some(keeper) = self.keeper_by(log, by, look.txn) else {
             return false;
-        }
-        self.looks.put(by, txn);
+        };
+        self.looks.put(by, look.txn, keeper);
         true
     }
 
-    /// As `is_parked`, and where a transaction has ended since, the locks are asked once more.
-    /// Where the access is kept out, that is remembered until the next one ends.
+    /// As `is_parked`, and where the keeper has ended since, the locks are asked once more. Where
+    /// somebody keeps the access out, that one is remembered.
     #[inline(always)]
     pub(crate) fn stays_parked(&mut self, log: &Log, by: By) -> bool
         requires allowed { AreAllowed log.now.rows log.now.entries }

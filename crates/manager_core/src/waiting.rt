@@ -9,6 +9,7 @@ ghost use Rattle.manager_core.specs.Lines.{waiting_access};
 ghost use Rattle.manager_core.specs.Tables.{IsKeptOutOf, SetsWait, wait_at, entry_of};
 
 use crate::accessing::Request;
+use crate::keepers::keeper_of;
 use crate::tables::Tables;
 use serial_spec::{Asked, By};
 use txn_names::Name;
@@ -73,7 +74,9 @@ impl Tables {
     {
         let txn = self.number_of(request.name);
         self.waits.add_reserved(txn, request.asked, request.by);
-        self.looks.put(request.by, txn);
+        if let Some(keeper) = keeper_of(&self.tree, self.estate.locks(), txn, request.asked) {
+            self.looks.put(request.by, txn, keeper);
+        }
     }
 
     /// The transaction waits no more.

@@ -72,17 +72,22 @@ impl<S: TopStore> Manager<S> {
     }
 
     /// Whether it is seen at once that the line is held up: an access waits by it that was seen
-    /// kept out, and no transaction has ended since, so that locks have only risen (Moss 1981).
-    /// Else `held_up` tells. It takes no memory.
+    /// kept out, and who kept it out has not ended since, so that this lock has only risen (Moss
+    /// 1981). Else `held_up` tells. It takes no memory.
     pub fn is_parked(&self, by: By) -> bool
         ensures { IsTrue result → IsParked self.now.rows self.now.history by }
     {
         self.tables.is_parked(&self.log, by)
     }
 
-    /// As `is_parked`, and where a transaction has ended since, the locks are asked once more. An
-    /// access that is kept out is remembered until the next one ends, so that to ask again costs
-    /// one look. It takes no memory.
+    /// Whether `is_parked` may tell yes of any line. It is a hint, which spares to ask for each line.
+    pub fn parks_any(&self) -> bool {
+        self.tables.looks.has_some()
+    }
+
+    /// As `is_parked`, and where who kept it out has ended since, the locks are asked once more. An
+    /// access that is kept out is remembered with one who keeps it out, until that one ends, so that
+    /// to ask again costs one look. It takes no memory.
     pub fn stays_parked(&mut self, by: By) -> bool
         ensures parked { IsTrue result → IsParked self.old.rows self.old.history by }
         ensures same { self.new ≡ self.old }

@@ -3,6 +3,6 @@ use Rattle.manager_core.proofs.Looked.{none_stands}
 use Rattle.manager_core.proofs.looks.Looks.new.Goals as goal
 
 pub returns : goal.returns
-returns c (Line s l) n has = none_stands 64 s has.0
-returns c Victim n has = has
-returns c Close n has = has
+returns c (Line s l) n m has = none_stands 64 s has.0
+returns c Victim n m has = has
+returns c Close n m has = has

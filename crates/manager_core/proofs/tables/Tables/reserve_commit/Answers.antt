@@ -2,4 +2,4 @@ use Rattle.manager_core.proofs.Looked.{seen_same}
 use Rattle.manager_core.proofs.tables.Tables.reserve_commit.Goals as goal
 
 pub invariant_of-self : goal.invariant_of-self
-invariant_of-self c = seen_same _ _ _ _ _ c.reserve_hand_up.ensures.same.modes c.self.invariant
+invariant_of-self c = seen_same _ _ c.self.inside.looks _ _ c.reserve_hand_up.ensures.same.modes c.self.invariant
