@@ -1,5 +1,5 @@
 -- Sessions whose lines wait at one key wait on by each entry that aborts nobody, and a write there of one of them keeps the others out.
-use Rattle.std.proofs.Common.{◌≡◌, ◌<◌, ℕ, suc, Bool, true, false, not, cond, ◌&&◌, ◌||◌, nat_le, eqb, List, [], ◌∷◌, length, slice_get, find, Option, Some, is_some, refl, sym, ap, ap₂, subst, ◌∙◌, arith}
+use Rattle.std.proofs.Common.{◌≡◌, ◌<◌, ℕ, suc, Bool, true, false, not, cond, ◌&&◌, nat_le, eqb, List, [], ◌∷◌, length, slice_get, find, Option, Some, is_some, refl, sym, ap, ap₂, subst, ◌∙◌, arith}
 use Rattle.std.proofs.Common.{None as Nothing}
 use Rattle.std.proofs.lemmas.Bool.{false≢true, true≢false, and_parts, and_from, and_right, eqb-true, false_from_ne_true, lt-leb, ne_eqb, not_from_false, not-true, or_left, or_right}
 use Rattle.std.specs.List.{list_any}

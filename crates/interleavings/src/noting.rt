@@ -1,12 +1,12 @@
 //! What an attempt does to who may go on.
-ghost use Rattle.std.specs.Prelude.{◌≡◌, ◌⊎◌, ◌<◌, ℕ, Some, false};
+ghost use Rattle.std.specs.Prelude.{◌≡◌, ◌⊎◌, ◌<◌, ◌≤◌, ℕ, List, IsTrue, Some, false};
 ghost use Rattle.interleavings.specs.Crowds.{AreGatheredBy, IsGathered, IsOfWriter, StaysIn, came_of, is_abort, is_write_at};
-ghost use Rattle.interleavings.specs.LeftOut.{IsIdle, IsLeftOut, IsLeftOutByBegins, IsNoted, IsStillPlain, StaysBy, StaysOutBy, is_after};
+ghost use Rattle.interleavings.specs.LeftOut.{IsIdle, IsLeftOut, IsLeftOutByBegins, IsNoted, IsParkedAt, IsParkedStill, IsStillPlain, StaysBy, StaysOutBy, is_after};
 
 use crate::ready::Ready;
 use durable_top::TopStore;
 use manager_core::{Manager, Outcome};
-use serial_spec::{Event, Kind};
+use serial_spec::{By, Event, Kind};
 
 /// What came of an attempt, its reply and its cause aside.
 #[derive(Clone, Copy)]
@@ -37,6 +37,12 @@ pub(crate) fn is_after(event: &Event) -> bool
         Event::After(_, _) => true,
         _ => false,
     }
+}
+
+// Whether this ends a transaction.
+#[inline(always)]
+fn is_end(due: &Event) -> bool {
+    matches!(due, Event::Commit(_) | Event::Abort(_))
 }
 
 // Whether this is an access that writes a key.
@@ -144,13 +150,52 @@ fn note_entry(ready: &mut Ready, session: u32, due: &Event, came: Came)
     }
 }
 
-/// Notes who may go on after an attempt of the session's line, which asks this and of which this
-/// came, where there were so many entries before. A line to which nothing happened is held up. One
-/// entry lets no line go on but by an end, or by a begin for which an `after` line waits, while few
-/// keys are known; more than one are victims too. None gives a session a line more. Of those that
-/// wait at one key the first that writes it keeps the others out, which need not be looked at.
+// Whether the session's next line, by these numbers, is seen at once to be held up.
+fn is_parked_at<S: TopStore>(manager: &Manager<S>, next: &[u32], session: u32) -> bool
+    ensures { IsTrue result
+        → IsParkedAt next.now manager.now.rows manager.now.history session }
+{
+    match next.get(session as usize) {
+        Some(line) => manager.is_parked(By::Line {
+            session,
+            line: *line,
+        }),
+        None => false,
+    }
+}
+
+// Leaves those others out again that were so before, by no `after` line, and whose lines are still
+// kept out by somebody who has not ended.
+#[inline(never)]
+fn leave_parked<S: TopStore>(
+    ready: &mut Ready,
+    was: &Ready,
+    manager: &Manager<S>,
+    next: &[u32],
+    session: u32,
+)
+    ensures out { (u : ℕ) → IsLeftOut ready.new u → IsLeftOut ready.old u
+        ⊎ IsParkedStill was.now next.now manager.now.rows manager.now.history session u }
+    ensures begins { (u : ℕ) → IsLeftOutByBegins ready.new u → IsLeftOutByBegins ready.old u
+        ⊎ IsParkedStill was.now next.now manager.now.rows manager.now.history session u }
+    ensures idle { (u : ℕ) → IsIdle ready.new u → IsIdle ready.old u }
+    ensures crowd { ready.new.crowd ≡ ready.old.crowd }
+{
+    let mut from = 0;
+    while let Some(other) = was.next_out(from) {
+        if other != session && was.leaves_out(other) && is_parked_at(manager, next, other) {
+            ready.leave_out(other, false);
+        }
+        from = other + 1;
+    }
+}
+
+// What an attempt does to who may go on, by the entries that came of it. A line to which nothing
+// happened is held up. One entry lets no line go on but by an end, or by a begin for which an
+// `after` line waits, while few keys are known; more than one are victims too. None gives a session
+// a line more.
 #[inline(always)]
-pub(crate) fn note_attempt<S: TopStore>(
+fn note_entries<S: TopStore>(
     ready: &mut Ready,
     manager: &Manager<S>,
     before: usize,
@@ -159,8 +204,8 @@ pub(crate) fn note_attempt<S: TopStore>(
     came: Came,
 )
     requires { session < 64 }
-    ensures { IsNoted ready.old ready.new manager.now.rows manager.now.history before session
-        due.now came }
+    ensures { (next : List ℕ) → IsNoted ready.old ready.new next manager.now.rows
+        manager.now.history before session due.now came }
 {
     let entries = manager.history().len();
     if entries <= before {
@@ -169,5 +214,32 @@ pub(crate) fn note_attempt<S: TopStore>(
         ready.bring_back_all();
     } else {
         note_entry(ready, session, due, came);
+    }
+}
+
+/// Notes who may go on after an attempt of the session's line, which asks this and of which this
+/// came, where there were so many entries before and the numbers of the next lines were these. Of
+/// those that wait at one key the first that writes it keeps the others out, which need not be
+/// looked at, and who was kept out by one that has not ended is so still.
+#[inline(always)]
+pub(crate) fn note_attempt<S: TopStore>(
+    ready: &mut Ready,
+    manager: &Manager<S>,
+    next: &[u32],
+    before: usize,
+    session: u32,
+    due: &Event,
+    came: Came,
+)
+    requires { session < 64 }
+    ensures { IsNoted ready.old ready.new next.now manager.now.rows manager.now.history before
+        session due.now came }
+{
+    let was = *ready;
+    note_entries(ready, manager, before, session, due, came);
+    // Nobody comes back but by an end. Where there is none, nobody need be looked at.
+    let ends = is_end(due) || manager.history().len().saturating_sub(before) > 1;
+    if ends && manager.parks_any() {
+        leave_parked(ready, &was, manager, next, session);
     }
 }

@@ -1,10 +1,10 @@
 //! Which sessions may go on, one bit for each.
-ghost use Rattle.std.specs.Prelude.{◌≡◌, ◌⊎◌, ◌<◌, ◌≤◌, ℕ, length, false, IfNone, IfSome};
+ghost use Rattle.std.specs.Prelude.{◌≡◌, ◌⊎◌, ◌<◌, ◌≤◌, ℕ, length, false, IfNone, IfSome, IsTrue};
 ghost use Rattle.interleavings.specs.Crowds.{AreJoinedBy, IsGathered, IsStillIn};
 ghost use Rattle.interleavings.specs.LeftOut.{IsIdle, IsLeftOut, IsLeftOutByBegins, IsWoken};
 
 use crate::crowd::Crowd;
-use crate::sets::{first_from, with, without};
+use crate::sets::{first_from, lacks, with, without};
 use serial_spec::MOST_SESSIONS;
 use txn_names::{Key, Name};
 
@@ -36,6 +36,15 @@ impl Ready {
             busy: u64::MAX,
             crowd: Crowd::none(),
         }
+    }
+
+    /// Whether the session is left out, and waits by no `after` line.
+    #[inline(always)]
+    pub(crate) fn leaves_out(&self, session: u32) -> bool
+        requires { session < 64 }
+        ensures { IsTrue result → IsLeftOutByBegins self.now session }
+    {
+        lacks(self.may, session) && lacks(self.afters, session)
     }
 
     /// Leaves the session out, whose next line is an `after` line or is not.
@@ -151,6 +160,14 @@ impl Ready {
         self.may = with(self.may, session);
         self.busy = with(self.busy, session);
         self.crowd.leave(session);
+    }
+
+    /// The first session from this one on that is left out, though it may have a line left.
+    #[inline(always)]
+    pub(crate) fn next_out(&self, from: u32) -> Option<u32>
+        ensures { IfSome result (λ next. (from ≤ next) × (next < 64)) }
+    {
+        first_from(self.busy & !self.may, from)
     }
 
     /// The first session from this one on that may go on.

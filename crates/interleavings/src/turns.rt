@@ -238,7 +238,16 @@ impl<'a, S: TopStore> Turns<'a, S> {
         let by = By::Line { session, line };
         let before = self.manager.history().len();
         let came = came_of(&attempt(&mut self.manager, by, due)?);
-        note_attempt(&mut self.ready, &self.manager, before, session, due, came);
+        let next = self.next.as_slice();
+        note_attempt(
+            &mut self.ready,
+            &self.manager,
+            next,
+            before,
+            session,
+            due,
+            came,
+        );
         match came {
             Came::Waits => Ok(Turn::Parked),
             _ => {

@@ -1,6 +1,7 @@
 use Rattle.std.proofs.Common.{◌+◌, length, length-set, sym, ap, ◌∙◌, arith}
 use Rattle.std.proofs.lemmas.List.{length-reverse}
 use Rattle.interleavings.specs.Crowds.{came_of}
+use Rattle.interleavings.specs.Turning.{AreTurns}
 use Rattle.interleavings.proofs.LeftOut.{left_out_after, waits_of}
 use Rattle.interleavings.proofs.Numbers.{free_or_waits, is_kept, number_fits, session_there, stepped_answered, stepped_parked, turns_answered, turns_parked}
 use Rattle.interleavings.proofs.turns.Turns.attempt_line.Goals as goal
@@ -32,26 +33,30 @@ index_mut-requires g c =
 pub invariant_of-self-in-Waits : goal.invariant_of-self-in-Waits
 invariant_of-self-in-Waits g c =
     let due = rw (← c.self.view_is) at c.requires in
-    let tried = rw c.deref_mut.ensures.value at c.in_ok-attempt.ensures.ok in (
-      turns_parked g.S.TopStore c.self.inside.sessions.now c.self.inside.manager.value c.self.inside.next.items c.self.invariant.0 c.args.session c.args.line c.args.due.now due
-          c.attempt.new.manager c.in_ok-attempt.field-0 tried (waits_of c.in_ok-attempt.field-0 (sym c.came_of-came.ensures ∙ c.in-Waits.is)),
+    let tried = rw c.deref_mut.ensures.value at c.in_ok-attempt.ensures.ok in
+    let turns : AreTurns (record { sessions = c.self.inside.sessions.now; core = c.attempt.new.manager }) c.self.inside.next.items =
+    turns_parked g.S.TopStore c.self.inside.sessions.now c.self.inside.manager.value c.self.inside.next.items c.self.invariant.0 c.args.session c.args.line c.args.due.now due
+    c.attempt.new.manager c.in_ok-attempt.field-0 tried (waits_of c.in_ok-attempt.field-0 (sym c.came_of-came.ensures ∙ c.in-Waits.is)) in (
+      turns,
       left_out_after g.S.TopStore c.self.inside.sessions.now c.self.inside.manager.value c.self.inside.next.items c.self.invariant.0 c.args.session c.args.line c.args.due.now due
           c.attempt.new.manager c.in_ok-attempt.field-0 tried c.len-count.ensures.text.few c.self.inside.ready c.note_attempt.new.ready c.self.invariant.1 (length c.history-before.result.now)
           (sym (length-reverse c.history-before.result.now) ∙ ap length (rw c.deref.ensures at c.history-before.ensures)) c.came_of-came.result c.came_of-came.ensures
-          (rw c.deref-2.ensures at c.note_attempt.ensures),
+          turns.way (rw (c.deref-2.ensures, c.as_slice-next.ensures.value) at c.note_attempt.ensures),
     )
 
 pub invariant_of-self-in_default : goal.invariant_of-self-in_default
 invariant_of-self-in_default g c =
     let due = rw (← c.self.view_is) at c.requires in
-    let tried = rw c.deref_mut.ensures.value at c.in_ok-attempt.ensures.ok in (
-      turns_answered g.S.TopStore c.self.inside.sessions.now c.self.inside.manager.value c.self.inside.next.items c.self.invariant.0 c.args.session c.args.line c.args.due.now due
-          c.attempt.new.manager c.in_ok-attempt.field-0 tried (λ is. c.in_default.not-Waits (c.came_of-came.ensures ∙ ap came_of is))
-          (length-set c.self.inside.next.items c.args.session (c.args.line + 1)),
+    let tried = rw c.deref_mut.ensures.value at c.in_ok-attempt.ensures.ok in
+    let turns =
+    turns_answered g.S.TopStore c.self.inside.sessions.now c.self.inside.manager.value c.self.inside.next.items c.self.invariant.0 c.args.session c.args.line c.args.due.now due
+    c.attempt.new.manager c.in_ok-attempt.field-0 tried (λ is. c.in_default.not-Waits (c.came_of-came.ensures ∙ ap came_of is))
+    (length-set c.self.inside.next.items c.args.session (c.args.line + 1)) in (
+      turns,
       left_out_after g.S.TopStore c.self.inside.sessions.now c.self.inside.manager.value c.self.inside.next.items c.self.invariant.0 c.args.session c.args.line c.args.due.now due
           c.attempt.new.manager c.in_ok-attempt.field-0 tried c.len-count.ensures.text.few c.self.inside.ready c.note_attempt.new.ready c.self.invariant.1 (length c.history-before.result.now)
           (sym (length-reverse c.history-before.result.now) ∙ ap length (rw c.deref.ensures at c.history-before.ensures)) c.came_of-came.result c.came_of-came.ensures
-          (rw c.deref-2.ensures at c.note_attempt.ensures),
+          turns.way (rw (c.deref-2.ensures, c.as_slice-next.ensures.value) at c.note_attempt.ensures),
     )
 
 pub returns-in-Waits-clause-ok : goal.returns-in-Waits-clause-ok
