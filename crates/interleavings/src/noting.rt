@@ -174,8 +174,10 @@ fn leave_parked<S: TopStore>(
     next: &[u32],
     session: u32,
 )
+    // Wide: who was left out, the next lines, and the history by which they are kept out.
     ensures out { (u : ℕ) → IsLeftOut ready.new u → IsLeftOut ready.old u
         ⊎ IsParkedStill was.now next.now manager.now.rows manager.now.history session u }
+    // Wide: the same.
     ensures begins { (u : ℕ) → IsLeftOutByBegins ready.new u → IsLeftOutByBegins ready.old u
         ⊎ IsParkedStill was.now next.now manager.now.rows manager.now.history session u }
     ensures idle { (u : ℕ) → IsIdle ready.new u → IsIdle ready.old u }
