@@ -7,40 +7,50 @@ use durable_top::TopStore;
 use sql_store::{MemoryStore, SqlStore};
 use sqlite::{Alter, Connection};
 use std::alloc::Global;
+use std::process::Abort;
 use std::rt::HostRuntime;
 
 /// Statements that make a database, and what is asked of the stores over it, one after another,
 /// whose texts stand between bars.
 ///
-/// The first databases are empty, and have another table too, so that they are not known. Then
-/// there are tables without rows, and with one. A row of the first version is taken over with the
-/// number 0, and the commits of one store after another are counted on. A commit behind the last
-/// number is refused, whatever it changes, and the rows stay.
-///
-/// Then rows change behind the store, by an action of a foreign key: the numbers that it keeps say
-/// what is no longer so, and its commits are made all the same. A row names a key in `p`. Where the
-/// row of that key is deleted, it is deleted too, and an update of `b` meets no row. In the other
-/// database the row of `b` gets the key of that of `a` where this goes, and an insert of `a` meets
-/// a row.
-///
-/// Over the last databases no store is opened.
-const DATABASES: &str = "\
+/// These databases are empty, or have another table too, so that they are not known, or tables
+/// without rows, or with one. A row of the first version is taken over with the number 0.
+const SERVED: &str = "\
  => rows; b=2; c=-9223372036854775808; a=9223372036854775807; b=3; c; d; e.f_g-0=0 | rows a=9223372036854775807:3 b=3:4 e.f_g-0=0:5
 CREATE TABLE other (a INTEGER) STRICT => rows; b=2; a=1; c=3; b | rows a=1:2 c=3:3
 CREATE TABLE other (a INTEGER) STRICT => rows
 CREATE TABLE results (k TEXT NOT NULL PRIMARY KEY, v INTEGER NOT NULL) STRICT => rows
-CREATE TABLE results2 (k TEXT, v INTEGER, n INTEGER) STRICT;INSERT INTO results2 VALUES ('a', 1, 0) => rows a=1:0
+CREATE TABLE results2 (k TEXT, v INTEGER, n INTEGER) STRICT;INSERT INTO results2 VALUES ('a', 1, 0) => rows a=1:0";
+
+/// The commits of one store after another are counted on. A commit behind the last number is
+/// refused, whatever it changes, and the rows stay.
+const COUNTED_ON: &str = "\
 CREATE TABLE results (k TEXT NOT NULL PRIMARY KEY, v INTEGER NOT NULL) STRICT;INSERT INTO results VALUES ('x', 9) => rows x=9:0 | y=1; x=2; rows x=2:2 y=1:1 | x,z=5; rows y=1:1 z=5:3 | z; rows y=1:1 | y=7; rows y=7:2 | y=7; rows y=7:3
-CREATE TABLE results2 (k TEXT NOT NULL PRIMARY KEY, v INTEGER NOT NULL, n INTEGER NOT NULL) STRICT;INSERT INTO results2 VALUES ('x', 1, 9223372036854775807) => x -> refused; y=1 -> refused; rows x=1:9223372036854775807
+CREATE TABLE results2 (k TEXT NOT NULL PRIMARY KEY, v INTEGER NOT NULL, n INTEGER NOT NULL) STRICT;INSERT INTO results2 VALUES ('x', 1, 9223372036854775807) => x -> refused; y=1 -> refused; rows x=1:9223372036854775807";
+
+/// Rows change behind the store, by an action of a foreign key: the numbers that it keeps say what
+/// is no longer so, and its commits are made all the same. A row names a key in `p`. Where the row
+/// of that key is deleted, it is deleted too, and an update of `b` meets no row. In the other
+/// database the row of `b` gets the key of that of `a` where this goes, and an insert of `a` meets
+/// a row.
+const CHANGED_BEHIND: &str = "\
 CREATE TABLE results2 (k TEXT NOT NULL PRIMARY KEY, v INTEGER NOT NULL, n INTEGER NOT NULL, p TEXT DEFAULT 'a' REFERENCES results2 (k) ON DELETE CASCADE) STRICT => rows; a=1; b=2; a; a=4; b=3; rows a=4:3 b=3:4
-CREATE TABLE results2 (k TEXT NOT NULL PRIMARY KEY DEFAULT 'a' REFERENCES results2 (p) ON DELETE SET DEFAULT, v INTEGER NOT NULL, n INTEGER NOT NULL, p TEXT UNIQUE) STRICT;INSERT INTO results2 VALUES ('a', 1, 1, 'b'), ('b', 2, 1, 'a') => rows a=1:1 b=2:1; a; a=7; rows a=7:2
+CREATE TABLE results2 (k TEXT NOT NULL PRIMARY KEY DEFAULT 'a' REFERENCES results2 (p) ON DELETE SET DEFAULT, v INTEGER NOT NULL, n INTEGER NOT NULL, p TEXT UNIQUE) STRICT;INSERT INTO results2 VALUES ('a', 1, 1, 'b'), ('b', 2, 1, 'a') => rows a=1:1 b=2:1; a; a=7; rows a=7:2";
+
+/// Over these databases no store is opened: they are in a transaction, or have a table of the first
+/// version that is not as it has to be.
+const REFUSED: &str = "\
 BEGIN => -> refused
 CREATE TABLE results (k TEXT NOT NULL PRIMARY KEY) STRICT => -> refused
 CREATE TABLE results (a INTEGER, b TEXT) STRICT => -> refused
 CREATE TABLE results (k TEXT NOT NULL PRIMARY KEY, v INTEGER NOT NULL) STRICT;INSERT INTO results VALUES ('A', 1) => -> refused
 CREATE TABLE results (k TEXT, v TEXT) STRICT;INSERT INTO results VALUES ('a', '1') => -> refused
 CREATE TABLE results (k TEXT, v INTEGER) STRICT;INSERT INTO results VALUES ('a', 1);INSERT INTO results VALUES ('a', 1) => -> refused
-CREATE TABLE results (k BLOB, v INTEGER) STRICT;INSERT INTO results VALUES (x'61', 1) => -> refused
+CREATE TABLE results (k BLOB, v INTEGER) STRICT;INSERT INTO results VALUES (x'61', 1) => -> refused";
+
+/// No more over these, whose tables with numbers are not as they have to be, or whose rows are in
+/// both tables.
+const REFUSED_NUMBERED: &str = "\
 CREATE TABLE results2 (k TEXT NOT NULL PRIMARY KEY, v INTEGER NOT NULL) STRICT => -> refused
 CREATE TABLE results2 (k TEXT, v INTEGER, n INTEGER) STRICT;INSERT INTO results2 VALUES ('A', 1, 1) => -> refused
 CREATE TABLE results2 (k TEXT, v TEXT, n INTEGER) STRICT;INSERT INTO results2 VALUES ('a', '1', 1) => -> refused
@@ -163,18 +173,43 @@ fn follow_over(alloc: Global, statements: &str, scripts: &str) -> bool {
     }
 }
 
-// A trial run refuses one growth, and so stands in the way of one of two stores.
-#[test]
-fn databases_that_are_served_or_refused(rt: HostRuntime) {
-    for line in DATABASES.lines() {
+// Stores over each of these databases follow its texts. A trial run refuses one growth, and so
+// stands in the way of the first of two.
+fn are_followed(rt: &impl Abort, alloc: Global, databases: &str) {
+    for line in databases.lines() {
         let (statements, scripts) = line.split_once("=>").unwrap_or((line, ""));
         let statements = statements.trim();
         assert!(rt;
-            follow_over(rt.alloc(), statements, scripts)
-                || follow_over(rt.alloc(), statements, scripts),
+            follow_over(alloc, statements, scripts) || follow_over(alloc, statements, scripts),
             "{line}"
         );
     }
+}
+
+// Each kind has a test of its own, since `./growths` runs a test for each growth that it makes.
+#[test]
+fn databases_that_are_served(rt: HostRuntime) {
+    are_followed(&rt, rt.alloc(), SERVED);
+}
+
+#[test]
+fn commits_are_counted_on(rt: HostRuntime) {
+    are_followed(&rt, rt.alloc(), COUNTED_ON);
+}
+
+#[test]
+fn rows_change_behind_a_store(rt: HostRuntime) {
+    are_followed(&rt, rt.alloc(), CHANGED_BEHIND);
+}
+
+#[test]
+fn databases_that_are_refused(rt: HostRuntime) {
+    are_followed(&rt, rt.alloc(), REFUSED);
+}
+
+#[test]
+fn databases_with_numbers_that_are_refused(rt: HostRuntime) {
+    are_followed(&rt, rt.alloc(), REFUSED_NUMBERED);
 }
 
 // Whether a new store in memory follows the texts, where one is made.
