@@ -196,6 +196,10 @@ impl<'a, S: TopStore> Turns<'a, S> {
     pub fn finished(&self) -> bool
         ensures { IsTrue result ↔ AllAnswered self.now.sessions self.now.core.history }
     {
+        // Who was answered last mostly has a line left.
+        if self.next_line(self.lead).is_some() {
+            return false;
+        }
         self.first_open().is_none()
     }
 

@@ -93,6 +93,31 @@ fn starts_alike(ours: &[u8], theirs: &[u8]) -> bool
     }
 }
 
+// The first bytes, as many as a word has where there are so many.
+fn start_of(bytes: &[u8]) -> &[u8]
+    ensures { result.now ≡ take 8 bytes.now }
+{
+    &bytes[..bytes.len().min(WORD as usize)]
+}
+
+// How two words compare, as their bytes do: by the numbers that they make, the first byte of which
+// is worth most.
+fn compare_words(ours: &[u8; 8], theirs: &[u8; 8]) -> Ordering
+    ensures { result ≡ slice_cmp nat_cmp ours.now theirs.now }
+{
+    u64::from_be_bytes(*ours).cmp(&u64::from_be_bytes(*theirs))
+}
+
+// How the first words of two fields compare, as their bytes do.
+fn compare_starts(ours: &[u8], theirs: &[u8]) -> Ordering
+    ensures { result ≡ slice_cmp nat_cmp (take 8 ours.now) (take 8 theirs.now) }
+{
+    match (ours.first_chunk::<8>(), theirs.first_chunk::<8>()) {
+        (Some(ours), Some(theirs)) => compare_words(ours, theirs),
+        _ => start_of(ours).cmp(start_of(theirs)),
+    }
+}
+
 impl<const N: usize> PartialEq for Held<N> {
     ghost eq = { pointwise nat_eq };
 
@@ -135,8 +160,19 @@ impl<const N: usize> Ord for Held<N> {
 
     ghost matches_eq = { λ s t. texts_ties s t };
 
+    // The bytes behind those that are held are zeros, so that fields compare as their bytes do
+    // where their first words differ. Most differ there, or are no longer than a word.
     fn cmp(&self, other: &Self) -> Ordering {
-        self.as_bytes().cmp(other.as_bytes())
+        match compare_starts(&self.bytes, &other.bytes) {
+            Ordering::Equal => {
+                if self.len <= WORD && other.len <= WORD {
+                    self.len.cmp(&other.len)
+                } else {
+                    self.as_bytes().cmp(other.as_bytes())
+                }
+            }
+            starts => starts,
+        }
     }
 }
 

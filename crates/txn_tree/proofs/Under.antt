@@ -84,6 +84,14 @@ module _ (tree : States) (nodes : List Node) (tops : Children) (is : IsTree tree
       by (Some u) None at there f = absurd (false≢true f)
       by None q at there f = absurd (false≢true f)
 
+  -- so nobody is above one that began before
+  pub not_under : (a b : ℕ) → b < a → is_under tree a b ≡ false
+  not_under a b less = by (is_under tree a b) refl
+    where
+      by : (t : Bool) → is_under tree a b ≡ t → is_under tree a b ≡ false
+      by true e = let w = under_parts a b e in let le = le_above a b w.0 w.1 w.2 w.3 w.4 in absurd (omega (arith, le, less))
+      by false e = e
+
   -- of two above one, the deeper has the greater number
   pub rises_down : (c a b : ℕ) → is_under tree a c ≡ true → is_under tree b c ≡ true → (a ≤ b → is_under tree a b ≡ true) × (is_under tree a b ≡ true → a ≤ b)
   rises_down c a b f g = (

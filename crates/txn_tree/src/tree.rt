@@ -174,6 +174,10 @@ impl Tree {
         ensures rises { RisesDown self.now inferior }
     {
         let _ = &self.nodes;
+        // Whoever is above began before, so that mostly no names are compared.
+        if inferior.place() < txn.place() {
+            return false;
+        }
         self.register.is_under(txn, inferior)
     }
 

@@ -121,10 +121,11 @@ impl<'a, S: TopStore> Turns<'a, S> {
     pub(crate) fn stuck_session(&self) -> Option<u32>
         ensures { TellsStuck self.now.core.rows self.now.sessions self.now.core.history result }
     {
-        let first = self.first_open()?;
+        // Mostly some session goes on, and that is found without a look at those that have ended.
         if self.goes_on() {
             return None;
         }
+        let first = self.first_open()?;
         Some(first)
     }
 }
