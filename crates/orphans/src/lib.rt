@@ -74,12 +74,17 @@ impl Marks {
         if self.names.is_empty() {
             return None;
         }
-        for depth in 1..=name.depth() {
+        for depth in 1..name.depth() {
             let front = name.front(depth);
             if self.is_marked(&front) {
                 return Some(front);
             }
         }
-        None
+        // The longest front is the name itself, and need not be made.
+        if self.is_marked(name) {
+            Some(*name)
+        } else {
+            None
+        }
     }
 }
