@@ -1,19 +1,21 @@
 //! One attempt of a line.
 ghost use Rattle.std.specs.Prelude.{◌≡◌, ◌⊎◌, option_copied, IfOk, OnErr};
 ghost use Rattle.txn_history.specs.Lines.{IsFree, IsLine, IsWaitOf, accessor};
+ghost use Rattle.event_lists.specs.Views.{asked};
 ghost use Rattle.interleavings.specs.Attempts.{Attempts};
 
 use durable_top::TopStore;
+use event_lists::{Act, EventView};
 use manager_core::{Manager, Outcome};
-use serial_spec::{By, Event, NoMemory};
+use serial_spec::{By, NoMemory};
 use txn_names::Name;
 
 // The transaction that an access is of.
-fn accessor(event: &Event) -> Option<&Name>
-    ensures { option_copied result ≡ accessor event.now }
+fn accessor<'a>(event: &EventView<'a>) -> Option<&'a Name>
+    ensures { option_copied result ≡ accessor (asked event.now) }
 {
-    match event {
-        Event::Access(name, _, _) | Event::Sum(name, _) => Some(name),
+    match event.act {
+        Act::Access(_, _) | Act::Sum(_) => Some(event.name),
         _ => None,
     }
 }
@@ -24,20 +26,21 @@ fn accessor(event: &Event) -> Option<&Name>
 fn attempt_free<S: TopStore>(
     manager: &mut Manager<S>,
     by: By,
-    event: &Event,
+    event: &EventView<'_>,
 ) -> Result<Outcome, NoMemory>
-    requires free { IsFree manager.old.history by event.now }
+    requires free { IsFree manager.old.history by (asked event.now) }
     ensures ok { IfOk result (λ outcome.
-        Attempts S.TopStore manager.old manager.new by event.now outcome) }
+        Attempts S.TopStore manager.old manager.new by (asked event.now) outcome) }
     ensures err { OnErr result (manager.new ≡ manager.old) }
 {
-    match event {
-        Event::Begin(name) => manager.begin(by, name),
-        Event::Access(name, key, op) => manager.access(by, name, key, *op),
-        Event::Sum(name, group) => manager.sum(by, name, group),
-        Event::Commit(name) => manager.commit(by, name),
-        Event::Abort(name) => manager.abort(by, name),
-        Event::After(name, when) => manager.after(by, name, *when),
+    let name = event.name;
+    match event.act {
+        Act::Begin => manager.begin(by, name),
+        Act::Access(key, op) => manager.access(by, name, key, *op),
+        Act::Sum(group) => manager.sum(by, name, group),
+        Act::Commit => manager.commit(by, name),
+        Act::Abort => manager.abort(by, name),
+        Act::After(when) => manager.after(by, name, *when),
     }
 }
 
@@ -47,13 +50,13 @@ fn attempt_free<S: TopStore>(
 pub(crate) fn attempt<S: TopStore>(
     manager: &mut Manager<S>,
     by: By,
-    event: &Event,
+    event: &EventView<'_>,
 ) -> Result<Outcome, NoMemory>
     requires line { IsLine by }
-    requires next { IsFree manager.old.history by event.now
-        ⊎ IsWaitOf manager.old.history by event.now }
+    requires next { IsFree manager.old.history by (asked event.now)
+        ⊎ IsWaitOf manager.old.history by (asked event.now) }
     ensures ok { IfOk result (λ outcome.
-        Attempts S.TopStore manager.old manager.new by event.now outcome) }
+        Attempts S.TopStore manager.old manager.new by (asked event.now) outcome) }
     ensures err { OnErr result (manager.new ≡ manager.old) }
 {
     if manager.nobody_waits() {

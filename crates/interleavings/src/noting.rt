@@ -1,12 +1,14 @@
 //! What an attempt does to who may go on.
 ghost use Rattle.std.specs.Prelude.{◌≡◌, ◌⊎◌, ◌<◌, ◌≤◌, ℕ, List, IsTrue, Some, false};
+ghost use Rattle.event_lists.specs.Views.{asked};
 ghost use Rattle.interleavings.specs.Crowds.{AreGatheredBy, IsGathered, IsOfWriter, StaysIn, came_of, is_abort, is_write_at};
 ghost use Rattle.interleavings.specs.LeftOut.{IsIdle, IsLeftOut, IsLeftOutByBegins, IsNoted, IsParkedAt, IsParkedStill, IsStillPlain, StaysBy, StaysOutBy, is_after};
 
 use crate::ready::Ready;
 use durable_top::TopStore;
+use event_lists::{Act, EventView};
 use manager_core::{Manager, Outcome};
-use serial_spec::{By, Event, Kind};
+use serial_spec::{By, Kind};
 
 /// What came of an attempt, its reply and its cause aside.
 #[derive(Clone, Copy)]
@@ -30,28 +32,28 @@ pub(crate) fn came_of(outcome: &Outcome) -> Came
 
 /// Whether this is an `after` line.
 #[inline(always)]
-pub(crate) fn is_after(event: &Event) -> bool
-    ensures { result ≡ is_after (Some event.now) }
+pub(crate) fn is_after(event: &EventView<'_>) -> bool
+    ensures { result ≡ is_after (Some (asked event.now)) }
 {
-    match event {
-        Event::After(_, _) => true,
+    match event.act {
+        Act::After(_) => true,
         _ => false,
     }
 }
 
 // Whether this ends a transaction.
 #[inline(always)]
-fn is_end(due: &Event) -> bool {
-    matches!(due, Event::Commit(_) | Event::Abort(_))
+fn is_end(due: &EventView<'_>) -> bool {
+    matches!(due.act, Act::Commit | Act::Abort)
 }
 
 // Whether this is an access that writes a key.
 #[inline(always)]
-fn is_write_at(event: &Event) -> bool
-    ensures { result ≡ is_write_at event.now }
+fn is_write_at(event: &EventView<'_>) -> bool
+    ensures { result ≡ is_write_at (asked event.now) }
 {
-    match event {
-        Event::Access(_, _, op) => match op.kind() {
+    match event.act {
+        Act::Access(_, op) => match op.kind() {
             Kind::Write => true,
             Kind::Read => false,
         },
@@ -61,34 +63,34 @@ fn is_write_at(event: &Event) -> bool
 
 // Brings back whom one entry of a line that asks this may let go on.
 #[inline(always)]
-fn bring_back_by(ready: &mut Ready, due: &Event)
+fn bring_back_by(ready: &mut Ready, due: &EventView<'_>)
     ensures out { (u : ℕ) → IsLeftOut ready.new u →
-        IsIdle ready.old u ⊎ StaysBy ready.old due.now u }
+        IsIdle ready.old u ⊎ StaysBy ready.old (asked due.now) u }
     ensures begins { (u : ℕ) → IsLeftOutByBegins ready.new u →
         IsIdle ready.old u ⊎ IsLeftOutByBegins ready.old u }
     ensures idle { (u : ℕ) → IsIdle ready.new u → IsIdle ready.old u }
     ensures crowd { (u : ℕ) → u < 64 → IsGathered ready.new.crowd u →
-        (is_abort due.now ≡ false) × (ready.new.crowd ≡ ready.old.crowd) }
+        (is_abort (asked due.now) ≡ false) × (ready.new.crowd ≡ ready.old.crowd) }
 {
-    match due {
-        Event::Begin(_) => ready.bring_back_afters(),
-        Event::Commit(_) => ready.bring_back_busy(),
-        Event::Abort(_) => ready.bring_back_all(),
-        Event::Access(_, _, _) | Event::Sum(_, _) | Event::After(_, _) => {}
+    match due.act {
+        Act::Begin => ready.bring_back_afters(),
+        Act::Commit => ready.bring_back_busy(),
+        Act::Abort => ready.bring_back_all(),
+        Act::Access(_, _) | Act::Sum(_) | Act::After(_) => {}
     }
 }
 
 // The session may go on after one entry of its line, which asks this, and so may whom that lets go.
 #[inline(always)]
-fn note_others(ready: &mut Ready, session: u32, due: &Event)
+fn note_others(ready: &mut Ready, session: u32, due: &EventView<'_>)
     requires { session < 64 }
     ensures out { (u : ℕ) → IsLeftOut ready.new u →
-        IsIdle ready.old u ⊎ ((u ≡ session → ⊥) × StaysBy ready.old due.now u) }
+        IsIdle ready.old u ⊎ ((u ≡ session → ⊥) × StaysBy ready.old (asked due.now) u) }
     ensures begins { (u : ℕ) → IsLeftOutByBegins ready.new u →
         IsIdle ready.old u ⊎ IsLeftOutByBegins ready.old u }
     ensures idle { (u : ℕ) → IsIdle ready.new u → IsIdle ready.old u }
     ensures crowd { (u : ℕ) → u < 64 → IsGathered ready.new.crowd u →
-        StaysIn ready.old.crowd ready.new.crowd session due.now u }
+        StaysIn ready.old.crowd ready.new.crowd session (asked due.now) u }
 {
     bring_back_by(ready, due);
     ready.bring_back(session);
@@ -96,12 +98,13 @@ fn note_others(ready: &mut Ready, session: u32, due: &Event)
 
 // Leaves out those that wait at the key that the session, one of them, has written by this line.
 #[inline(always)]
-fn pass_over(ready: &mut Ready, session: u32, due: &Event)
+fn pass_over(ready: &mut Ready, session: u32, due: &EventView<'_>)
     requires { session < 64 }
     ensures out { (u : ℕ) → IsLeftOut ready.new u → IsLeftOut ready.old u
-        ⊎ IsOfWriter ready.old.crowd session due.now u }
+        ⊎ IsOfWriter ready.old.crowd session (asked due.now) u }
+    // Wide: two cases of equal weight.
     ensures begins { (u : ℕ) → IsLeftOutByBegins ready.new u → IsLeftOutByBegins ready.old u
-        ⊎ IsOfWriter ready.old.crowd session due.now u }
+        ⊎ IsOfWriter ready.old.crowd session (asked due.now) u }
     ensures idle { (u : ℕ) → IsIdle ready.new u → IsIdle ready.old u }
     ensures crowd { ready.new.crowd ≡ ready.old.crowd }
 {
@@ -111,19 +114,19 @@ fn pass_over(ready: &mut Ready, session: u32, due: &Event)
 }
 
 // Notes one entry by which the session's line, which asks this, has begun to wait.
-fn note_wait(ready: &mut Ready, session: u32, due: &Event)
+fn note_wait(ready: &mut Ready, session: u32, due: &EventView<'_>)
     requires { session < 64 }
     ensures out { (u : ℕ) → u < 64 → IsLeftOut ready.new u →
-        IsIdle ready.old u ⊎ StaysOutBy ready.old session due.now Came.Waits u }
+        IsIdle ready.old u ⊎ StaysOutBy ready.old session (asked due.now) Came.Waits u }
     ensures begins { (u : ℕ) → u < 64 → IsLeftOutByBegins ready.new u →
-        IsIdle ready.old u ⊎ IsStillPlain ready.old session due.now u }
+        IsIdle ready.old u ⊎ IsStillPlain ready.old session (asked due.now) u }
     ensures idle { (u : ℕ) → IsIdle ready.new u → IsIdle ready.old u }
-    ensures crowd { AreGatheredBy ready.old.crowd ready.new.crowd session due.now Came.Waits }
+    ensures crowd { AreGatheredBy ready.old.crowd ready.new.crowd session (asked due.now) Came.Waits }
 {
-    match due {
-        Event::Access(name, key, _) => {
+    match due.act {
+        Act::Access(key, _) => {
             ready.leave_out(session, false);
-            ready.gather(session, name, key);
+            ready.gather(session, due.name, key);
         }
         _ => note_others(ready, session, due),
     }
@@ -131,14 +134,14 @@ fn note_wait(ready: &mut Ready, session: u32, due: &Event)
 
 // Notes one entry of the session's line, which asks this: it waits, or others may go on.
 #[inline(always)]
-fn note_entry(ready: &mut Ready, session: u32, due: &Event, came: Came)
+fn note_entry(ready: &mut Ready, session: u32, due: &EventView<'_>, came: Came)
     requires { session < 64 }
     ensures out { (u : ℕ) → u < 64 → IsLeftOut ready.new u →
-        IsIdle ready.old u ⊎ StaysOutBy ready.old session due.now came u }
+        IsIdle ready.old u ⊎ StaysOutBy ready.old session (asked due.now) came u }
     ensures begins { (u : ℕ) → u < 64 → IsLeftOutByBegins ready.new u →
-        IsIdle ready.old u ⊎ IsStillPlain ready.old session due.now u }
+        IsIdle ready.old u ⊎ IsStillPlain ready.old session (asked due.now) u }
     ensures idle { (u : ℕ) → IsIdle ready.new u → IsIdle ready.old u }
-    ensures crowd { AreGatheredBy ready.old.crowd ready.new.crowd session due.now came }
+    ensures crowd { AreGatheredBy ready.old.crowd ready.new.crowd session (asked due.now) came }
 {
     match came {
         Came::Waits => note_wait(ready, session, due),
@@ -202,12 +205,12 @@ fn note_entries<S: TopStore>(
     manager: &Manager<S>,
     before: usize,
     session: u32,
-    due: &Event,
+    due: &EventView<'_>,
     came: Came,
 )
     requires { session < 64 }
     ensures { (next : List ℕ) → IsNoted ready.old ready.new next manager.now.rows
-        manager.now.history before session due.now came }
+        manager.now.history before session (asked due.now) came }
 {
     let entries = manager.history().len();
     if entries <= before {
@@ -230,12 +233,12 @@ pub(crate) fn note_attempt<S: TopStore>(
     next: &[u32],
     before: usize,
     session: u32,
-    due: &Event,
+    due: &EventView<'_>,
     came: Came,
 )
     requires { session < 64 }
     ensures { IsNoted ready.old ready.new next.now manager.now.rows manager.now.history before
-        session due.now came }
+        session (asked due.now) came }
 {
     let was = *ready;
     note_entries(ready, manager, before, session, due, came);

@@ -6,8 +6,9 @@ ghost use Rattle.interleavings.specs.LeftOut.{IsWoken};
 
 use crate::ready::Ready;
 use durable_top::{Row, TopStore};
+use event_lists::Entries;
 use manager_core::Manager;
-use serial_spec::{Entry, NoMemory};
+use serial_spec::NoMemory;
 use std::alloc::Global;
 use std::marker::Model;
 
@@ -55,8 +56,8 @@ impl<S: TopStore> Progress<S> {
     }
 
     /// The entries, the oldest first.
-    pub fn history(&self) -> &[Entry]
-        ensures { reverse result.now ≡ self.now.core.history }
+    pub fn history(&self) -> &Entries
+        ensures { reverse result.now.entries ≡ self.now.core.history }
     {
         self.manager.history()
     }

@@ -7,6 +7,7 @@ ghost use Rattle.durable_top.specs.Store.{plain};
 ghost use Rattle.manager_core.specs.Calls.{Closed};
 ghost use Rattle.manager_core.specs.Opening.{HasCause};
 ghost use Rattle.manager_core.specs.Sound.{IsSound};
+ghost use Rattle.event_lists.specs.Views.{asked};
 ghost use Rattle.interleavings.specs.Progressing.{AreUnderWay, turning};
 ghost use Rattle.interleavings.specs.Scheduled.{Stands};
 ghost use Rattle.interleavings.specs.Turning.{IsClosed, IsDue, IsFirstOpen, IsStart, Stepped, Unstuck, next_number};
@@ -19,9 +20,10 @@ use crate::progress::Progress;
 use crate::ready::Ready;
 use crate::report::{labels_of, report_of};
 use durable_top::{Row, TopStore};
+use event_lists::EventView;
 use manager_core::{Manager, OpenFault};
 use run_reports::Report;
-use serial_spec::{By, Event, NoMemory};
+use serial_spec::{By, NoMemory};
 use session_text::Sessions;
 use std::alloc::Global;
 use std::marker::Model;
@@ -152,16 +154,16 @@ impl<'a, S: TopStore> Turns<'a, S> {
 
     // The session's next line, where there is such a session and it has a line left: its number,
     // and what it asks.
-    fn due(&self, session: u32) -> Option<(u32, &'a Event)>
+    fn due(&self, session: u32) -> Option<(u32, EventView<'a>)>
         ensures some { IfSome result (λ due.
-            IsDue self.now.sessions self.now.core.history session due.0 due.1.now) }
+            IsDue self.now.sessions self.now.core.history session due.0 (asked due.1)) }
         ensures none { IfNone result
             (next_event self.now.sessions self.now.core.history session ≡ None) }
     {
         let line = *self.next.get(session as usize)?;
         let sessions = self.sessions;
-        let text = sessions.line(session, line)?;
-        Some((line, text.event()))
+        let event = sessions.line(session, line)?;
+        Some((line, event))
     }
 
     /// The number of the session's next line, where there is such a session and it has a line left.
@@ -221,17 +223,22 @@ impl<'a, S: TopStore> Turns<'a, S> {
         };
         // A line that waits is mostly kept out still, and to ask for that alone is cheaper.
         if self.manager.stays_parked(By::Line { session, line }) {
-            self.ready.leave_out(session, is_after(due));
+            self.ready.leave_out(session, is_after(&due));
             return Ok(Turn::Parked);
         }
-        self.attempt_line(session, line, due)
+        self.attempt_line(session, line, &due)
     }
 
     // Attempts the session's next line, which has this number and asks this. It is no part of
     // `step`, which pays for no room of it then.
     #[inline(never)]
-    fn attempt_line(&mut self, session: u32, line: u32, due: &Event) -> Result<Turn, NoMemory>
-        requires { IsDue self.old.sessions self.old.core.history session line due.now }
+    fn attempt_line(
+        &mut self,
+        session: u32,
+        line: u32,
+        due: &EventView<'_>,
+    ) -> Result<Turn, NoMemory>
+        requires { IsDue self.old.sessions self.old.core.history session line (asked due.now) }
         ensures ok { IfOk result (λ turn. Stepped S.TopStore self.old self.new session turn) }
         ensures way { OnOk result
             (IsUnderWay self.new.core.rows self.new.sessions self.new.core.history) }
@@ -280,7 +287,7 @@ impl<'a, S: TopStore> Turns<'a, S> {
             return Ok(None);
         };
         let (line, due) = self.due(session).unwrap();
-        self.manager.cancel(By::Line { session, line }, due)?;
+        self.manager.cancel(By::Line { session, line }, &due)?;
         self.next[session as usize] = line + 1;
         self.ready = Ready::all();
         Ok(Some((session, line)))

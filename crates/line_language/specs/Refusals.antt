@@ -5,25 +5,14 @@ use Rattle.std.specs.Prelude.{ℕ, Bool, true, false, List, [], ◌∷◌, Optio
 use Rattle.std.specs.Str.{bytes_eq}
 use Rattle.serial_spec.specs.declared.entry.Refusal.{Refusal}
 use Rattle.serial_spec.specs.declared.entry.Refusal.TheVariants.{Unknown, Used, NoParent, Done as HasCommitted, Orphan, Children, Waiting, Full, Store}
-use Rattle.line_language.specs.declared.refusals.Cause.{Cause}
-use Rattle.line_language.specs.declared.refusals.Cause.TheVariants as cause
+use Rattle.event_lists.specs.declared.view.Cause.{Cause}
+use Rattle.event_lists.specs.declared.view.Cause.TheVariants as cause
+pub use Rattle.event_lists.specs.Views.{cause_of}
 
 abbrev pub refusals : List Refusal
 refusals = Unknown ∷ Used ∷ NoParent ∷ HasCommitted ∷ Children ∷ Waiting ∷ Full ∷ Store ∷ []
 
 -- ---- causes
-
--- its cause, the name of an orphan's ancestor left aside
-abbrev pub cause_of : Refusal → Cause
-cause_of Unknown = cause.Unknown
-cause_of Used = cause.Used
-cause_of NoParent = cause.NoParent
-cause_of HasCommitted = cause.Done
-cause_of (Orphan t) = cause.Orphan
-cause_of Children = cause.Children
-cause_of Waiting = cause.Waiting
-cause_of Full = cause.Full
-cause_of Store = cause.Store
 
 -- in the order in which a summary counts them
 abbrev pub causes : List Cause

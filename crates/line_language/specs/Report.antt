@@ -6,6 +6,7 @@ use Rattle.serial_spec.specs.declared.entry.By.TheVariants.{Line, Victim, Close}
 use Rattle.serial_spec.specs.declared.event.Event.{Event}
 use Rattle.serial_spec.specs.declared.event.Event.TheVariants.{Abort}
 use Rattle.serial_spec.specs.declared.entry.Answer.{Answer}
+use Rattle.serial_spec.specs.declared.entry.Entry.{Entry}
 use Rattle.serial_spec.specs.History.{History, Name}
 use Rattle.serial_spec.specs.Rows.{Rows}
 use Rattle.txn_names.specs.Text.{spelled_name}
@@ -30,6 +31,10 @@ spelled_entry labels (Line s l) e a =
     ++ codes " -> " ++ spelled_answer a
 spelled_entry labels Victim e a = codes "* victim " ++ spelled_name (name_in e)
 spelled_entry labels Close e a = codes "* close " ++ spelled_name (name_in e)
+
+-- the entry's line in a report, without its line feed
+abbrev pub entry_text : List (List ℕ) → Entry → List ℕ
+entry_text labels e = spelled_entry labels e.by e.event e.answer
 
 -- the oldest first
 abbrev pub spelled_history : List (List ℕ) → History → List ℕ

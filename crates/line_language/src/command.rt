@@ -1,6 +1,7 @@
 //! Command lines: the words behind the first, read as the first asks.
 ghost use Rattle.std.specs.Prelude.{◌≡◌, IfOk, MatchResult};
 ghost use Rattle.std.specs.Option.{option_copied};
+ghost use Rattle.event_lists.specs.Views.{act_of, name_of};
 ghost use Rattle.line_language.specs.Steps.{Gives};
 ghost use Rattle.line_language.specs.Accesses.{AreRead, asked_in};
 ghost use Rattle.line_language.specs.Words.{cut_at, parts_left};
@@ -10,6 +11,7 @@ use crate::fault::LineKind;
 use crate::number::parse_number;
 use crate::parting::cut;
 use crate::verbs::{is_abort, is_after, is_begin, is_sum, operand, operation_of, with_operand};
+use event_lists::Act;
 use serial_spec::{Event, Op, When};
 use txn_names::{Group, Key, Name};
 
@@ -61,13 +63,29 @@ pub struct AccessWords<'a> {
 
 impl AccessWords<'_> {
     /// What the line asks.
-    #[inline(always)]
-    pub fn event(&self) -> Event
+    fn event(&self) -> Event
         requires { AreRead self.now }
         ensures { result ≡ asked_in self.now }
     {
-        let name = Name::of_spelled(self.name, self.depth);
-        Event::Access(name, Key::of(self.key), self.op)
+        Event::Access(self.name(), Key::of(self.key), self.op)
+    }
+
+    /// The transaction that the line names.
+    #[inline(always)]
+    pub fn name(&self) -> Name
+        requires { AreRead self.now }
+        ensures { result ≡ name_of (asked_in self.now) }
+    {
+        Name::of_spelled(self.name, self.depth)
+    }
+
+    /// What the line asks of it.
+    #[inline(always)]
+    pub fn act(&self) -> Act
+        requires { AreRead self.now }
+        ensures { result ≡ act_of (asked_in self.now) }
+    {
+        Act::Access(Key::of(self.key), self.op)
     }
 }
 

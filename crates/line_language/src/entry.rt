@@ -5,7 +5,8 @@ ghost use Rattle.std.specs.Str.{bytes_eq};
 ghost use Rattle.txn_bytes.specs.Written.{IsStopped, PutsAll, PutsFront};
 ghost use Rattle.txn_names.specs.Text.{spelled_name};
 ghost use Rattle.serial_spec.specs.declared.entry.By.TheVariants.{Line};
-ghost use Rattle.line_language.specs.Report.{name_in, spelled_entry};
+ghost use Rattle.event_lists.specs.Views.{asked, seen};
+ghost use Rattle.line_language.specs.Report.{entry_text, name_in, spelled_entry};
 ghost use Rattle.line_language.specs.Reading.{abort_of, before_dash, behind_space, count_of, entry_of, line_entry_of, sides_of, star_entry_of, told_of};
 
 use crate::answer::{answer_of, may_answer};
@@ -13,7 +14,8 @@ use crate::line::parse_event;
 use crate::number::parse_number;
 use crate::parting::cut;
 use crate::spelling::{put_answer, put_count, put_event, put_named};
-use serial_spec::{Answer, By, Entry, Event, MOST_LINES};
+use event_lists::{Act, EntryView, EventView};
+use serial_spec::{Answer, By, Event, MOST_LINES};
 use txn_bytes::{Sink, WriteFault, put};
 use txn_names::{Label, Name};
 
@@ -212,50 +214,53 @@ fn put_answered<W: Sink>(
     labels: &[Label],
     session: u32,
     number: u32,
-    event: &Event,
-    answer: &Answer,
+    entry: &EntryView<'_>,
 ) -> Result<(), WriteFault>
+    // Wide: an entry of a line, by the parts of its place.
     ensures ok { PutsAll W.Sink out.old out.new (spelled_entry labels.now (Line session number)
-        event.now answer.now) result }
+        (seen entry.now).event (seen entry.now).answer) result }
+    // Wide: the same.
     ensures err { PutsFront W.Sink out.old out.new (spelled_entry labels.now (Line session number)
-        event.now answer.now) result }
+        (seen entry.now).event (seen entry.now).answer) result }
     ensures asked { OnErr result (IsStopped W.Sink out.new) }
 {
     put_place(out, labels, session, number)?;
     put(out, b" ")?;
-    put_event(out, event)?;
+    put_event(out, &entry.event)?;
     put(out, b" -> ")?;
-    put_answer(out, answer)
+    put_answer(out, entry.said, entry.top)
 }
 
 // A word with its space, and the name of an abort.
-fn put_aborted<W: Sink>(out: &mut W, word: &[u8], event: &Event) -> Result<(), WriteFault>
-    ensures ok { PutsAll W.Sink out.old out.new (word.now ++ spelled_name (name_in event.now))
-        result }
-    ensures err { PutsFront W.Sink out.old out.new (word.now ++ spelled_name (name_in event.now))
-        result }
+fn put_aborted<W: Sink>(out: &mut W, word: &[u8], event: &EventView<'_>) -> Result<(), WriteFault>
+    ensures ok { PutsAll W.Sink out.old out.new
+        (word.now ++ spelled_name (name_in (asked event.now))) result }
+    ensures err { PutsFront W.Sink out.old out.new
+        (word.now ++ spelled_name (name_in (asked event.now))) result }
     ensures asked { OnErr result (IsStopped W.Sink out.new) }
 {
-    match event {
-        Event::Abort(name) => put_named(out, word, name),
+    match event.act {
+        Act::Abort => put_named(out, word, event.name),
         _ => put(out, word),
     }
 }
 
 /// Writes an entry as a line of a report without its line feed, with the label of its session. It
 /// takes no memory. After a fault, the only one, the writer has taken a beginning of that.
-pub fn put_entry<W: Sink>(out: &mut W, labels: &[Label], entry: &Entry) -> Result<(), WriteFault>
-    ensures ok { PutsAll W.Sink out.old out.new (spelled_entry labels.now entry.now.by
-        entry.now.event entry.now.answer) result }
-    ensures err { PutsFront W.Sink out.old out.new (spelled_entry labels.now entry.now.by
-        entry.now.event entry.now.answer) result }
+pub fn put_entry<W: Sink>(
+    out: &mut W,
+    labels: &[Label],
+    entry: &EntryView<'_>,
+) -> Result<(), WriteFault>
+    ensures ok { PutsAll W.Sink out.old out.new (entry_text labels.now (seen entry.now)) result }
+    ensures err { PutsFront W.Sink out.old out.new (entry_text labels.now (seen entry.now)) result }
     ensures asked { OnErr result (IsStopped W.Sink out.new) }
 {
     match entry.by {
         By::Line {
             session,
             line: number,
-        } => put_answered(out, labels, session, number, &entry.event, &entry.answer),
+        } => put_answered(out, labels, session, number, entry),
         By::Victim => put_aborted(out, b"* victim ", &entry.event),
         By::Close => put_aborted(out, b"* close ", &entry.event),
     }

@@ -23,6 +23,7 @@ mod verbs;
 
 pub use command::{AccessWords, one};
 pub use entry::{ReportEntry, parse_entry, put_entry, read_entry};
+pub use event_lists::{Cause, cause_of};
 pub use fault::LineKind;
 pub use lengths::{
     MOST_ANSWER, MOST_COMMAND, MOST_DIGITS, MOST_ENTRY, MOST_KEY, MOST_LABEL, MOST_NAME,
@@ -31,7 +32,7 @@ pub use lengths::{
 pub use line::{Line, parse_event, parse_line};
 pub use number::parse_number;
 pub use parting::{cut, cut_line};
-pub use refusals::{Cause, cause_of, cause_word, causes};
+pub use refusals::{cause_word, causes};
 pub use row::{parse_row, put_row};
 pub use spelling::{put_event, put_number, put_size};
 pub use verbs::access_in;

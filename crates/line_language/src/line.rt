@@ -1,5 +1,5 @@
 //! Command lines.
-ghost use Rattle.std.specs.Prelude.{◌≡◌, IfOk, Ok};
+ghost use Rattle.std.specs.Prelude.{◌≡◌, IfOk};
 ghost use Rattle.line_language.specs.Commands.{event_of};
 ghost use Rattle.line_language.specs.Events.{IsEvent};
 
@@ -34,17 +34,6 @@ impl Line {
     {
         &self.event
     }
-
-    /// The line of an event that is read off these bytes. It is made where it is to stand, so that
-    /// the event is copied once.
-    #[inline(always)]
-    pub fn of(event: Event, _bytes: &[u8]) -> Line
-        requires read { event_of _bytes.now ≡ Ok event }
-        ensures value { result ≡ event }
-        ensures valid { IsEvent event }
-    {
-        Line { event }
-    }
 }
 
 /// Reads a command line, without its line feed. A header is refused as `Word`; of several faults
@@ -55,7 +44,7 @@ pub fn parse_line(bytes: &[u8]) -> Result<Line, LineKind>
     ensures valid { IfOk result IsEvent }
 {
     let event = command::event_of(bytes)?;
-    Ok(Line::of(event, bytes))
+    Ok(Line { event })
 }
 
 /// What a command line asks, as `parse_line` reads it, where its text is not wanted.

@@ -2,23 +2,10 @@
 //!
 //! What stands here of a cause is all that lines and summaries have of it.
 ghost use Rattle.std.specs.Prelude.{◌≡◌, ◌++◌, codes};
-ghost use Rattle.line_language.specs.Refusals.{cause_of, cause_word, causes, refusal_of, refusal_word, may_refuse_access, may_refuse_begin, may_refuse_commit, may_refuse_end, may_refuse_sum};
+ghost use Rattle.line_language.specs.Refusals.{cause_word, causes, refusal_of, may_refuse_access, may_refuse_begin, may_refuse_commit, may_refuse_end, may_refuse_sum};
 
+use event_lists::Cause;
 use serial_spec::Refusal;
-
-/// Why a line was refused, the name of the topmost aborted transaction left aside.
-#[derive(Clone, Copy, Debug, PartialEq, Eq)]
-pub enum Cause {
-    Unknown,
-    Used,
-    NoParent,
-    Orphan,
-    Done,
-    Children,
-    Waiting,
-    Full,
-    Store,
-}
 
 /// Each cause once, in the order in which a summary counts them.
 pub fn causes() -> [Cause; 9]
@@ -35,23 +22,6 @@ pub fn causes() -> [Cause; 9]
         Cause::Full,
         Cause::Store,
     ]
-}
-
-/// The cause that a refusal tells.
-pub fn cause_of(refusal: &Refusal) -> Cause
-    ensures { result ≡ cause_of refusal.now }
-{
-    match refusal {
-        Refusal::Unknown => Cause::Unknown,
-        Refusal::Used => Cause::Used,
-        Refusal::NoParent => Cause::NoParent,
-        Refusal::Done => Cause::Done,
-        Refusal::Orphan(_) => Cause::Orphan,
-        Refusal::Children => Cause::Children,
-        Refusal::Waiting => Cause::Waiting,
-        Refusal::Full => Cause::Full,
-        Refusal::Store => Cause::Store,
-    }
 }
 
 /// The word of a cause.
@@ -102,20 +72,20 @@ pub(crate) fn refusal_of(word: &[u8]) -> Option<Refusal>
     None
 }
 
-/// `refused` and the word behind it. That of an orphan has none.
-pub(crate) fn refused(refusal: &Refusal) -> &'static [u8]
-    ensures { result.now ≡ codes "refused " ++ refusal_word refusal.now }
+/// `refused` and the word behind it.
+pub(crate) fn refused(cause: Cause) -> &'static [u8]
+    ensures { result.now ≡ codes "refused " ++ cause_word cause }
 {
-    match refusal {
-        Refusal::Unknown => b"refused unknown",
-        Refusal::Used => b"refused used",
-        Refusal::NoParent => b"refused no-parent",
-        Refusal::Done => b"refused done",
-        Refusal::Orphan(_) => b"refused ",
-        Refusal::Children => b"refused children",
-        Refusal::Waiting => b"refused waiting",
-        Refusal::Full => b"refused full",
-        Refusal::Store => b"refused store",
+    match cause {
+        Cause::Unknown => b"refused unknown",
+        Cause::Used => b"refused used",
+        Cause::NoParent => b"refused no-parent",
+        Cause::Orphan => b"refused orphan",
+        Cause::Done => b"refused done",
+        Cause::Children => b"refused children",
+        Cause::Waiting => b"refused waiting",
+        Cause::Full => b"refused full",
+        Cause::Store => b"refused store",
     }
 }
 

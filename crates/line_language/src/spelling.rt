@@ -3,12 +3,14 @@
 ghost use Rattle.std.specs.Prelude.{◌++◌, codes, decimal, OnErr};
 ghost use Rattle.txn_bytes.specs.Written.{IsStopped, PutsAll, PutsFront};
 ghost use Rattle.txn_names.specs.Text.{spelled_name};
+ghost use Rattle.event_lists.specs.Views.{answer_by, asked, refusal_by};
 ghost use Rattle.line_language.specs.Printing.{spelled_access, spelled_answer, spelled_event, spelled_number, spelled_refusal, spelled_reply, spelled_when};
 
 use crate::refusals::refused;
 use crate::verbs::{lead, operand};
+use event_lists::{Act, Cause, EventView, Said};
 use itoa::Buffer;
-use serial_spec::{Answer, Event, Op, Refusal, Reply, When};
+use serial_spec::{Op, Reply, When};
 use txn_bytes::{Sink, WriteFault, put};
 use txn_names::{Group, Key, Name};
 
@@ -149,18 +151,19 @@ fn put_after<W: Sink>(out: &mut W, name: &Name, when: When) -> Result<(), WriteF
 /// Writes an event as the command line that asks it, without its line feed: the one text of such a
 /// line, of at most 329 bytes. It takes no memory. After a fault, the only one, the writer has taken
 /// a beginning of that.
-pub fn put_event<W: Sink>(out: &mut W, event: &Event) -> Result<(), WriteFault>
-    ensures ok { PutsAll W.Sink out.old out.new (spelled_event event.now) result }
-    ensures err { PutsFront W.Sink out.old out.new (spelled_event event.now) result }
+pub fn put_event<W: Sink>(out: &mut W, event: &EventView<'_>) -> Result<(), WriteFault>
+    ensures ok { PutsAll W.Sink out.old out.new (spelled_event (asked event.now)) result }
+    ensures err { PutsFront W.Sink out.old out.new (spelled_event (asked event.now)) result }
     ensures asked { OnErr result (IsStopped W.Sink out.new) }
 {
-    match event {
-        Event::Begin(name) => put_named(out, b"begin ", name),
-        Event::Access(name, key, op) => put_access(out, name, key, *op),
-        Event::Sum(name, group) => put_sum(out, name, group),
-        Event::Commit(name) => put_named(out, b"commit ", name),
-        Event::Abort(name) => put_named(out, b"abort ", name),
-        Event::After(name, when) => put_after(out, name, *when),
+    let name = event.name;
+    match event.act {
+        Act::Begin => put_named(out, b"begin ", name),
+        Act::Access(key, op) => put_access(out, name, key, *op),
+        Act::Sum(group) => put_sum(out, name, group),
+        Act::Commit => put_named(out, b"commit ", name),
+        Act::Abort => put_named(out, b"abort ", name),
+        Act::After(when) => put_after(out, name, *when),
     }
 }
 
@@ -188,26 +191,27 @@ fn put_told<W: Sink>(out: &mut W, word: &[u8], number: i64) -> Result<(), WriteF
     put_number(out, number)
 }
 
-fn put_refusal<W: Sink>(out: &mut W, refusal: &Refusal) -> Result<(), WriteFault>
-    ensures ok { PutsAll W.Sink out.old out.new (spelled_refusal refusal.now) result }
-    ensures err { PutsFront W.Sink out.old out.new (spelled_refusal refusal.now) result }
+fn put_refusal<W: Sink>(out: &mut W, cause: Cause, top: &Name) -> Result<(), WriteFault>
+    ensures ok { PutsAll W.Sink out.old out.new (spelled_refusal (refusal_by cause top.now)) result }
+    ensures err { PutsFront W.Sink out.old out.new (spelled_refusal (refusal_by cause top.now))
+        result }
     ensures asked { OnErr result (IsStopped W.Sink out.new) }
 {
-    match refusal {
-        Refusal::Orphan(name) => put_named(out, b"orphan ", name),
-        _ => put(out, refused(refusal)),
+    match cause {
+        Cause::Orphan => put_named(out, b"orphan ", top),
+        _ => put(out, refused(cause)),
     }
 }
 
-pub(crate) fn put_answer<W: Sink>(out: &mut W, answer: &Answer) -> Result<(), WriteFault>
-    ensures ok { PutsAll W.Sink out.old out.new (spelled_answer answer.now) result }
-    ensures err { PutsFront W.Sink out.old out.new (spelled_answer answer.now) result }
+pub(crate) fn put_answer<W: Sink>(out: &mut W, said: Said, top: &Name) -> Result<(), WriteFault>
+    ensures ok { PutsAll W.Sink out.old out.new (spelled_answer (answer_by said top.now)) result }
+    ensures err { PutsFront W.Sink out.old out.new (spelled_answer (answer_by said top.now)) result }
     ensures asked { OnErr result (IsStopped W.Sink out.new) }
 {
-    match answer {
-        Answer::Done(reply) => put_reply(out, *reply),
-        Answer::Waits => put(out, b"waits"),
-        Answer::Stuck => put(out, b"stuck"),
-        Answer::Refused(refusal) => put_refusal(out, refusal),
+    match said {
+        Said::Done(reply) => put_reply(out, reply),
+        Said::Waits => put(out, b"waits"),
+        Said::Stuck => put(out, b"stuck"),
+        Said::Refused(cause) => put_refusal(out, cause, top),
     }
 }

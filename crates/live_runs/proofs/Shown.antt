@@ -1,5 +1,5 @@
 -- What is written of a run that goes on.
-use Rattle.std.proofs.Common.{◌≡◌, ℕ, ◌≤◌, ◌-◌, inl, inr, List, [], ◌∷◌, ◌++◌, length, take, drop, reverse, refl, sym, ap, subst, ◌∙◌, arith, append_assoc, append-nil, length-append, length-drop, length-take-le, take-append-drop}
+use Rattle.std.proofs.Common.{◌≡◌, ℕ, ◌≤◌, ◌-◌, inl, inr, List, [], ◌∷◌, ◌++◌, length, take, drop, reverse, refl, sym, ap, subst, ◌∙◌, arith, append_assoc, append-nil, length-append, length-take-le, take-append-drop}
 use Rattle.std.proofs.lemmas.List.{length-reverse, reverse-append}
 use Rattle.std.specs.Prelude.{codes}
 use Rattle.serial_spec.specs.declared.entry.Entry.{Entry}
@@ -28,13 +28,13 @@ take_first [] ys = refl
 take_first (x ∷ xs) ys = ap (λ zs. x ∷ zs) (take_first xs ys)
 
 -- behind those that were there stand those that came later
-pub behind_later : (later h : History) → entries_behind (length h) (later ++ h) ≡ later
+behind_later : (later h : History) → entries_behind (length h) (later ++ h) ≡ later
 behind_later later h =
     let count : length (later ++ h) - length h ≡ length later = omega (arith, length-append {A = Entry} later h) in
     ap (λ n. take n (later ++ h)) count ∙ take_first later h
 
 -- and of a list of which the oldest stands first they are its rest
-pub behind_drop : (items : List Entry) (n : ℕ) → n ≤ length items → reverse (drop n items) ≡ entries_behind n (reverse items)
+behind_drop : (items : List Entry) (n : ℕ) → n ≤ length items → reverse (drop n items) ≡ entries_behind n (reverse items)
 behind_drop items n within =
     let parts : reverse items ≡ reverse (drop n items) ++ reverse (take n items) =
     ap reverse (sym (take-append-drop n items)) ∙ reverse-append (take n items) (drop n items) in
@@ -43,28 +43,12 @@ behind_drop items n within =
     ∙ ap (λ m. entries_behind m (reverse (drop n items) ++ reverse (take n items))) count
     ∙ ap (entries_behind n) (sym parts)
 
-take_all : (xs : List Entry) (n : ℕ) → n ≡ length xs → take n xs ≡ xs
-take_all xs n is = ap (λ m. take m xs) is ∙ whole xs
-  where
-    whole : (ys : List Entry) → take (length ys) ys ≡ ys
-    whole [] = refl
-    whole (y ∷ ys) = ap (λ zs. y ∷ zs) (whole ys)
-
--- a slice from there on, of which the oldest stands first
-pub behind_slice : (items : List Entry) (h : History) (n : ℕ) → reverse items ≡ h → n ≤ length h
-    → reverse (take (length items - n) (drop n items)) ≡ entries_behind n h
-behind_slice items h n is within =
-    let count : length h ≡ length items = sym (ap (λ (x : History). length x) is) ∙ length-reverse items in
-    let all : length items - n ≡ length (drop n items) = omega (arith, length-drop n items) in
-    ap reverse (take_all (drop n items) (length items - n) all)
-    ∙ behind_drop items n (omega (arith, within, count))
-    ∙ ap (entries_behind n) is
-
 pub behind_told : (labels ls : List (List ℕ)) (items : List Entry) (h : History) (n : ℕ) → ls ≡ labels → reverse items ≡ h → n ≤ length h
-    → spelled_history ls (reverse (take (length items - n) (drop n items))) ≡ spelled_history labels (entries_behind n h)
+    → spelled_history ls (reverse (drop n items)) ≡ spelled_history labels (entries_behind n h)
 behind_told labels ls items h n same is within =
-    ap (λ (x : List (List ℕ)). spelled_history x (reverse (take (length items - n) (drop n items)))) same
-    ∙ ap (spelled_history labels) (behind_slice items h n is within)
+    let count : length h ≡ length items = sym (ap (λ (x : History). length x) is) ∙ length-reverse items in
+    ap (λ (x : List (List ℕ)). spelled_history x (reverse (drop n items))) same
+    ∙ ap (spelled_history labels) (behind_drop items n (omega (arith, within, count)) ∙ ap (entries_behind n) is)
 
 -- a trail leads to a history that has the entries from which it began
 pub trail_later : {S : Type 0} (g : Ghosts S) (rows : Rows) (h0 : History) (s0 : S) (h : History) (s : S) → Trail g rows h0 s0 h s

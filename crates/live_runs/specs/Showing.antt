@@ -1,7 +1,8 @@
 -- What is written of a report that grows, part by part.
-use Rattle.std.specs.Prelude.{◌⊎◌, ◌-◌, ◌++◌, ℕ, List, length, take, Ok, Err}
+use Rattle.std.specs.Prelude.{◌⊎◌, ◌-◌, ◌++◌, ℕ, List, length, reverse, take, Ok, Err}
 use Rattle.std.specs.Io.KnownBytes.{Appends}
 use Rattle.txn_bytes.specs.Written.{Writer}
+use Rattle.serial_spec.specs.declared.entry.Entry.{Entry}
 use Rattle.serial_spec.specs.History.{History}
 use Rattle.line_language.specs.Report.{spelled_history}
 use Rattle.run_reports.specs.Told.{Told}
@@ -12,6 +13,10 @@ use Rattle.program_words.specs.Tellings.{IsFlushed}
 -- the entries behind the oldest so many
 abbrev pub entries_behind : ℕ → History → History
 entries_behind n h = take (length h - n) h
+
+-- the lines of the entries behind the first so many, of which the oldest stands first
+abbrev pub lines_behind : List (List ℕ) → ℕ → List Entry → List ℕ
+lines_behind labels n entries = spelled_history labels (entries_behind n (reverse entries))
 
 -- the lines of these entries, and the end of the report
 abbrev pub rest_behind : ℕ → Told → List ℕ

@@ -1,15 +1,14 @@
 //! The report as it grows: each part is written and passed on.
-ghost use Rattle.std.specs.Prelude.{◌≤◌, length, reverse, OnErr, OnOk};
-ghost use Rattle.line_language.specs.Report.{spelled_history};
+ghost use Rattle.std.specs.Prelude.{◌≤◌, length, OnErr, OnOk};
 ghost use Rattle.durable_top.specs.Store.{plain};
 ghost use Rattle.run_reports.specs.Reports.{IsReport};
 ghost use Rattle.report_text.specs.Lines.{opening_text};
-ghost use Rattle.live_runs.specs.Showing.{IsShown, IsUnshown, entries_behind, rest_behind};
+ghost use Rattle.live_runs.specs.Showing.{IsShown, IsUnshown, lines_behind, rest_behind};
 
 use durable_top::Row;
+use event_lists::Entries;
 use report_text::{WriteFault, write_ending, write_entries, write_opening};
 use run_reports::Report;
-use serial_spec::Entry;
 use txn_bytes::Sink;
 use txn_names::Label;
 
@@ -26,17 +25,17 @@ pub(crate) fn show_opening<W: Sink>(rows: &[Row], out: &mut W) -> Result<(), Wri
 /// The entries behind the first so many.
 pub(crate) fn show_entries<W: Sink>(
     labels: &[Label],
-    history: &[Entry],
+    history: &Entries,
     written: usize,
     out: &mut W,
 ) -> Result<(), WriteFault>
-    requires { written ≤ length history.now }
+    requires { written ≤ length history.now.entries }
     ensures ok { OnOk result (IsShown W.Sink out.old out.new
-        (spelled_history labels.now (entries_behind written (reverse history.now)))) }
+        (lines_behind labels.now written history.now.entries)) }
     ensures err { OnErr result (IsUnshown W.Sink out.old out.new
-        (spelled_history labels.now (entries_behind written (reverse history.now)))) }
+        (lines_behind labels.now written history.now.entries)) }
 {
-    write_entries(labels, &history[written..], out)?;
+    write_entries(labels, history, written, out)?;
     out.pass_on()
 }
 
@@ -52,7 +51,7 @@ pub(crate) fn show_rest<W: Sink>(
     ensures report { IsReport report.now }
 {
     let table = report.table();
-    write_entries(report.labels(), &report.history()[written..], out)?;
+    write_entries(report.labels(), report.history(), written, out)?;
     write_ending(table, out)?;
     out.pass_on()
 }

@@ -11,10 +11,11 @@ ghost use Rattle.live_sessions.specs.Handling.{Attempted, BreaksAt, Breaks, Grow
 
 use crate::growing::{grow, refusal};
 use durable_top::{Row, TopStore};
+use event_lists::Entries;
 use interleavings::{Progress, Turns, run_opened, settle};
 use manager_core::OpenFault;
 use run_reports::Report;
-use serial_spec::{Entry, NoMemory};
+use serial_spec::NoMemory;
 use session_text::{Line, LineKind, Sessions, parse_request};
 use std::alloc::Global;
 use std::marker::Model;
@@ -84,8 +85,8 @@ impl<S: TopStore> Live<S> {
     }
 
     /// The entries, the oldest first.
-    pub fn history(&self) -> &[Entry]
-        ensures { reverse result.now ≡ self.now.core.history }
+    pub fn history(&self) -> &Entries
+        ensures { reverse result.now.entries ≡ self.now.core.history }
     {
         self.progress.history()
     }

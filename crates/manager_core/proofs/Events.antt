@@ -1,13 +1,10 @@
 -- The event by which something is asked of a transaction: what the definitions say of it, whatever is asked.
-use Rattle.std.proofs.Common.{◌≡◌, ℕ, true, false, ◌⊎◌, inl, inr, List, Option, Some, unwrap_or, refl, sym, ap, ◌∙◌}
+use Rattle.std.proofs.Common.{◌≡◌, ℕ, true, false, Option, Some, unwrap_or, refl, sym, ap, ◌∙◌}
 use Rattle.txn_names.specs.Path.{path_eq}
 use Rattle.txn_names.proofs.Exports.{path_eq_self}
 use Rattle.serial_spec.specs.declared.target.Asked.{Asked}
 use Rattle.serial_spec.specs.declared.target.Asked.TheVariants.{At, Over}
-use Rattle.serial_spec.specs.declared.operation.Op.{Op}
 use Rattle.serial_spec.specs.declared.operation.Reply.{Reply}
-use Rattle.serial_spec.specs.declared.event.Event.{Event}
-use Rattle.serial_spec.specs.declared.event.Event.TheVariants.{Access, Sum}
 use Rattle.serial_spec.specs.declared.entry.By.{By}
 use Rattle.serial_spec.specs.declared.entry.By.TheVariants.{Close}
 use Rattle.serial_spec.specs.declared.entry.Refusal.{Refusal}
@@ -18,6 +15,9 @@ use Rattle.serial_spec.specs.Rows.{Rows}
 use Rattle.serial_spec.specs.Waits.{accesses, blocks_event, same_line, wait_of}
 use Rattle.serial_spec.specs.Locks.{is_blocker}
 use Rattle.serial_spec.specs.Allowed.{answer, answer_to_access}
+use Rattle.event_lists.specs.declared.view.Act.{Act}
+use Rattle.event_lists.specs.declared.view.Act.TheVariants as act
+use Rattle.event_lists.specs.Views.{event_by}
 use Rattle.txn_history.specs.Laws.{may_add_pair}
 use Rattle.manager_core.specs.Lines.{CanGiveUp, IsWaitOf, access_by, accessor}
 use Rattle.manager_core.specs.Tables.{wait_by}
@@ -99,8 +99,11 @@ same_asked t u a b e =
     let both : Some (Close, a) ≡ Some (Close, b) = sym (access_by_at Close t a) ∙ ap (access_by Close) e ∙ access_by_at Close u b in
     ap (λ (o : Option (By × Asked)). (unwrap_or o (Close, a)).1) both
 
--- an event that asks something of this transaction
-pub event_asked : (event : Event) (t : Name) → ((k : List ℕ) × (o : Op) × (event ≡ Access t k o)) ⊎ ((g : List ℕ) × (event ≡ Sum t g))
-    → (a : Asked) × (event ≡ event_of t a)
-event_asked event t (inl (k, o, is)) = (At k o, is)
-event_asked event t (inr (g, is)) = (Over g, is)
+-- a line that waits asks for an access
+pub waits_asked : (h : History) (by : By) (t : Name) (a : Act) → IsWaitOf h by (event_by t a) → (asked : Asked) × (event_by t a ≡ event_of t asked)
+waits_asked h by t act.Begin waits = absurd waits
+waits_asked h by t (act.Access k o) waits = (At k o, refl)
+waits_asked h by t (act.Sum g) waits = (Over g, refl)
+waits_asked h by t act.Commit waits = absurd waits
+waits_asked h by t act.Abort waits = absurd waits
+waits_asked h by t (act.After w) waits = absurd waits

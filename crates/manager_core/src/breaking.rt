@@ -11,7 +11,8 @@ ghost use Rattle.manager_core.specs.inner.Victims.{HasMadeRoom, HasRoomToStep, S
 use crate::log::Log;
 use crate::outcome::Outcome;
 use crate::tables::Tables;
-use serial_spec::{By, Event, NoMemory};
+use event_lists::Act;
+use serial_spec::{By, NoMemory};
 use std::alloc::AllocError;
 use txn_names::Name;
 use wait_graph::CycleSearch;
@@ -48,7 +49,7 @@ fn abort_victim(log: &mut Log, tables: &mut Tables, name: &Name)
 {
     name.has_labels();
     let outcome = Outcome::of(tables.abort(name));
-    log.add(By::Victim, Event::Abort(*name), &outcome);
+    log.add(By::Victim, name, &Act::Abort, &outcome);
 }
 
 /// Aborts the last begun of those that lie on a cycle of waits, until no cycle is left. It takes no

@@ -12,7 +12,8 @@ ghost use Rattle.manager_core.specs.Tables.{AbortsIn, is_live_top_in, rows_in};
 use crate::log::Log;
 use crate::outcome::Outcome;
 use crate::tables::Tables;
-use serial_spec::{By, Event};
+use event_lists::Act;
+use serial_spec::By;
 use txn_names::Name;
 use txn_tree::{Status, TxnNo};
 
@@ -53,7 +54,7 @@ impl Tables {
         ensures marks_room { self.old.marks.room ≤ self.new.marks.room + 1 }
     {
         let outcome = Outcome::of(self.abort(name));
-        log.add(By::Close, Event::Abort(*name), &outcome);
+        log.add(By::Close, name, &Act::Abort, &outcome);
     }
 
     /// Aborts the live top-level transactions, in the order in which they began. There is room for

@@ -5,12 +5,14 @@ ghost use Rattle.txn_names.specs.Path.{label_eq};
 ghost use Rattle.serial_spec.specs.declared.entry.Answer.TheVariants.{Stuck};
 ghost use Rattle.serial_spec.specs.Allowed.{known};
 ghost use Rattle.serial_spec.specs.History.{event_of};
+ghost use Rattle.event_lists.specs.Views.{asked, event_by, seen};
 ghost use Rattle.txn_history.specs.Lines.{IsLineFree, OnlyWaits};
 ghost use Rattle.manager_core.specs.State.{entry};
 ghost use Rattle.manager_core.specs.Outcomes.{answer_of};
 
 use crate::outcome::Outcome;
-use serial_spec::{Answer, Asked, By, Entry, Event, NoMemory, PlainTable};
+use event_lists::{Act, Entries, EntryView, EventView, Said};
+use serial_spec::{Asked, By, NoMemory, PlainTable};
 use std::alloc::Global;
 use std::marker::Model;
 use txn_history::History;
@@ -41,15 +43,15 @@ impl Log {
     }
 
     /// The entries, the oldest first.
-    pub(crate) fn entries(&self) -> &[Entry]
-        ensures { reverse result.now ≡ self.now.entries }
+    pub(crate) fn entries(&self) -> &Entries
+        ensures { reverse result.now.entries ≡ self.now.entries }
     {
         self.history.entries()
     }
 
     /// The entries, the oldest first.
-    pub(crate) fn into_entries(self) -> Vec<Entry>
-        ensures { reverse result.items ≡ self.entries }
+    pub(crate) fn into_entries(self) -> Entries
+        ensures { reverse result.entries ≡ self.entries }
     {
         self.history.into_entries()
     }
@@ -64,21 +66,36 @@ impl Log {
         self.history.reserve(additional)
     }
 
-    /// Adds the entry of an outcome. It is part of each caller, so that the event is copied once.
+    // Adds the entry. It is no part of its callers, which are many.
+    #[inline(never)]
+    fn push(&mut self, entry: &EntryView<'_>)
+        requires { 0 < self.old.room }
+        ensures rows { self.new.rows ≡ self.old.rows }
+        ensures entries { self.new.entries ≡ seen entry.now ∷ self.old.entries }
+        ensures room { self.old.room ≤ self.new.room + 1 }
+    {
+        self.history.push(entry);
+    }
+
+    /// Adds the entry of what is asked of a transaction, and of the outcome. It is part of each
+    /// caller, so that an outcome, which has room for a name, is no value in memory.
     #[inline(always)]
-    pub(crate) fn add(&mut self, by: By, event: Event, outcome: &Outcome)
+    pub(crate) fn add<'a>(&mut self, by: By, name: &'a Name, act: &'a Act, outcome: &'a Outcome)
         requires { 0 < self.old.room }
         ensures rows { self.new.rows ≡ self.old.rows }
         ensures entries { self.new.entries ≡
-            entry by event (answer_of outcome.now) ∷ self.old.entries }
+            entry by (event_by name.now act.now) (answer_of outcome.now) ∷ self.old.entries }
         ensures room { self.old.room ≤ self.new.room + 1 }
     {
-        let answer = outcome.answer();
-        self.history.push(&Entry { by, event, answer });
+        self.push(&EntryView {
+            by,
+            event: EventView { name, act },
+            said: outcome.said(),
+            top: outcome.top(name),
+        });
     }
 
-    /// Adds the entry of what is asked of a transaction. Each arm makes its event where it is to
-    /// stand, so that it is copied once.
+    /// Adds the entry of an access, and of the outcome.
     #[inline(always)]
     pub(crate) fn add_asked(&mut self, by: By, name: &Name, asked: &Asked, outcome: &Outcome)
         requires { 0 < self.old.room }
@@ -87,20 +104,26 @@ impl Log {
             ≡ entry by (event_of name.now asked.now) (answer_of outcome.now) ∷ self.old.entries }
         ensures room { self.old.room ≤ self.new.room + 1 }
     {
-        match asked {
-            Asked::At(key, op) => self.add(by, Event::Access(*name, *key, *op), outcome),
-            Asked::Over(group) => self.add(by, Event::Sum(*name, *group), outcome),
-        }
+        let act = match asked {
+            Asked::At(key, op) => Act::Access(*key, *op),
+            Asked::Over(group) => Act::Sum(*group),
+        };
+        self.add(by, name, &act, outcome);
     }
 
     /// Adds the entry of a line that is given up.
-    pub(crate) fn add_stuck(&mut self, by: By, event: Event)
+    pub(crate) fn add_stuck(&mut self, by: By, event: &EventView<'_>)
         requires { 0 < self.old.room }
         ensures rows { self.new.rows ≡ self.old.rows }
-        ensures entries { self.new.entries ≡ entry by event Stuck ∷ self.old.entries }
+        ensures entries { self.new.entries ≡
+            entry by (asked event.now) Stuck ∷ self.old.entries }
     {
-        let answer = Answer::Stuck;
-        self.history.push(&Entry { by, event, answer });
+        self.push(&EntryView {
+            by,
+            event: *event,
+            said: Said::Stuck,
+            top: event.name,
+        });
     }
 
     /// Whether the key is in an opening row or in an answered access.
@@ -118,15 +141,15 @@ impl Log {
     }
 
     /// Whether the line has no entry, or one alone, that it waits with this event.
-    pub(crate) fn free(&self, by: By, event: &Event) -> bool
-        ensures { IsTrue result ↔ IsLineFree self.now.entries by event.now }
+    pub(crate) fn free(&self, by: By, event: &EventView<'_>) -> bool
+        ensures { IsTrue result ↔ IsLineFree self.now.entries by (asked event.now) }
     {
         self.history.free(by, event)
     }
 
     /// Whether the line has one entry alone, that it waits with this event.
-    pub(crate) fn waits_with(&self, by: By, event: &Event) -> bool
-        ensures { IsTrue result ↔ OnlyWaits self.now.entries by event.now }
+    pub(crate) fn waits_with(&self, by: By, event: &EventView<'_>) -> bool
+        ensures { IsTrue result ↔ OnlyWaits self.now.entries by (asked event.now) }
     {
         self.history.waits_with(by, event)
     }

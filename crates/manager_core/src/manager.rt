@@ -5,6 +5,7 @@ ghost use Rattle.serial_spec.specs.declared.entry.Answer.TheVariants.{Refused, S
 ghost use Rattle.serial_spec.specs.Allowed.{Allowed, cause_at_commit};
 ghost use Rattle.serial_spec.specs.Rows.{IsRising, value_in};
 ghost use Rattle.serial_spec.specs.Waits.{is_waits, wait_of};
+ghost use Rattle.event_lists.specs.Views.{asked};
 ghost use Rattle.durable_top.specs.Numbered.{entries_in};
 ghost use Rattle.durable_top.specs.Store.{plain};
 ghost use Rattle.manager_core.specs.Lines.{IsFree, IsWaitOf, waits_no_more, accessor};
@@ -19,7 +20,8 @@ use crate::log::Log;
 use crate::outcome::{OpenFault, Outcome};
 use crate::tables::Tables;
 use durable_top::{Row, TopStore, table_of};
-use serial_spec::{By, Entry, Event, MOST_ROWS, NoMemory, PlainTable, Refusal, Reply};
+use event_lists::{Act, Entries, EventView};
+use serial_spec::{By, MOST_ROWS, NoMemory, PlainTable, Refusal, Reply};
 use std::alloc::Global;
 use std::marker::Model;
 use txn_names::Name;
@@ -70,7 +72,7 @@ pub struct Parts<S: TopStore> {
     /// The opening rows, in byte order.
     pub opening: Vec<Row>,
     /// The entries, the oldest first.
-    pub history: Vec<Entry>,
+    pub history: Entries,
     /// The table that the committed top-level transactions left.
     pub table: PlainTable,
     pub store: S,
@@ -145,7 +147,7 @@ impl<S: TopStore> Manager<S> {
     {
         self.log.reserve(1)?;
         let outcome = Outcome::of(self.tables.begin(name)?);
-        self.log.add(by, Event::Begin(*name), &outcome);
+        self.log.add(by, name, &Act::Begin, &outcome);
         Ok(outcome)
     }
 
@@ -179,7 +181,7 @@ impl<S: TopStore> Manager<S> {
     {
         self.log.reserve(1)?;
         let outcome = Outcome::Refused(refusal);
-        self.log.add(by, Event::Commit(*name), &outcome);
+        self.log.add(by, name, &Act::Commit, &outcome);
         Ok(outcome)
     }
 
@@ -201,7 +203,7 @@ impl<S: TopStore> Manager<S> {
         self.tables.reserve_commit(txn, parent)?;
         self.tables.commit_child(txn, parent);
         let outcome = Outcome::Done(Reply::Ok);
-        self.log.add(by, Event::Commit(*name), &outcome);
+        self.log.add(by, name, &Act::Commit, &outcome);
         Ok(outcome)
     }
 
@@ -225,11 +227,11 @@ impl<S: TopStore> Manager<S> {
         if are_taken(&mut self.store, &changes) {
             self.tables.commit_top(txn, &changes);
             let outcome = Outcome::Done(Reply::Ok);
-            self.log.add(by, Event::Commit(*name), &outcome);
+            self.log.add(by, name, &Act::Commit, &outcome);
             Ok(outcome)
         } else {
             let outcome = Outcome::Refused(Refusal::Store);
-            self.log.add(by, Event::Commit(*name), &outcome);
+            self.log.add(by, name, &Act::Commit, &outcome);
             Ok(outcome)
         }
     }
@@ -248,7 +250,7 @@ impl<S: TopStore> Manager<S> {
         self.tables.reserve_aborts(1)?;
         name.has_labels();
         let outcome = Outcome::of(self.tables.abort(name));
-        self.log.add(by, Event::Abort(*name), &outcome);
+        self.log.add(by, name, &Act::Abort, &outcome);
         Ok(outcome)
     }
 
@@ -273,26 +275,26 @@ impl<S: TopStore> Manager<S> {
     }
 
     // Whether no access of the event's transaction waits.
-    fn waits_no_more(&self, event: &Event) -> bool
-        ensures { result ≡ waits_no_more self.now.history (accessor event.now) }
+    fn waits_no_more(&self, event: &EventView<'_>) -> bool
+        ensures { result ≡ waits_no_more self.now.history (accessor (asked event.now)) }
     {
-        match event {
-            Event::Access(name, _, _) | Event::Sum(name, _) => !self.waiting(name),
+        match event.act {
+            Act::Access(_, _) | Act::Sum(_) => !self.waiting(event.name),
             _ => true,
         }
     }
 
     /// Whether a call may add an entry of this line for this event: it is a line without entries,
     /// or one whose only entry is a wait with this event, and the transaction waits no more.
-    pub fn free(&self, by: By, event: &Event) -> bool
-        ensures { IsTrue result ↔ IsFree self.now.history by event.now }
+    pub fn free(&self, by: By, event: &EventView<'_>) -> bool
+        ensures { IsTrue result ↔ IsFree self.now.history by (asked event.now) }
     {
         self.log.free(by, event) && (!self.log.waits_with(by, event) || self.waits_no_more(event))
     }
 
     /// The entries, the oldest first.
-    pub fn history(&self) -> &[Entry]
-        ensures { reverse result.now ≡ self.now.history }
+    pub fn history(&self) -> &Entries
+        ensures { reverse result.now.entries ≡ self.now.history }
     {
         self.log.entries()
     }
@@ -317,7 +319,7 @@ impl<S: TopStore> Manager<S> {
     pub fn into_parts(self) -> Parts<S>
         ensures opening { plain result.opening.items ≡ self.rows }
         ensures given { result.opening ≡ self.opened.given }
-        ensures history { reverse result.history.items ≡ self.history }
+        ensures history { reverse result.history.entries ≡ self.history }
         ensures table { result.table.rows ≡ self.table }
         ensures store { result.store ≡ self.store }
     {

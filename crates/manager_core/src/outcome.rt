@@ -1,9 +1,12 @@
 //! What a call comes to.
 ghost use Rattle.std.specs.Prelude.{◌≡◌};
+ghost use Rattle.event_lists.specs.Views.{answer_by, said_of};
 ghost use Rattle.manager_core.specs.Outcomes.{answer_of, outcome_of};
 
 use durable_top::StoreFault;
-use serial_spec::{Answer, Refusal, Reply};
+use event_lists::{Said, cause_of};
+use serial_spec::{Refusal, Reply};
+use txn_names::Name;
 
 /// What a call comes to: a reply, a wait, or a refusal.
 #[derive(Clone, Copy, Debug, PartialEq, Eq)]
@@ -35,14 +38,26 @@ impl Outcome {
         }
     }
 
-    /// The answer that the history keeps.
-    pub(crate) fn answer(&self) -> Answer
-        ensures { result ≡ answer_of self.now }
+    /// What the history keeps of it, the name of an orphan's aborted ancestor left aside.
+    #[inline(always)]
+    pub(crate) fn said(&self) -> Said
+        ensures { result ≡ said_of (answer_of self.now) }
     {
         match self {
-            Outcome::Done(reply) => Answer::Done(*reply),
-            Outcome::Waits => Answer::Waits,
-            Outcome::Refused(refusal) => Answer::Refused(*refusal),
+            Outcome::Done(reply) => Said::Done(*reply),
+            Outcome::Waits => Said::Waits,
+            Outcome::Refused(refusal) => Said::Refused(cause_of(refusal)),
+        }
+    }
+
+    /// The topmost aborted ancestor, where it refuses an orphan, and else the other name.
+    #[inline(always)]
+    pub(crate) fn top<'a>(&'a self, other: &'a Name) -> &'a Name
+        ensures { answer_by (said_of (answer_of self.now)) result.now ≡ answer_of self.now }
+    {
+        match self {
+            Outcome::Refused(Refusal::Orphan(top)) => top,
+            _ => other,
         }
     }
 }

@@ -1,5 +1,5 @@
 -- A report's lines, one after another.
-use Rattle.std.proofs.Common.{◌≡◌, ℕ, ℤ, ◌+◌, ◌<◌, zero, suc, List, [], ◌∷◌, ◌++◌, length, take, drop, get_or, reverse, Some, refl, sym, ap, ◌∙◌, append_assoc, append-nil, arith, take-append-drop}
+use Rattle.std.proofs.Common.{◌≡◌, ℕ, ℤ, ◌+◌, ◌<◌, zero, suc, List, [], ◌∷◌, ◌++◌, length, take, drop, get_or, reverse, Option, None, Some, option_to_list, refl, sym, ap, ◌∙◌, append_assoc, append-nil, arith, take-append-drop}
 use Rattle.std.specs.Prelude.{slice_get}
 use Rattle.std.proofs.lemmas.List.{reverse-append}
 use Rattle.serial_spec.specs.declared.entry.Entry.{Entry}
@@ -7,7 +7,7 @@ use Rattle.serial_spec.specs.Rows.{Rows}
 use Rattle.line_language.specs.Report.{line, spelled_history, spelled_rows}
 use Rattle.durable_top.specs.declared.store.Row.{Row}
 use Rattle.durable_top.specs.Store.{plain}
-use Rattle.report_text.specs.Lines.{entry_line, row_line, row_lines}
+use Rattle.report_text.specs.Lines.{entry_line, entry_lines, row_line, row_lines}
 use Rattle.report_text.specs.Rows.{numbered_row, numbered_rows}
 
 -- ---- rows
@@ -43,21 +43,44 @@ pub spelled-append : (labels : List (List ℕ)) (xs ys : List Entry) → spelled
 spelled-append labels xs ys = ap (spelled_history labels) (reverse-append xs ys) ∙ spelled_history-append labels (reverse ys) (reverse xs)
 
 -- up to the entry at k, and that entry
-pub spelled-at : (labels : List (List ℕ)) (xs : List Entry) (k : ℕ) (e : Entry) → k < length xs → e ≡ get_or xs k e → spelled_history labels (reverse (take (k + 1) xs)) ≡ spelled_history labels (reverse (take k xs)) ++ entry_line labels e
-spelled-at labels xs k e h same =
-    ap (λ zs. spelled_history labels (reverse zs)) (taken xs k e h same) ∙ spelled-append labels (take k xs) (e ∷ [])
-  where
-    taken : (xs : List Entry) (k : ℕ) (e : Entry) → k < length xs → e ≡ get_or xs k e → take (k + 1) xs ≡ take k xs ++ e ∷ []
-    taken [] k e h same = absurd (omega (arith, h))
-    taken (x ∷ xs) zero e h same = ap (λ y. y ∷ []) (sym same)
-    taken (x ∷ xs) (suc k) e h same = let next : suc k + 1 ≡ suc (k + 1) = omega arith in rw next (ap (λ zs. x ∷ zs) (taken xs k e (omega (arith, h)) same))
+taken : (xs : List Entry) (k : ℕ) → take (k + 1) xs ≡ take k xs ++ option_to_list (slice_get xs k)
+taken [] zero = refl
+taken [] (suc k) = let next : suc k + 1 ≡ suc (k + 1) = omega arith in rw next refl
+taken (x ∷ xs) zero = refl
+taken (x ∷ xs) (suc k) = let next : suc k + 1 ≡ suc (k + 1) = omega arith in rw next (ap (λ (zs : List Entry). x ∷ zs) (taken xs k))
 
-pub spelled-parted : (labels : List (List ℕ)) (xs : List Entry) (k : ℕ) (e : Entry) → k < length xs → e ≡ get_or xs k e
-    → (spelled_history labels (reverse (take k xs)) ++ entry_line labels e) ++ spelled_history labels (reverse (drop (k + 1) xs)) ≡ spelled_history labels (reverse xs)
-spelled-parted labels xs k e h same =
-    ap (λ z. z ++ spelled_history labels (reverse (drop (k + 1) xs))) (sym (spelled-at labels xs k e h same))
-    ∙ sym (spelled-append labels (take (k + 1) xs) (drop (k + 1) xs))
-    ∙ ap (λ zs. spelled_history labels (reverse zs)) (take-append-drop (k + 1) xs)
+one_spelled : (labels : List (List ℕ)) (x : Option Entry) → spelled_history labels (reverse (option_to_list x)) ≡ entry_lines labels x
+one_spelled labels None = refl
+one_spelled labels (Some e) = refl
+
+spelled-at : (labels : List (List ℕ)) (xs : List Entry) (k : ℕ)
+    → spelled_history labels (reverse (take (k + 1) xs)) ≡ spelled_history labels (reverse (take k xs)) ++ entry_lines labels (slice_get xs k)
+spelled-at labels xs k =
+    ap (λ (zs : List Entry). spelled_history labels (reverse zs)) (taken xs k)
+    ∙ spelled-append labels (take k xs) (option_to_list (slice_get xs k))
+    ∙ ap (λ z. spelled_history labels (reverse (take k xs)) ++ z) (one_spelled labels (slice_get xs k))
+
+-- behind the first n the place k is the place n + k of all
+dropped : (xs : List Entry) (n k : ℕ) → slice_get (drop n xs) k ≡ slice_get xs (n + k)
+dropped xs zero k = let same : zero + k ≡ k = omega arith in rw same refl
+dropped [] (suc n) k = refl
+dropped (x ∷ xs) (suc n) k = let next : suc n + k ≡ suc (n + k) = omega arith in rw next (dropped xs n k)
+
+-- of those behind the first n: up to the entry at k, and that entry
+pub spelled-on : (labels : List (List ℕ)) (xs : List Entry) (n k : ℕ)
+    → spelled_history labels (reverse (take (k + 1) (drop n xs))) ≡ spelled_history labels (reverse (take k (drop n xs))) ++ entry_lines labels (slice_get xs (n + k))
+spelled-on labels xs n k =
+    spelled-at labels (drop n xs) k
+    ∙ ap (λ (x : Option Entry). spelled_history labels (reverse (take k (drop n xs))) ++ entry_lines labels x) (dropped xs n k)
+
+-- and those before the entry at k, that entry, and those behind it
+pub spelled-parted : (labels : List (List ℕ)) (xs : List Entry) (n k : ℕ)
+    → (spelled_history labels (reverse (take k (drop n xs))) ++ entry_lines labels (slice_get xs (n + k))) ++ spelled_history labels (reverse (drop (k + 1) (drop n xs)))
+    ≡ spelled_history labels (reverse (drop n xs))
+spelled-parted labels xs n k =
+    ap (λ z. z ++ spelled_history labels (reverse (drop (k + 1) (drop n xs)))) (sym (spelled-on labels xs n k))
+    ∙ sym (spelled-append labels (take (k + 1) (drop n xs)) (drop (k + 1) (drop n xs)))
+    ∙ ap (λ (zs : List Entry). spelled_history labels (reverse zs)) (take-append-drop (k + 1) (drop n xs))
 
 -- ---- rows as the program holds them
 

@@ -24,6 +24,11 @@ ending_text rows = line (codes "table") ++ spelled_rows rows ++ line (codes "end
 abbrev pub entry_line : List (List ℕ) → Entry → List ℕ
 entry_line labels e = line (spelled_entry labels e.by e.event e.answer)
 
+-- the line of an entry, if there is one
+abbrev pub entry_lines : List (List ℕ) → Option Entry → List ℕ
+entry_lines labels None = []
+entry_lines labels (Some e) = entry_line labels e
+
 -- the bytes of a whole report
 abbrev pub spelled_report : Told → List ℕ
 spelled_report r = report r.opening r.labels r.history r.table

@@ -1,13 +1,15 @@
 //! The lines of a report.
-ghost use Rattle.std.specs.Prelude.{◌++◌, codes, reverse, slice_get, OnErr};
+ghost use Rattle.std.specs.Prelude.{◌++◌, codes, drop, reverse, slice_get, OnErr};
 ghost use Rattle.txn_bytes.specs.Written.{IsStopped, PutsAll, PutsFront};
 ghost use Rattle.line_language.specs.Printing.{spelled_number};
-ghost use Rattle.report_text.specs.Lines.{entry_line, row_lines};
+ghost use Rattle.event_lists.specs.Views.{seen};
+ghost use Rattle.report_text.specs.Lines.{entry_line, entry_lines, row_lines};
 ghost use Rattle.line_language.specs.Report.{line, spelled_history, spelled_rows};
 
 use crate::line_buffer::LineBuffer;
+use event_lists::{Entries, EntryView};
 use line_language::{put_entry, put_row};
-use serial_spec::{Entry, PlainTable};
+use serial_spec::PlainTable;
 use txn_bytes::{Sink, WriteFault, put};
 use txn_names::{Key, Label};
 
@@ -74,9 +76,13 @@ pub(crate) fn put_table<W: Sink>(out: &mut W, table: &PlainTable) -> Result<(), 
 }
 
 // The line of an entry, one part after another.
-fn put_entry_parts<W: Sink>(out: &mut W, labels: &[Label], entry: &Entry) -> Result<(), WriteFault>
-    ensures ok { PutsAll W.Sink out.old out.new (entry_line labels.now entry.now) result }
-    ensures err { PutsFront W.Sink out.old out.new (entry_line labels.now entry.now) result }
+fn put_entry_parts<W: Sink>(
+    out: &mut W,
+    labels: &[Label],
+    entry: &EntryView<'_>,
+) -> Result<(), WriteFault>
+    ensures ok { PutsAll W.Sink out.old out.new (entry_line labels.now (seen entry.now)) result }
+    ensures err { PutsFront W.Sink out.old out.new (entry_line labels.now (seen entry.now)) result }
     ensures asked { OnErr result (IsStopped W.Sink out.new) }
 {
     put_entry(out, labels, entry)?;
@@ -88,10 +94,10 @@ fn put_entry_line<W: Sink>(
     out: &mut W,
     buffer: &mut LineBuffer,
     labels: &[Label],
-    entry: &Entry,
+    entry: &EntryView<'_>,
 ) -> Result<(), WriteFault>
-    ensures ok { PutsAll W.Sink out.old out.new (entry_line labels.now entry.now) result }
-    ensures err { PutsFront W.Sink out.old out.new (entry_line labels.now entry.now) result }
+    ensures ok { PutsAll W.Sink out.old out.new (entry_line labels.now (seen entry.now)) result }
+    ensures err { PutsFront W.Sink out.old out.new (entry_line labels.now (seen entry.now)) result }
     ensures asked { OnErr result (IsStopped W.Sink out.new) }
 {
     buffer.clear();
@@ -101,21 +107,43 @@ fn put_entry_line<W: Sink>(
     }
 }
 
-/// The entries, the oldest first.
+// The line of the entry at this place, if there is one.
+fn put_entry_at<W: Sink>(
+    out: &mut W,
+    buffer: &mut LineBuffer,
+    labels: &[Label],
+    entries: &Entries,
+    place: usize,
+) -> Result<(), WriteFault>
+    ensures ok { PutsAll W.Sink out.old out.new
+        (entry_lines labels.now (slice_get entries.now.entries place)) result }
+    ensures err { PutsFront W.Sink out.old out.new
+        (entry_lines labels.now (slice_get entries.now.entries place)) result }
+    ensures asked { OnErr result (IsStopped W.Sink out.new) }
+{
+    match entries.get(place) {
+        Some(entry) => put_entry_line(out, buffer, labels, &entry),
+        None => Ok(()),
+    }
+}
+
+/// The entries behind the first so many, the oldest first.
 pub(crate) fn put_history<W: Sink>(
     out: &mut W,
     labels: &[Label],
-    entries: &[Entry],
+    entries: &Entries,
+    told: usize,
 ) -> Result<(), WriteFault>
-    ensures ok { PutsAll W.Sink out.old out.new (spelled_history labels.now (reverse entries.now))
-        result }
-    ensures err { PutsFront W.Sink out.old out.new (spelled_history labels.now (reverse
-        entries.now)) result }
+    ensures ok { PutsAll W.Sink out.old out.new
+        (spelled_history labels.now (reverse (drop told entries.now.entries))) result }
+    ensures err { PutsFront W.Sink out.old out.new
+        (spelled_history labels.now (reverse (drop told entries.now.entries))) result }
     ensures asked { OnErr result (IsStopped W.Sink out.new) }
 {
     let mut buffer = LineBuffer::new();
-    for entry in entries {
-        put_entry_line(out, &mut buffer, labels, entry)?;
+    let left = entries.len().saturating_sub(told);
+    for place in 0..left {
+        put_entry_at(out, &mut buffer, labels, entries, told + place)?;
     }
     Ok(())
 }

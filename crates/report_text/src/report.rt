@@ -1,5 +1,5 @@
 //! A report, from its first line to its last.
-ghost use Rattle.std.specs.Prelude.{reverse, OnErr, OnOk};
+ghost use Rattle.std.specs.Prelude.{drop, reverse, OnErr, OnOk};
 ghost use Rattle.txn_bytes.specs.Written.{IsStopped, PutsAll, PutsFront};
 ghost use Rattle.line_language.specs.Report.{report, spelled_history, spelled_rows};
 ghost use Rattle.durable_top.specs.Store.{plain};
@@ -10,8 +10,9 @@ ghost use Rattle.report_text.specs.Lines.{ending_text, opening_text, row_line};
 use crate::entries::{put_history, put_row_line, put_table};
 use crate::line_buffer::LineBuffer;
 use durable_top::Row;
+use event_lists::Entries;
 use run_reports::Report;
-use serial_spec::{Entry, PlainTable};
+use serial_spec::PlainTable;
 use txn_bytes::{Sink, WriteFault, put};
 use txn_names::Label;
 
@@ -50,20 +51,22 @@ pub fn write_opening<W: Sink>(rows: &[Row], out: &mut W) -> Result<(), WriteFaul
     put_opening(out, rows)
 }
 
-/// Writes entries of a history, the oldest first, each as a line. It takes no memory. After a
-/// fault, the only one, which the writer answered, it has taken a beginning of these lines.
+/// Writes the entries of a history behind the first so many, which were told before, the oldest
+/// first, each as a line. It takes no memory. After a fault, the only one, which the writer
+/// answered, it has taken a beginning of these lines.
 pub fn write_entries<W: Sink>(
     labels: &[Label],
-    entries: &[Entry],
+    entries: &Entries,
+    told: usize,
     out: &mut W,
 ) -> Result<(), WriteFault>
-    ensures ok { PutsAll W.Sink out.old out.new (spelled_history labels.now (reverse entries.now))
-        result }
-    ensures err { PutsFront W.Sink out.old out.new (spelled_history labels.now (reverse
-        entries.now)) result }
+    ensures ok { PutsAll W.Sink out.old out.new
+        (spelled_history labels.now (reverse (drop told entries.now.entries))) result }
+    ensures err { PutsFront W.Sink out.old out.new
+        (spelled_history labels.now (reverse (drop told entries.now.entries))) result }
     ensures asked { OnErr result (IsStopped W.Sink out.new) }
 {
-    put_history(out, labels, entries)
+    put_history(out, labels, entries, told)
 }
 
 /// Writes how a report ends: the final table and its last line. It takes no memory. After a fault,
@@ -91,6 +94,6 @@ pub fn write_report<W: Sink>(told: &Report, out: &mut W) -> Result<(), WriteFaul
     ensures asked { OnErr result (IsStopped W.Sink out.new) }
 {
     write_opening(told.opening(), out)?;
-    write_entries(told.labels(), told.history(), out)?;
+    write_entries(told.labels(), told.history(), 0, out)?;
     write_ending(told.table(), out)
 }

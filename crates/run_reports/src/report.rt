@@ -4,7 +4,8 @@ ghost use Rattle.durable_top.specs.Store.{plain};
 ghost use Rattle.run_reports.specs.Reports.{IsReport, told_of};
 
 use durable_top::Row;
-use serial_spec::{Entry, PlainTable};
+use event_lists::Entries;
+use serial_spec::PlainTable;
 use std::marker::Model;
 use txn_names::Label;
 
@@ -14,8 +15,7 @@ use txn_names::Label;
 pub struct Report {
     opening: Vec<Row>,
     labels: Vec<Label>,
-    // The oldest first.
-    history: Vec<Entry>,
+    history: Entries,
     table: PlainTable,
 }
 
@@ -25,23 +25,18 @@ impl Model for Report {
 
     ghost Value = { Told };
 
-    ghost view = { λ r. told_of r.opening.items r.labels.items r.history.items r.table.rows };
+    ghost view = { λ r. told_of r.opening.items r.labels.items r.history.entries r.table.rows };
 
     ghost invariant = { λ r. IsReport
-        (told_of r.opening.items r.labels.items r.history.items r.table.rows) };
+        (told_of r.opening.items r.labels.items r.history.entries r.table.rows) };
 }
 
 impl Report {
     /// The report of these rows at the opening, labels of sessions, entries, of which the oldest
     /// comes first, and rows at the end, of which all holds that every report says.
-    pub fn of(
-        opening: Vec<Row>,
-        labels: Vec<Label>,
-        history: Vec<Entry>,
-        table: PlainTable,
-    ) -> Report
-        requires { IsReport (told_of opening.items labels.items history.items table.rows) }
-        ensures { result ≡ told_of opening.items labels.items history.items table.rows }
+    pub fn of(opening: Vec<Row>, labels: Vec<Label>, history: Entries, table: PlainTable) -> Report
+        requires { IsReport (told_of opening.items labels.items history.entries table.rows) }
+        ensures { result ≡ told_of opening.items labels.items history.entries table.rows }
     {
         Report {
             opening,
@@ -66,8 +61,8 @@ impl Report {
     }
 
     /// The entries, the oldest first.
-    pub fn history(&self) -> &[Entry]
-        ensures { reverse result.now ≡ self.now.history }
+    pub fn history(&self) -> &Entries
+        ensures { reverse result.now.entries ≡ self.now.history }
     {
         &self.history
     }

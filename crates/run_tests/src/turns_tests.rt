@@ -90,9 +90,9 @@ fn attempts<S: TopStore>(
     let Some(text) = sessions.line(session, line) else {
         return false;
     };
-    book.attempt(session, line + 1, text).ok() == Some(Turn::OutOfTurn)
+    book.attempt(session, line + 1, &text).ok() == Some(Turn::OutOfTurn)
         && book.stuck().ok() == Some(None)
-        && book.attempt(session, line, text).ok() == Some(turn)
+        && book.attempt(session, line, &text).ok() == Some(turn)
 }
 
 fn all_attempted<S: TopStore>(rt: &impl Abort, book: &mut Book<'_, S>, sessions: &Sessions) {

@@ -1,7 +1,8 @@
 //! The sessions of a text.
 ghost use Rattle.std.specs.Prelude.{◌≡◌, ◌==◌, ◌++◌, [], ◌∷◌, length, MatchResult, OnErr, OnOk, Ok, None};
-ghost use Rattle.std.specs.Option.{option_copied};
+ghost use Rattle.std.specs.Option.{option_copied, option_map};
 ghost use Rattle.serial_spec.specs.declared.event.Event.{Event};
+ghost use Rattle.event_lists.specs.Views.{asked, event_by};
 ghost use Rattle.line_language.specs.Accesses.{AreRead, asked_in};
 ghost use Rattle.line_language.specs.Commands.{event_of};
 ghost use Rattle.session_text.specs.Grammar.{IsText, is_taken};
@@ -12,17 +13,18 @@ mod growing;
 
 use crate::fault::TextFault;
 use crate::header::{labelled, words_of_header};
-use line_language::{AccessWords, Line, LineKind, access_in, cut_line, parse_event};
-use serial_spec::{Event, MOST_LINES, MOST_SESSIONS, NoMemory};
+use event_lists::{Act, EventView, Events, act_in, name_in};
+use line_language::{AccessWords, LineKind, access_in, cut_line, parse_event};
+use serial_spec::{MOST_LINES, MOST_SESSIONS, NoMemory};
 use std::alloc::Global;
 use std::marker::Model;
-use txn_names::Label;
+use txn_names::{Label, Name};
 
 // A header and the lines behind it.
 #[derive(Drop)]
 struct Session {
     label: Label,
-    lines: Vec<Line>,
+    lines: Events,
 }
 
 impl Model for Session {
@@ -30,7 +32,7 @@ impl Model for Session {
 
     ghost Value = { Session };
 
-    ghost view = { λ s. record { label = s.label; lines = s.lines.items } };
+    ghost view = { λ s. record { label = s.label; lines = s.lines } };
 }
 
 /// The sessions of a text, in order of their headers.
@@ -93,8 +95,8 @@ impl Sessions {
 
     /// A line of a session, where there is one: sessions count from 0 in order of their headers,
     /// lines from 1 without the header.
-    pub fn line(&self, session: u32, line: u32) -> Option<&Line>
-        ensures { option_copied result ≡ line_at self.now session line }
+    pub fn line(&self, session: u32, line: u32) -> Option<EventView<'_>>
+        ensures { option_map asked result ≡ line_at self.now session line }
     {
         let place = line.checked_sub(1)?;
         let session = self.sessions.get(session as usize)?;
@@ -160,10 +162,9 @@ impl Sessions {
     fn fault_of_command(&self) -> Option<LineKind>
         ensures { (e : Event) → result ≡ misplaced self.now (Command e) }
     {
-        let lines = open_lines(&self.sessions);
         if self.sessions.is_empty() {
             Some(LineKind::Header)
-        } else if lines.len() >= MOST_LINES {
+        } else if count_open(&self.sessions) >= MOST_LINES {
             Some(LineKind::Limit)
         } else {
             None
@@ -194,7 +195,7 @@ impl Sessions {
     {
         match self.fault_of_command() {
             Some(kind) => Err(TextFault::Bad { line: number, kind }),
-            None => match self.add_event(access.event(), bytes) {
+            None => match self.add_event(&access.name(), &access.act(), bytes) {
                 Ok(()) => Ok(()),
                 Err(NoMemory) => Err(TextFault::NoMemory),
             },
@@ -214,7 +215,7 @@ impl Sessions {
             }),
             Ok(event) => match misplaced {
                 Some(kind) => Err(TextFault::Bad { line: number, kind }),
-                None => match self.add_event(*event, bytes) {
+                None => match self.add_event(name_in(event), &act_in(event), bytes) {
                     Ok(()) => Ok(()),
                     Err(NoMemory) => Err(TextFault::NoMemory),
                 },
@@ -222,32 +223,31 @@ impl Sessions {
         }
     }
 
-    // The line of an event, which is read off these bytes, behind those of the last session. There
-    // is room for it. The event is made where the line is to stand.
+    // The line that asks this of the transaction, which is read off these bytes, behind those of
+    // the last session. It may stand there.
     #[inline(always)]
-    fn add_event(&mut self, event: Event, bytes: &[u8]) -> Result<(), NoMemory>
-        requires read { event_of bytes.now ≡ Ok event }
-        requires placed { misplaced self.old (Command event) ≡ None }
-        ensures ok { OnOk result (self.new ≡ with_line self.old event) }
+    fn add_event(&mut self, name: &Name, act: &Act, _bytes: &[u8]) -> Result<(), NoMemory>
+        requires read { event_of _bytes.now ≡ Ok (event_by name.now act.now) }
+        requires placed { misplaced self.old (Command (event_by name.now act.now)) ≡ None }
+        ensures ok { OnOk result (self.new ≡ with_line self.old (event_by name.now act.now)) }
         ensures err { OnErr result (self.new ≡ self.old) }
     {
         let last = self.sessions.len() - 1;
-        self.sessions[last].push(Line::of(event, bytes))?;
+        self.sessions[last].push(name, act)?;
         Ok(())
     }
 }
 
 impl Session {
-    // A line more. Room is made first, so that the line is moved once, to where it is to stand.
+    // A line more, which asks this of the transaction.
     #[inline(always)]
-    fn push(&mut self, line: Line) -> Result<(), NoMemory>
+    fn push(&mut self, name: &Name, act: &Act) -> Result<(), NoMemory>
         ensures label { self.new.label ≡ self.old.label }
-        ensures ok { OnOk result (self.new.lines ≡ self.old.lines ++ line ∷ []) }
+        ensures ok { OnOk result
+            (self.new.lines ≡ self.old.lines ++ event_by name.now act.now ∷ []) }
         ensures err { OnErr result (self.new.lines ≡ self.old.lines) }
     {
-        self.lines.reserve(1)?;
-        self.lines.push_reserved(line);
-        Ok(())
+        self.lines.push(&EventView { name, act })
     }
 }
 
@@ -257,12 +257,12 @@ fn is_taken(label: &Label, sessions: &[Session]) -> bool
     sessions.iter().any(|s| *label == s.label)
 }
 
-// The lines of the last session, if there is one.
-fn open_lines(sessions: &[Session]) -> &[Line]
-    ensures { result.now ≡ open_lines sessions.now }
+// How many lines the last session has, if there is one.
+fn count_open(sessions: &[Session]) -> usize
+    ensures { result ≡ length (open_lines sessions.now) }
 {
     match sessions {
-        [] => &[],
-        [.., last] => &last.lines,
+        [] => 0,
+        [.., last] => last.lines.len(),
     }
 }

@@ -1,11 +1,13 @@
 -- Texts with the same sessions.
-use Rattle.std.proofs.Common.{◌≡◌, ℕ, zero, suc, ◌+◌, ◌<◌, ◌≤◌, ◌⊎◌, ◌↔◌, inl, inr, Bool, true, false, not, IsTrue, Bor, List, [], ◌∷◌, length, Option, Some, None, is_some, option_copied, option_map, refl, sym, ap, subst, ◌∙◌, arith}
+use Rattle.std.proofs.Common.{◌≡◌, ℕ, zero, suc, ◌+◌, ◌<◌, ◌≤◌, ◌⊎◌, ◌↔◌, inl, inr, Bool, true, false, not, IsTrue, List, [], ◌∷◌, length, Option, Some, None, is_some, option_map, refl, sym, ap, subst, ◌∙◌, arith}
 use Rattle.std.specs.Prelude.{slice_get}
 use Rattle.std.proofs.lemmas.Bool.{cases_lt, false≢true}
 use Rattle.std.proofs.lemmas.Option.{none-some, slice_get_past, slice_get_within}
 use Rattle.serial_spec.specs.declared.event.Event.{Event}
 use Rattle.serial_spec.specs.Interleaving.{Session, lines_of}
 use Rattle.std.specs.List.{AllByRecursion}
+use Rattle.event_lists.specs.declared.view.EventView.{EventView}
+use Rattle.event_lists.specs.Views.{asked}
 use Rattle.session_text.specs.Grammar.{IsSession, IsText}
 use Rattle.session_text.specs.Texts.{label_at, line_at}
 use Rattle.interleavings.proofs.Exports.{line_of_number, short, unsome}
@@ -63,14 +65,14 @@ up_to P l before at i some less = by (cases_lt i l)
         let is : l ≡ i = omega (arith, less, over) in
         subst P is at
 
-none_copied : {X : Type 0} (x : Option (Bor X)) → is_some x ≡ is_some (option_copied x)
-none_copied None = refl
-none_copied (Some b) = refl
+none_asked : (x : Option EventView) → is_some x ≡ is_some (option_map asked x)
+none_asked None = refl
+none_asked (Some b) = refl
 
 -- where the one has no line left, the lines are the same just where the other has none either
 pub ended : (a b : List Session) (s l : ℕ) → 1 ≤ l → ((i : ℕ) → 1 ≤ i → i < l → line_at a s i ≡ line_at b s i) → line_at a s l ≡ None
-    → (x : Option (Bor Event)) (r : Bool) → option_copied x ≡ line_at b s l → is_some x ≡ not r → IsTrue r ↔ (lines_of (slice_get a s) ≡ lines_of (slice_get b s))
-ended a b s l some same a_ends x r at told = by (line_at b s l) refl r (ap is_some (sym at) ∙ sym (none_copied x) ∙ told)
+    → (x : Option EventView) (r : Bool) → option_map asked x ≡ line_at b s l → is_some x ≡ not r → IsTrue r ↔ (lines_of (slice_get a s) ≡ lines_of (slice_get b s))
+ended a b s l some same a_ends x r at told = by (line_at b s l) refl r (ap is_some (sym at) ∙ sym (none_asked x) ∙ told)
   where
     by : (y : Option Event) → line_at b s l ≡ y → (q : Bool) → is_some y ≡ not q → IsTrue q ↔ (lines_of (slice_get a s) ≡ lines_of (slice_get b s))
     by None b_ends true t = (λ h. same_to_the_end a b s l some same a_ends b_ends, λ e. refl)

@@ -3,6 +3,7 @@ ghost use Rattle.std.specs.Prelude.{[], ◌≡◌, ◌<◌, ◌≤◌, ◌↔◌
 ghost use Rattle.serial_spec.specs.declared.limits.TheConstants.{MOST_LINES, MOST_SESSIONS};
 ghost use Rattle.serial_spec.specs.Follows.{NoneGivesUp};
 ghost use Rattle.serial_spec.specs.Interleaving.{AllAnswered};
+ghost use Rattle.event_lists.specs.Views.{asked};
 ghost use Rattle.txn_history.specs.Turns.{IsUnderWay};
 ghost use Rattle.durable_top.specs.Store.{plain};
 ghost use Rattle.manager_core.specs.Opening.{HasCause};
@@ -12,11 +13,12 @@ ghost use Rattle.shared_book.specs.Attempting.{Attempted, IsNext};
 
 use crate::same::{same_sessions, same_text};
 use durable_top::{Row, TopStore};
+use event_lists::EventView;
 use interleavings::{Turn, Turns};
 use manager_core::OpenFault;
 use run_reports::Report;
 use serial_spec::NoMemory;
-use session_text::{Line, Sessions};
+use session_text::Sessions;
 use std::alloc::Global;
 use std::marker::Model;
 
@@ -96,8 +98,8 @@ impl<'a, S: TopStore> Book<'a, S> {
     }
 
     // Whether the line is the session's next.
-    fn is_next(&self, session: u32, line: u32, text: &Line) -> bool
-        ensures { IsTrue result ↔ IsNext self.now session line text.now }
+    fn is_next(&self, session: u32, line: u32, text: &EventView<'_>) -> bool
+        ensures { IsTrue result ↔ IsNext self.now session line (asked text.now) }
     {
         let Some(next) = self.turns.next_line(session) else {
             return false;
@@ -106,20 +108,25 @@ impl<'a, S: TopStore> Book<'a, S> {
             return false;
         }
         let own = self.sessions.line(session, line).unwrap();
-        same_text(own, text)
+        same_text(&own, text)
     }
 
     /// Attempts a line, where it is its session's next: it is answered as the definitions say, or
     /// it begins to wait, or nothing happens; then those are aborted that break the cycles of
     /// waits. A line of another number or text is out of turn, and nothing happens. The only error
     /// is that memory runs out, and nothing has changed then. A line out of turn takes no memory.
-    pub fn attempt(&mut self, session: u32, line: u32, text: &Line) -> Result<Turn, NoMemory>
+    pub fn attempt(
+        &mut self,
+        session: u32,
+        line: u32,
+        text: &EventView<'_>,
+    ) -> Result<Turn, NoMemory>
         ensures ok { IfOk result (λ turn.
-            Attempted S.TopStore self.old self.new session line text.now turn) }
+            Attempted S.TopStore self.old self.new session line (asked text.now) turn) }
         ensures way { OnOk result
             (IsUnderWay self.new.core.rows self.new.sessions self.new.core.history) }
         ensures err { OnErr result (self.new ≡ self.old) }
-        ensures idle { (IsNext self.old session line text.now → ⊥) → IsOk result }
+        ensures idle { (IsNext self.old session line (asked text.now) → ⊥) → IsOk result }
     {
         if self.is_next(session, line, text) {
             self.turns.step(session)

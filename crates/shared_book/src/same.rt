@@ -1,16 +1,17 @@
 //! Whether two texts have the same sessions.
 ghost use Rattle.std.specs.Prelude.{◌≡◌, ◌<◌, ◌↔◌, IsTrue, length, slice_get};
 ghost use Rattle.serial_spec.specs.Interleaving.{lines_of};
+ghost use Rattle.event_lists.specs.Views.{asked};
 ghost use Rattle.session_text.specs.Texts.{label_at};
 
-use session_text::{Line, Sessions};
-use txn_history::is_same;
+use event_lists::{EventView, is_same};
+use session_text::Sessions;
 
 /// Whether two lines have the same text: they ask the same, which has one spelling.
-pub(crate) fn same_text(a: &Line, b: &Line) -> bool
-    ensures { IsTrue result ↔ a.now ≡ b.now }
+pub(crate) fn same_text(a: &EventView<'_>, b: &EventView<'_>) -> bool
+    ensures { IsTrue result ↔ asked a.now ≡ asked b.now }
 {
-    is_same(a.event(), b.event())
+    is_same(a, b)
 }
 
 // Whether a session has the same lines in both.
@@ -23,7 +24,7 @@ fn same_lines(a: &Sessions, b: &Sessions, session: u32) -> bool
     let mut line = 1;
     while let Some(own) = a.line(session, line) {
         match b.line(session, line) {
-            Some(other) if same_text(own, other) => line += 1,
+            Some(other) if same_text(&own, &other) => line += 1,
             _ => return false,
         }
     }

@@ -1,4 +1,5 @@
 //! Texts with the faults that they are due, and what is read of those without one.
+use event_lists::{EventView, act_in, name_in};
 use line_language::{MOST_COMMAND, put_event};
 use serial_spec::{Event, Op, When};
 use session_text::{Line, LineKind, Sessions, TextFault, parse_line, parse_number, parse_request};
@@ -35,16 +36,21 @@ fn is_fault(alloc: Global, text: &[u8], fault: Option<(usize, LineKind)>) -> boo
     }
 }
 
-// Whether the text is that of the line.
-fn is_spelled(line: &Line, text: &str) -> bool {
+// Whether the text is that of a line that asks this.
+fn is_spelled(event: &EventView<'_>, text: &str) -> bool {
     let mut spelled = Bytes::<MOST_COMMAND>::new();
-    put_event(&mut spelled, line.event()).is_ok() && spelled.as_bytes() == text.as_bytes()
+    put_event(&mut spelled, event).is_ok() && spelled.as_bytes() == text.as_bytes()
+}
+
+fn is_text(event: &Event, text: &str) -> bool {
+    let (name, act) = (name_in(event), act_in(event));
+    is_spelled(&EventView { name, act: &act }, text)
 }
 
 // Whether the session has this line, which asks this and is spelled so.
 fn is_line(sessions: &Sessions, session: u32, line: u32, event: Event, spelled: &str) -> bool {
     match sessions.line(session, line) {
-        Some(found) => *found.event() == event && is_spelled(found, spelled),
+        Some(found) => found.event() == event && is_spelled(&found, spelled),
         None => false,
     }
 }
@@ -280,7 +286,7 @@ fn lines_of_several_transactions_are_looked_up(rt: HostRuntime) {
 // Whether the line is read, asks this, and is spelled as it was read.
 fn asks(text: &str, event: Event) -> bool {
     match parse_line(text.as_bytes()) {
-        Ok(line) => *line.event() == event && is_spelled(&line, text),
+        Ok(line) => *line.event() == event && is_text(&event, text),
         Err(_) => false,
     }
 }
@@ -400,7 +406,7 @@ fn numbers_have_one_spelling(rt: HostRuntime) {
 fn is_request(text: &str, wanted: Result<(&str, &str), LineKind>) -> bool {
     match (parse_request(text.as_bytes()), wanted) {
         (Ok((label, line)), Ok((name, spelled))) => {
-            label.as_bytes() == name.as_bytes() && is_spelled(&line, spelled)
+            label.as_bytes() == name.as_bytes() && is_text(line.event(), spelled)
         }
         (Err(kind), Err(due)) => kind == due,
         _ => false,

@@ -1,7 +1,8 @@
 //! That each call on a history can succeed, over more lines and keys than a table has at first.
 ghost use Rattle.std.specs.Prelude.{◌<◌};
 
-use serial_spec::{Answer, By, Entry, Event, Op, PlainTable, Refusal, Reply};
+use event_lists::{Cause, EntryView, EventView, Said, act_in, name_in};
+use serial_spec::{By, Event, Op, PlainTable, Reply};
 use std::process::Abort;
 use txn_history::History;
 use txn_names::{Group, Key, Name};
@@ -36,16 +37,35 @@ fn make_room(rt: &impl Abort, history: &mut History)
     }
 }
 
-fn add(rt: &impl Abort, history: &mut History, by: By, event: Event, answer: Answer) {
+fn add(rt: &impl Abort, history: &mut History, by: By, event: Event, said: Said) {
     make_room(rt, history);
-    history.push(&Entry { by, event, answer });
+    let (name, act) = (name_in(&event), act_in(&event));
+    history.push(&EntryView {
+        by,
+        event: EventView { name, act: &act },
+        said,
+        top: name,
+    });
+}
+
+fn is_free(history: &History, by: By, event: &Event) -> bool {
+    let (name, act) = (name_in(event), act_in(event));
+    history.free(by, &EventView { name, act: &act })
+}
+
+fn waits_with(history: &History, by: By, event: &Event) -> bool {
+    let (name, act) = (name_in(event), act_in(event));
+    history.waits_with(by, &EventView { name, act: &act })
 }
 
 // Whether the line is free for an access of the key with this number, and whether it waits with it
 // alone.
 fn asked(rt: &impl Abort, history: &History, by: By, number: u8) -> (bool, bool) {
     let event = access(rt, number);
-    (history.free(by, &event), history.waits_with(by, &event))
+    (
+        is_free(history, by, &event),
+        waits_with(history, by, &event),
+    )
 }
 
 // Whether the known keys with numbers below 100 are those with numbers below 40.
@@ -69,7 +89,7 @@ fn tells_lines_and_keys(rt: HostRuntime) {
 
     // Fifty lines are answered, and make thirty keys known beside ten of the rows.
     for number in 0..50 {
-        let (by, reply) = (line(0, number), Answer::Done(Reply::Absent));
+        let (by, reply) = (line(0, number), Said::Done(Reply::Absent));
         add(
             &rt,
             &mut history,
@@ -79,12 +99,12 @@ fn tells_lines_and_keys(rt: HostRuntime) {
         );
     }
     let entries = [
-        (line(0, 51), 71, Answer::Waits),
-        (line(0, 52), 72, Answer::Waits),
-        (line(0, 52), 12, Answer::Done(Reply::Absent)),
-        (line(0, 53), 73, Answer::Refused(Refusal::Full)),
-        (By::Victim, 74, Answer::Stuck),
-        (By::Close, 75, Answer::Waits),
+        (line(0, 51), 71, Said::Waits),
+        (line(0, 52), 72, Said::Waits),
+        (line(0, 52), 12, Said::Done(Reply::Absent)),
+        (line(0, 53), 73, Said::Refused(Cause::Full)),
+        (By::Victim, 74, Said::Stuck),
+        (By::Close, 75, Said::Waits),
     ];
     for (by, number, answer) in entries {
         add(&rt, &mut history, by, access(&rt, number), answer);
@@ -120,14 +140,14 @@ fn tells_lines_of_sums(rt: HostRuntime) {
     let mut history = History::new(rt.alloc(), &rows).expect(&rt, "memory");
     let by = line(0, 1);
     let (asked, other) = (sum(&rt, "k01"), sum(&rt, "k02"));
-    assert!(rt; history.free(by, &asked) && !history.waits_with(by, &asked));
-    add(&rt, &mut history, by, asked, Answer::Waits);
-    assert!(rt; history.free(by, &asked) && history.waits_with(by, &asked));
+    assert!(rt; is_free(&history, by, &asked) && !waits_with(&history, by, &asked));
+    add(&rt, &mut history, by, asked, Said::Waits);
+    assert!(rt; is_free(&history, by, &asked) && waits_with(&history, by, &asked));
     for event in [other, access(&rt, 1)] {
-        assert!(rt; !history.free(by, &event) && !history.waits_with(by, &event));
+        assert!(rt; !is_free(&history, by, &event) && !waits_with(&history, by, &event));
     }
-    let reply = Answer::Done(Reply::Value(0));
+    let reply = Said::Done(Reply::Value(0));
     add(&rt, &mut history, by, asked, reply);
-    assert!(rt; !history.free(by, &asked) && !history.waits_with(by, &asked));
+    assert!(rt; !is_free(&history, by, &asked) && !waits_with(&history, by, &asked));
     assert!(rt; history.known() == 0 && !history.knows(&key(&rt, 1)));
 }

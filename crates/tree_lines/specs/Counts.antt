@@ -1,6 +1,6 @@
 -- How many transactions and entries are of some kind.
 use Rattle.std.specs.Prelude.{ℕ, suc, ◌==◌, ◌&&◌, ◌||◌, nat_lt, Bool, true, false, not, if◌then◌else◌, List, [], ◌∷◌, Option, Some, None}
-use Rattle.line_language.specs.declared.refusals.Cause.{Cause}
+use Rattle.event_lists.specs.declared.view.Cause.{Cause}
 use Rattle.line_language.specs.Refusals.{same_cause}
 use Rattle.report_marks.specs.declared.deeds.Deed.{Deed}
 use Rattle.report_marks.specs.declared.deeds.Deed.TheVariants as deed

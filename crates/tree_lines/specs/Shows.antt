@@ -2,8 +2,8 @@
 use Rattle.std.specs.Prelude.{ℕ, ◌==◌, ◌&&◌, ◌||◌, Bool, true, false, not, if◌then◌else◌, List, [], ◌∷◌, ◌++◌, codes, decimal}
 use Rattle.serial_spec.specs.History.{Name}
 use Rattle.line_language.specs.Report.{line}
-use Rattle.line_language.specs.declared.refusals.Cause.{Cause}
-use Rattle.line_language.specs.declared.refusals.Cause.TheVariants as cause
+use Rattle.event_lists.specs.declared.view.Cause.{Cause}
+use Rattle.event_lists.specs.declared.view.Cause.TheVariants as cause
 use Rattle.line_language.specs.Refusals.{cause_word, causes}
 use Rattle.report_marks.specs.declared.deeds.Mark.{Mark}
 use Rattle.report_trees.specs.declared.outcomes.Shown.{Shown}

@@ -1,7 +1,12 @@
 //! A manager that is asked line after line.
+ghost use Rattle.std.specs.Prelude.{◌↔◌, IsTrue};
+ghost use Rattle.event_lists.specs.Views.{event_by};
+ghost use Rattle.manager_core.specs.Lines.{IsFree};
+
 use durable_top::MemStore;
+use event_lists::{Act, EventView};
 use manager_core::{Manager, Outcome};
-use serial_spec::{By, Event, NoMemory, Op, Refusal};
+use serial_spec::{By, NoMemory, Op, Refusal};
 use std::alloc::Global;
 use txn_names::{Key, Name};
 
@@ -52,10 +57,17 @@ impl Driver {
         }
     }
 
+    // Whether the line is free to ask this of the transaction.
+    fn is_free(&self, by: By, name: &Name, act: &Act) -> bool
+        ensures { IsTrue result ↔ IsFree self.now.manager.history by (event_by name.now act.now) }
+    {
+        self.manager.free(by, &EventView { name, act })
+    }
+
     /// Begins the transaction, or answers `None` where that is not done; so do the calls below.
     pub fn begin(&mut self, name: &Name) -> Option<()> {
         let by = self.next_line();
-        if self.manager.free(by, &Event::Begin(*name)) && is_done(self.manager.begin(by, name)) {
+        if self.is_free(by, name, &Act::Begin) && is_done(self.manager.begin(by, name)) {
             Some(())
         } else {
             None
@@ -64,7 +76,7 @@ impl Driver {
 
     pub fn access(&mut self, name: &Name, key: &Key, op: Op) -> Option<()> {
         let by = self.next_line();
-        if self.manager.free(by, &Event::Access(*name, *key, op))
+        if self.is_free(by, name, &Act::Access(*key, op))
             && is_done(self.manager.access(by, name, key, op))
         {
             Some(())
@@ -75,7 +87,7 @@ impl Driver {
 
     pub fn commit(&mut self, name: &Name) -> Option<()> {
         let by = self.next_line();
-        if self.manager.free(by, &Event::Commit(*name)) && is_done(self.manager.commit(by, name)) {
+        if self.is_free(by, name, &Act::Commit) && is_done(self.manager.commit(by, name)) {
             Some(())
         } else {
             None
@@ -84,7 +96,7 @@ impl Driver {
 
     pub fn abort(&mut self, name: &Name) -> Option<()> {
         let by = self.next_line();
-        if self.manager.free(by, &Event::Abort(*name)) && is_done(self.manager.abort(by, name)) {
+        if self.is_free(by, name, &Act::Abort) && is_done(self.manager.abort(by, name)) {
             Some(())
         } else {
             None
@@ -94,7 +106,7 @@ impl Driver {
     /// Asks for an access that has to wait. Its transaction may be a victim at once.
     pub fn wait(&mut self, name: &Name, key: &Key, op: Op) -> Option<()> {
         let by = self.next_line();
-        if self.manager.free(by, &Event::Access(*name, *key, op))
+        if self.is_free(by, name, &Act::Access(*key, op))
             && is_waiting(self.manager.access(by, name, key, op))
         {
             Some(())
@@ -116,9 +128,7 @@ impl Driver {
     /// Asks for the commit of a transaction that was a victim.
     pub fn commit_victim(&mut self, name: &Name) -> Option<()> {
         let by = self.next_line();
-        if self.manager.free(by, &Event::Commit(*name))
-            && is_orphan(self.manager.commit(by, name))
-        {
+        if self.is_free(by, name, &Act::Commit) && is_orphan(self.manager.commit(by, name)) {
             Some(())
         } else {
             None

@@ -3,10 +3,12 @@ ghost use Rattle.std.specs.Prelude.{◌≡◌, ◌+◌, ◌<◌, ◌≤◌, ◌&
 ghost use Rattle.indexmap.specs.IndexMap.{get, spare};
 ghost use Rattle.serial_spec.specs.History.{History as Entries};
 ghost use Rattle.serial_spec.specs.Waits.{is_waits};
+ghost use Rattle.event_lists.specs.Views.{seen};
 ghost use Rattle.txn_history.specs.Tables.{Place, place_eq, has_closed, is_beyond, place_of, AreLines, KeepsState};
 
+use event_lists::{EntryView, Said};
 use indexmap::IndexMap;
-use serial_spec::{Answer, By, Entry, MOST_SESSIONS, NoMemory};
+use serial_spec::{By, MOST_SESSIONS, NoMemory};
 use std::alloc::Global;
 
 /// For each session and line with an entry: the place of that entry, where it is one alone, a
@@ -36,16 +38,21 @@ fn is_closed(closed: &[u32; MOST_SESSIONS], session: u32, line: u32) -> bool
 // Closes the line by its entry, if that does not wait and all lines of the session before it are
 // closed. Whether it did so.
 #[inline(always)]
-fn close_next(closed: &mut [u32; MOST_SESSIONS], session: u32, line: u32, entry: &Entry) -> bool
+fn close_next(
+    closed: &mut [u32; MOST_SESSIONS],
+    session: u32,
+    line: u32,
+    entry: &EntryView<'_>,
+) -> bool
     ensures closed { (p : Place) → has_closed closed.new p
         ≡ has_closed closed.old p || (result && place_eq (session, line) p) }
-    ensures answer { IsTrue result → IsFalse (is_waits entry.now.answer) }
+    ensures answer { IsTrue result → IsFalse (is_waits (seen entry.now).answer) }
 {
     let at = session as usize;
     if at >= MOST_SESSIONS || line <= closed[at] || line - closed[at] > 1 {
         return false;
     }
-    if matches!(entry.answer, Answer::Waits) {
+    if matches!(entry.said, Said::Waits) {
         return false;
     }
     closed[at] = line;
@@ -80,15 +87,15 @@ fn put(
     others: &mut IndexMap<(u32, u32), Option<usize>>,
     line: (u32, u32),
     is_new: bool,
-    entry: &Entry,
+    entry: &EntryView<'_>,
     place: usize,
 )
     requires { 0 < spare others.old }
-    ensures states { KeepsState line is_new entry.now place (get place_eq others.old)
+    ensures states { KeepsState line is_new (seen entry.now) place (get place_eq others.old)
         (get place_eq others.new) }
     ensures room { spare others.old ≤ spare others.new + 1 }
 {
-    let waits = matches!(entry.answer, Answer::Waits);
+    let waits = matches!(entry.said, Said::Waits);
     let state = if waits && (is_new || !others.contains_key(&line)) {
         Some(place)
     } else {
@@ -135,10 +142,10 @@ impl LineStates {
 
     /// Notes an entry that gets this place. It takes no memory.
     #[inline(always)]
-    pub(crate) fn note(&mut self, entry: &Entry, place: usize)
+    pub(crate) fn note(&mut self, entry: &EntryView<'_>, place: usize)
         requires { 0 < spare self.old.others }
         ensures lines { (h : Entries) → length h ≡ place → AreLines h self.old
-            → AreLines (entry.now ∷ h) self.new }
+            → AreLines (seen entry.now ∷ h) self.new }
         ensures room { spare self.old.others ≤ spare self.new.others + 1 }
     {
         let By::Line { session, line } = entry.by else {

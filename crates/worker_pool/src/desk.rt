@@ -1,6 +1,7 @@
 //! What lies under the lock of a run.
 ghost use Rattle.std.specs.Prelude.{◌≡◌, ◌↔◌, IfErr, IfOk, IfSome, IsFalse, IsTrue, Some};
 ghost use Rattle.serial_spec.specs.Interleaving.{AllAnswered};
+ghost use Rattle.event_lists.specs.Views.{asked};
 ghost use Rattle.interleavings.specs.Scheduled.{LetsGo};
 ghost use Rattle.interleavings.specs.Served.{IsServedFrom, IsUnservedFrom};
 ghost use Rattle.interleavings.specs.Turning.{IsClosed, Unstuck, next_number};
@@ -11,10 +12,10 @@ ghost use Rattle.worker_pool.specs.inner.Trying.{LooksForStuck, Tries};
 ghost use Rattle.worker_pool.specs.inner.Working.{IsOfWork};
 
 use durable_top::TopStore;
+use event_lists::EventView;
 use interleavings::{ServeFault, Turn};
 use run_reports::Report;
 use serial_spec::NoMemory;
-use session_text::Line;
 use shared_book::Book;
 use std::marker::{Brand, Model, PhantomData};
 
@@ -91,9 +92,9 @@ impl<'a, S: TopStore, J: Opening<S>> Desk<'a, S, J> {
         }
     }
 
-    fn attempt(&mut self, session: u32, line: u32, text: &Line) -> Result<Turn, NoMemory>
+    fn attempt(&mut self, session: u32, line: u32, text: &EventView<'_>) -> Result<Turn, NoMemory>
         ensures { IfOk result (λ turn.
-            Attempted S.TopStore self.old self.new session line text.now turn) }
+            Attempted S.TopStore self.old self.new session line (asked text.now) turn) }
     {
         self.is_tried = true;
         self.book.attempt(session, line, text)
@@ -148,9 +149,9 @@ impl<'a, S: TopStore, J: Opening<S>> Desk<'a, S, J> {
         }
     }
 
-    fn try_line(&mut self, session: u32, line: u32, text: &Line) -> Result<Tried, NoMemory>
+    fn try_line(&mut self, session: u32, line: u32, text: &EventView<'_>) -> Result<Tried, NoMemory>
         ensures ok { IfOk result (λ tried.
-            Tries S.TopStore self.old self.new session line text.now tried) }
+            Tries S.TopStore self.old self.new session line (asked text.now) tried) }
         ensures next { IfOk result (λ tried. IsNextJob session tried.next) }
     {
         let turn = self.attempt(session, line, text)?;
@@ -169,10 +170,10 @@ impl<'a, S: TopStore, J: Opening<S>> Desk<'a, S, J> {
         &mut self,
         session: u32,
         line: u32,
-        text: &Line,
+        text: &EventView<'_>,
     ) -> Result<Tried, NoMemory>
         ensures ok { IfOk result (λ tried.
-            Tries S.TopStore self.old self.new session line text.now tried) }
+            Tries S.TopStore self.old self.new session line (asked text.now) tried) }
         ensures next { IfOk result (λ tried. IsNextJob session tried.next) }
     {
         let tried = self.try_line(session, line, text);

@@ -10,9 +10,10 @@ use crate::desk::{Desk, Opening, Tried};
 use crate::jobs::{Channel, Job, Lanes};
 use crossbeam_channel::Pass;
 use durable_top::TopStore;
+use event_lists::EventView;
 use interleavings::{ServeFault, Turn};
 use serial_spec::NoMemory;
-use session_text::{Line, Sessions};
+use session_text::Sessions;
 use std::alloc::Global;
 use std::sync::{Mutex, Wait};
 use std::thread;
@@ -49,7 +50,7 @@ fn try_line<S: TopStore, J: Opening<S>>(
     desk: &Mutex<Desk<'_, S, J>>,
     session: u32,
     line: u32,
-    text: &Line,
+    text: &EventView<'_>,
 ) -> Result<Option<Tried>, NoMemory>
     ensures { IfOk result (λ turn. IfSome turn (λ tried. IsNextJob session tried.next)) }
 {
@@ -66,7 +67,7 @@ fn turn<S: TopStore, J: Opening<S>, G: Gate>(
     gate: &G,
     session: u32,
     line: u32,
-    text: &Line,
+    text: &EventView<'_>,
 ) -> Result<Option<Tried>, NoMemory>
     ensures { IfOk result (λ turn. IfSome turn (λ tried. IsNextJob session tried.next)) }
 {
@@ -165,7 +166,7 @@ fn follow<R: Clock, S: TopStore, J: Opening<S>, G: Gate>(
     let Job::Line { session, line, .. } = job else {
         return Some(Job::Stop);
     };
-    match turn(desk, gate, session, line, sessions.line(session, line)?) {
+    match turn(desk, gate, session, line, &sessions.line(session, line)?) {
         Ok(Some(tried)) => {
             count_tried(rt, patience, count_of(sessions), &tried);
             next_job(session, line, &tried)
@@ -337,7 +338,7 @@ fn finish<R: Wait, S: TopStore, J: Opening<S>, G: Gate>(
                 continue;
             };
             if let Some(text) = sessions.line(session, line) {
-                turn(desk, gate, session, line, text)?;
+                turn(desk, gate, session, line, &text)?;
             }
         }
     }

@@ -1,5 +1,6 @@
 //! Which sessions can go on.
 ghost use Rattle.std.specs.Prelude.{◌≡◌, ◌<◌, ◌≤◌, length, IfNone, IfSome};
+ghost use Rattle.event_lists.specs.Views.{asked};
 ghost use Rattle.interleavings.specs.LeftOut.{AreLeftOut};
 ghost use Rattle.interleavings.specs.Turning.{IsDue, NoneGoesOnFrom, TellsGoesOn, TellsStuck, can_go_on};
 
@@ -7,12 +8,13 @@ use crate::noting::is_after;
 use crate::ready::Ready;
 use crate::turns::Turns;
 use durable_top::TopStore;
-use serial_spec::{By, Event};
+use event_lists::EventView;
+use serial_spec::By;
 
 impl<'a, S: TopStore> Turns<'a, S> {
     // Whether this line, which is the session's next, may be answered, or begin to wait.
-    fn can_go_on(&self, session: u32, line: u32, due: &Event) -> bool
-        requires { IsDue self.now.sessions self.now.core.history session line due.now }
+    fn can_go_on(&self, session: u32, line: u32, due: &EventView<'_>) -> bool
+        requires { IsDue self.now.sessions self.now.core.history session line (asked due.now) }
         ensures { result ≡
             can_go_on self.now.core.rows self.now.sessions self.now.core.history session }
     {
@@ -35,10 +37,10 @@ impl<'a, S: TopStore> Turns<'a, S> {
             ready.leave_idle(session);
             return false;
         };
-        if self.can_go_on(session, line, due) {
+        if self.can_go_on(session, line, &due) {
             return true;
         }
-        ready.leave_out(session, is_after(due));
+        ready.leave_out(session, is_after(&due));
         false
     }
 

@@ -3,6 +3,7 @@ ghost use Rattle.std.specs.Prelude.{◌≡◌, ◌<◌, ◌↔◌, ◌∷◌, le
 ghost use Rattle.serial_spec.specs.declared.event.Event.TheVariants.{After};
 ghost use Rattle.serial_spec.specs.declared.entry.Answer.TheVariants.{Stuck};
 ghost use Rattle.serial_spec.specs.Allowed.{has_come, known, most_keys};
+ghost use Rattle.event_lists.specs.Views.{asked};
 ghost use Rattle.manager_core.specs.Lines.{CanGiveUp, IsFree, IsWaitOf};
 ghost use Rattle.manager_core.specs.Parking.{Awaited, IsKeptOut, IsParked, NobodyWaits};
 ghost use Rattle.manager_core.specs.State.{entry};
@@ -10,7 +11,8 @@ ghost use Rattle.manager_core.specs.State.{entry};
 use crate::manager::Manager;
 use crate::outcome::Outcome;
 use durable_top::TopStore;
-use serial_spec::{Asked, By, Event, MOST_KEYS, NoMemory, Reply, When};
+use event_lists::{Act, EventView};
+use serial_spec::{Asked, By, MOST_KEYS, NoMemory, Reply, When};
 use txn_names::Name;
 
 impl<S: TopStore> Manager<S> {
@@ -32,25 +34,26 @@ impl<S: TopStore> Manager<S> {
         }
         self.log.reserve(1)?;
         let outcome = Outcome::Done(Reply::Ok);
-        self.log.add(by, Event::After(*name, when), &outcome);
+        self.log.add(by, name, &Act::After(when), &outcome);
         Ok(outcome)
     }
 
     /// Whether the line may be given up and no call answers it: its access waits by it and is kept
     /// out still, or it is free and its condition does not hold. It takes no memory.
-    pub fn held_up(&self, by: By, event: &Event) -> bool
-        ensures { IsTrue result ↔ IsKeptOut self.now.rows self.now.history by event.now }
+    pub fn held_up(&self, by: By, event: &EventView<'_>) -> bool
+        ensures { IsTrue result ↔ IsKeptOut self.now.rows self.now.history by (asked event.now) }
     {
-        match event {
-            Event::Access(name, key, op) => {
+        let name = event.name;
+        match event.act {
+            Act::Access(key, op) => {
                 let asked = Asked::At(*key, *op);
                 self.tables.is_kept_out(&self.log, by, name, &asked)
             }
-            Event::Sum(name, group) => {
+            Act::Sum(group) => {
                 let asked = Asked::Over(*group);
                 self.tables.is_kept_out(&self.log, by, name, &asked)
             }
-            Event::After(name, when) => self.free(by, event) && !self.tables.has_come(name, *when),
+            Act::After(when) => self.free(by, event) && !self.tables.has_come(name, *when),
             _ => false,
         }
     }
@@ -96,19 +99,16 @@ impl<S: TopStore> Manager<S> {
     }
 
     // Gives up an access that waits by this line.
-    fn cancel_access(&mut self, by: By, event: &Event) -> Result<(), NoMemory>
-        requires waits { IsWaitOf self.old.history by event.now }
-        ensures ok { OnOk result
-            (self.new ≡ record self.old { history = entry by event.now Stuck ∷ self.old.history }) }
+    fn cancel_access(&mut self, by: By, event: &EventView<'_>) -> Result<(), NoMemory>
+        requires waits { IsWaitOf self.old.history by (asked event.now) }
+        ensures ok { OnOk result (self.new ≡
+            record self.old { history = entry by (asked event.now) Stuck ∷ self.old.history }) }
         ensures err { OnErr result (self.new ≡ self.old) }
         ensures sound { OnOk result (IsSound S.TopStore self.new) }
     {
-        let (Event::Access(name, _, _) | Event::Sum(name, _)) = event else {
-            unreachable!()
-        };
         self.log.reserve(1)?;
-        self.tables.end_wait(name);
-        self.log.add_stuck(by, *event);
+        self.tables.end_wait(event.name);
+        self.log.add_stuck(by, event);
         Ok(())
     }
 
@@ -122,21 +122,22 @@ impl<S: TopStore> Manager<S> {
         ensures sound { OnOk result (IsSound S.TopStore self.new) }
     {
         self.log.reserve(1)?;
-        self.log.add_stuck(by, Event::After(*name, when));
+        let act = Act::After(when);
+        self.log.add_stuck(by, &EventView { name, act: &act });
         Ok(())
     }
 
     /// Gives a line up, an access that waits by it or an `after` line whose condition does not
     /// hold: it is answered `Stuck`. Its transaction waits no more.
-    pub fn cancel(&mut self, by: By, event: &Event) -> Result<(), NoMemory>
-        requires may { CanGiveUp self.old.history by event.now }
-        ensures ok { OnOk result
-            (self.new ≡ record self.old { history = entry by event.now Stuck ∷ self.old.history }) }
+    pub fn cancel(&mut self, by: By, event: &EventView<'_>) -> Result<(), NoMemory>
+        requires may { CanGiveUp self.old.history by (asked event.now) }
+        ensures ok { OnOk result (self.new ≡
+            record self.old { history = entry by (asked event.now) Stuck ∷ self.old.history }) }
         ensures err { OnErr result (self.new ≡ self.old) }
         ensures sound { OnOk result (IsSound S.TopStore self.new) }
     {
-        match event {
-            Event::After(name, when) => self.cancel_after(by, name, *when),
+        match event.act {
+            Act::After(when) => self.cancel_after(by, event.name, *when),
             _ => self.cancel_access(by, event),
         }
     }

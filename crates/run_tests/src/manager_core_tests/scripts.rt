@@ -1,6 +1,6 @@
 //! Scripts, and what plays them over a manager under watch.
 use crate::manager_core_tests::watched::{
-    NOT_STORED, Watched, is_answered, is_closed, is_held, name_of,
+    NOT_STORED, Watched, are, is_answered, is_closed, is_held,
 };
 use durable_top::{MemStore, Row, TopStore, are_numbered, are_rising};
 use line_language::{ReportEntry, parse_entry, parse_number, parse_row};
@@ -55,13 +55,20 @@ fn has_rows(table: &PlainTable, text: &str) -> bool {
 fn stands<S: TopStore>(manager: &Manager<S>, text: &str) -> bool {
     let (count, waiting) = text.split_once(' ').unwrap_or((text, ""));
     let entries = manager.history();
-    if parse_number(count.as_bytes()) != Some(entries.len() as i64) {
+    let Ok(many) = i64::try_from(entries.len()) else {
+        return false;
+    };
+    if parse_number(count.as_bytes()) != Some(many) {
         return false;
     }
-    for entry in entries {
-        let who = name_of(&entry.event);
-        let waits = waiting.split_whitespace().any(|word| name(word) == *who);
-        if manager.waiting(who) != waits {
+    for place in 0..entries.len() {
+        let Some(entry) = entries.get(place) else {
+            return false;
+        };
+        let waits = waiting
+            .split_whitespace()
+            .any(|word| name(word) == *entry.event.name);
+        if manager.waiting(entry.event.name) != waits {
             return false;
         }
     }
@@ -119,7 +126,7 @@ fn is_left<S: TopStore>(
             faults = faults.wrapping_add(1);
         }
     }
-    if parts.history.as_slice() != due
+    if !are(&parts.history, due)
         || !has_rows(&parts.table, rows)
         || parts.store.faults() != faults
     {

@@ -1,6 +1,6 @@
 //! Stores that take the changes, and some that do not.
 use crate::manager_core_tests::scripts::{Case, entry};
-use crate::manager_core_tests::watched::{answer_of, call};
+use crate::manager_core_tests::watched::{answer_of, call, is_free};
 use durable_top::{MemStore, StoreFault, TopStore};
 use manager_core::{Manager, OpenFault};
 use std::alloc::Global;
@@ -55,7 +55,7 @@ fn is_served<S: TopStore>(manager: &mut Manager<S>) -> bool {
         let Some(line) = entry(text) else {
             return false;
         };
-        if !manager.free(line.by, &line.event) {
+        if !is_free(manager, line.by, &line.event) {
             return false;
         }
         match call(manager, line.by, &line.event) {

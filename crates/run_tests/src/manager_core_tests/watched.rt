@@ -3,27 +3,17 @@
 //!
 //! What fails is told by `false` or by nothing, and ends the process where the script is played. So
 //! no function drops a manager on its way out, which would make a long proof.
+ghost use Rattle.std.specs.Prelude.{◌≡◌, ◌↔◌, IsTrue};
+ghost use Rattle.event_lists.specs.Views.{asked, event_by, name_of};
 ghost use Rattle.manager_core.specs.Lines.{IsFree};
 
 use crate::manager_core_tests::scripts::entry;
 use durable_top::TopStore;
+use event_lists::{Act, Entries, EventView, act_in, name_in};
 use manager_core::{Manager, Outcome};
 use serial_spec::{Answer, By, Entry, Event, NoMemory, Refusal, Reply};
 use std::hash::{DefaultHasher, Hash, Hasher};
 use test_kit::name;
-use txn_names::Name;
-
-/// Whom the event is about.
-pub fn name_of(event: &Event) -> &Name {
-    match event {
-        Event::Begin(name) => name,
-        Event::Access(name, _, _) => name,
-        Event::Sum(name, _) => name,
-        Event::Commit(name) => name,
-        Event::Abort(name) => name,
-        Event::After(name, _) => name,
-    }
-}
 
 /// A manager, and the entries that it is due, the oldest first.
 #[derive(Drop)]
@@ -32,8 +22,43 @@ pub struct Watched<S: TopStore> {
     pub due: Vec<Entry>,
 }
 
+// The event, as it stands elsewhere.
+fn view<'a>(event: &'a Event, act: &'a Act) -> EventView<'a>
+    requires { event_by (name_of event.now) act.now ≡ event.now }
+    ensures { asked result ≡ event.now }
+{
+    EventView {
+        name: name_in(event),
+        act,
+    }
+}
+
+/// Whether the line is free for the event.
+pub fn is_free<S: TopStore>(manager: &Manager<S>, by: By, event: &Event) -> bool
+    ensures { IsTrue result ↔ IsFree manager.now.history by event.now }
+{
+    let act = act_in(event);
+    manager.free(by, &view(event, &act))
+}
+
+fn is_held_up<S: TopStore>(manager: &Manager<S>, line: &Entry) -> bool {
+    let act = act_in(&line.event);
+    manager.held_up(line.by, &view(&line.event, &act))
+}
+
+/// Whether these are the entries, in this order.
+pub fn are(entries: &Entries, due: &[Entry]) -> bool {
+    for (place, entry) in due.iter().enumerate() {
+        match entries.get(place) {
+            Some(found) if found.entry() == *entry => {}
+            _ => return false,
+        }
+    }
+    entries.len() == due.len()
+}
+
 fn is_due<S: TopStore>(watched: &Watched<S>) -> bool {
-    watched.manager.history() == watched.due.as_slice()
+    are(watched.manager.history(), watched.due.as_slice())
 }
 
 // What a manager shows beside its history, as a hash: both tables, and by the entries whether their
@@ -48,10 +73,10 @@ fn look<S: TopStore>(watched: &Watched<S>) -> u64 {
         manager.table().at(place).hash(&mut seen);
     }
     for Entry { by, event, .. } in due {
-        let name = name_of(event);
+        let name = name_in(event);
         manager.waiting(name).hash(&mut seen);
-        manager.free(*by, event).hash(&mut seen);
-        manager.free(*by, &Event::Begin(*name)).hash(&mut seen);
+        is_free(manager, *by, event).hash(&mut seen);
+        is_free(manager, *by, &Event::Begin(*name)).hash(&mut seen);
     }
     seen.finish()
 }
@@ -116,7 +141,7 @@ fn owes_aborts(due: &mut Vec<Entry>, aborted: &str, by: By) -> bool {
 // What comes of the call of a line that has to be free.
 fn ask<S: TopStore>(watched: &mut Watched<S>, line: &Entry, before: u64) -> Option<Outcome> {
     for _ in 0..2 {
-        if !watched.manager.free(line.by, &line.event) {
+        if !is_free(&watched.manager, line.by, &line.event) {
             return None;
         }
         match call(&mut watched.manager, line.by, &line.event) {
@@ -133,7 +158,7 @@ fn ask<S: TopStore>(watched: &mut Watched<S>, line: &Entry, before: u64) -> Opti
 
 // What comes of it where an access that has to wait asks again.
 fn ask_again<S: TopStore>(watched: &mut Watched<S>, line: &Entry, before: u64) -> Option<Outcome> {
-    let name = name_of(&line.event);
+    let name = name_in(&line.event);
     for _ in 0..2 {
         if !watched.manager.waiting(name) {
             return None;
@@ -153,11 +178,11 @@ fn ask_again<S: TopStore>(watched: &mut Watched<S>, line: &Entry, before: u64) -
 // After a call its line has no other, it is held up where the call waits, and its transaction waits
 // where the call waits or is refused for that.
 fn is_told<S: TopStore>(manager: &Manager<S>, line: &Entry, outcome: &Outcome) -> bool {
-    let name = name_of(&line.event);
-    if manager.free(line.by, &line.event) || manager.free(line.by, &Event::Begin(*name)) {
+    let name = name_in(&line.event);
+    if is_free(manager, line.by, &line.event) || is_free(manager, line.by, &Event::Begin(*name)) {
         return false;
     }
-    if manager.held_up(line.by, &line.event) != (*outcome == Outcome::Waits) {
+    if is_held_up(manager, line) != (*outcome == Outcome::Waits) {
         return false;
     }
     match *outcome {
@@ -214,7 +239,7 @@ fn later_answer<S: TopStore>(
     if !owes(&mut watched.due, &told, victims, By::Victim) || !is_due(watched) {
         return None;
     }
-    if watched.manager.waiting(name_of(&line.event)) {
+    if watched.manager.waiting(name_in(&line.event)) {
         None
     } else {
         Some(answer)
@@ -229,21 +254,23 @@ pub fn is_held<S: TopStore>(watched: &mut Watched<S>, text: &str) -> bool {
     let before = look(watched);
     ask(watched, &line, before) == Some(Outcome::Waits)
         && is_as_before(watched, before)
-        && watched.manager.held_up(line.by, &line.event)
+        && is_held_up(&watched.manager, &line)
 }
 
 // Whether a line that is held up is given up.
 fn gives_up<S: TopStore>(watched: &mut Watched<S>, line: &Entry) -> bool {
     let before = look(watched);
     for _ in 0..2 {
-        if !watched.manager.held_up(line.by, &line.event) {
+        let act = act_in(&line.event);
+        let event = view(&line.event, &act);
+        if !watched.manager.held_up(line.by, &event) {
             return false;
         }
-        if watched.manager.cancel(line.by, &line.event).is_ok() {
+        if watched.manager.cancel(line.by, &event).is_ok() {
             return owes(&mut watched.due, line, "", By::Victim)
                 && is_due(watched)
-                && !watched.manager.held_up(line.by, &line.event)
-                && !watched.manager.waiting(name_of(&line.event));
+                && !is_held_up(&watched.manager, line)
+                && !watched.manager.waiting(name_in(&line.event));
         }
         if !is_as_before(watched, before) {
             return false;
@@ -275,7 +302,7 @@ pub fn is_answered<S: TopStore>(watched: &mut Watched<S>, text: &str) -> bool {
         return first_answer(watched, &line, victims) == Some(Answer::Waits)
             && gives_up(watched, &line);
     }
-    if !watched.manager.free(line.by, &line.event) {
+    if !is_free(&watched.manager, line.by, &line.event) {
         return later_answer(watched, &line, victims) == Some(line.answer);
     }
     let answer = first_answer(watched, &line, victims);

@@ -82,7 +82,7 @@ impl Gate for Meeting {
 
 // The session whose line was answered first.
 fn first_session(report: &Report) -> Option<u32> {
-    match report.history().first()?.by {
+    match report.history().get(0)?.by {
         By::Line { session, .. } => Some(session),
         By::Victim | By::Close => None,
     }

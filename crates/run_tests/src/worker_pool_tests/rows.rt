@@ -1,7 +1,8 @@
 //! Texts with their tables, by one worker, by two and by many.
 use super::served;
+use event_lists::{Act, Entries, Said};
 use run_reports::Report;
-use serial_spec::{Answer, By, Entry, Event, Reply};
+use serial_spec::{By, Reply};
 use std::alloc::Global;
 use std::process::Abort;
 use std::rt::HostRuntime;
@@ -79,34 +80,37 @@ type Outcome = (
 // How many lines were given up.
 fn given_up(report: &Report) -> usize {
     let mut count: usize = 0;
-    for entry in report.history() {
-        if entry.answer == Answer::Stuck {
-            count = count.wrapping_add(1);
+    for place in 0..report.history().len() {
+        if let Some(entry) = report.history().get(place) {
+            if entry.said == Said::Stuck {
+                count = count.wrapping_add(1);
+            }
         }
     }
     count
 }
 
 // Whether some access of the transaction was answered that the key has this value now.
-fn was_told(history: &[Entry], name: &Name, value: i64) -> bool {
-    history.iter().any(|e| match e.event {
-        Event::Access(by, _, _) => by == *name && e.answer == Answer::Done(Reply::New(value)),
-        _ => false,
+fn was_told(history: &Entries, name: &Name, value: i64) -> bool {
+    (0..history.len()).any(|place| match history.get(place) {
+        Some(entry) => *entry.event.name == *name && entry.said == Said::Done(Reply::New(value)),
+        None => false,
     })
 }
 
 // Whether the commits stand in the order of the values that their transactions were told, from 1,
 // and no line was given up nor any transaction taken as a victim. Answers how many commits there
 // are.
-fn commits_in_order(history: &[Entry]) -> Option<i64> {
+fn commits_in_order(history: &Entries) -> Option<i64> {
     let mut commits: i64 = 0;
-    for entry in history {
-        if entry.by == By::Victim || entry.answer == Answer::Stuck {
+    for place in 0..history.len() {
+        let entry = history.get(place)?;
+        if entry.by == By::Victim || entry.said == Said::Stuck {
             return None;
         }
-        if let Event::Commit(name) = entry.event {
+        if *entry.event.act == Act::Commit {
             commits = commits.checked_add(1)?;
-            if !was_told(history, &name, commits) {
+            if !was_told(history, entry.event.name, commits) {
                 return None;
             }
         }

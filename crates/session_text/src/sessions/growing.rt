@@ -8,6 +8,7 @@ ghost use Rattle.session_text.specs.Growing.{place_of, with_line_of};
 ghost use Rattle.session_text.specs.Texts.{with_header};
 
 use super::{Session, Sessions};
+use event_lists::{Events, act_in, name_in};
 use line_language::Line;
 use serial_spec::NoMemory;
 use std::alloc::Global;
@@ -53,7 +54,7 @@ impl Sessions {
         ensures err { OnErr result (self.new ≡ self.old) }
     {
         let _bytes = label.as_bytes();
-        let lines = Vec::new(alloc);
+        let lines = Events::new(alloc);
         self.sessions.push(Session { label, lines })?;
         Ok(())
     }
@@ -66,8 +67,8 @@ impl Sessions {
         ensures ok { OnOk result (self.new ≡ with_line_of self.old session line) }
         ensures err { OnErr result (self.new ≡ self.old) }
     {
-        let _event = line.event();
-        self.sessions[session as usize].push(line)?;
+        let event = line.event();
+        self.sessions[session as usize].push(name_in(event), &act_in(event))?;
         Ok(())
     }
 }

@@ -1,8 +1,9 @@
 //! A judge of reports apart from the proofs: what the committed transactions were replied is run
 //! again over one table, one transaction after another, and has to lead to the report's table.
 use durable_top::Row;
+use event_lists::{Act, EntryView, Said};
 use run_reports::Report;
-use serial_spec::{Answer, Entry, Event, Item, PlainTable, Reply, run_items};
+use serial_spec::{Item, PlainTable, Reply, run_items};
 use std::alloc::Global;
 use std::process::Abort;
 use txn_names::Name;
@@ -53,19 +54,24 @@ fn spoiled(reply: Reply, spoils: &mut bool) -> Reply {
     }
 }
 
-fn enter(rt: &impl Abort, alloc: Global, under: &mut Vec<Under>, entry: &Entry, spoils: &mut bool) {
-    let Answer::Done(reply) = entry.answer else {
+fn enter(
+    rt: &impl Abort,
+    alloc: Global,
+    under: &mut Vec<Under>,
+    entry: &EntryView<'_>,
+    spoils: &mut bool,
+) {
+    let Said::Done(reply) = entry.said else {
         return;
     };
     let reply = spoiled(reply, spoils);
-    match entry.event {
-        Event::Begin(name) => begin(rt, alloc, under, Some(name)),
-        Event::Access(name, key, op) => {
-            add(rt, under, Some(name), Item::Access { key, op, reply });
-        }
-        Event::Sum(name, group) => add(rt, under, Some(name), Item::Sum { group, reply }),
-        Event::Commit(name) => commit(rt, under, name),
-        Event::Abort(_) | Event::After(_, _) => {}
+    let name = *entry.event.name;
+    match *entry.event.act {
+        Act::Begin => begin(rt, alloc, under, Some(name)),
+        Act::Access(key, op) => add(rt, under, Some(name), Item::Access { key, op, reply }),
+        Act::Sum(group) => add(rt, under, Some(name), Item::Sum { group, reply }),
+        Act::Commit => commit(rt, under, name),
+        Act::Abort | Act::After(_) => {}
     }
 }
 
@@ -96,8 +102,10 @@ pub fn is_serial(rt: &impl Abort, alloc: Global, report: &Report, spoils: bool) 
     let mut under = Vec::new(alloc);
     begin(rt, alloc, &mut under, None);
     let mut spoils = spoils;
-    for entry in report.history() {
-        enter(rt, alloc, &mut under, entry, &mut spoils);
+    for place in 0..report.history().len() {
+        if let Some(entry) = report.history().get(place) {
+            enter(rt, alloc, &mut under, &entry, &mut spoils);
+        }
     }
     match under.first() {
         Some(root) => leads_to(rt, alloc, report, root.items.as_slice()),

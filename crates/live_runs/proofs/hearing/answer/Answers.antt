@@ -10,20 +10,20 @@ show_entries-requires g c =
     let old = c.args.live in
     let new = c.in-Ok.handled.0 in
     let taken = subst (λ f. Handled g.S.TopStore old c.args.bytes.now new f) c.in_default.is c.in-Ok.ensures.ok in
-    let count = sym (length-reverse c.history-written.result.now) ∙ ap (λ (h : History). length h) c.history-written.ensures in
-    room_behind g.S.TopStore old new c.args.bytes.now taken (length c.history-written.result.now) count c.history.result.now c.history.ensures
+    let count = c.len-written.ensures ∙ sym (length-reverse c.history.result.now.entries) ∙ ap (λ (h : History). length h) c.history.ensures in
+    room_behind g.S.TopStore old new c.args.bytes.now taken c.len-written.result count c.history-2.result.now.entries c.history-2.ensures
 
 pub returns-in-Ok-show_entries-clause-ok : goal.returns-in-Ok-show_entries-clause-ok
 returns-in-Ok-show_entries-clause-ok g c =
     let old = c.args.live in
     let new = c.in-Ok.handled.0 in
     let taken = subst (λ f. Handled g.S.TopStore old c.args.bytes.now new f) c.in_default.is c.in-Ok.ensures.ok in
-    let count = sym (length-reverse c.history-written.result.now) ∙ ap (λ (h : History). length h) c.history-written.ensures in
+    let count = c.len-written.ensures ∙ sym (length-reverse c.history.result.now.entries) ∙ ap (λ (h : History). length h) c.history.ensures in
     record {
       fault = None;
       handled = taken;
       told = refl;
-      shown = shown_since g.S.TopStore old new c.args.bytes.now taken (length c.history-written.result.now) count c.history.result.now c.history.ensures
+      shown = shown_since g.S.TopStore old new c.args.bytes.now taken c.len-written.result count c.history-2.result.now.entries c.history-2.ensures
           _ c.has_legal_history.ensures c.labels.result.now c.labels.ensures
           c.args.out.now c.show_entries.new.out c.in-Ok-show_entries.ensures.ok;
     }
@@ -33,12 +33,12 @@ returns-in-Err-show_entries-clause-err g c =
     let old = c.args.live in
     let new = c.in-Ok.handled.0 in
     let taken = subst (λ f. Handled g.S.TopStore old c.args.bytes.now new f) c.in_default.is c.in-Ok.ensures.ok in
-    let count = sym (length-reverse c.history-written.result.now) ∙ ap (λ (h : History). length h) c.history-written.ensures in
+    let count = c.len-written.ensures ∙ sym (length-reverse c.history.result.now.entries) ∙ ap (λ (h : History). length h) c.history.ensures in
     record {
       new = new;
       taken = taken;
       go = c.give_up.ensures;
-      unshown = unshown_since g.S.TopStore old new c.args.bytes.now taken (length c.history-written.result.now) count c.history.result.now c.history.ensures
+      unshown = unshown_since g.S.TopStore old new c.args.bytes.now taken c.len-written.result count c.history-2.result.now.entries c.history-2.ensures
           _ c.has_legal_history.ensures c.labels.result.now c.labels.ensures
           c.args.out.now c.show_entries.new.out c.in-Err-show_entries.ensures.err;
     }

@@ -11,7 +11,7 @@ use Rattle.live_runs.proofs.showing.show_entries.Goals as goal
 pub returns-in_err-write_entries-clause-err : goal.returns-in_err-write_entries-clause-err
 returns-in_err-write_entries-clause-err g c =
     let labels = c.args.labels.now in
-    let h = c.args.history.now in
+    let h = c.args.history.now.entries in
     let n = c.args.written in
     cut _ c.from_residual.result c.args.out.now c.write_entries.new.out
     (spelled_history labels (entries_behind n (reverse h)))
@@ -22,7 +22,7 @@ returns-in_err-write_entries-clause-err g c =
 pub returns-clause-ok : goal.returns-clause-ok
 returns-clause-ok g c =
     let labels = c.args.labels.now in
-    let h = c.args.history.now in
+    let h = c.args.history.now.entries in
     let n = c.args.written in
     passed _ c.args.out.now c.write_entries.new.out c.pass_on.new.self
     (spelled_history labels (entries_behind n (reverse h)))
@@ -33,7 +33,7 @@ returns-clause-ok g c =
 pub returns-clause-err : goal.returns-clause-err
 returns-clause-err g c =
     let labels = c.args.labels.now in
-    let h = c.args.history.now in
+    let h = c.args.history.now.entries in
     let n = c.args.written in
     unpassed _ c.args.out.now c.write_entries.new.out c.pass_on.new.self
     (spelled_history labels (entries_behind n (reverse h)))

@@ -13,7 +13,7 @@ pub returns-in_err-write_entries-clause-err : goal.returns-in_err-write_entries-
 returns-in_err-write_entries-clause-err g c =
     let r = c.args.report.now in
     let n = c.args.written in
-    let told = behind_told r.labels c.labels.result.now c.history.result.now r.history n c.labels.ensures c.history.ensures c.requires in
+    let told = behind_told r.labels c.labels.result.now c.history.result.now.entries r.history n c.labels.ensures c.history.ensures c.requires in
     let front = subst (λ bs. AppendsFront (g.W.Write.contents c.args.out.now) (g.W.Write.contents c.write_entries.new.out) bs) told c.in_err-write_entries.ensures.err in
     cut _ c.from_residual.result c.args.out.now c.write_entries.new.out
     (spelled_history r.labels (entries_behind n r.history) ++ ending_text r.table) (front_of _ _ _ _ front) c.in_err-write_entries.ensures.asked
@@ -22,7 +22,7 @@ pub returns-in_err-write_ending-clause-err : goal.returns-in_err-write_ending-cl
 returns-in_err-write_ending-clause-err g c =
     let r = c.args.report.now in
     let n = c.args.written in
-    let told = behind_told r.labels c.labels.result.now c.history.result.now r.history n c.labels.ensures c.history.ensures c.requires in
+    let told = behind_told r.labels c.labels.result.now c.history.result.now.entries r.history n c.labels.ensures c.history.ensures c.requires in
     let entries = subst (λ bs. Appends (g.W.Write.contents c.args.out.now) (g.W.Write.contents c.write_entries.new.out) bs) told c.in_ok-write_entries.ensures.ok in
     let front = subst (λ t. AppendsFront (g.W.Write.contents c.write_entries.new.out) (g.W.Write.contents c.write_ending.new.out) (ending_text t))
     c.table-table.ensures.table c.in_err-write_ending.ensures.err in
@@ -33,7 +33,7 @@ pub returns-clause-ok : goal.returns-clause-ok
 returns-clause-ok g c =
     let r = c.args.report.now in
     let n = c.args.written in
-    let told = behind_told r.labels c.labels.result.now c.history.result.now r.history n c.labels.ensures c.history.ensures c.requires in
+    let told = behind_told r.labels c.labels.result.now c.history.result.now.entries r.history n c.labels.ensures c.history.ensures c.requires in
     let entries = subst (λ bs. Appends (g.W.Write.contents c.args.out.now) (g.W.Write.contents c.write_entries.new.out) bs) told c.in_ok-write_entries.ensures.ok in
     let ending = subst (λ t. Appends (g.W.Write.contents c.write_entries.new.out) (g.W.Write.contents c.write_ending.new.out) (ending_text t))
     c.table-table.ensures.table c.in_ok-write_ending.ensures.ok in
@@ -45,7 +45,7 @@ pub returns-clause-err : goal.returns-clause-err
 returns-clause-err g c =
     let r = c.args.report.now in
     let n = c.args.written in
-    let told = behind_told r.labels c.labels.result.now c.history.result.now r.history n c.labels.ensures c.history.ensures c.requires in
+    let told = behind_told r.labels c.labels.result.now c.history.result.now.entries r.history n c.labels.ensures c.history.ensures c.requires in
     let entries = subst (λ bs. Appends (g.W.Write.contents c.args.out.now) (g.W.Write.contents c.write_entries.new.out) bs) told c.in_ok-write_entries.ensures.ok in
     let ending = subst (λ t. Appends (g.W.Write.contents c.write_entries.new.out) (g.W.Write.contents c.write_ending.new.out) (ending_text t))
     c.table-table.ensures.table c.in_ok-write_ending.ensures.ok in

@@ -1,7 +1,8 @@
-use Rattle.std.proofs.Common.{reverse, take}
+use Rattle.std.proofs.Common.{drop, reverse, take}
 use Rattle.std.specs.Io.KnownBytes.{Appends}
 use Rattle.line_language.specs.Report.{spelled_history}
 use Rattle.report_text.proofs.entries.put_history.Given as goal
 
-abbrev pub invariant-loop-entry : goal.invariant-loop-entry
-invariant-loop-entry g l = Appends (g.W.Write.contents l.initial.out) (g.W.Write.contents l.out) (spelled_history l.labels (reverse (take l.entry-index l.entries)))
+abbrev pub invariant-loop-place : goal.invariant-loop-place
+invariant-loop-place g l = Appends (g.W.Write.contents l.initial.out) (g.W.Write.contents l.out)
+    (spelled_history l.labels (reverse (take l.place (drop l.told l.entries.entries))))

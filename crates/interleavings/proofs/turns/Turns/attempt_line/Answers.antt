@@ -1,5 +1,6 @@
 use Rattle.std.proofs.Common.{◌+◌, length, length-set, sym, ap, ◌∙◌, arith}
 use Rattle.std.proofs.lemmas.List.{length-reverse}
+use Rattle.event_lists.specs.Views.{asked}
 use Rattle.interleavings.specs.Crowds.{came_of}
 use Rattle.interleavings.specs.Turning.{AreTurns}
 use Rattle.interleavings.proofs.LeftOut.{left_out_after, waits_of}
@@ -10,14 +11,14 @@ pub attempt-requires-clause-next : goal.attempt-requires-clause-next
 attempt-requires-clause-next g c =
     let due = rw (← c.self.view_is) at c.requires in
     rw c.deref_mut.ensures.value
-    (free_or_waits g.S.TopStore c.self.inside.sessions.now c.self.inside.manager.value c.self.inside.next.items c.self.invariant.0 c.args.session c.args.line c.args.due.now due)
+    (free_or_waits g.S.TopStore c.self.inside.sessions.now c.self.inside.manager.value c.self.inside.next.items c.self.invariant.0 c.args.session c.args.line (asked c.args.due.now) due)
 
 pub overflow_add-line : goal.overflow_add-line
 overflow_add-line g c =
     let due = rw (← c.self.view_is) at c.requires in
     omega (
       arith,
-      number_fits g.S.TopStore c.self.inside.sessions.now c.self.inside.manager.value c.self.inside.next.items c.self.invariant.0 c.args.session c.args.line c.args.due.now due
+      number_fits g.S.TopStore c.self.inside.sessions.now c.self.inside.manager.value c.self.inside.next.items c.self.invariant.0 c.args.session c.args.line (asked c.args.due.now) due
           c.len-count.ensures.text,
     )
 
@@ -26,7 +27,7 @@ index_mut-requires g c =
     let due = rw (← c.self.view_is) at c.requires in
     omega (
       arith,
-      is_kept g.S.TopStore c.self.inside.sessions.now c.self.inside.manager.value c.self.inside.next.items c.self.invariant.0 c.args.session c.args.line c.args.due.now due,
+      is_kept g.S.TopStore c.self.inside.sessions.now c.self.inside.manager.value c.self.inside.next.items c.self.invariant.0 c.args.session c.args.line (asked c.args.due.now) due,
       c.self.inside.next.ok.0,
     )
 
@@ -35,12 +36,12 @@ invariant_of-self-in-Waits g c =
     let due = rw (← c.self.view_is) at c.requires in
     let tried = rw c.deref_mut.ensures.value at c.in_ok-attempt.ensures.ok in
     let turns : AreTurns (record { sessions = c.self.inside.sessions.now; core = c.attempt.new.manager }) c.self.inside.next.items =
-    turns_parked g.S.TopStore c.self.inside.sessions.now c.self.inside.manager.value c.self.inside.next.items c.self.invariant.0 c.args.session c.args.line c.args.due.now due
+    turns_parked g.S.TopStore c.self.inside.sessions.now c.self.inside.manager.value c.self.inside.next.items c.self.invariant.0 c.args.session c.args.line (asked c.args.due.now) due
     c.attempt.new.manager c.in_ok-attempt.field-0 tried (waits_of c.in_ok-attempt.field-0 (sym c.came_of-came.ensures ∙ c.in-Waits.is)) in (
       turns,
-      left_out_after g.S.TopStore c.self.inside.sessions.now c.self.inside.manager.value c.self.inside.next.items c.self.invariant.0 c.args.session c.args.line c.args.due.now due
-          c.attempt.new.manager c.in_ok-attempt.field-0 tried c.len-count.ensures.text.few c.self.inside.ready c.note_attempt.new.ready c.self.invariant.1 (length c.history-before.result.now)
-          (sym (length-reverse c.history-before.result.now) ∙ ap length (rw c.deref.ensures at c.history-before.ensures)) c.came_of-came.result c.came_of-came.ensures
+      left_out_after g.S.TopStore c.self.inside.sessions.now c.self.inside.manager.value c.self.inside.next.items c.self.invariant.0 c.args.session c.args.line (asked c.args.due.now) due
+          c.attempt.new.manager c.in_ok-attempt.field-0 tried c.len-count.ensures.text.few c.self.inside.ready c.note_attempt.new.ready c.self.invariant.1 c.len-before.result
+          (c.len-before.ensures ∙ sym (length-reverse c.history.result.now.entries) ∙ ap length (rw c.deref.ensures at c.history.ensures)) c.came_of-came.result c.came_of-came.ensures
           turns.way (rw (c.deref-2.ensures, c.as_slice-next.ensures.value) at c.note_attempt.ensures),
     )
 
@@ -49,13 +50,13 @@ invariant_of-self-in_default g c =
     let due = rw (← c.self.view_is) at c.requires in
     let tried = rw c.deref_mut.ensures.value at c.in_ok-attempt.ensures.ok in
     let turns =
-    turns_answered g.S.TopStore c.self.inside.sessions.now c.self.inside.manager.value c.self.inside.next.items c.self.invariant.0 c.args.session c.args.line c.args.due.now due
+    turns_answered g.S.TopStore c.self.inside.sessions.now c.self.inside.manager.value c.self.inside.next.items c.self.invariant.0 c.args.session c.args.line (asked c.args.due.now) due
     c.attempt.new.manager c.in_ok-attempt.field-0 tried (λ is. c.in_default.not-Waits (c.came_of-came.ensures ∙ ap came_of is))
     (length-set c.self.inside.next.items c.args.session (c.args.line + 1)) in (
       turns,
-      left_out_after g.S.TopStore c.self.inside.sessions.now c.self.inside.manager.value c.self.inside.next.items c.self.invariant.0 c.args.session c.args.line c.args.due.now due
-          c.attempt.new.manager c.in_ok-attempt.field-0 tried c.len-count.ensures.text.few c.self.inside.ready c.note_attempt.new.ready c.self.invariant.1 (length c.history-before.result.now)
-          (sym (length-reverse c.history-before.result.now) ∙ ap length (rw c.deref.ensures at c.history-before.ensures)) c.came_of-came.result c.came_of-came.ensures
+      left_out_after g.S.TopStore c.self.inside.sessions.now c.self.inside.manager.value c.self.inside.next.items c.self.invariant.0 c.args.session c.args.line (asked c.args.due.now) due
+          c.attempt.new.manager c.in_ok-attempt.field-0 tried c.len-count.ensures.text.few c.self.inside.ready c.note_attempt.new.ready c.self.invariant.1 c.len-before.result
+          (c.len-before.ensures ∙ sym (length-reverse c.history.result.now.entries) ∙ ap length (rw c.deref.ensures at c.history.ensures)) c.came_of-came.result c.came_of-came.ensures
           turns.way (rw (c.deref-2.ensures, c.as_slice-next.ensures.value) at c.note_attempt.ensures),
     )
 
@@ -64,7 +65,7 @@ returns-in-Waits-clause-ok g c =
     let due = rw (← c.self.view_is) at c.requires in
     let tried = rw c.deref_mut.ensures.value at c.in_ok-attempt.ensures.ok in
     rw (← c.self.view_is)
-    (stepped_parked g.S.TopStore c.self.inside.sessions.now c.self.inside.manager.value c.self.inside.next.items c.self.invariant.0 c.args.session c.args.line c.args.due.now due
+    (stepped_parked g.S.TopStore c.self.inside.sessions.now c.self.inside.manager.value c.self.inside.next.items c.self.invariant.0 c.args.session c.args.line (asked c.args.due.now) due
     c.attempt.new.manager c.in_ok-attempt.field-0 tried (waits_of c.in_ok-attempt.field-0 (sym c.came_of-came.ensures ∙ c.in-Waits.is)))
 
 pub returns-in-Waits-clause-way : goal.returns-in-Waits-clause-way
@@ -76,7 +77,7 @@ returns-in_default g c =
     let tried = rw c.deref_mut.ensures.value at c.in_ok-attempt.ensures.ok in
     record {
       ok = rw (← c.self.view_is)
-          (stepped_answered g.S.TopStore c.self.inside.sessions.now c.self.inside.manager.value c.self.inside.next.items c.self.invariant.0 c.args.session c.args.line c.args.due.now due
+          (stepped_answered g.S.TopStore c.self.inside.sessions.now c.self.inside.manager.value c.self.inside.next.items c.self.invariant.0 c.args.session c.args.line (asked c.args.due.now) due
           c.attempt.new.manager c.in_ok-attempt.field-0 tried (λ is. c.in_default.not-Waits (c.came_of-came.ensures ∙ ap came_of is)));
       way = (invariant_of-self-in_default g c).0.way;
       err = tt;
@@ -85,4 +86,4 @@ returns-in_default g c =
 pub note_attempt-requires : goal.note_attempt-requires
 note_attempt-requires g c =
     let due = rw (← c.self.view_is) at c.requires in
-    omega (arith, session_there c.self.inside.sessions.now c.self.inside.manager.value.history c.args.session c.args.due.now due.event, c.len-count.ensures.text.few)
+    omega (arith, session_there c.self.inside.sessions.now c.self.inside.manager.value.history c.args.session (asked c.args.due.now) due.event, c.len-count.ensures.text.few)

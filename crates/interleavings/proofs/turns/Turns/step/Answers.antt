@@ -1,4 +1,5 @@
 use Rattle.std.proofs.Common.{◌≡◌, true, false, refl, sym, ap, ◌∙◌}
+use Rattle.event_lists.specs.Views.{asked}
 use Rattle.serial_spec.specs.declared.entry.By.TheVariants.{Line}
 use Rattle.manager_core.specs.declared.outcome.Outcome.TheVariants.{Waits}
 use Rattle.interleavings.proofs.Calls.{kept_out_attempt}
@@ -16,7 +17,7 @@ returns-then-stays_parked-clause-ok g c =
     let ss = c.self.inside.sessions.now in
     let s = c.args.session in
     let l = c.in-Some.line in
-    let event = c.in-Some.due.now in
+    let event = asked c.in-Some.due in
     let due = rw (← c.self.view_is) at c.in-Some.ensures.some in
     let next = free_or_waits g.S.TopStore ss m c.self.inside.next.items c.self.invariant.0 s l event due in
     let parked = rw c.deref_mut.ensures.value at c.stays_parked.ensures.parked in
@@ -36,7 +37,7 @@ invariant_of-self-then-stays_parked g c =
     let ss = c.self.inside.sessions.now in
     let s = c.args.session in
     let l = c.in-Some.line in
-    let event = c.in-Some.due.now in
+    let event = asked c.in-Some.due in
     let due = rw (← c.self.view_is) at c.in-Some.ensures.some in
     let next = free_or_waits g.S.TopStore ss m c.self.inside.next.items c.self.invariant.0 s l event due in
     let parked = rw c.deref_mut.ensures.value at c.stays_parked.ensures.parked in

@@ -1,4 +1,5 @@
 use Rattle.std.proofs.Common.{◌+◌, length-set, sym, subst, arith}
+use Rattle.event_lists.specs.Views.{asked}
 use Rattle.serial_spec.specs.declared.entry.By.TheVariants.{Line}
 use Rattle.serial_spec.specs.Interleaving.{MustGiveUp}
 use Rattle.txn_history.specs.Lines.{CanGiveUp}
@@ -13,7 +14,7 @@ cancel-requires g c =
     let m = c.self.inside.manager.value in
     let ss = c.self.inside.sessions.now in
     let s = c.in-Some.session in
-    let event = c.unwrap-line.result.1.now in
+    let event = asked c.unwrap-line.result.1 in
     let due : IsDue ss m.history s c.unwrap-line.result.0 event = rw (← c.self.view_is, c.unwrap-line.ensures) at c.due.ensures.some in
     let tells = rw (← c.self.view_is) at c.in-Some.ensures in
     let way = c.self.invariant.0.way in
@@ -26,8 +27,8 @@ pub overflow_add-line : goal.overflow_add-line
 overflow_add-line g c =
     let m = c.self.inside.manager.value in
     let ss = c.self.inside.sessions.now in
-    let due : IsDue ss m.history c.in-Some.session c.unwrap-line.result.0 c.unwrap-line.result.1.now = rw (← c.self.view_is, c.unwrap-line.ensures) at c.due.ensures.some in
-    omega (arith, number_fits g.S.TopStore ss m c.self.inside.next.items c.self.invariant.0 c.in-Some.session c.unwrap-line.result.0 c.unwrap-line.result.1.now due c.len-count.ensures.text)
+    let due : IsDue ss m.history c.in-Some.session c.unwrap-line.result.0 (asked c.unwrap-line.result.1) = rw (← c.self.view_is, c.unwrap-line.ensures) at c.due.ensures.some in
+    omega (arith, number_fits g.S.TopStore ss m c.self.inside.next.items c.self.invariant.0 c.in-Some.session c.unwrap-line.result.0 (asked c.unwrap-line.result.1) due c.len-count.ensures.text)
 
 pub returns-in_default-clause-ok : goal.returns-in_default-clause-ok
 returns-in_default-clause-ok g c = unstuck_none g.S.TopStore c.args.self.now c.in_default.ensures
@@ -37,7 +38,7 @@ returns-clause-ok g c =
     let m = c.self.inside.manager.value in
     let ss = c.self.inside.sessions.now in
     let s = c.in-Some.session in
-    let event = c.unwrap-line.result.1.now in
+    let event = asked c.unwrap-line.result.1 in
     let due : IsDue ss m.history s c.unwrap-line.result.0 event = rw (← c.self.view_is, c.unwrap-line.ensures) at c.due.ensures.some in
     let tells = rw (← c.self.view_is) at c.in-Some.ensures in
     let must : MustGiveUp m.rows ss m.history s event = record { left = due.event; stuck = tells.1.stuck } in
@@ -49,7 +50,7 @@ invariant_of-self-2 g c =
     let m = c.self.inside.manager.value in
     let ss = c.self.inside.sessions.now in
     let s = c.in-Some.session in
-    let event = c.unwrap-line.result.1.now in
+    let event = asked c.unwrap-line.result.1 in
     let due : IsDue ss m.history s c.unwrap-line.result.0 event = rw (← c.self.view_is, c.unwrap-line.ensures) at c.due.ensures.some in
     let tells = rw (← c.self.view_is) at c.in-Some.ensures in
     let must : MustGiveUp m.rows ss m.history s event = record { left = due.event; stuck = tells.1.stuck } in

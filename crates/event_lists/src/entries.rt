@@ -1,0 +1,185 @@
+//! A list of entries.
+ghost use Rattle.std.specs.Prelude.{◌≡◌, ◌+◌, ◌<◌, ◌≤◌, ◌↔◌, [], ◌∷◌, ◌++◌, length, slice_get, Some, OnOk, IsOk, IsTrue, vec_len, vec_capacity};
+ghost use Rattle.std.specs.Option.{option_map};
+ghost use Rattle.event_lists.specs.Lists.{IsNamed, Keeps, is_orphan, name_at};
+ghost use Rattle.event_lists.specs.Views.{answer_by, seen};
+
+use crate::names::{Asking, is_at, number_of};
+use crate::view::{Cause, EntryView, EventView, Said};
+use serial_spec::{By, MOST_SESSIONS, NoMemory};
+use std::alloc::{AllocError, Global};
+use std::marker::Model;
+use txn_names::Name;
+
+// An entry, its names by number.
+#[derive(Clone, Copy)]
+struct Noted {
+    by: By,
+    event: Asking,
+    said: Said,
+    // Any name but where the line was refused as an orphan's.
+    top: usize,
+}
+
+/// Entries, the oldest first. After `reserve` they are added without memory. A name is kept once
+/// for entries of a session one after the other.
+#[derive(Drop)]
+pub struct Entries {
+    names: Vec<Name>,
+    notes: Vec<Noted>,
+    // For each session the numbers of the names of its last entry: the next one mostly has these.
+    last: [usize; MOST_SESSIONS],
+    tops: [usize; MOST_SESSIONS],
+    room: usize,
+}
+
+impl Model for Entries {
+    ghost use Rattle.std.specs.Prelude.{◌+◌, ◌≤◌, vec_len, vec_capacity};
+    ghost use Rattle.std.specs.List.{AllByRecursion};
+    ghost use Rattle.event_lists.specs.Lists.{HasNames, Listed, entries_of};
+
+    ghost Value = { Listed };
+
+    ghost view = { λ e. record {
+      entries = entries_of e.names.items e.notes.items;
+      room = e.room;
+    } };
+
+    ghost invariant = { λ e.
+        AllByRecursion (HasNames e.names.items) e.notes.items
+        × (vec_len e.notes + e.room ≤ vec_capacity e.notes)
+        × (vec_len e.names + (e.room + e.room) ≤ vec_capacity e.names) };
+}
+
+// Whether an orphan is refused, which tells its aborted ancestor.
+fn is_orphan(said: Said) -> bool
+    ensures { result ≡ is_orphan said }
+{
+    match said {
+        Said::Refused(Cause::Orphan) => true,
+        _ => false,
+    }
+}
+
+// The number of the name that an entry tells beside its own: mostly it is its own, or the one that
+// the session's entry before told. Where it tells none its own will do.
+#[inline(always)]
+fn number_of_top(names: &mut Vec<Name>, own: usize, last: usize, said: Said, top: &Name) -> usize
+    requires room { vec_len names.old < vec_capacity names.old }
+    requires own { IsNamed names.old.items own }
+    ensures named { IsNamed names.new.items result }
+    ensures told { answer_by said (name_at names.new.items result) ≡ answer_by said top.now }
+    ensures keeps { Keeps names.old.items names.new.items }
+    ensures len { vec_len names.new ≤ vec_len names.old + 1 }
+    ensures capacity { vec_capacity names.new ≡ vec_capacity names.old }
+{
+    if !is_orphan(said) || is_at(names, own, top) {
+        own
+    } else {
+        number_of(names, last, top)
+    }
+}
+
+// The place of a line's session, where that has one, and else any.
+fn place_of(by: By) -> usize
+    ensures { result < 64 }
+{
+    match by {
+        By::Line { session, .. } if (session as usize) < MOST_SESSIONS => session as usize,
+        _ => 0,
+    }
+}
+
+impl Entries {
+    /// No entries. It takes no memory.
+    pub fn new(alloc: Global) -> Entries
+        ensures { result ≡ record { entries = []; room = 0 } }
+    {
+        Entries {
+            names: Vec::new(alloc),
+            notes: Vec::new(alloc),
+            last: [0; MOST_SESSIONS],
+            tops: [0; MOST_SESSIONS],
+            room: 0,
+        }
+    }
+
+    /// How many entries there are.
+    pub fn len(&self) -> usize
+        ensures { result ≡ length self.now.entries }
+    {
+        self.notes.len()
+    }
+
+    /// Whether there are none.
+    pub fn is_empty(&self) -> bool
+        ensures { IsTrue result ↔ (self.now.entries ≡ []) }
+    {
+        self.notes.is_empty()
+    }
+
+    /// The entry at this place, where there is one: the oldest has place 0.
+    #[inline(always)]
+    pub fn get(&self, place: usize) -> Option<EntryView<'_>>
+        ensures { option_map seen result ≡ slice_get self.now.entries place }
+    {
+        let noted = self.notes.get(place)?;
+        let name = self.names.get(noted.event.name)?;
+        let top = self.names.get(noted.top)?;
+        Some(EntryView {
+            by: noted.by,
+            event: EventView {
+                name,
+                act: &noted.event.act,
+            },
+            said: noted.said,
+            top,
+        })
+    }
+
+    /// Makes room for so many more entries, and succeeds without memory where there is room. The
+    /// only error is that memory runs out; the entries are as before then too.
+    pub fn reserve(&mut self, additional: usize) -> Result<(), NoMemory>
+        ensures entries { self.new.entries ≡ self.old.entries }
+        ensures ok { OnOk result (additional ≤ self.new.room) }
+        ensures succeeds { additional ≤ self.old.room → IsOk result }
+        ensures room { self.old.room ≤ self.new.room }
+    {
+        if additional <= self.room {
+            return Ok(());
+        }
+        self.notes.reserve(additional)?;
+        // An entry has two names at most.
+        let Some(names) = additional.checked_add(additional) else {
+            return Err(AllocError);
+        };
+        self.names.reserve(names)?;
+        self.room = additional;
+        Ok(())
+    }
+
+    /// Adds an entry. It takes no memory.
+    #[inline(always)]
+    pub fn push(&mut self, entry: &EntryView<'_>)
+        requires { 0 < self.old.room }
+        ensures entries { self.new.entries ≡ self.old.entries ++ seen entry.now ∷ [] }
+        ensures room { self.old.room ≤ self.new.room + 1 }
+    {
+        let place = place_of(entry.by);
+        let name = number_of(&mut self.names, self.last[place], entry.event.name);
+        self.last[place] = name;
+        let last = self.tops[place];
+        let top = number_of_top(&mut self.names, name, last, entry.said, entry.top);
+        self.tops[place] = top;
+        self.notes.push_reserved(Noted {
+            by: entry.by,
+            event: Asking {
+                name,
+                act: *entry.event.act,
+            },
+            said: entry.said,
+            top,
+        });
+        self.room -= 1;
+    }
+}

@@ -1,0 +1,14 @@
+//! Lists of events and of entries, which keep a name once for those that name it one after another.
+//! An event has room for a name of 274 bytes, and an entry for two: that of its transaction, and
+//! that of an aborted ancestor. A list has their numbers instead, and whoever looks at an event or
+//! an entry of it sees the names where they stand.
+#![tactic(auto)]
+
+mod entries;
+mod events;
+mod names;
+mod view;
+
+pub use entries::Entries;
+pub use events::Events;
+pub use view::{Act, Cause, EntryView, EventView, Said, act_in, cause_of, is_same, name_in};
