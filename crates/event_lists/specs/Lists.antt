@@ -3,6 +3,7 @@ use Rattle.std.specs.Prelude.{◌≡◌, ℕ, Bool, true, false, List, [], map, 
 use Rattle.serial_spec.specs.declared.event.Event.{Event}
 use Rattle.serial_spec.specs.declared.entry.Entry.{Entry}
 use Rattle.serial_spec.specs.History.{Name}
+use Rattle.txn_names.specs.Reading.{pieces}
 use Rattle.event_lists.specs.Views.{answer_by, event_by}
 use Rattle.event_lists.specs.declared.view.Cause.TheVariants.{Orphan}
 use Rattle.event_lists.specs.declared.view.Said.{Said}
@@ -41,6 +42,10 @@ entries_of names notes = map (entry_at names) notes
 abbrev pub is_orphan : Said → Bool
 is_orphan (Refused Orphan) = true
 is_orphan s = false
+
+-- the bytes spell the name with this number
+abbrev pub IsSpelledAt : List Name → ℕ → List ℕ → Type 0
+IsSpelledAt names n bs = slice_get names n ≡ Some (pieces bs)
 
 -- there is a name with this number
 abbrev pub IsNamed : List Name → ℕ → Type 0

@@ -4,8 +4,9 @@ ghost use Rattle.std.specs.Option.{option_map};
 ghost use Rattle.event_lists.specs.Lists.{IsNamed, Keeps, is_orphan, name_at};
 ghost use Rattle.event_lists.specs.Views.{answer_by, seen};
 
-use crate::names::{Asking, is_at, number_of};
+use crate::names::{Asking, Lately, is_spelled_at};
 use crate::view::{Cause, EntryView, EventView, Said};
+use crate::word::NameWord;
 use serial_spec::{By, MOST_SESSIONS, NoMemory};
 use std::alloc::{AllocError, Global};
 use std::marker::Model;
@@ -22,14 +23,15 @@ struct Noted {
 }
 
 /// Entries, the oldest first. After `reserve` they are added without memory. A name is kept once
-/// for entries of a session one after the other.
+/// for entries of a session one after the other, and for others near by.
 #[derive(Drop)]
 pub struct Entries {
     names: Vec<Name>,
     notes: Vec<Noted>,
-    // For each session the numbers of the names of its last entry: the next one mostly has these.
-    last: [usize; MOST_SESSIONS],
-    tops: [usize; MOST_SESSIONS],
+    // For each session the names of its last entries, and the ancestors that they told: the next
+    // one mostly has one of these.
+    lately: [Lately; MOST_SESSIONS],
+    tops: [Lately; MOST_SESSIONS],
     room: usize,
 }
 
@@ -61,10 +63,16 @@ fn is_orphan(said: Said) -> bool
     }
 }
 
-// The number of the name that an entry tells beside its own: mostly it is its own, or the one that
-// the session's entry before told. Where it tells none its own will do.
+// The number of the name that an entry tells beside its own: mostly it is its own, or one that the
+// session's entries before told. Where it tells none its own will do.
 #[inline(always)]
-fn number_of_top(names: &mut Vec<Name>, own: usize, last: usize, said: Said, top: &Name) -> usize
+fn number_of_top(
+    names: &mut Vec<Name>,
+    own: usize,
+    tops: &mut Lately,
+    said: Said,
+    top: &Name,
+) -> usize
     requires room { vec_len names.old < vec_capacity names.old }
     requires own { IsNamed names.old.items own }
     ensures named { IsNamed names.new.items result }
@@ -73,10 +81,10 @@ fn number_of_top(names: &mut Vec<Name>, own: usize, last: usize, said: Said, top
     ensures len { vec_len names.new ≤ vec_len names.old + 1 }
     ensures capacity { vec_capacity names.new ≡ vec_capacity names.old }
 {
-    if !is_orphan(said) || is_at(names, own, top) {
+    if !is_orphan(said) || is_spelled_at(names, own, top.spelled()) {
         own
     } else {
-        number_of(names, last, top)
+        tops.number_of(names, &NameWord::of(top))
     }
 }
 
@@ -98,8 +106,8 @@ impl Entries {
         Entries {
             names: Vec::new(alloc),
             notes: Vec::new(alloc),
-            last: [0; MOST_SESSIONS],
-            tops: [0; MOST_SESSIONS],
+            lately: [Lately::new(); MOST_SESSIONS],
+            tops: [Lately::new(); MOST_SESSIONS],
             room: 0,
         }
     }
@@ -166,11 +174,10 @@ impl Entries {
         ensures room { self.old.room ≤ self.new.room + 1 }
     {
         let place = place_of(entry.by);
-        let name = number_of(&mut self.names, self.last[place], entry.event.name);
-        self.last[place] = name;
-        let last = self.tops[place];
-        let top = number_of_top(&mut self.names, name, last, entry.said, entry.top);
-        self.tops[place] = top;
+        let word = NameWord::of(entry.event.name);
+        let name = self.lately[place].number_of(&mut self.names, &word);
+        let tops = &mut self.tops[place];
+        let top = number_of_top(&mut self.names, name, tops, entry.said, entry.top);
         self.notes.push_reserved(Noted {
             by: entry.by,
             event: Asking {

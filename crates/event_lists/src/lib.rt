@@ -8,7 +8,9 @@ mod entries;
 mod events;
 mod names;
 mod view;
+mod word;
 
 pub use entries::Entries;
 pub use events::Events;
 pub use view::{Act, Cause, EntryView, EventView, Said, act_in, cause_of, is_same, name_in};
+pub use word::NameWord;

@@ -1,17 +1,15 @@
 -- The words of a line that asks for an access of a key, from which it is read.
-use Rattle.std.specs.Prelude.{◌≡◌, length}
-use Rattle.txn_names.specs.Text.{IsName, IsKey}
-use Rattle.txn_names.specs.Reading.{pieces}
+use Rattle.txn_names.specs.Text.{IsKey}
 use Rattle.serial_spec.specs.declared.event.Event.{Event}
 use Rattle.serial_spec.specs.declared.event.Event.TheVariants.{Access}
+use Rattle.event_lists.specs.Words.{IsRead, named}
 use Rattle.line_language.specs.declared.command.AccessWords.{AccessWords}
 
 -- what they ask
 abbrev pub asked_in : AccessWords → Event
-asked_in a = Access (pieces a.name.now) a.key.now a.op
+asked_in a = Access (named a.name) a.key.now a.op
 
--- the words are a name, of so many labels, and a key
+-- the words are a name and a key
 pub record AreRead (a : AccessWords) : Type 0 where
-  pub name : IsName (pieces a.name.now)
-  pub depth : a.depth ≡ length (pieces a.name.now)
+  pub name : IsRead a.name
   pub key : IsKey a.key.now

@@ -2,6 +2,7 @@
 ghost use Rattle.std.specs.Prelude.{◌≡◌, IfOk, MatchResult};
 ghost use Rattle.std.specs.Option.{option_copied};
 ghost use Rattle.event_lists.specs.Views.{act_of, name_of};
+ghost use Rattle.event_lists.specs.Words.{IsRead, named};
 ghost use Rattle.line_language.specs.Steps.{Gives};
 ghost use Rattle.line_language.specs.Accesses.{AreRead, asked_in};
 ghost use Rattle.line_language.specs.Words.{cut_at, parts_left};
@@ -11,7 +12,7 @@ use crate::fault::LineKind;
 use crate::number::parse_number;
 use crate::parting::cut;
 use crate::verbs::{is_abort, is_after, is_begin, is_sum, operand, operation_of, with_operand};
-use event_lists::Act;
+use event_lists::{Act, Events, NameWord};
 use serial_spec::{Event, Op, When};
 use txn_names::{Group, Key, Name};
 
@@ -55,28 +56,28 @@ fn when_in(word: &[u8]) -> Result<When, LineKind>
 /// of them where it is to stand.
 #[derive(Clone, Copy)]
 pub struct AccessWords<'a> {
-    name: &'a [u8],
-    depth: usize,
+    name: NameWord<'a>,
     key: &'a [u8],
     op: Op,
 }
 
-impl AccessWords<'_> {
+impl<'a> AccessWords<'a> {
     /// What the line asks.
     fn event(&self) -> Event
         requires { AreRead self.now }
         ensures { result ≡ asked_in self.now }
     {
-        Event::Access(self.name(), Key::of(self.key), self.op)
+        Event::Access(self.name.name(), Key::of(self.key), self.op)
     }
 
-    /// The transaction that the line names.
+    /// The word of the transaction that the line names.
     #[inline(always)]
-    pub fn name(&self) -> Name
+    pub fn name(&self) -> &NameWord<'a>
         requires { AreRead self.now }
-        ensures { result ≡ name_of (asked_in self.now) }
+        ensures value { named result.now ≡ name_of (asked_in self.now) }
+        ensures word { IsRead result.now }
     {
-        Name::of_spelled(self.name, self.depth)
+        &self.name
     }
 
     /// What the line asks of it.
@@ -102,38 +103,42 @@ fn fault_before(last: Option<&[u8]>, kind: LineKind) -> LineKind
     }
 }
 
-/// The words of a line that asks this operation, which has no number, behind the word of it. No key
-/// has a space, so the last word is not searched for one.
+/// The words of a line that asks this operation, which has no number, behind the word of it. Names
+/// are looked for in these events first. No key has a space, so the last word is not searched for
+/// one.
 #[tactic(auto, using(crate::proofs::Accesses::key_alone))]
-pub(crate) fn keyed_words(words: &[u8], op: Op) -> Result<AccessWords<'_>, LineKind>
+pub(crate) fn keyed_words<'a>(
+    words: &'a [u8],
+    op: Op,
+    before: Option<&Events>,
+) -> Result<AccessWords<'a>, LineKind>
     ensures read { Gives asked_in result (keyed_access op (cut_at 32 words.now)) }
     ensures words { IfOk result AreRead }
 {
-    let (name, last) = cut(words, b' ');
+    let (word, last) = cut(words, b' ');
     let Some(key) = last else {
         return Err(LineKind::Shape);
     };
-    let Ok(depth) = Name::depth_of(name) else {
+    let Ok(name) = NameWord::parse(word, before) else {
         return Err(fault_before(last, LineKind::Name));
     };
     let Ok(()) = Key::check(key) else {
         return Err(fault_before(last, LineKind::Key));
     };
-    Ok(AccessWords {
-        name,
-        depth,
-        key,
-        op,
-    })
+    Ok(AccessWords { name, key, op })
 }
 
 /// The words of a line that asks this operation with a number behind the key, in the place of its
-/// own. No number has a space.
-pub(crate) fn valued_words(words: &[u8], op: Op) -> Result<AccessWords<'_>, LineKind>
+/// own. Names are looked for in these events first. No number has a space.
+pub(crate) fn valued_words<'a>(
+    words: &'a [u8],
+    op: Op,
+    before: Option<&Events>,
+) -> Result<AccessWords<'a>, LineKind>
     ensures read { Gives asked_in result (valued_access op (cut_at 32 words.now)) }
     ensures words { IfOk result AreRead }
 {
-    let (name, rest) = cut(words, b' ');
+    let (word, rest) = cut(words, b' ');
     let Some(operands) = rest else {
         return Err(LineKind::Shape);
     };
@@ -141,7 +146,7 @@ pub(crate) fn valued_words(words: &[u8], op: Op) -> Result<AccessWords<'_>, Line
     let Some(number) = last else {
         return Err(LineKind::Shape);
     };
-    let Ok(depth) = Name::depth_of(name) else {
+    let Ok(name) = NameWord::parse(word, before) else {
         return Err(fault_before(last, LineKind::Name));
     };
     let Ok(()) = Key::check(key) else {
@@ -152,7 +157,6 @@ pub(crate) fn valued_words(words: &[u8], op: Op) -> Result<AccessWords<'_>, Line
     };
     Ok(AccessWords {
         name,
-        depth,
         key,
         op: with_operand(op, value),
     })
@@ -164,8 +168,8 @@ fn words_of(words: &[u8], op: Op) -> Result<AccessWords<'_>, LineKind>
     ensures words { IfOk result AreRead }
 {
     match operand(op) {
-        Some(_) => valued_words(words, op),
-        None => keyed_words(words, op),
+        Some(_) => valued_words(words, op, None),
+        None => keyed_words(words, op, None),
     }
 }
 

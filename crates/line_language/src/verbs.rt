@@ -12,6 +12,7 @@ ghost use Rattle.line_language.specs.Verbs.{may_reply, operand, operation_of, wi
 
 use crate::command::{AccessWords, keyed_words, valued_words};
 use crate::fault::LineKind;
+use event_lists::Events;
 use serial_spec::{Op, Reply};
 
 /// The operation that the word asks, with the number 0 where it has one.
@@ -28,16 +29,20 @@ pub(crate) fn operation_of(word: &[u8]) -> Option<Op>
 }
 
 /// The words of a line that asks for an access of a key, or the kind of its first fault. Of other
-/// lines nothing is told.
-pub fn access_in(bytes: &[u8]) -> Option<Result<AccessWords<'_>, LineKind>>
+/// lines nothing is told. A name that one of these events has, those of the lines before, is mostly
+/// known by its bytes.
+pub fn access_in<'a>(
+    bytes: &'a [u8],
+    before: Option<&Events>,
+) -> Option<Result<AccessWords<'a>, LineKind>>
     ensures read { IfSome result (λ read. Gives asked_in read (event_of bytes.now)) }
     ensures words { IfSome result (λ read. IfOk read AreRead) }
 {
     match bytes {
-        [b'g', b'e', b't', b' ', words @ ..] => Some(keyed_words(words, Op::Get)),
-        [b's', b'e', b't', b' ', words @ ..] => Some(valued_words(words, Op::Set(0))),
-        [b'a', b'd', b'd', b' ', words @ ..] => Some(valued_words(words, Op::Add(0))),
-        [b'd', b'e', b'l', b' ', words @ ..] => Some(keyed_words(words, Op::Del)),
+        [b'g', b'e', b't', b' ', words @ ..] => Some(keyed_words(words, Op::Get, before)),
+        [b's', b'e', b't', b' ', words @ ..] => Some(valued_words(words, Op::Set(0), before)),
+        [b'a', b'd', b'd', b' ', words @ ..] => Some(valued_words(words, Op::Add(0), before)),
+        [b'd', b'e', b'l', b' ', words @ ..] => Some(keyed_words(words, Op::Del, before)),
         _ => None,
     }
 }

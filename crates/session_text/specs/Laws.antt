@@ -1,6 +1,6 @@
 -- Reading and spelling fit: bytes are read as a text exactly where they spell it, as statements. So
 -- each has one spelling, and all that is spelled otherwise is refused: at its first faulty line.
-use Rattle.std.specs.Prelude.{◌≡◌, ◌↔◌, ◌⊎◌, ℕ, ◌+◌, ◌<◌, ◌==◌, IsTrue, IsFalse, List, [], ◌∷◌, ◌++◌, length, Ok, Err}
+use Rattle.std.specs.Prelude.{◌≡◌, ◌↔◌, ◌⊎◌, ℕ, ◌+◌, ◌<◌, ◌==◌, IsFalse, List, [], ◌∷◌, ◌++◌, length, Ok, Err}
 use Rattle.std.specs.List.{list_any}
 use Rattle.serial_spec.specs.Interleaving.{Session}
 use Rattle.line_language.specs.declared.fault.LineKind.{LineKind}

@@ -3,6 +3,7 @@ ghost use Rattle.std.specs.Prelude.{◌≡◌, ◌==◌, ◌++◌, [], ◌∷◌
 ghost use Rattle.std.specs.Option.{option_copied, option_map};
 ghost use Rattle.serial_spec.specs.declared.event.Event.{Event};
 ghost use Rattle.event_lists.specs.Views.{asked, event_by};
+ghost use Rattle.event_lists.specs.Words.{IsRead, named};
 ghost use Rattle.line_language.specs.Accesses.{AreRead, asked_in};
 ghost use Rattle.line_language.specs.Commands.{event_of};
 ghost use Rattle.session_text.specs.Grammar.{IsText, is_taken};
@@ -13,12 +14,12 @@ mod growing;
 
 use crate::fault::TextFault;
 use crate::header::{labelled, words_of_header};
-use event_lists::{Act, EventView, Events, act_in, name_in};
+use event_lists::{Act, EventView, Events, NameWord, act_in, name_in};
 use line_language::{AccessWords, LineKind, access_in, cut_line, parse_event};
 use serial_spec::{MOST_LINES, MOST_SESSIONS, NoMemory};
 use std::alloc::Global;
 use std::marker::Model;
-use txn_names::{Label, Name};
+use txn_names::Label;
 
 // A header and the lines behind it.
 #[derive(Drop)]
@@ -175,7 +176,7 @@ impl Sessions {
     fn add_command(&mut self, number: usize, bytes: &[u8]) -> Result<(), TextFault>
         ensures { IsPlaced self.old number (command_of bytes.now) self.new result }
     {
-        match access_in(bytes) {
+        match access_in(bytes, open_events(&self.sessions)) {
             Some(Ok(access)) => self.add_access(number, &access, bytes),
             Some(Err(kind)) => Err(TextFault::Bad { line: number, kind }),
             None => self.add_other(number, bytes),
@@ -195,7 +196,7 @@ impl Sessions {
     {
         match self.fault_of_command() {
             Some(kind) => Err(TextFault::Bad { line: number, kind }),
-            None => match self.add_event(&access.name(), &access.act(), bytes) {
+            None => match self.add_event(access.name(), &access.act(), bytes) {
                 Ok(()) => Ok(()),
                 Err(NoMemory) => Err(TextFault::NoMemory),
             },
@@ -215,7 +216,7 @@ impl Sessions {
             }),
             Ok(event) => match misplaced {
                 Some(kind) => Err(TextFault::Bad { line: number, kind }),
-                None => match self.add_event(name_in(event), &act_in(event), bytes) {
+                None => match self.add_event(&NameWord::of(name_in(event)), &act_in(event), bytes) {
                     Ok(()) => Ok(()),
                     Err(NoMemory) => Err(TextFault::NoMemory),
                 },
@@ -226,10 +227,12 @@ impl Sessions {
     // The line that asks this of the transaction, which is read off these bytes, behind those of
     // the last session. It may stand there.
     #[inline(always)]
-    fn add_event(&mut self, name: &Name, act: &Act, _bytes: &[u8]) -> Result<(), NoMemory>
-        requires read { event_of _bytes.now ≡ Ok (event_by name.now act.now) }
-        requires placed { misplaced self.old (Command (event_by name.now act.now)) ≡ None }
-        ensures ok { OnOk result (self.new ≡ with_line self.old (event_by name.now act.now)) }
+    fn add_event(&mut self, name: &NameWord<'_>, act: &Act, _bytes: &[u8]) -> Result<(), NoMemory>
+        requires word { IsRead name.now }
+        requires read { event_of _bytes.now ≡ Ok (event_by (named name.now) act.now) }
+        requires placed { misplaced self.old (Command (event_by (named name.now) act.now)) ≡ None }
+        ensures ok { OnOk result
+            (self.new ≡ with_line self.old (event_by (named name.now) act.now)) }
         ensures err { OnErr result (self.new ≡ self.old) }
     {
         let last = self.sessions.len() - 1;
@@ -241,13 +244,14 @@ impl Sessions {
 impl Session {
     // A line more, which asks this of the transaction.
     #[inline(always)]
-    fn push(&mut self, name: &Name, act: &Act) -> Result<(), NoMemory>
+    fn push(&mut self, name: &NameWord<'_>, act: &Act) -> Result<(), NoMemory>
+        requires { IsRead name.now }
         ensures label { self.new.label ≡ self.old.label }
         ensures ok { OnOk result
-            (self.new.lines ≡ self.old.lines ++ event_by name.now act.now ∷ []) }
+            (self.new.lines ≡ self.old.lines ++ event_by (named name.now) act.now ∷ []) }
         ensures err { OnErr result (self.new.lines ≡ self.old.lines) }
     {
-        self.lines.push(&EventView { name, act })
+        self.lines.push(name, act)
     }
 }
 
@@ -255,6 +259,14 @@ fn is_taken(label: &Label, sessions: &[Session]) -> bool
     ensures { result ≡ is_taken label.now sessions.now }
 {
     sessions.iter().any(|s| *label == s.label)
+}
+
+// The lines of the last session, if there is one.
+fn open_events(sessions: &[Session]) -> Option<&Events> {
+    match sessions {
+        [] => None,
+        [.., last] => Some(&last.lines),
+    }
 }
 
 // How many lines the last session has, if there is one.

@@ -5,8 +5,8 @@ ghost use Rattle.std.specs.Cmp.Lexicographic.{slice_cmp};
 ghost use Rattle.std.specs.declared.cmp.Ordering.TheVariants.{Less};
 
 use serial_spec::{
-    Answer, Asked, By, Entry, Event, Item, Kind, Left, Mode, NoMemory, Op, PlainTable, Reply,
-    Target, act, act_sum, run_items, sum_of,
+    Asked, Item, Kind, Left, Mode, NoMemory, Op, PlainTable, Reply, Target, act, act_sum,
+    run_items, sum_of,
 };
 use std::alloc::Global;
 use std::process::Abort;
@@ -348,29 +348,4 @@ fn runs_many_items(rt: HostRuntime) {
         assert!(rt; run(&rt, &mut table, &items) == want);
         assert!(rt; table.len() == 100 && is_at(&rt, &table, 99, "k199", 199));
     }
-}
-
-// The entry in a list of its own.
-fn added(rt: &impl Abort, alloc: Global, entry: &Entry) -> Vec<Entry> {
-    let mut entries = Vec::new(alloc);
-    entries.try_reserve(1).expect(rt, "memory");
-    if entries.len() < entries.capacity() {
-        entry.add_to(&mut entries);
-    }
-    entries
-}
-
-#[test]
-fn adds_an_entry(rt: HostRuntime) {
-    let name = Name::parse(b"a").expect(&rt, "a");
-    let by = By::Line {
-        session: 0,
-        line: 1,
-    };
-    let entry = Entry {
-        by,
-        event: Event::Begin(name),
-        answer: Answer::Done(Reply::Ok),
-    };
-    assert!(rt; added(&rt, rt.alloc(), &entry).as_slice() == [entry].as_slice());
 }

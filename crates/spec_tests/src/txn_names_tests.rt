@@ -145,6 +145,15 @@ fn halts(rt: &impl Abort, alloc: Global, fails: bool, calls: usize, want: &str) 
 }
 
 #[test]
+fn spells_names(rt: HostRuntime) {
+    let deep = name(&rt, "ab/c");
+    assert!(rt; deep.spelled() == b"ab/c".as_slice() && deep.is_spelled(b"ab/c"));
+    for other in ["ab", "c", "ab/", "ab/c0"] {
+        assert!(rt; !deep.is_spelled(other.as_bytes()), "{other}");
+    }
+}
+
+#[test]
 fn writes_names(rt: HostRuntime) {
     let mut all = Vec::new(rt.alloc());
     assert!(rt; name(&rt, "ab/c").write_to(&mut all) == Ok(()));

@@ -8,7 +8,7 @@ ghost use Rattle.session_text.specs.Growing.{place_of, with_line_of};
 ghost use Rattle.session_text.specs.Texts.{with_header};
 
 use super::{Session, Sessions};
-use event_lists::{Events, act_in, name_in};
+use event_lists::{Events, NameWord, act_in, name_in};
 use line_language::Line;
 use serial_spec::NoMemory;
 use std::alloc::Global;
@@ -68,7 +68,8 @@ impl Sessions {
         ensures err { OnErr result (self.new ≡ self.old) }
     {
         let event = line.event();
-        self.sessions[session as usize].push(name_in(event), &act_in(event))?;
+        let name = NameWord::of(name_in(event));
+        self.sessions[session as usize].push(&name, &act_in(event))?;
         Ok(())
     }
 }

@@ -1,7 +1,7 @@
 use Rattle.std.proofs.Common.{◌≡◌, ℕ, List, ◌∷◌, Ok, Err, ap, ◌∙◌, subst, rules}
 use Rattle.std.specs.Option.{option_copied}
-use Rattle.txn_names.specs.Reading.{pieces}
 use Rattle.serial_spec.specs.declared.event.Event.TheVariants.{Access}
+use Rattle.event_lists.specs.Words.{named}
 use Rattle.line_language.specs.declared.fault.LineKind.TheVariants as kind
 use Rattle.line_language.specs.Commands.{keyed, key_in}
 use Rattle.line_language.specs.Steps.{◌>>=◌, or_fault}
@@ -20,5 +20,5 @@ returns-in_default-check-clause-read c =
     subst (λ last. Before (parts_left 32 (option_copied last)) kind.Key f) c.in-Some.is c.fault_before-in_default-check.ensures in
     let bad : key_in k ≡ Err kind.Key = search rules in
     let read : keyed (cut_at 32 c.args.words.now) ≡ Err f =
-    ap keyed left ∙ key_fault a k (pieces a) f (ap (or_fault kind.Name) c.in-Ok.ensures.read) bad m in
+    ap keyed left ∙ key_fault a k (named c.in-Ok.name) f (ap (or_fault kind.Name) c.in-Ok.ensures.read) bad m in
     ap (λ r. r >>= λ q. Ok (Access q.0 q.1 c.args.op)) read

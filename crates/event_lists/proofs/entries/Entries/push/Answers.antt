@@ -1,4 +1,4 @@
-use Rattle.std.proofs.Common.{◌+◌, ◌-◌, List, ℕ, [], ◌∷◌, ◌++◌, ap, ◌∙◌, arith}
+use Rattle.std.proofs.Common.{Some, List, ℕ, [], ◌∷◌, ◌++◌, ap, ◌∙◌, arith}
 use Rattle.serial_spec.specs.declared.entry.Answer.{Answer}
 use Rattle.serial_spec.specs.declared.entry.Entry.{Entry}
 use Rattle.event_lists.specs.Views.{answer_by, event_by, seen}
@@ -11,7 +11,8 @@ invariant_of-self c =
     let before = c.self.inside in
     let names : List (List (List ℕ)) = c.number_of_top-top.new.names.items in
     let keeps : Keeps before.names.items names = λ n t at. c.number_of_top-top.ensures.keeps n t (c.number_of-name.ensures.keeps n t at) in
-    let own = c.number_of_top-top.ensures.keeps c.number_of-name.result c.args.entry.now.event.name.now c.number_of-name.ensures.at in (
+    let at = c.number_of-name.ensures.at ∙ ap (λ (t : List (List ℕ)). Some t) c.of-word.ensures.value in
+    let own = c.number_of_top-top.ensures.keeps c.number_of-name.result c.args.entry.now.event.name.now at in (
       rw c.push_reserved.ensures.items
           (notes_and before.names.items names before.notes.items _ keeps c.self.invariant.0 ((c.args.entry.now.event.name.now, own), c.number_of_top-top.ensures.named)),
       omega (arith, c.self.invariant.1, c.push_reserved.ensures.len, c.push_reserved.ensures.capacity, c.requires),
@@ -24,7 +25,8 @@ returns-clause-entries c =
     let entry = c.args.entry.now in
     let names : List (List (List ℕ)) = c.number_of_top-top.new.names.items in
     let keeps : Keeps before.names.items names = λ n t at. c.number_of_top-top.ensures.keeps n t (c.number_of-name.ensures.keeps n t at) in
-    let own = c.number_of_top-top.ensures.keeps c.number_of-name.result entry.event.name.now c.number_of-name.ensures.at in
+    let at = c.number_of-name.ensures.at ∙ ap (λ (t : List (List ℕ)). Some t) c.of-word.ensures.value in
+    let own = c.number_of_top-top.ensures.keeps c.number_of-name.result entry.event.name.now at in
     rw c.push_reserved.ensures.items
     (entries_and before.names.items names before.notes.items _ keeps c.self.invariant.0
     ∙ ap (λ (t : List (List ℕ)). entries_of before.names.items before.notes.items ++ (record { by = entry.by; event = event_by t entry.event.act.now; answer = answer_by entry.said (name_at names c.number_of_top-top.result) }) ∷ []) (found names c.number_of-name.result entry.event.name.now own)

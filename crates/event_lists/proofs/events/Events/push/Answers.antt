@@ -2,6 +2,7 @@ use Rattle.std.proofs.Common.{List, ℕ, [], ◌∷◌, ◌++◌, ap, ◌∙◌}
 use Rattle.serial_spec.specs.declared.event.Event.{Event}
 use Rattle.event_lists.specs.Views.{event_by}
 use Rattle.event_lists.specs.Lists.{Keeps, events_of}
+use Rattle.event_lists.specs.Words.{named}
 use Rattle.event_lists.proofs.Named.{events_and, found, named_and}
 use Rattle.event_lists.proofs.events.Events.push.Goals as goal
 
@@ -11,15 +12,15 @@ invariant_of-self-2 c =
     let names : List (List (List ℕ)) = c.number_of-name.new.names.items in
     let keeps : Keeps before.names.items names = rw c.in_ok-reserve.ensures.items at c.number_of-name.ensures.keeps in
     rw (c.push_reserved.ensures.items, c.in_ok-reserve-2.ensures.items)
-    (named_and before.names.items names before.asked.items _ keeps c.self.invariant (c.args.event.now.name.now, c.number_of-name.ensures.at))
+    (named_and before.names.items names before.asked.items _ keeps c.self.invariant (named c.args.word.now, c.number_of-name.ensures.at))
 
 pub returns-clause-ok : goal.returns-clause-ok
 returns-clause-ok c =
     let before = c.self.inside in
     let names : List (List (List ℕ)) = c.number_of-name.new.names.items in
-    let act = c.args.event.now.act.now in
+    let act = c.args.act.now in
     let keeps : Keeps before.names.items names = rw c.in_ok-reserve.ensures.items at c.number_of-name.ensures.keeps in
     rw (c.push_reserved.ensures.items, c.in_ok-reserve-2.ensures.items)
     (events_and before.names.items names before.asked.items _ keeps c.self.invariant
-    ∙ ap (λ (t : List (List ℕ)). events_of before.names.items before.asked.items ++ event_by t act ∷ []) (found names c.number_of-name.result c.args.event.now.name.now c.number_of-name.ensures.at)
-    ∙ ap (λ (es : List Event). es ++ event_by c.args.event.now.name.now act ∷ []) c.self.view_is)
+    ∙ ap (λ (t : List (List ℕ)). events_of before.names.items before.asked.items ++ event_by t act ∷ []) (found names c.number_of-name.result (named c.args.word.now) c.number_of-name.ensures.at)
+    ∙ ap (λ (es : List Event). es ++ event_by (named c.args.word.now) act ∷ []) c.self.view_is)

@@ -3,6 +3,7 @@ use Rattle.std.proofs.Math.ListN.{set}
 use Rattle.txn_bytes.proofs.Exports.{on_err}
 use Rattle.serial_spec.specs.Interleaving.{Session}
 use Rattle.event_lists.specs.Views.{event_by}
+use Rattle.event_lists.specs.Words.{named}
 use Rattle.line_language.proofs.Exports.{event_reads}
 use Rattle.session_text.specs.Grammar.{IsText}
 use Rattle.session_text.specs.Texts.{Command, misplaced, with_line}
@@ -12,7 +13,7 @@ use Rattle.session_text.proofs.sessions.Sessions.add_event.Goals as goal
 pub invariant_of-self : goal.invariant_of-self
 invariant_of-self c =
     let items : List Session = c.self.inside.sessions.items in
-    let e = event_by c.args.name.now c.args.act.now in
+    let e = event_by (named c.args.name.now) c.args.act.now in
     let len : c.len-last.result ≡ length items = search rules in
     let placed : misplaced items (Command e) ≡ None = subst (λ (ss : List Session). misplaced ss (Command e) ≡ None) (sym c.self.view_is) c.requires.placed in
     let same : set items (c.len-last.result - 1) c.push.new.self ≡ items =
@@ -23,7 +24,7 @@ invariant_of-self c =
 pub returns-in_err-push-clause-err : goal.returns-in_err-push-clause-err
 returns-in_err-push-clause-err c =
     let items : List Session = c.self.inside.sessions.items in
-    let e = event_by c.args.name.now c.args.act.now in
+    let e = event_by (named c.args.name.now) c.args.act.now in
     let len : c.len-last.result ≡ length items = search rules in
     let placed : misplaced items (Command e) ≡ None = subst (λ (ss : List Session). misplaced ss (Command e) ≡ None) (sym c.self.view_is) c.requires.placed in
     on_err c.from_residual.result
@@ -33,7 +34,7 @@ returns-in_err-push-clause-err c =
 pub invariant_of-self-2 : goal.invariant_of-self-2
 invariant_of-self-2 c =
     let items : List Session = c.self.inside.sessions.items in
-    let e = event_by c.args.name.now c.args.act.now in
+    let e = event_by (named c.args.name.now) c.args.act.now in
     let len : c.len-last.result ≡ length items = search rules in
     let placed : misplaced items (Command e) ≡ None = subst (λ (ss : List Session). misplaced ss (Command e) ≡ None) (sym c.self.view_is) c.requires.placed in
     let grows : set items (c.len-last.result - 1) c.push.new.self ≡ with_line items e =
@@ -44,7 +45,7 @@ invariant_of-self-2 c =
 pub returns-clause-ok : goal.returns-clause-ok
 returns-clause-ok c =
     let items : List Session = c.self.inside.sessions.items in
-    let e = event_by c.args.name.now c.args.act.now in
+    let e = event_by (named c.args.name.now) c.args.act.now in
     let len : c.len-last.result ≡ length items = search rules in
     let placed : misplaced items (Command e) ≡ None = subst (λ (ss : List Session). misplaced ss (Command e) ≡ None) (sym c.self.view_is) c.requires.placed in
     pushed items c.len-last.result c.index_mut.result.now c.push.new.self e (Command e) len refl placed

@@ -3,6 +3,7 @@ use Rattle.std.proofs.Math.ListN.{set}
 use Rattle.txn_bytes.proofs.Exports.{on_err}
 use Rattle.serial_spec.specs.declared.event.Event.{Event}
 use Rattle.event_lists.specs.Views.{event_by}
+use Rattle.event_lists.specs.Words.{named}
 use Rattle.serial_spec.specs.Interleaving.{Session, lines_of}
 use Rattle.session_text.specs.Grammar.{IsText}
 use Rattle.session_text.specs.Growing.{with_line_of}
@@ -11,8 +12,8 @@ use Rattle.session_text.proofs.sessions.Sessions.add_line.Goals as goal
 
 pub returns-clause-ok : goal.returns-clause-ok
 returns-clause-ok c =
-    let is : event_by c.name_in.result.now c.act_in.result ≡ c.args.line =
-    ap (λ (t : List (List ℕ)). event_by t c.act_in.result) c.name_in.ensures ∙ c.act_in.ensures.event ∙ c.event-event.ensures.value in
+    let is : event_by (named c.of-name.result) c.act_in.result ≡ c.args.line =
+    ap (λ (t : List (List ℕ)). event_by t c.act_in.result) (c.of-name.ensures.value ∙ c.name_in.ensures) ∙ c.act_in.ensures.event ∙ c.event-event.ensures.value in
     let items : List Session = c.self.inside.sessions.items in
     let there : c.args.session < length items = subst (λ (ss : List Session). c.args.session < length ss) (sym c.self.view_is) c.requires.there in
     line_added items c.args.session c.index_mut.result.now c.push.new.self c.args.line there c.index_mut.ensures.value c.push.ensures.label (c.in_ok-push.ensures.ok ∙ ap (λ (e : Event). c.index_mut.result.now.lines ++ e ∷ []) is)
@@ -35,8 +36,8 @@ invariant_of-self c =
 
 pub invariant_of-self-2 : goal.invariant_of-self-2
 invariant_of-self-2 c =
-    let is : event_by c.name_in.result.now c.act_in.result ≡ c.args.line =
-    ap (λ (t : List (List ℕ)). event_by t c.act_in.result) c.name_in.ensures ∙ c.act_in.ensures.event ∙ c.event-event.ensures.value in
+    let is : event_by (named c.of-name.result) c.act_in.result ≡ c.args.line =
+    ap (λ (t : List (List ℕ)). event_by t c.act_in.result) (c.of-name.ensures.value ∙ c.name_in.ensures) ∙ c.act_in.ensures.event ∙ c.event-event.ensures.value in
     let items : List Session = c.self.inside.sessions.items in
     let there : c.args.session < length items = subst (λ (ss : List Session). c.args.session < length ss) (sym c.self.view_is) c.requires.there in
     let room : length (lines_of (slice_get items c.args.session)) < 1024 =
