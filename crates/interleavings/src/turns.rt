@@ -25,7 +25,7 @@ use manager_core::{Manager, OpenFault};
 use run_reports::Report;
 use serial_spec::{By, NoMemory};
 use session_text::Sessions;
-use std::alloc::Global;
+use std::alloc::{AllocError, Global};
 use std::marker::Model;
 
 // The first line of each of so many sessions.
@@ -248,7 +248,11 @@ impl<'a, S: TopStore> Turns<'a, S> {
         let _count = self.sessions.len();
         let by = By::Line { session, line };
         let before = self.manager.history().len();
-        let came = came_of(&attempt(&mut self.manager, by, due)?);
+        // By reference, since an outcome has room for a name.
+        let came = match &attempt(&mut self.manager, by, due) {
+            Ok(outcome) => came_of(outcome),
+            Err(_) => return Err(AllocError),
+        };
         let next = self.next.as_slice();
         note_attempt(
             &mut self.ready,

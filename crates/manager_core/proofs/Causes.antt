@@ -1,5 +1,5 @@
 -- The cause that the tables tell is the definitions' first.
-use Rattle.std.proofs.Common.{◌≡◌, ℕ, ◌<◌, Bool, true, false, not, length, Option, Some, None, is_some, refl, sym, ap, ◌∙◌}
+use Rattle.std.proofs.Common.{◌≡◌, ℕ, ◌<◌, Bool, true, false, not, length, Option, Some, None, is_some, refl, sym, ap, ap₂, ◌∙◌}
 use Rattle.std.proofs.lemmas.Bool.{false≢true, true≢false}
 use Rattle.std.specs.Prelude.{option_map}
 use Rattle.std.specs.List.{list_any}
@@ -18,7 +18,7 @@ use Rattle.serial_spec.specs.History.{Name, History, is_active, or_else}
 use Rattle.serial_spec.specs.Rows.{Rows}
 use Rattle.serial_spec.specs.Legal.{AreAllowed}
 use Rattle.serial_spec.specs.Allowed.{waits_elsewhere, is_full_for, has_live_child, cause_at_end, cause_at_access, cause_at_commit}
-use Rattle.serial_spec.specs.Causes.{when}
+use Rattle.serial_spec.specs.Causes.{when, why_ended}
 use Rattle.manager_core.specs.Kept.{AreTablesOf}
 use Rattle.manager_core.specs.Tables.{Tabled, cause_in}
 use Rattle.manager_core.proofs.Answers.{active_at_access}
@@ -124,3 +124,9 @@ module _ (rows : Rows) (h : History) (tables : Tabled) (allowed : AreAllowed row
         ap (λ b. or_else (when b Children) (when w Waiting)) (child ∙ same_children rows h tables.tree allowed are.in_tree t)
         ∙ ap (λ b. or_else (when (has_live_child h t) Children) (when b Waiting)) waits
         ∙ ap (λ o. or_else o (or_else (when (has_live_child h t) Children) (when (waits_elsewhere h by t) Waiting))) ends
+
+-- an aborted ancestor is told of one that has begun
+pub orphan_cause : (m : Tabled) (t top : Name) → true ≡ not (is_absent_in m.tree t) → top_of (is_marked m.marks) t ≡ Some top
+    → Some (Orphan top) ≡ cause_in m t
+orphan_cause m t top begun marked =
+    sym (ap₂ (λ (absent : Bool) (o : Option Name). why_ended absent o (has_committed_in m.tree t)) (not_absent (is_absent_in m.tree t) begun) marked)

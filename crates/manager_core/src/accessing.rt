@@ -111,6 +111,7 @@ impl Tables {
         }
         self.estate.reserve_asked(txn, asked)?;
         let reply = self.estate.grant(&self.tree, txn, asked);
+        self.hints.note(by, txn);
         Ok(Attempt::Answered(reply))
     }
 }

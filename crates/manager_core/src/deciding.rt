@@ -6,6 +6,7 @@ ghost use Rattle.std.specs.Result.{result_err};
 ghost use Rattle.txn_tree.specs.Asked.{IsNumberOf, IsRootless};
 ghost use Rattle.serial_spec.specs.Allowed.{cause_at_access, cause_at_commit, is_full_for};
 ghost use Rattle.serial_spec.specs.Legal.{AreAllowed};
+ghost use Rattle.serial_spec.specs.declared.entry.Refusal.TheVariants.{Orphan};
 ghost use Rattle.manager_core.specs.Kept.{AreTablesOf};
 ghost use Rattle.manager_core.specs.Tables.{cause_in};
 
@@ -28,17 +29,18 @@ pub(crate) fn is_full_for(log: &Log, asked: &Asked) -> bool
 
 impl Tables {
     /// The number of a transaction that is live and has no aborted ancestor, or the cause that
-    /// access, commit and abort share. An aborted ancestor is looked for by name. It is part of its
-    /// callers, so that a refusal, which has room for a name, is made where they want it.
+    /// access, commit and abort share. The number of the hint is looked at first, and an aborted
+    /// ancestor is looked for by name. It is part of its callers, so that a refusal, which has room
+    /// for a name, is made where they want it.
     #[inline(always)]
-    pub(crate) fn number_by_marks(&self, name: &Name) -> Result<TxnNo, Refusal>
+    pub(crate) fn number_by_marks(&self, name: &Name, hint: TxnNo) -> Result<TxnNo, Refusal>
         ensures cause { result_err result ≡ cause_in self.now name.now }
         ensures number { IfOk result (IsNumberOf self.now.tree name.now) }
         ensures some { 0 < length name.now }
         ensures rootless { IsRootless self.now.tree }
     {
         name.has_labels();
-        let Some(txn) = self.tree.no_of(name) else {
+        let Some(txn) = self.tree.no_by_hint(name, hint) else {
             return Err(Refusal::Unknown);
         };
         if let Some(top) = self.marks.top_aborted(name) {
@@ -52,7 +54,7 @@ impl Tables {
 
     /// As `number_by_marks`. Whether all of the transaction's ancestors are live is found by their
     /// numbers, so that none of their names is hashed unless one is not.
-    pub(crate) fn active_number(&self, _log: &Log, name: &Name) -> Result<TxnNo, Refusal>
+    pub(crate) fn active_number(&self, _log: &Log, by: By, name: &Name) -> Result<TxnNo, Refusal>
         requires allowed { AreAllowed _log.now.rows _log.now.entries }
         requires are { AreTablesOf _log.now.rows _log.now.entries self.now }
         ensures cause { result_err result ≡ cause_in self.now name.now }
@@ -61,12 +63,13 @@ impl Tables {
         ensures rootless { IsRootless self.now.tree }
     {
         name.has_labels();
-        if let Some(txn) = self.tree.no_of(name) {
+        let hint = self.hints.of(by);
+        if let Some(txn) = self.tree.no_by_hint(name, hint) {
             if self.tree.is_active_at(txn) {
                 return Ok(txn);
             }
         }
-        self.number_by_marks(name)
+        self.number_by_marks(name, hint)
     }
 
     /// The number of a transaction whose access nothing but a lock may keep out. It is none where
@@ -87,7 +90,7 @@ impl Tables {
         ensures number { IfSome result (IsNumberOf self.now.tree name.now) }
     {
         name.has_labels();
-        let txn = self.tree.no_of(name)?;
+        let txn = self.tree.no_by_hint(name, self.hints.of(by))?;
         if !self.tree.is_active_at(txn) {
             return None;
         }
@@ -101,14 +104,40 @@ impl Tables {
     }
 
     /// Why an access is refused. Few accesses are, so this is kept out of the code of the callers.
+    /// Most of these are an orphan's whose own transaction is the topmost aborted one: its name is
+    /// copied once. Room for a name is cleared where a function begins, so the others are apart.
     #[inline(never)]
-    pub(crate) fn refusal_at_access(
-        &self,
-        _log: &Log,
-        by: By,
-        name: &Name,
-        _asked: &Asked,
-    ) -> Refusal
+    pub(crate) fn refusal_at_access(&self, log: &Log, by: By, name: &Name, asked: &Asked) -> Refusal
+        requires allowed { AreAllowed log.now.rows log.now.entries }
+        requires are { AreTablesOf log.now.rows log.now.entries self.now }
+        requires refused { IsTrue
+            (is_some (cause_at_access log.now.rows log.now.entries by name.now asked.now)) }
+        ensures { Some result
+            ≡ cause_at_access log.now.rows log.now.entries by name.now asked.now }
+    {
+        name.has_labels();
+        if self.is_top_aborted(by, name) {
+            return Refusal::Orphan(*name);
+        }
+        self.other_refusal_at_access(log, by, name, asked)
+    }
+
+    // Whether the transaction has begun and is the topmost aborted one among itself and its
+    // ancestors.
+    fn is_top_aborted(&self, by: By, name: &Name) -> bool
+        ensures { IsTrue result → cause_in self.now name.now ≡ Some (Orphan name.now) }
+    {
+        match self.marks.top_depth(name) {
+            Some(depth) => {
+                depth == name.depth() && self.tree.no_by_hint(name, self.hints.of(by)).is_some()
+            }
+            None => false,
+        }
+    }
+
+    // Why an access is refused, for any cause.
+    #[inline(never)]
+    fn other_refusal_at_access(&self, _log: &Log, by: By, name: &Name, _asked: &Asked) -> Refusal
         requires allowed { AreAllowed _log.now.rows _log.now.entries }
         requires are { AreTablesOf _log.now.rows _log.now.entries self.now }
         requires refused { IsTrue
@@ -116,7 +145,7 @@ impl Tables {
         ensures { Some result
             ≡ cause_at_access _log.now.rows _log.now.entries by name.now _asked.now }
     {
-        match self.number_by_marks(name) {
+        match self.number_by_marks(name, self.hints.of(by)) {
             Err(refusal) => refusal,
             Ok(txn) => {
                 if self.waits_elsewhere(txn, by) {
@@ -138,7 +167,7 @@ impl Tables {
         ensures number { IfOk result (IsNumberOf self.now.tree name.now) }
         ensures rootless { IsRootless self.now.tree }
     {
-        let txn = self.active_number(log, name)?;
+        let txn = self.active_number(log, by, name)?;
         if self.tree.live_children_at(txn) > 0 {
             Err(Refusal::Children)
         } else if self.waits_elsewhere(txn, by) {

@@ -11,6 +11,7 @@ mod changes;
 mod closing;
 mod committing;
 mod deciding;
+mod hints;
 mod keepers;
 pub mod laws;
 mod log;

@@ -49,7 +49,8 @@ impl Tables {
     pub(crate) fn has_come(&self, name: &Name, when: When) -> bool
         ensures { OfAllowed self.now (λ h. result ≡ has_come h name.now when) }
     {
-        come_by(self.number_by_marks(name).err(), when)
+        let none_likely = TxnNo::new(0);
+        come_by(self.number_by_marks(name, none_likely).err(), when)
     }
 
     // Whether the transaction with this number waits for this access, and by this line.
@@ -108,7 +109,7 @@ impl Tables {
         if self.waits.is_empty() {
             return None;
         }
-        let txn = self.tree.no_of(name)?;
+        let txn = self.tree.no_by_hint(name, self.hints.of(by))?;
         if !self.waits_by(txn, by, asked) {
             return None;
         }

@@ -16,7 +16,7 @@ use crate::breaking::{break_cycles, break_own_cycles};
 use crate::log::Log;
 use crate::outcome::Outcome;
 use crate::tables::Tables;
-use serial_spec::Asked;
+use serial_spec::{Asked, By};
 use txn_names::Name;
 use wait_graph::{CycleSearch, any_edge_by_way_of};
 
@@ -25,13 +25,13 @@ use wait_graph::{CycleSearch, any_edge_by_way_of};
 // it, and those that wait in its branch: so it closes none unless there are both. Where nobody
 // waits no cycle stands. It takes no memory.
 #[inline(always)]
-fn may_close_cycle(tables: &Tables, name: &Name, asked: &Asked) -> bool
+fn may_close_cycle(tables: &Tables, by: By, name: &Name, asked: &Asked) -> bool
     ensures { IsFalse result → ClosesNoCycle tables.now name.now asked.now }
 {
     if tables.waits.is_empty() {
         return false;
     }
-    let Some(txn) = tables.tree.no_of(name) else {
+    let Some(txn) = tables.tree.no_by_hint(name, tables.hints.of(by)) else {
         return false;
     };
     let (tree, locks, waits) = (&tables.tree, tables.estate.locks(), &tables.waits);
@@ -61,7 +61,7 @@ pub(crate) fn settle(
         // through it.
         Outcome::Waits => break_own_cycles(log, tables, breaker, name),
         Outcome::Done(_) => {
-            if may_close_cycle(tables, name, asked) {
+            if may_close_cycle(tables, by, name, asked) {
                 break_cycles(log, tables, breaker);
             }
         }

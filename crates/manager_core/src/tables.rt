@@ -6,6 +6,7 @@ ghost use Rattle.serial_spec.specs.declared.target.Target.{Target};
 ghost use Rattle.inherit.specs.LocksAndVersions.{free, left_of, modes_of};
 ghost use Rattle.manager_core.specs.Tables.{HasOtherRoom, rows_in};
 
+use crate::hints::Hints;
 use crate::looks::Looks;
 use inherit::Estate;
 use orphans::Marks;
@@ -26,6 +27,7 @@ pub(crate) struct Tables {
     pub(crate) estate: Estate,
     pub(crate) waits: Waits,
     pub(crate) looks: Looks,
+    pub(crate) hints: Hints,
 }
 
 impl Model for Tables {
@@ -60,6 +62,7 @@ impl Tables {
             estate: Estate::new(alloc, base),
             waits: Waits::new(alloc),
             looks: Looks::new(),
+            hints: Hints::new(),
         }
     }
 
@@ -80,8 +83,9 @@ impl Tables {
             estate,
             waits,
             looks,
+            hints,
         } = self;
-        drop((tree, marks, waits, looks));
+        drop((tree, marks, waits, looks, hints));
         estate.into_base()
     }
 

@@ -188,6 +188,8 @@ fn begins_at(tree: &mut Tree, name: &Name, place: u32) -> bool {
             number.place() == place
                 && tree.len() == place as usize + 1
                 && tree.no_of(name) == Some(number)
+                && tree.no_by_hint(name, number) == Some(number)
+                && tree.no_by_hint(name, TxnNo::new(0)) == Some(number)
                 && tree.name_of(number).copied() == Some(*name)
         }
         Err(_) => false,

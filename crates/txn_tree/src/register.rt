@@ -81,7 +81,37 @@ impl Register {
         Some(TxnNo::new(place as u32))
     }
 
+    /// The same. The transaction with the number of the hint is looked at first, and if it has the
+    /// name that is not hashed.
+    #[inline(always)]
+    pub(crate) fn no_by_hint(&self, name: &Name, hint: TxnNo) -> Option<TxnNo>
+        ensures place { result ≡ position (path_eq name.now) (names self.now) }
+        ensures number { IfSome result (IsNumberOf self.now name.now) }
+        ensures begun { is_some result ≡ not (is_absent_in self.now name.now) }
+        ensures rootless { IsRootless self.now }
+    {
+        name.has_labels();
+        // So it has the name alone.
+        self.is_tree();
+        if self.is_at(hint, name) {
+            return Some(hint);
+        }
+        self.no_of(name)
+    }
+
+    // Whether the transaction with this number has the name.
+    #[inline(always)]
+    fn is_at(&self, number: TxnNo, name: &Name) -> bool
+        ensures { IsTrue result → slice_get (names self.now) number ≡ Some name.now }
+    {
+        match self.name_of(number) {
+            Some(known) => *known == *name,
+            None => false,
+        }
+    }
+
     /// The transaction with this number, if so many have begun.
+    #[inline(always)]
     pub(crate) fn name_of(&self, number: TxnNo) -> Option<&Name>
         ensures { option_copied result ≡ slice_get (names self.now) number }
     {

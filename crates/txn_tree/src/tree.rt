@@ -102,6 +102,18 @@ impl Tree {
         self.register.no_of(name)
     }
 
+    /// The same as `no_of`, whatever the hint. Where that is the number of the transaction, its name
+    /// is compared and not hashed, which costs a quarter.
+    #[inline(always)]
+    pub fn no_by_hint(&self, name: &Name, hint: TxnNo) -> Option<TxnNo>
+        ensures place { result ≡ position (path_eq name.now) (names self.now) }
+        ensures number { IfSome result (IsNumberOf self.now name.now) }
+        ensures begun { is_some result ≡ not (is_absent_in self.now name.now) }
+        ensures rootless { IsRootless self.now }
+    {
+        self.register.no_by_hint(name, hint)
+    }
+
     /// The transaction with this number, if so many have begun.
     pub fn name_of(&self, number: TxnNo) -> Option<&Name>
         ensures { option_copied result ≡ slice_get (names self.now) number }

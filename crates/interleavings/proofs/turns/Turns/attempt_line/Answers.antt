@@ -34,13 +34,13 @@ index_mut-requires g c =
 pub invariant_of-self-in-Waits : goal.invariant_of-self-in-Waits
 invariant_of-self-in-Waits g c =
     let due = rw (← c.self.view_is) at c.requires in
-    let tried = rw c.deref_mut.ensures.value at c.in_ok-attempt.ensures.ok in
+    let tried = rw (c.deref_mut.ensures.value, c.in-Ok.is) at c.attempt.ensures.ok in
     let turns : AreTurns (record { sessions = c.self.inside.sessions.now; core = c.attempt.new.manager }) c.self.inside.next.items =
     turns_parked g.S.TopStore c.self.inside.sessions.now c.self.inside.manager.value c.self.inside.next.items c.self.invariant.0 c.args.session c.args.line (asked c.args.due.now) due
-    c.attempt.new.manager c.in_ok-attempt.field-0 tried (waits_of c.in_ok-attempt.field-0 (sym c.came_of-came.ensures ∙ c.in-Waits.is)) in (
+    c.attempt.new.manager c.in-Ok.outcome tried (waits_of c.in-Ok.outcome (sym c.came_of-came.ensures ∙ c.in-Waits.is)) in (
       turns,
       left_out_after g.S.TopStore c.self.inside.sessions.now c.self.inside.manager.value c.self.inside.next.items c.self.invariant.0 c.args.session c.args.line (asked c.args.due.now) due
-          c.attempt.new.manager c.in_ok-attempt.field-0 tried c.len-count.ensures.text.few c.self.inside.ready c.note_attempt.new.ready c.self.invariant.1 c.len-before.result
+          c.attempt.new.manager c.in-Ok.outcome tried c.len-count.ensures.text.few c.self.inside.ready c.note_attempt.new.ready c.self.invariant.1 c.len-before.result
           (c.len-before.ensures ∙ sym (length-reverse c.history.result.now.entries) ∙ ap length (rw c.deref.ensures at c.history.ensures)) c.came_of-came.result c.came_of-came.ensures
           turns.way (rw (c.deref-2.ensures, c.as_slice-next.ensures.value) at c.note_attempt.ensures),
     )
@@ -48,14 +48,14 @@ invariant_of-self-in-Waits g c =
 pub invariant_of-self-in_default : goal.invariant_of-self-in_default
 invariant_of-self-in_default g c =
     let due = rw (← c.self.view_is) at c.requires in
-    let tried = rw c.deref_mut.ensures.value at c.in_ok-attempt.ensures.ok in
+    let tried = rw (c.deref_mut.ensures.value, c.in-Ok.is) at c.attempt.ensures.ok in
     let turns =
     turns_answered g.S.TopStore c.self.inside.sessions.now c.self.inside.manager.value c.self.inside.next.items c.self.invariant.0 c.args.session c.args.line (asked c.args.due.now) due
-    c.attempt.new.manager c.in_ok-attempt.field-0 tried (λ is. c.in_default.not-Waits (c.came_of-came.ensures ∙ ap came_of is))
+    c.attempt.new.manager c.in-Ok.outcome tried (λ is. c.in_default.not-Waits (c.came_of-came.ensures ∙ ap came_of is))
     (length-set c.self.inside.next.items c.args.session (c.args.line + 1)) in (
       turns,
       left_out_after g.S.TopStore c.self.inside.sessions.now c.self.inside.manager.value c.self.inside.next.items c.self.invariant.0 c.args.session c.args.line (asked c.args.due.now) due
-          c.attempt.new.manager c.in_ok-attempt.field-0 tried c.len-count.ensures.text.few c.self.inside.ready c.note_attempt.new.ready c.self.invariant.1 c.len-before.result
+          c.attempt.new.manager c.in-Ok.outcome tried c.len-count.ensures.text.few c.self.inside.ready c.note_attempt.new.ready c.self.invariant.1 c.len-before.result
           (c.len-before.ensures ∙ sym (length-reverse c.history.result.now.entries) ∙ ap length (rw c.deref.ensures at c.history.ensures)) c.came_of-came.result c.came_of-came.ensures
           turns.way (rw (c.deref-2.ensures, c.as_slice-next.ensures.value) at c.note_attempt.ensures),
     )
@@ -63,10 +63,10 @@ invariant_of-self-in_default g c =
 pub returns-in-Waits-clause-ok : goal.returns-in-Waits-clause-ok
 returns-in-Waits-clause-ok g c =
     let due = rw (← c.self.view_is) at c.requires in
-    let tried = rw c.deref_mut.ensures.value at c.in_ok-attempt.ensures.ok in
+    let tried = rw (c.deref_mut.ensures.value, c.in-Ok.is) at c.attempt.ensures.ok in
     rw (← c.self.view_is)
     (stepped_parked g.S.TopStore c.self.inside.sessions.now c.self.inside.manager.value c.self.inside.next.items c.self.invariant.0 c.args.session c.args.line (asked c.args.due.now) due
-    c.attempt.new.manager c.in_ok-attempt.field-0 tried (waits_of c.in_ok-attempt.field-0 (sym c.came_of-came.ensures ∙ c.in-Waits.is)))
+    c.attempt.new.manager c.in-Ok.outcome tried (waits_of c.in-Ok.outcome (sym c.came_of-came.ensures ∙ c.in-Waits.is)))
 
 pub returns-in-Waits-clause-way : goal.returns-in-Waits-clause-way
 returns-in-Waits-clause-way g c = (invariant_of-self-in-Waits g c).0.way
@@ -74,11 +74,11 @@ returns-in-Waits-clause-way g c = (invariant_of-self-in-Waits g c).0.way
 pub returns-in_default : goal.returns-in_default
 returns-in_default g c =
     let due = rw (← c.self.view_is) at c.requires in
-    let tried = rw c.deref_mut.ensures.value at c.in_ok-attempt.ensures.ok in
+    let tried = rw (c.deref_mut.ensures.value, c.in-Ok.is) at c.attempt.ensures.ok in
     record {
       ok = rw (← c.self.view_is)
           (stepped_answered g.S.TopStore c.self.inside.sessions.now c.self.inside.manager.value c.self.inside.next.items c.self.invariant.0 c.args.session c.args.line (asked c.args.due.now) due
-          c.attempt.new.manager c.in_ok-attempt.field-0 tried (λ is. c.in_default.not-Waits (c.came_of-came.ensures ∙ ap came_of is)));
+          c.attempt.new.manager c.in-Ok.outcome tried (λ is. c.in_default.not-Waits (c.came_of-came.ensures ∙ ap came_of is)));
       way = (invariant_of-self-in_default g c).0.way;
       err = tt;
     }
