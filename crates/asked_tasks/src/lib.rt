@@ -3,7 +3,9 @@
 #![tactic(auto)]
 
 mod asking;
+mod given;
 mod replaying;
 
 pub use asking::task_asked;
+pub use given::{tell_no_words, words_behind_name};
 pub use replaying::{AskedReplay, replay_asked};

@@ -1,6 +1,6 @@
 -- Which task the words of a command line ask for.
-use Rattle.std.specs.Prelude.{◌≡◌, ◌↔◌, Bool, List, [], Option, Some, None, Result, String, Vec}
-use Rattle.std.specs.Prelude.{IsOkAnd, IsSomeAnd, IsTrue, codes}
+use Rattle.std.specs.Prelude.{◌≡◌, ◌↔◌, Bool, List, [], Option, Some, None, String}
+use Rattle.std.specs.Prelude.{IsSomeAnd, IsTrue, codes}
 use Rattle.std.specs.Borrow.{Bor}
 use Rattle.std.specs.Option.{option_copied}
 use Rattle.clap.specs.Words.{Row, Text, fault_of, first_of, one_of, subcommand_of}
@@ -94,7 +94,3 @@ IsRead words None = AskNothing words
 -- they ask for the task
 abbrev pub AskedBy : {Z : Type 0} → List (String Z) → Task → Type 0
 AskedBy words = Asks (with_name words)
-
--- the system says what they are, and they ask for the task
-abbrev pub AskedIn : {Y Z F : Type 0} → Result (Vec (String Z) Y) F → Task → Type 0
-AskedIn words task = IsOkAnd words (λ w. AskedBy w.items task)

@@ -1,6 +1,10 @@
 -- What each way through the program comes to, by its exit status.
 use Rattle.std.proofs.Common.{◌≡◌, ◌≤◌, ◌⊎◌, ℕ, List, Option, Result, Ok, Bor, inl, inr, refl, subst, sym, arith}
-use Rattle.std.specs.Prelude.{◌≢◌, String, Vec}
+use Rattle.std.specs.Prelude.{◌≢◌, String, codes, drop}
+use Rattle.std.specs.declared.io.ErrorKind.{ErrorKind}
+use Rattle.std.specs.declared.io.ErrorKind.TheVariants.{OutOfMemory}
+use Rattle.std.specs.declared.vec.IntoIter.{IntoIter}
+use Rattle.std.specs.Vec.Iter.{into_iter_items}
 use Rattle.line_language.specs.Report.{line}
 use Rattle.program_words.specs.Faults.{IsSaid, spelled_fault}
 use Rattle.program_words.specs.Tellings.{Accounts, HasUsageLine}
@@ -8,7 +12,8 @@ use Rattle.program_words.specs.declared.fault.Fault.TheVariants.{NoMemory}
 use Rattle.program_words.proofs.Exports.{fault_accounts, misuse_accounts}
 use Rattle.text_commands.specs.Outcomes.{Replays, ReplaysNot}
 use Rattle.tx_machine.specs.Worlds.{State, World, state}
-use Rattle.command_line.specs.Tasks.{AskedBy, AskedIn, Asks}
+use Rattle.command_line.specs.Tasks.{AskedBy, Asks}
+use Rattle.asked_tasks.specs.Given.{AskedIn, line_of_no_words, status_of_no_words}
 use Rattle.command_line.specs.declared.task.Task.{Task}
 use Rattle.command_line.specs.declared.task.Task.TheVariants.{Alone}
 use Rattle.command_line.specs.declared.task.Solo.TheVariants.{Replay}
@@ -52,6 +57,12 @@ module _ {H T P N W E : Type 0} (o : World H T P N W E) (Asked : Task → Type 0
           let usage : HasUsageLine o.err err_old err_new = r.misused (λ one. absurd (omega (arith, is, one))) in
           misread (r.unwanted is) usage.text usage.said is
 
+  -- the system gives no arguments
+  pub no_words : WantsNoReplay Asked → (why : ErrorKind) → IsSaid o.err err_old err_new (line_of_no_words why)
+      → status ≡ status_of_no_words why → Serves o (state host out err_old) (state host out err_new) Asked status
+  no_words none OutOfMemory said is = unstarted said is
+  no_words none why said is = misread none (codes "tx: the command line is not text") said is
+
 -- the same of texts that are those of words
 pub refused_of : {H T P N W E : Type 0} (o : World H T P N W E) (texts words : List (List ℕ)) → texts ≡ words → (host : H) (out : W)
     (err_old err_new : E) (status : ℕ) → IsRefused o.err err_old err_new (WantsNoReplay (Asks texts)) status
@@ -78,11 +89,11 @@ module _ {H T P N W E : Type 0} (o : World H T P N W E) (Asked : Task → Type 0
     bounded = omega (arith, bounded);
   }
 
--- the system says what the words are
+-- the system says what the arguments are
 pub served_in : {H T P N W E Y Z F : Type 0} (o : World H T P N W E) (before after : State H W E) (status : ℕ)
-    (words : Result (Vec (String Z) Y) F) (given : Vec (String Z) Y) (shown : List (String Z)) → words ≡ Ok given
-    → shown ≡ given.items → Serves o before after (AskedBy shown) status
-    → Serves o before after (AskedIn words) status
-served_in {H} {T} {P} {N} {W} {E} {Y} {Z} {F} o before after status words given shown is same served =
-    subst (λ (r : Result (Vec (String Z) Y) F). Serves o before after (AskedIn r) status) (sym is)
+    (args : Result (IntoIter (String Z) Y) F) (given : IntoIter (String Z) Y) (shown : List (String Z)) → args ≡ Ok given
+    → shown ≡ drop 1 (into_iter_items given) → Serves o before after (AskedBy shown) status
+    → Serves o before after (AskedIn args) status
+served_in {H} {T} {P} {N} {W} {E} {Y} {Z} {F} o before after status args given shown is same served =
+    subst (λ (r : Result (IntoIter (String Z) Y) F). Serves o before after (AskedIn r) status) (sym is)
     (subst (λ (ws : List (String Z)). Serves o before after (AskedBy ws) status) same served)

@@ -1,6 +1,10 @@
 -- What each way through the program comes to, by its exit status.
 use Rattle.std.proofs.Common.{◌≡◌, ◌≤◌, ◌⊎◌, ℕ, List, Option, Result, Ok, Bor, inl, inr, refl, subst, sym, arith}
-use Rattle.std.specs.Prelude.{◌≢◌, IsNone, String, Vec}
+use Rattle.std.specs.Prelude.{◌≢◌, IsNone, String, codes, drop}
+use Rattle.std.specs.declared.io.ErrorKind.{ErrorKind}
+use Rattle.std.specs.declared.io.ErrorKind.TheVariants.{OutOfMemory}
+use Rattle.std.specs.declared.vec.IntoIter.{IntoIter}
+use Rattle.std.specs.Vec.Iter.{into_iter_items}
 use Rattle.std.specs.Option.{option_copied}
 use Rattle.line_language.specs.Report.{line}
 use Rattle.txn_bytes.specs.Sources.{Reader}
@@ -11,7 +15,8 @@ use Rattle.program_words.proofs.Exports.{fault_accounts, misuse_accounts}
 use Rattle.session_runs.specs.Ways.{ByWorkers}
 use Rattle.text_commands.specs.Outcomes.{Misses, Prints}
 use Rattle.tx_machine.specs.Worlds.{State, World, state}
-use Rattle.command_line.specs.Tasks.{AskedBy, AskedIn}
+use Rattle.command_line.specs.Tasks.{AskedBy}
+use Rattle.asked_tasks.specs.Given.{AskedIn, line_of_no_words, status_of_no_words}
 use Rattle.command_line.specs.declared.task.Solo.{Solo}
 use Rattle.worker_runs.specs.Workers.{workers_of}
 use Rattle.command_line.specs.declared.task.Task.{Task}
@@ -64,6 +69,12 @@ module _ {H T P N I W E : Type 0} (o : World H T P N W E) (r : Reader I) (Asked 
       by (inr is) =
           let usage : HasUsageLine o.err err_old err_new = told.misused (λ one. absurd (omega (arith, is, one))) in
           misread (told.unwanted is) usage.text usage.said is
+
+  -- the system gives no arguments
+  pub no_words : WantsNoTask Asked → (why : ErrorKind) → IsSaid o.err err_old err_new (line_of_no_words why)
+      → status ≡ status_of_no_words why → Serves o r (state host out err_old) (state host out err_new) input input Asked status
+  no_words none OutOfMemory said is = unstarted said is
+  no_words none why said is = misread none (codes "tx: the command line is not text") said is
 
 -- the same of texts that are those of words
 pub refused_of : {H T P N I W E : Type 0} (o : World H T P N W E) (r : Reader I) (texts words : List (List ℕ)) → texts ≡ words
@@ -137,12 +148,12 @@ counts ws solo asks it = by it.task it.asked it.so
     by (Run file workers database) runs none = words.alone_asked ws solo asks file workers database runs
     by (Alone other) runs none = none
 
--- the system says what the words are
+-- the system says what the arguments are
 pub served_in : {H T P N I W E Y Z F : Type 0} (o : World H T P N W E) (r : Reader I) (before after : State H W E)
-    (in_old in_new : I) (status : ℕ) (words : Result (Vec (String Z) Y) F) (given : Vec (String Z) Y)
-    (shown : List (String Z)) → words ≡ Ok given → shown ≡ given.items
+    (in_old in_new : I) (status : ℕ) (args : Result (IntoIter (String Z) Y) F) (given : IntoIter (String Z) Y)
+    (shown : List (String Z)) → args ≡ Ok given → shown ≡ drop 1 (into_iter_items given)
     → Serves o r before after in_old in_new (AskedBy shown) status
-    → Serves o r before after in_old in_new (AskedIn words) status
-served_in {H} {T} {P} {N} {I} {W} {E} {Y} {Z} {F} o r before after in_old in_new status words given shown is same served =
-    subst (λ (x : Result (Vec (String Z) Y) F). Serves o r before after in_old in_new (AskedIn x) status) (sym is)
+    → Serves o r before after in_old in_new (AskedIn args) status
+served_in {H} {T} {P} {N} {I} {W} {E} {Y} {Z} {F} o r before after in_old in_new status args given shown is same served =
+    subst (λ (x : Result (IntoIter (String Z) Y) F). Serves o r before after in_old in_new (AskedIn x) status) (sym is)
     (subst (λ (ws : List (String Z)). Serves o r before after in_old in_new (AskedBy ws) status) same served)

@@ -1,4 +1,4 @@
-use Rattle.std.proofs.Common.{ℕ, List, Bor, subst}
+use Rattle.std.proofs.Common.{subst}
 use Rattle.command_line.specs.Tasks.{Asks}
 use Rattle.command_line.specs.declared.task.Task.{Task}
 use Rattle.command_line.proofs.Exports as words

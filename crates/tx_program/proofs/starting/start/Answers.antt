@@ -1,21 +1,28 @@
-use Rattle.std.proofs.Common.{◌≡◌, Result, Err, OnErr, subst, sym}
-use Rattle.std.specs.Prelude.{codes}
-use Rattle.tx_program.proofs.Served.{misread, served_in}
+use Rattle.std.proofs.Common.{◌≡◌, ◌∙◌, Result, Err, IfErr, subst, sym}
+use Rattle.std.specs.IoError.{error_kind}
+use Rattle.tx_program.proofs.Served.{no_words, served_in, unstarted}
 use Rattle.tx_program.proofs.starting.start.Goals as goal
 
-on_err : {T F Q : Type 0} (r : Result T F) (f : F) → r ≡ Err f → Q → OnErr r Q
-on_err {T} {F} {Q} r f is q = subst (λ (x : Result T F). OnErr x Q) (sym is) q
-
-pub returns-in-Ok-clause-served : goal.returns-in-Ok-clause-served
-returns-in-Ok-clause-served g c =
-    served_in _ _ _ _ _ _ c.tx_main.result _ c.in-Ok.words c.as_slice.result.now c.in-Ok.is
-    c.as_slice.ensures.value c.tx_main.ensures
+on_err : {T F : Type 0} (Q : F → Type 0) (r : Result T F) (why : F) → r ≡ Err why → Q why → IfErr r Q
+on_err {T} {F} Q r why is q = subst (λ (x : Result T F). IfErr x Q) (sym is) q
 
 pub returns-in-Err-clause-unread : goal.returns-in-Err-clause-unread
-returns-in-Err-clause-unread g c = on_err _ _ c.in-Err.is c.misuse.ensures.told
+returns-in-Err-clause-unread g c = on_err _ _ _ c.in-Err.is c.tell_no_words.ensures.said
+
+pub returns-in-Err-clause-unread_status : goal.returns-in-Err-clause-unread_status
+returns-in-Err-clause-unread_status g c = on_err _ _ _ c.in-Err.is c.tell_no_words.ensures.status
 
 pub returns-in-Err-clause-served : goal.returns-in-Err-clause-served
 returns-in-Err-clause-served g c = rw c.in-Err.is
-    (misread _ _ _ c.args.host.now c.args.out.now c.args.err.now c.misuse.new.err c.args.input.now c.misuse.result
-    (λ task asked. asked)
-    (codes "tx: the command line is not text") c.misuse.ensures.told c.misuse.ensures.status)
+    (no_words _ _ _ c.args.host.now c.args.out.now c.args.err.now c.tell_no_words.new.err c.args.input.now c.tell_no_words.result
+    (λ task asked. asked) (error_kind c.in-Err.why) c.tell_no_words.ensures.said c.tell_no_words.ensures.status)
+
+pub returns-in-Ok-words_behind_name-clause-served : goal.returns-in-Ok-words_behind_name-clause-served
+returns-in-Ok-words_behind_name-clause-served g c =
+    served_in _ _ _ _ _ _ c.tx_main.result _ c.in-Ok.args c.as_slice.result.now c.in-Ok.is
+    (c.as_slice.ensures.value ∙ c.in-Ok-words_behind_name.ensures) c.tx_main.ensures
+
+pub returns-in-Err-words_behind_name-clause-served : goal.returns-in-Err-words_behind_name-clause-served
+returns-in-Err-words_behind_name-clause-served g c =
+    unstarted _ _ _ c.args.host.now c.args.out.now c.args.err.now c.tell.new.err c.args.input.now c.tell.result
+    c.tell.ensures.told c.tell.ensures.status
