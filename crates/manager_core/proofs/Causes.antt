@@ -8,7 +8,7 @@ use Rattle.txn_tree.specs.declared.status.Status.{Status}
 use Rattle.txn_tree.specs.declared.status.Status.TheVariants as state
 use Rattle.txn_tree.specs.States.{names, is_committed}
 use Rattle.txn_tree.specs.Asked.{IsNumberOf, has_committed_in, is_absent_in, is_live_child_in}
-use Rattle.txn_tree.specs.Numbered.{is_active_at, is_active_named, status_at, status_named}
+use Rattle.txn_tree.specs.Numbered.{is_active_at, is_active_named, status_at, status_named, top_aborted_at, top_aborted_named}
 use Rattle.orphans.specs.Marked.{is_marked}
 use Rattle.serial_spec.specs.declared.target.Asked.{Asked}
 use Rattle.serial_spec.specs.declared.entry.By.{By}
@@ -23,7 +23,7 @@ use Rattle.manager_core.specs.Kept.{AreTablesOf}
 use Rattle.manager_core.specs.Tables.{Tabled, cause_in}
 use Rattle.manager_core.proofs.Answers.{active_at_access}
 use Rattle.manager_core.proofs.Locks.{name_at}
-use Rattle.manager_core.proofs.Trees.{active_in, same_at_end, same_children}
+use Rattle.manager_core.proofs.Trees.{active_in, same_at_end, same_children, top_by_marks, top_by_states}
 use Rattle.manager_core.proofs.Victims.{may_end}
 
 -- ---- by number
@@ -130,3 +130,12 @@ pub orphan_cause : (m : Tabled) (t top : Name) → true ≡ not (is_absent_in m.
     → Some (Orphan top) ≡ cause_in m t
 orphan_cause m t top begun marked =
     sym (ap₂ (λ (absent : Bool) (o : Option Name). why_ended absent o (has_committed_in m.tree t)) (not_absent (is_absent_in m.tree t) begun) marked)
+
+-- so is the one that is found by numbers
+module _ (rows : Rows) (h : History) (tables : Tabled) (allowed : AreAllowed rows h) (are : AreTablesOf rows h tables) (t : Name) where
+  pub numbered_top : (n : ℕ) (top : Name) → true ≡ not (is_absent_in tables.tree t) → IsNumberOf tables.tree t n
+      → top_aborted_at tables.tree n ≡ Some top → Some (Orphan top) ≡ cause_in tables t
+  numbered_top n top begun number at =
+      orphan_cause tables t top begun
+      (top_by_marks h tables.marks are.marked t ∙ sym (top_by_states rows h tables.tree allowed are.in_tree t)
+      ∙ ap (top_aborted_named tables.tree) (sym (name_at tables.tree t n number)) ∙ at)

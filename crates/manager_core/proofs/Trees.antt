@@ -26,7 +26,7 @@ top_by_marks h marks are t = top_as (is_marked marks) (has_aborted h) (λ l ls. 
 
 module _ (rows : Rows) (h : History) (states : States) (allowed : AreAllowed rows h) (is : IsTreeOf h states) where
   -- so do the states
-  top_by_states : (t : Name) → top_aborted_in states t ≡ top_aborted h t
+  pub top_by_states : (t : Name) → top_aborted_in states t ≡ top_aborted h t
   top_by_states t = top_as (has_aborted_in states) (has_aborted h)
       (λ l ls.
       aborted_as (status_in states (l ∷ ls)) ∙ ap is_aborted_status (is.status (l ∷ ls))

@@ -1,9 +1,9 @@
 //! Why a line is refused, read off the tables. What is not refused goes on by the transaction's
 //! number.
 ghost use Rattle.std.specs.Prelude.{◌≡◌, ◌<◌, length, IfNone, IfOk, IfSome, IsTrue};
-ghost use Rattle.std.specs.Prelude.{None, Some, is_some};
+ghost use Rattle.std.specs.Prelude.{None, Some, is_some, not, true};
 ghost use Rattle.std.specs.Result.{result_err};
-ghost use Rattle.txn_tree.specs.Asked.{IsNumberOf, IsRootless};
+ghost use Rattle.txn_tree.specs.Asked.{IsNumberOf, IsRootless, is_absent_in};
 ghost use Rattle.serial_spec.specs.Allowed.{cause_at_access, cause_at_commit, is_full_for};
 ghost use Rattle.serial_spec.specs.Legal.{AreAllowed};
 ghost use Rattle.serial_spec.specs.declared.entry.Refusal.TheVariants.{Orphan};
@@ -52,11 +52,24 @@ impl Tables {
         }
     }
 
-    /// As `number_by_marks`. Whether all of the transaction's ancestors are live is found by their
-    /// numbers, so that none of their names is hashed unless one is not.
-    pub(crate) fn active_number(&self, _log: &Log, by: By, name: &Name) -> Result<TxnNo, Refusal>
+    // The topmost aborted one, where the transaction with this number is an orphan. It is found by
+    // numbers, so that no name is hashed.
+    #[inline(always)]
+    fn orphan_top(&self, _log: &Log, name: &Name, txn: TxnNo) -> Option<&Name>
         requires allowed { AreAllowed _log.now.rows _log.now.entries }
         requires are { AreTablesOf _log.now.rows _log.now.entries self.now }
+        requires begun { true ≡ not (is_absent_in self.now.tree name.now) }
+        requires number { IsNumberOf self.now.tree name.now txn }
+        ensures { IfSome result (λ top. Some (Orphan top.now) ≡ cause_in self.now name.now) }
+    {
+        self.tree.top_aborted_at(txn)
+    }
+
+    /// As `number_by_marks`. Whether all of the transaction's ancestors are live is found by their
+    /// numbers, and so is an aborted one.
+    pub(crate) fn active_number(&self, log: &Log, by: By, name: &Name) -> Result<TxnNo, Refusal>
+        requires allowed { AreAllowed log.now.rows log.now.entries }
+        requires are { AreTablesOf log.now.rows log.now.entries self.now }
         ensures cause { result_err result ≡ cause_in self.now name.now }
         ensures number { IfOk result (IsNumberOf self.now.tree name.now) }
         ensures some { 0 < length name.now }
@@ -67,6 +80,9 @@ impl Tables {
         if let Some(txn) = self.tree.no_by_hint(name, hint) {
             if self.tree.is_active_at(txn) {
                 return Ok(txn);
+            }
+            if let Some(top) = self.orphan_top(log, name, txn) {
+                return Err(Refusal::Orphan(*top));
             }
         }
         self.number_by_marks(name, hint)
@@ -104,8 +120,8 @@ impl Tables {
     }
 
     /// Why an access is refused. Few accesses are, so this is kept out of the code of the callers.
-    /// Most of these are an orphan's whose own transaction is the topmost aborted one: its name is
-    /// copied once. Room for a name is cleared where a function begins, so the others are apart.
+    /// Most of these are an orphan's: the name of the topmost aborted one is copied once. Room for a
+    /// name is cleared where a function begins, so the others are apart.
     #[inline(never)]
     pub(crate) fn refusal_at_access(&self, log: &Log, by: By, name: &Name, asked: &Asked) -> Refusal
         requires allowed { AreAllowed log.now.rows log.now.entries }
@@ -116,23 +132,12 @@ impl Tables {
             ≡ cause_at_access log.now.rows log.now.entries by name.now asked.now }
     {
         name.has_labels();
-        if self.is_top_aborted(by, name) {
-            return Refusal::Orphan(*name);
+        if let Some(txn) = self.tree.no_by_hint(name, self.hints.of(by)) {
+            if let Some(top) = self.orphan_top(log, name, txn) {
+                return Refusal::Orphan(*top);
+            }
         }
         self.other_refusal_at_access(log, by, name, asked)
-    }
-
-    // Whether the transaction has begun and is the topmost aborted one among itself and its
-    // ancestors.
-    fn is_top_aborted(&self, by: By, name: &Name) -> bool
-        ensures { IsTrue result → cause_in self.now name.now ≡ Some (Orphan name.now) }
-    {
-        match self.marks.top_depth(name) {
-            Some(depth) => {
-                depth == name.depth() && self.tree.no_by_hint(name, self.hints.of(by)).is_some()
-            }
-            None => false,
-        }
     }
 
     // Why an access is refused, for any cause.

@@ -1,7 +1,7 @@
 //! The marks of aborted transactions, by which orphans are found.
 #![tactic(auto)]
 
-ghost use Rattle.std.specs.Prelude.{◌≡◌, ◌+◌, ◌<◌, ◌≤◌, ◌||◌, [], length, take, IfSome, IsNone, IsOk, None, OnOk, Some};
+ghost use Rattle.std.specs.Prelude.{◌≡◌, ◌+◌, ◌<◌, ◌≤◌, ◌||◌, [], IsOk, OnOk};
 ghost use Rattle.txn_names.specs.Path.{Path, path_eq, top_of};
 
 use indexmap::IndexSet;
@@ -70,17 +70,6 @@ impl Marks {
     pub fn top_aborted(&self, name: &Name) -> Option<Name>
         ensures { result ≡ top_of (is_marked self.now) name.now }
     {
-        let depth = self.top_depth(name)?;
-        Some(name.front(depth))
-    }
-
-    /// How many labels of the name are that one's, where there is one: so no name is made.
-    pub fn top_depth(&self, name: &Name) -> Option<usize>
-        ensures some { IfSome result
-            (λ depth. top_of (is_marked self.now) name.now ≡ Some (take depth name.now)) }
-        ensures none { IsNone result → top_of (is_marked self.now) name.now ≡ None }
-        ensures within { IfSome result (λ depth. (0 < depth) × (depth ≤ length name.now)) }
-    {
         // As long as nobody has aborted nothing is marked, and no front need be hashed.
         if self.names.is_empty() {
             return None;
@@ -88,12 +77,12 @@ impl Marks {
         for depth in 1..name.depth() {
             let front = name.front(depth);
             if self.is_marked(&front) {
-                return Some(depth);
+                return Some(front);
             }
         }
         // The longest front is the name itself, and need not be made.
         if self.is_marked(name) {
-            Some(name.depth())
+            Some(*name)
         } else {
             None
         }

@@ -97,6 +97,10 @@ const SCRIPTS: [(&str, &str); 6] = [
         abort a/b -> orphan a
         begin a/b/d -> orphan a
         begin a/b -> refused used
+        top 0 -> a
+        top 2 -> a
+        top 3 -> none
+        top 6 -> none
         ",
     ),
     // A chain of the greatest depth, aborted in the middle. Each is the one child of the one above.
@@ -181,6 +185,14 @@ fn is_place(number: Option<TxnNo>, want: &str) -> bool {
     }
 }
 
+// Whether that is the name, or `none`.
+fn is_name(found: Option<&Name>, want: &str) -> bool {
+    match found {
+        Some(found) => *found == name(want),
+        None => want == "none",
+    }
+}
+
 // A begin gives this number, the next one, by which the name is found.
 fn begins_at(tree: &mut Tree, name: &Name, place: u32) -> bool {
     match tree.begin(name) {
@@ -237,6 +249,7 @@ fn is_seen(tree: &Tree, text: &str) -> bool {
             is_place(tree.first_child(txn), child) && is_place(tree.next_sibling(txn), next)
         }
         "only-child" => is_only_child(tree, txn, number(want)),
+        "top" => is_name(tree.top_aborted_at(txn), want),
         "children-at" => is_number(tree.live_children_at(txn), want),
         _ => false,
     }

@@ -1,5 +1,5 @@
 -- The causes of refusals, by whether a transaction is active.
-use Rattle.std.proofs.Common.{◌≡◌, ◌<◌, ℕ, Bool, true, false, length, Option, Some, None, is_some, option_map, refl, sym, ap, ◌∙◌, true≢false, arith}
+use Rattle.std.proofs.Common.{◌≡◌, ◌<◌, ℕ, Bool, true, false, not, length, Option, Some, None, is_some, option_map, refl, sym, ap, ◌∙◌, true≢false, arith}
 use Rattle.std.specs.Prelude.{slice_get}
 use Rattle.std.proofs.lemmas.Bool.{false≢true}
 use Rattle.std.proofs.lemmas.Map.Entries.{length-keys_of}
@@ -13,8 +13,8 @@ use Rattle.txn_tree.specs.declared.status.Status.{Status}
 use Rattle.txn_tree.specs.declared.status.Status.TheVariants.{Absent, Live, Committed, Aborted}
 use Rattle.txn_tree.specs.States.{States, names, status_in, is_absent, is_committed, is_live}
 use Rattle.txn_tree.specs.Asked.{has_committed_in, is_absent_in, is_active_in, top_aborted_in}
-use Rattle.txn_tree.specs.Causes.{cause_at_abort, cause_at_parent}
-use Rattle.txn_tree.specs.Numbered.{is_active_at, is_active_named}
+use Rattle.txn_tree.specs.Causes.{cause_at_abort, cause_at_parent, orphan_or}
+use Rattle.txn_tree.specs.Numbered.{is_active_at, is_active_named, top_aborted_at, top_aborted_named}
 use Rattle.txn_tree.proofs.Orphans.{active_parts, begun_active}
 
 -- ---- who is not active
@@ -28,20 +28,20 @@ module _ (tree : States) (t : Path) (quiet : is_active_in tree t ≡ false) (beg
       by true e = refl
       by false e = absurd (true≢false (sym (begun_active tree t begun e (ap is_some upright)) ∙ quiet))
 
-  last_cause : (r s : Refusal) → top_aborted_in tree t ≡ None → Some s ≡ or_else (when (is_absent_in tree t) r) (or_else (why_orphaned (top_aborted_in tree t)) (when (has_committed_in tree t) s))
-  last_cause r s upright = by (is_absent_in tree t) (top_aborted_in tree t) (has_committed_in tree t) begun upright (committed upright)
+  last_cause : (r s : Refusal) → Some (orphan_or (top_aborted_in tree t) s) ≡ or_else (when (is_absent_in tree t) r) (or_else (why_orphaned (top_aborted_in tree t)) (when (has_committed_in tree t) s))
+  last_cause r s = by (is_absent_in tree t) (top_aborted_in tree t) (has_committed_in tree t) begun committed
     where
-      by : (a : Bool) (o : Option Path) (d : Bool) → a ≡ false → o ≡ None → d ≡ true → Some s ≡ or_else (when a r) (or_else (option_map (λ p. Orphan p) o) (when d s))
-      by false None true e f g = refl
-      by false None false e f g = absurd (false≢true g)
-      by false (Some p) d e f g = absurd (true≢false (ap is_some f))
-      by true o d e f g = absurd (true≢false e)
+      by : (a : Bool) (o : Option Path) (d : Bool) → a ≡ false → (o ≡ None → d ≡ true) → Some (orphan_or o s) ≡ or_else (when a r) (or_else (option_map (λ p. Orphan p) o) (when d s))
+      by false (Some p) d e f = refl
+      by false None true e f = refl
+      by false None false e f = absurd (false≢true (f refl))
+      by true o d e f = absurd (true≢false e)
 
-  pub committed_parent : top_aborted_in tree t ≡ None → Some NoParent ≡ cause_at_parent tree t
-  committed_parent = last_cause NoParent NoParent
+  pub ended_parent : Some (orphan_or (top_aborted_in tree t) NoParent) ≡ cause_at_parent tree t
+  ended_parent = last_cause NoParent NoParent
 
-  pub committed_done : top_aborted_in tree t ≡ None → Some Done ≡ cause_at_abort tree t
-  committed_done = last_cause Unknown Done
+  pub ended_done : Some (orphan_or (top_aborted_in tree t) Done) ≡ cause_at_abort tree t
+  ended_done = last_cause Unknown Done
 
 -- ---- who is active
 
@@ -52,19 +52,47 @@ has_begun Committed e = (refl, absurd (false≢true e))
 has_begun Aborted e = (refl, refl)
 
 module _ (tree : States) (t : Path) (active : is_active_in tree t ≡ true) where
-  pub no_cause_at_parent : None ≡ cause_at_parent tree t
-  no_cause_at_parent =
+  no_cause : (r s : Refusal) → None ≡ or_else (when (is_absent_in tree t) r) (or_else (why_orphaned (top_aborted_in tree t)) (when (has_committed_in tree t) s))
+  no_cause r s =
       let parts = active_parts tree t active in
       let begun = has_begun (status_in tree t) parts.0 in
       by (is_absent_in tree t) (top_aborted_in tree t) (has_committed_in tree t) begun.0 parts.1 begun.1
     where
-      by : (a : Bool) (o : Option Path) (d : Bool) → a ≡ false → is_some o ≡ false → d ≡ false → None ≡ or_else (when a NoParent) (or_else (option_map (λ p. Orphan p) o) (when d NoParent))
+      by : (a : Bool) (o : Option Path) (d : Bool) → a ≡ false → is_some o ≡ false → d ≡ false → None ≡ or_else (when a r) (or_else (option_map (λ p. Orphan p) o) (when d s))
       by false None false e f g = refl
       by false None true e f g = absurd (true≢false g)
       by false (Some p) d e f g = absurd (true≢false f)
       by true o d e f g = absurd (true≢false e)
 
+  pub no_cause_at_parent : None ≡ cause_at_parent tree t
+  no_cause_at_parent = no_cause NoParent NoParent
+
+  pub no_cause_at_abort : None ≡ cause_at_abort tree t
+  no_cause_at_abort = no_cause Unknown Done
+
 -- ---- by number
+
+has_come : (b : Bool) → true ≡ not b → b ≡ false
+has_come true e = absurd (true≢false e)
+has_come false e = refl
+
+module _ (tree : States) (t : Path) (n : ℕ) (at : slice_get (names tree) n ≡ Some t) where
+  pub active_here : is_active_at tree n ≡ is_active_in tree t
+  active_here = ap (is_active_named tree) at
+
+  quiet_here : is_active_at tree n ≡ false → is_active_in tree t ≡ false
+  quiet_here e = sym active_here ∙ e
+
+  module _ (begun : true ≡ not (is_absent_in tree t)) (quiet : is_active_at tree n ≡ false) where
+    pub ended_parent_at : Some (orphan_or (top_aborted_at tree n) NoParent) ≡ cause_at_parent tree t
+    ended_parent_at =
+        ap (λ o. Some (orphan_or (top_aborted_named tree o) NoParent)) at
+        ∙ ended_parent tree t (quiet_here quiet) (has_come (is_absent_in tree t) begun)
+
+    pub ended_done_at : Some (orphan_or (top_aborted_at tree n) Done) ≡ cause_at_abort tree t
+    ended_done_at =
+        ap (λ o. Some (orphan_or (top_aborted_named tree o) Done)) at
+        ∙ ended_done tree t (quiet_here quiet) (has_come (is_absent_in tree t) begun)
 
 lives : (s : Status) → is_live s ≡ true → s ≡ Live
 lives Live e = refl

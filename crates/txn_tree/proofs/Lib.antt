@@ -17,7 +17,6 @@ pub mod Told
 pub mod Subtrees
 pub mod Threads
 pub mod Siblings
-pub mod Tops
 pub mod Under
 pub mod Written
 pub mod Exports

@@ -6,7 +6,7 @@ use Rattle.serial_spec.specs.History.{or_else}
 use Rattle.serial_spec.specs.Allowed.{most_transactions}
 use Rattle.serial_spec.specs.Causes.{when, why_childless, why_ended, why_unbegun}
 use Rattle.serial_spec.specs.declared.entry.Refusal.{Refusal}
-use Rattle.serial_spec.specs.declared.entry.Refusal.TheVariants.{Children}
+use Rattle.serial_spec.specs.declared.entry.Refusal.TheVariants.{Children, Orphan}
 use Rattle.txn_tree.specs.declared.fault.TreeFault.{TreeFault}
 use Rattle.txn_tree.specs.declared.fault.TreeFault.TheVariants.{Refused}
 use Rattle.txn_tree.specs.States.{States, names}
@@ -31,6 +31,11 @@ abbrev pub cause_at_commit : States → Path → Option Refusal
 cause_at_commit tree t =
     or_else (cause_at_abort tree t)
     (when (list_any (is_live_child_in tree t) (names tree)) Children)
+
+-- that an orphan is one, or this refusal where nobody above has aborted
+abbrev pub orphan_or : Option Path → Refusal → Refusal
+orphan_or (Some top) r = Orphan top
+orphan_or None r = r
 
 -- the refusal, if the begin was refused
 abbrev pub refusal_of : Result ℕ TreeFault → Option Refusal

@@ -4,7 +4,7 @@ use Rattle.txn_names.specs.Path.{Path, path_eq, is_front, parent}
 use Rattle.txn_tree.specs.declared.status.Status.{Status}
 use Rattle.txn_tree.specs.declared.status.Status.TheVariants.{Absent}
 use Rattle.txn_tree.specs.States.{States, names, status_in}
-use Rattle.txn_tree.specs.Asked.{ended_by_abort, is_absent_in, is_active_in, is_orphan_in, live_children_of}
+use Rattle.txn_tree.specs.Asked.{ended_by_abort, is_absent_in, is_active_in, is_orphan_in, live_children_of, top_aborted_in}
 
 -- there are both names, and the first is the second or an ancestor of it
 abbrev pub is_front_of : Option Path → Option Path → Bool
@@ -30,6 +30,14 @@ is_active_named tree (Some t) = is_active_in tree t
 -- the transaction with this number is live, and no orphan
 abbrev pub is_active_at : States → ℕ → Bool
 is_active_at tree n = is_active_named tree (slice_get (names tree) n)
+
+abbrev pub top_aborted_named : States → Option Path → Option Path
+top_aborted_named tree None = None
+top_aborted_named tree (Some t) = top_aborted_in tree t
+
+-- the topmost aborted one among the transaction with this number and its ancestors
+abbrev pub top_aborted_at : States → ℕ → Option Path
+top_aborted_at tree n = top_aborted_named tree (slice_get (names tree) n)
 
 -- there is somebody, and that is no top-level transaction
 abbrev pub has_parent : Option Path → Bool

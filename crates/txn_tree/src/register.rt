@@ -1,17 +1,16 @@
 //! The names and the states of the transactions that have begun.
-ghost use Rattle.std.specs.Prelude.{◌≡◌, ◌≢◌, ◌↔◌, ◌<◌, [], ◌∷◌, ◌++◌, is_some, length, not, position, slice_get, false, None, Some, IfSome, IsTrue, OnErr, OnOk};
+ghost use Rattle.std.specs.Prelude.{◌≡◌, ◌≢◌, ◌↔◌, ◌<◌, [], ◌∷◌, ◌++◌, is_some, length, not, position, slice_get, None, Some, IfSome, IsTrue, OnErr, OnOk};
 ghost use Rattle.std.specs.Option.{option_copied};
 ghost use Rattle.txn_names.specs.Path.{path_eq};
 ghost use Rattle.txn_names.specs.Text.{IsName};
 ghost use Rattle.txn_tree.specs.States.{IsTree, names, status_in, GetsStatus, GetsStatusAt};
-ghost use Rattle.txn_tree.specs.Asked.{IsNumberOf, IsRootless, is_absent_in, is_active_in, top_aborted_in};
+ghost use Rattle.txn_tree.specs.Asked.{IsNumberOf, IsRootless, is_absent_in};
 ghost use Rattle.txn_tree.specs.Numbered.{is_under, status_at};
-ghost use Rattle.txn_tree.specs.Causes.{cause_at_abort, cause_at_begin, cause_at_parent};
+ghost use Rattle.txn_tree.specs.Causes.{cause_at_begin};
 
 use crate::number::TxnNo;
 use crate::status::Status;
 use indexmap::IndexMap;
-use serial_spec::Refusal;
 use std::alloc::{AllocError, Global};
 use std::marker::Model;
 use txn_names::Name;
@@ -126,48 +125,6 @@ impl Register {
         match self.states.get_index(txn.place() as usize) {
             Some((_, status)) => *status,
             None => Status::Absent,
-        }
-    }
-
-    // The topmost aborted one of the transaction and its ancestors.
-    pub(crate) fn top_aborted(&self, name: &Name) -> Option<Name>
-        ensures { result ≡ top_aborted_in self.now name.now }
-    {
-        for above in 0..name.depth() {
-            let front = name.front(above + 1);
-            if self.status(&front) == Status::Aborted {
-                return Some(front);
-            }
-        }
-        None
-    }
-
-    // Why a transaction that is not active can have no more children.
-    pub(crate) fn cause_at_parent(&self, parent: &Name) -> Refusal
-        requires inactive { is_active_in self.now parent.now ≡ false }
-        ensures { Some result ≡ cause_at_parent self.now parent.now }
-    {
-        if self.status(parent) == Status::Absent {
-            Refusal::NoParent
-        } else if let Some(top) = self.top_aborted(parent) {
-            Refusal::Orphan(top)
-        } else {
-            // It has committed.
-            Refusal::NoParent
-        }
-    }
-
-    // Why an abort of a transaction that is not active is refused.
-    pub(crate) fn cause_at_abort(&self, name: &Name) -> Refusal
-        requires inactive { is_active_in self.now name.now ≡ false }
-        ensures { Some result ≡ cause_at_abort self.now name.now }
-    {
-        if self.status(name) == Status::Absent {
-            Refusal::Unknown
-        } else if let Some(top) = self.top_aborted(name) {
-            Refusal::Orphan(top)
-        } else {
-            Refusal::Done
         }
     }
 

@@ -216,9 +216,13 @@ impl Tree {
         let Some(parent) = name.parent() else {
             return Ok(None);
         };
-        match self.active_no_of(&parent) {
-            Some(txn) => Ok(Some(txn)),
-            None => Err(self.register.cause_at_parent(&parent)),
+        let Some(txn) = self.no_of(&parent) else {
+            return Err(Refusal::NoParent);
+        };
+        if self.is_active_at(txn) {
+            Ok(Some(txn))
+        } else {
+            Err(self.refusal_of_ended(txn, Refusal::NoParent))
         }
     }
 
@@ -245,9 +249,13 @@ impl Tree {
         ensures named { IfOk result (λ n. slice_get (names self.now) n ≡ Some name.now) }
         ensures active { IfOk result (λ n. is_active_at self.now n ≡ true) }
     {
-        match self.active_no_of(name) {
-            Some(txn) => Ok(txn),
-            None => Err(self.register.cause_at_abort(name)),
+        let Some(txn) = self.no_of(name) else {
+            return Err(Refusal::Unknown);
+        };
+        if self.is_active_at(txn) {
+            Ok(txn)
+        } else {
+            Err(self.refusal_of_ended(txn, Refusal::Done))
         }
     }
 

@@ -1,18 +1,32 @@
-use Rattle.std.proofs.Common.{◌≡◌, ◌∙◌, Option, sym, ap, subst}
-use Rattle.std.specs.Prelude.{IfSome, is_some}
-use Rattle.txn_names.specs.Path.{Path, parent}
-use Rattle.txn_tree.specs.Asked.{is_active_in}
-use Rattle.txn_tree.proofs.Inactive.{no_cause_at_parent}
+use Rattle.std.proofs.Common.{◌∙◌, sym, ap}
+use Rattle.txn_tree.specs.Causes.{cause_at_parent}
+use Rattle.txn_tree.proofs.Inactive.{active_here, ended_parent_at, no_cause_at_parent}
 use Rattle.txn_tree.proofs.Links.{parent_some}
+use Rattle.txn_tree.proofs.Told.{named_at}
 use Rattle.txn_tree.proofs.tree.Tree.number_of_parent.Goals as goal
 
-pub returns-in-Some-active_no_of-clause-refused : goal.returns-in-Some-active_no_of-clause-refused
-returns-in-Some-active_no_of-clause-refused c =
-    let t = c.args.name.now in
-    let same = subst (λ (o : Option Path). IfSome o (λ p. p ≡ parent t)) c.in-Some.is c.parent.ensures.some in
-    no_cause_at_parent c.args.self.now (parent t) (ap (is_active_in c.args.self.now) (sym same) ∙ sym c.active_no_of.ensures.is ∙ ap is_some c.in-Some-active_no_of.is)
+pub returns-then-is_active_at-clause-refused : goal.returns-then-is_active_at-clause-refused
+returns-then-is_active_at-clause-refused c =
+    let tree = c.args.self.now in
+    let p = c.in-Some.parent in
+    let n = c.in-Some-no_of.txn in
+    let at = named_at tree p n c.in-Some-no_of.ensures.number in
+    no_cause_at_parent tree p (sym (active_here tree p n at) ∙ sym c.is_active_at.ensures ∙ c.if-is_active_at.true)
+    ∙ ap (cause_at_parent tree) c.in-Some.ensures.some
 
-pub returns-in-Some-active_no_of-clause-number : goal.returns-in-Some-active_no_of-clause-number
-returns-in-Some-active_no_of-clause-number c =
-    let same = subst (λ (o : Option Path). IfSome o (λ p. p ≡ parent c.args.name.now)) c.in-Some.is c.parent.ensures.some in
-    parent_some c.args.self.now c.args.name.now c.in-Some.parent c.in-Some-active_no_of.txn c.in-Some-active_no_of.ensures.named same
+pub returns-then-is_active_at-clause-number : goal.returns-then-is_active_at-clause-number
+returns-then-is_active_at-clause-number c =
+    let tree = c.args.self.now in
+    let p = c.in-Some.parent in
+    let n = c.in-Some-no_of.txn in
+    parent_some tree c.args.name.now p n (named_at tree p n c.in-Some-no_of.ensures.number) c.in-Some.ensures.some
+
+pub returns-else-is_active_at-clause-refused : goal.returns-else-is_active_at-clause-refused
+returns-else-is_active_at-clause-refused c =
+    let tree = c.args.self.now in
+    let p = c.in-Some.parent in
+    let n = c.in-Some-no_of.txn in
+    let at = named_at tree p n c.in-Some-no_of.ensures.number in
+    rw c.refusal_of_ended.ensures
+    (ended_parent_at tree p n at c.in-Some-no_of.ensures.begun (sym c.is_active_at.ensures ∙ c.if-is_active_at.false)
+    ∙ ap (cause_at_parent tree) c.in-Some.ensures.some)
