@@ -17,6 +17,11 @@ pub record Listed : Type 0 where
   -- how many entries may be added without memory
   pub room : ℕ
 
+-- names by number, and for how many there is room
+pub record Numbered : Type 0 where
+  pub items : List Name
+  pub capacity : ℕ
+
 -- the name with this number, where there is one
 abbrev pub name_at : List Name → ℕ → Name
 name_at names n = unwrap_or (slice_get names n) []

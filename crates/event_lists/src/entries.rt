@@ -1,10 +1,10 @@
 //! A list of entries.
-ghost use Rattle.std.specs.Prelude.{◌≡◌, ◌+◌, ◌<◌, ◌≤◌, ◌↔◌, [], ◌∷◌, ◌++◌, length, slice_get, Some, OnOk, IsOk, IsTrue, vec_len, vec_capacity};
+ghost use Rattle.std.specs.Prelude.{◌≡◌, ◌+◌, ◌<◌, ◌≤◌, ◌↔◌, [], ◌∷◌, ◌++◌, length, slice_get, Some, OnOk, IsOk, IsTrue};
 ghost use Rattle.std.specs.Option.{option_map};
 ghost use Rattle.event_lists.specs.Lists.{IsNamed, Keeps, is_orphan, name_at};
 ghost use Rattle.event_lists.specs.Views.{answer_by, seen};
 
-use crate::names::{Asking, Lately, is_spelled_at};
+use crate::names::{Asking, Names};
 use crate::view::{Cause, EntryView, EventView, Said};
 use crate::word::NameWord;
 use serial_spec::{By, MOST_SESSIONS, NoMemory};
@@ -22,21 +22,21 @@ struct Noted {
     top: usize,
 }
 
-/// Entries, the oldest first. After `reserve` they are added without memory. A name is kept once
-/// for entries of a session one after the other, and for others near by.
+/// Entries, the oldest first. After `reserve` they are added without memory. A name is mostly kept
+/// once for all entries that have it.
 #[derive(Drop)]
 pub struct Entries {
-    names: Vec<Name>,
+    names: Names,
     notes: Vec<Noted>,
-    // For each session the names of its last entries, and the ancestors that they told: the next
-    // one mostly has one of these.
-    lately: [Lately; MOST_SESSIONS],
-    tops: [Lately; MOST_SESSIONS],
+    // For each session the numbers of its last entry's name, and of the ancestor that was told
+    // last: the next one mostly has these.
+    last: [usize; MOST_SESSIONS],
+    tops: [usize; MOST_SESSIONS],
     room: usize,
 }
 
 impl Model for Entries {
-    ghost use Rattle.std.specs.Prelude.{◌+◌, ◌≤◌, vec_len, vec_capacity};
+    ghost use Rattle.std.specs.Prelude.{◌+◌, ◌≤◌, length, vec_len, vec_capacity};
     ghost use Rattle.std.specs.List.{AllByRecursion};
     ghost use Rattle.event_lists.specs.Lists.{HasNames, Listed, entries_of};
 
@@ -50,7 +50,7 @@ impl Model for Entries {
     ghost invariant = { λ e.
         AllByRecursion (HasNames e.names.items) e.notes.items
         × (vec_len e.notes + e.room ≤ vec_capacity e.notes)
-        × (vec_len e.names + (e.room + e.room) ≤ vec_capacity e.names) };
+        × (length e.names.items + (e.room + e.room) ≤ e.names.capacity) };
 }
 
 // Whether an orphan is refused, which tells its aborted ancestor.
@@ -63,28 +63,23 @@ fn is_orphan(said: Said) -> bool
     }
 }
 
-// The number of the name that an entry tells beside its own: mostly it is its own, or one that the
-// session's entries before told. Where it tells none its own will do.
+// The number of the name that an entry tells beside its own: mostly it is its own, or the one that
+// the session's entries told last. Where it tells none its own will do.
 #[inline(always)]
-fn number_of_top(
-    names: &mut Vec<Name>,
-    own: usize,
-    tops: &mut Lately,
-    said: Said,
-    top: &Name,
-) -> usize
-    requires room { vec_len names.old < vec_capacity names.old }
+fn number_of_top(names: &mut Names, own: usize, told: &mut usize, said: Said, top: &Name) -> usize
+    requires room { length names.old.items < names.old.capacity }
     requires own { IsNamed names.old.items own }
     ensures named { IsNamed names.new.items result }
     ensures told { answer_by said (name_at names.new.items result) ≡ answer_by said top.now }
     ensures keeps { Keeps names.old.items names.new.items }
-    ensures len { vec_len names.new ≤ vec_len names.old + 1 }
-    ensures capacity { vec_capacity names.new ≡ vec_capacity names.old }
+    ensures len { length names.new.items ≤ length names.old.items + 1 }
+    ensures capacity { names.new.capacity ≡ names.old.capacity }
 {
-    if !is_orphan(said) || is_spelled_at(names, own, top.spelled()) {
+    if !is_orphan(said) || names.is_spelled(own, top.spelled()) {
         own
     } else {
-        tops.number_of(names, &NameWord::of(top))
+        *told = names.number_of(*told, &NameWord::of(top));
+        *told
     }
 }
 
@@ -104,10 +99,10 @@ impl Entries {
         ensures { result ≡ record { entries = []; room = 0 } }
     {
         Entries {
-            names: Vec::new(alloc),
+            names: Names::new(alloc),
             notes: Vec::new(alloc),
-            lately: [Lately::new(); MOST_SESSIONS],
-            tops: [Lately::new(); MOST_SESSIONS],
+            last: [0; MOST_SESSIONS],
+            tops: [0; MOST_SESSIONS],
             room: 0,
         }
     }
@@ -175,9 +170,10 @@ impl Entries {
     {
         let place = place_of(entry.by);
         let word = NameWord::of(entry.event.name);
-        let name = self.lately[place].number_of(&mut self.names, &word);
-        let tops = &mut self.tops[place];
-        let top = number_of_top(&mut self.names, name, tops, entry.said, entry.top);
+        let name = self.names.number_of(self.last[place], &word);
+        self.last[place] = name;
+        let told = &mut self.tops[place];
+        let top = number_of_top(&mut self.names, name, told, entry.said, entry.top);
         self.notes.push_reserved(Noted {
             by: entry.by,
             event: Asking {

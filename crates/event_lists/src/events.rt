@@ -1,25 +1,23 @@
 //! A list of events.
 ghost use Rattle.std.specs.Prelude.{◌≡◌, ◌↔◌, [], ◌∷◌, ◌++◌, length, slice_get, IfSome, IsTrue, OnErr, OnOk};
 ghost use Rattle.std.specs.Option.{option_map};
-ghost use Rattle.txn_names.specs.Reading.{pieces};
-ghost use Rattle.txn_names.specs.Text.{IsName};
 ghost use Rattle.event_lists.specs.Views.{asked, event_by};
 ghost use Rattle.event_lists.specs.Words.{IsRead, named};
 
-use crate::names::{Asking, Lately};
+use crate::names::{Asking, Names};
 use crate::view::{Act, EventView};
 use crate::word::NameWord;
 use serial_spec::NoMemory;
 use std::alloc::Global;
 use std::marker::Model;
-use txn_names::Name;
 
-/// Events in order. A name is kept once for events one after another, and for others near by.
+/// Events in order. A name is mostly kept once for all events that have it.
 #[derive(Drop)]
 pub struct Events {
-    names: Vec<Name>,
+    names: Names,
     asked: Vec<Asking>,
-    lately: Lately,
+    // The number of the last event's name, which is mostly that of the next one.
+    last: usize,
 }
 
 impl Model for Events {
@@ -41,9 +39,9 @@ impl Events {
         ensures { result ≡ [] }
     {
         Events {
-            names: Vec::new(alloc),
+            names: Names::new(alloc),
             asked: Vec::new(alloc),
-            lately: Lately::new(),
+            last: 0,
         }
     }
 
@@ -74,16 +72,19 @@ impl Events {
         })
     }
 
-    /// The number of labels of the name that the bytes spell, where an event near the last one is
-    /// found to have this name.
+    /// The bytes as a word, where an event is found whose name they spell.
     #[inline(always)]
-    pub fn depth_of(&self, spelled: &[u8]) -> Option<usize>
-        ensures depth { IfSome result (λ depth. depth ≡ length (pieces spelled.now)) }
-        ensures name { IfSome result (λ _. IsName (pieces spelled.now)) }
+    pub fn known<'a>(&self, spelled: &'a [u8]) -> Option<NameWord<'a>>
+        ensures spelled { IfSome result (λ word. word.bytes.now ≡ spelled.now) }
+        ensures word { IfSome result IsRead }
     {
-        let (_, number) = self.lately.find(&self.names, spelled)?;
+        let number = self.names.find(self.last, spelled)?;
         let name = self.names.get(number)?;
-        Some(name.depth())
+        Some(NameWord {
+            bytes: spelled,
+            depth: name.depth(),
+            likely: number,
+        })
     }
 
     /// Adds an event behind the others: what is asked of the transaction that the word names. The
@@ -96,7 +97,8 @@ impl Events {
     {
         self.names.reserve(1)?;
         self.asked.reserve(1)?;
-        let name = self.lately.number_of(&mut self.names, word);
+        let name = self.names.number_of(word.likely, word);
+        self.last = name;
         self.asked.push_reserved(Asking { name, act: *act });
         Ok(())
     }

@@ -1,4 +1,4 @@
-//! Lists of events and of entries, which keep a name once for those that name it one after another.
+//! Lists of events and of entries, which mostly keep a name once for all that have it.
 //! An event has room for a name of 274 bytes, and an entry for two: that of its transaction, and
 //! that of an aborted ancestor. A list has their numbers instead, and whoever looks at an event or
 //! an entry of it sees the names where they stand.
@@ -6,6 +6,7 @@
 
 mod entries;
 mod events;
+mod index;
 mod names;
 mod view;
 mod word;

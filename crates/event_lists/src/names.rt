@@ -1,14 +1,16 @@
 //! Names by number.
-ghost use Rattle.std.specs.Prelude.{◌≡◌, ◌+◌, ◌<◌, ◌≤◌, slice_get, Some, IfSome, IsTrue, vec_len, vec_capacity};
+ghost use Rattle.std.specs.Prelude.{◌≡◌, ◌+◌, ◌<◌, ◌≤◌, [], length, slice_get, Some, IfSome, IsTrue, OnErr, OnOk};
+ghost use Rattle.std.specs.Option.{option_map};
 ghost use Rattle.event_lists.specs.Lists.{IsSpelledAt, Keeps};
 ghost use Rattle.event_lists.specs.Words.{IsRead, named};
 
+use crate::index::NameIndex;
 use crate::view::Act;
 use crate::word::NameWord;
+use serial_spec::NoMemory;
+use std::alloc::Global;
+use std::marker::Model;
 use txn_names::Name;
-
-/// How many names are looked for again.
-const MOST_LATELY: usize = 8;
 
 /// An event, its name by number.
 #[derive(Clone, Copy)]
@@ -17,24 +19,20 @@ pub(crate) struct Asking {
     pub(crate) act: Act,
 }
 
-/// The numbers of names that were met lately. They tell where a name is likely to be found and no
-/// more: any numbers would do.
-#[derive(Clone, Copy)]
-pub(crate) struct Lately {
-    numbers: [usize; MOST_LATELY],
-    // The last byte of each name, by which most others are told apart.
-    ends: [u8; MOST_LATELY],
-    // The place of the name that was met last, and of the one that was new last.
-    met: usize,
-    new: usize,
+/// Names, of which each is mostly kept once. After `reserve` they are added without memory.
+#[derive(Drop)]
+pub(crate) struct Names {
+    names: Vec<Name>,
+    index: NameIndex,
 }
 
-// The last byte, by which most names of a session are told apart.
-fn end_of(spelled: &[u8]) -> u8 {
-    match spelled {
-        [.., last] => *last,
-        [] => 0,
-    }
+impl Model for Names {
+    ghost use Rattle.std.specs.Prelude.{vec_capacity};
+    ghost use Rattle.event_lists.specs.Lists.{Numbered};
+
+    ghost Value = { Numbered };
+
+    ghost view = { λ n. record { items = n.names.items; capacity = vec_capacity n.names } };
 }
 
 /// Whether the bytes spell the name with this number.
@@ -48,83 +46,88 @@ pub(crate) fn is_spelled_at(names: &[Name], number: usize, spelled: &[u8]) -> bo
     }
 }
 
-impl Lately {
-    /// None was met.
-    pub(crate) fn new() -> Lately {
-        Lately {
-            numbers: [0; MOST_LATELY],
-            ends: [0; MOST_LATELY],
-            met: 0,
-            new: 0,
+impl Names {
+    /// No names. It takes no memory.
+    pub(crate) fn new(alloc: Global) -> Names
+        ensures items { result.items ≡ [] }
+        ensures capacity { result.capacity ≡ 0 }
+    {
+        Names {
+            names: Vec::new(alloc),
+            index: NameIndex::new(alloc),
         }
     }
 
-    /// The number of the name that the bytes spell, and its place, if it is found. The last name
-    /// comes first.
+    /// The name with this number, where there is one.
     #[inline(always)]
-    pub(crate) fn find(&self, names: &[Name], spelled: &[u8]) -> Option<(usize, usize)>
-        ensures { IfSome result (λ r. IsSpelledAt names.now r.1 spelled.now) }
+    pub(crate) fn get(&self, number: usize) -> Option<&Name>
+        ensures { option_map (λ name. name.now) result ≡ slice_get self.now.items number }
     {
-        let number = self.numbers[self.met % MOST_LATELY];
-        if is_spelled_at(names, number, spelled) {
-            Some((self.met, number))
+        self.names.get(number)
+    }
+
+    /// Whether the bytes spell the name with this number.
+    #[inline(always)]
+    pub(crate) fn is_spelled(&self, number: usize, spelled: &[u8]) -> bool
+        ensures { IsTrue result → IsSpelledAt self.now.items number spelled.now }
+    {
+        is_spelled_at(&self.names, number, spelled)
+    }
+
+    /// The number of the name that the bytes spell, if it is found. The likely one is looked at first.
+    #[inline(always)]
+    pub(crate) fn find(&self, likely: usize, spelled: &[u8]) -> Option<usize>
+        ensures { IfSome result (λ number. IsSpelledAt self.now.items number spelled.now) }
+    {
+        if is_spelled_at(&self.names, likely, spelled) {
+            Some(likely)
         } else {
-            self.find_other(names, spelled)
+            self.index.find(&self.names, spelled)
         }
     }
 
-    // The same among all.
-    #[inline(never)]
-    fn find_other(&self, names: &[Name], spelled: &[u8]) -> Option<(usize, usize)>
-        ensures { IfSome result (λ r. IsSpelledAt names.now r.1 spelled.now) }
-    {
-        let end = end_of(spelled);
-        for place in 0..MOST_LATELY {
-            let number = self.numbers[place];
-            if self.ends[place] == end && is_spelled_at(names, number, spelled) {
-                return Some((place, number));
-            }
-        }
-        None
-    }
-
-    /// The number of the name that the word spells: that of a name met lately, or a new one. There is
-    /// room for a name.
+    /// Makes room for so many more names. The only error is that memory runs out; the names are as
+    /// before then.
     #[inline(always)]
-    pub(crate) fn number_of(&mut self, names: &mut Vec<Name>, word: &NameWord<'_>) -> usize
-        requires room { vec_len names.old < vec_capacity names.old }
-        requires word { IsRead word.now }
-        ensures at { slice_get names.new.items result ≡ Some (named word.now) }
-        ensures keeps { Keeps names.old.items names.new.items }
-        ensures len { vec_len names.new ≤ vec_len names.old + 1 }
-        ensures capacity { vec_capacity names.new ≡ vec_capacity names.old }
+    pub(crate) fn reserve(&mut self, additional: usize) -> Result<(), NoMemory>
+        ensures items { self.new.items ≡ self.old.items }
+        ensures room { OnOk result (length self.new.items + additional ≤ self.new.capacity) }
+        ensures capacity { self.old.capacity ≤ self.new.capacity }
     {
-        match self.find(names, word.bytes) {
-            Some((place, number)) => {
-                self.met = place;
-                number
-            }
-            None => self.add(names, word),
+        self.names.reserve(additional)?;
+        self.index.reserve(self.names.capacity())
+    }
+
+    /// The number of the name that the word spells: that of a name that is found, or of a new one.
+    /// There is room for a name. The likely number is looked at first.
+    #[inline(always)]
+    pub(crate) fn number_of(&mut self, likely: usize, word: &NameWord<'_>) -> usize
+        requires room { length self.old.items < self.old.capacity }
+        requires word { IsRead word.now }
+        ensures at { slice_get self.new.items result ≡ Some (named word.now) }
+        ensures keeps { Keeps self.old.items self.new.items }
+        ensures len { length self.new.items ≤ length self.old.items + 1 }
+        ensures capacity { self.new.capacity ≡ self.old.capacity }
+    {
+        match self.find(likely, word.bytes) {
+            Some(number) => number,
+            None => self.add(word),
         }
     }
 
-    // The number of a name that is new among those met lately. There is room for it.
+    // The number of a name that is new. There is room for it.
     #[inline(never)]
-    fn add(&mut self, names: &mut Vec<Name>, word: &NameWord<'_>) -> usize
-        requires room { vec_len names.old < vec_capacity names.old }
+    fn add(&mut self, word: &NameWord<'_>) -> usize
+        requires room { length self.old.items < self.old.capacity }
         requires word { IsRead word.now }
-        ensures at { slice_get names.new.items result ≡ Some (named word.now) }
-        ensures keeps { Keeps names.old.items names.new.items }
-        ensures len { vec_len names.new ≡ vec_len names.old + 1 }
-        ensures capacity { vec_capacity names.new ≡ vec_capacity names.old }
+        ensures at { slice_get self.new.items result ≡ Some (named word.now) }
+        ensures keeps { Keeps self.old.items self.new.items }
+        ensures len { length self.new.items ≡ length self.old.items + 1 }
+        ensures capacity { self.new.capacity ≡ self.old.capacity }
     {
-        let number = names.len();
-        names.push_reserved(word.name());
-        let place = self.new.wrapping_add(1) % MOST_LATELY;
-        self.numbers[place] = number;
-        self.ends[place] = end_of(word.bytes);
-        self.new = place;
-        self.met = place;
+        let number = self.names.len();
+        self.names.push_reserved(word.name());
+        self.index.add(number, word.bytes);
         number
     }
 }

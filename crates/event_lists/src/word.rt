@@ -12,6 +12,8 @@ use txn_names::{Name, NameFault};
 pub struct NameWord<'a> {
     pub bytes: &'a [u8],
     pub depth: usize,
+    /// Where the name is looked for first among those of a list: any number would do.
+    pub likely: usize,
 }
 
 impl<'a> NameWord<'a> {
@@ -24,12 +26,16 @@ impl<'a> NameWord<'a> {
         ensures word { IfOk result IsRead }
     {
         if let Some(events) = before {
-            if let Some(depth) = events.depth_of(bytes) {
-                return Ok(NameWord { bytes, depth });
+            if let Some(word) = events.known(bytes) {
+                return Ok(word);
             }
         }
         let depth = Name::depth_of(bytes)?;
-        Ok(NameWord { bytes, depth })
+        Ok(NameWord {
+            bytes,
+            depth,
+            likely: 0,
+        })
     }
 
     /// The word of a name.
@@ -41,6 +47,7 @@ impl<'a> NameWord<'a> {
         NameWord {
             bytes: name.spelled(),
             depth: name.depth(),
+            likely: 0,
         }
     }
 

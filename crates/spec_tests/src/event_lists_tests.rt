@@ -4,7 +4,7 @@ use serial_spec::{By, Reply};
 use std::process::Abort;
 use txn_names::{Name, NameFault};
 
-// More names than a list looks for again, the second above the third.
+// The second is above the third.
 const TEXTS: [&str; 10] = ["a", "b", "b/c", "d", "e", "f", "g", "h", "i", "j"];
 
 fn name(rt: &impl Abort, text: &str) -> Name {
@@ -18,6 +18,13 @@ fn add(rt: &impl Abort, events: &mut Events, text: &str) {
             events.push(&word, &Act::Commit).expect(rt, "memory");
         }
         Err(_) => panic!(rt; "{text}"),
+    }
+}
+
+fn is_known(events: &Events, name: &Name) -> bool {
+    match events.known(name.spelled()) {
+        Some(word) => word.name() == *name,
+        None => false,
     }
 }
 
@@ -35,7 +42,7 @@ fn events_of_names_in_turn(rt: HostRuntime) {
     for _ in 0..3 {
         for text in TEXTS {
             add(&rt, &mut events, text);
-            assert!(rt; events.depth_of(text.as_bytes()) == Some(name(&rt, text).depth()));
+            assert!(rt; is_known(&events, &name(&rt, text)), "{text}");
         }
     }
     assert!(rt; events.len() == 30 && events.get(30).is_none());
@@ -44,6 +51,22 @@ fn events_of_names_in_turn(rt: HostRuntime) {
         assert!(rt; is_at(&rt, &events, place.wrapping_add(20), text), "{text}");
     }
     assert!(rt; NameWord::parse(b"a/", Some(&events)).err() == Some(NameFault::Empty));
+}
+
+// So many that the lists find places for them anew several times.
+#[test]
+fn events_of_many_names(rt: HostRuntime) {
+    let mut events = Events::new(rt.alloc());
+    for _ in 0..2 {
+        for first in TEXTS {
+            for second in TEXTS {
+                let text = format!(in rt.alloc(); "{first}/{second}").expect(&rt, "memory");
+                add(&rt, &mut events, &text);
+                assert!(rt; is_known(&events, &name(&rt, &text)), "{text}");
+            }
+        }
+    }
+    assert!(rt; events.len() == 200 && is_at(&rt, &events, 111, "b/b"));
 }
 
 fn put(entries: &mut Entries, name: &Name, line: u32) {

@@ -9,7 +9,7 @@ use Rattle.event_lists.proofs.events.Events.push.Goals as goal
 pub invariant_of-self-2 : goal.invariant_of-self-2
 invariant_of-self-2 c =
     let before = c.self.inside in
-    let names : List (List (List ℕ)) = c.number_of-name.new.names.items in
+    let names : List (List (List ℕ)) = c.number_of-name.new.self.items in
     let keeps : Keeps before.names.items names = rw c.in_ok-reserve.ensures.items at c.number_of-name.ensures.keeps in
     rw (c.push_reserved.ensures.items, c.in_ok-reserve-2.ensures.items)
     (named_and before.names.items names before.asked.items _ keeps c.self.invariant (named c.args.word.now, c.number_of-name.ensures.at))
@@ -17,7 +17,7 @@ invariant_of-self-2 c =
 pub returns-clause-ok : goal.returns-clause-ok
 returns-clause-ok c =
     let before = c.self.inside in
-    let names : List (List (List ℕ)) = c.number_of-name.new.names.items in
+    let names : List (List (List ℕ)) = c.number_of-name.new.self.items in
     let act = c.args.act.now in
     let keeps : Keeps before.names.items names = rw c.in_ok-reserve.ensures.items at c.number_of-name.ensures.keeps in
     rw (c.push_reserved.ensures.items, c.in_ok-reserve-2.ensures.items)
