@@ -2,13 +2,13 @@
 //! first from being answered, and the other is in its branch.
 ghost use Rattle.std.specs.Prelude.{◌≡◌, ◌&&◌, slice_get, IsTrue};
 ghost use Rattle.std.specs.List.{list_any};
-ghost use Rattle.serial_spec.specs.Targets.{target};
+ghost use Rattle.serial_spec.specs.Targets.{meets, target as locked};
 ghost use Rattle.wait_cycles.specs.Waiting.{AreOnce};
 ghost use Rattle.wait_graph.specs.Edges.{ByLocks, IsNobodysWay, is_beside_it, passes, OfWays, is_held_by_way_of};
 
 use crate::branch::{is_in_branch, is_lone_top};
 use lock_table::TargetLocks;
-use serial_spec::Target;
+use serial_spec::{Asked, Target};
 use txn_tree::{Tree, TxnNo};
 use wait_cycles::{Wait, Waits};
 
@@ -54,6 +54,18 @@ fn has_edge_by_way_of(
         && any_waits_in_branch(tree, waits, wait.txn, txn)
 }
 
+// Whether what is asked has a key in common with the target. Most is asked of keys, of which none is
+// copied to be compared.
+#[inline(always)]
+fn is_asked_of(asked: &Asked, target: &Target) -> bool
+    ensures { result ≡ meets target.now (locked asked.now) }
+{
+    match (target, asked) {
+        (Target::Key(key), Asked::At(other, _)) => key == other,
+        _ => target.meets(&asked.target()),
+    }
+}
+
 // Whether an access waits at this place, for what has a key in common with the target, and for
 // another by way of the transaction.
 fn has_edge_by_way_of_at(
@@ -69,7 +81,7 @@ fn has_edge_by_way_of_at(
 {
     match waits.at(place) {
         Some(wait) => {
-            target.meets(&wait.asked.target()) && has_edge_by_way_of(tree, locks, waits, txn, wait)
+            is_asked_of(&wait.asked, target) && has_edge_by_way_of(tree, locks, waits, txn, wait)
         }
         None => false,
     }
