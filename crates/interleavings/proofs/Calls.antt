@@ -15,7 +15,8 @@ use Rattle.txn_history.proofs.Exports.{clash}
 use Rattle.durable_top.specs.declared.store.TopStore.{Ghosts}
 use Rattle.manager_core.specs.declared.outcome.Outcome.{Outcome}
 use Rattle.manager_core.specs.declared.outcome.Outcome.TheVariants.{Waits}
-use Rattle.manager_core.specs.Outcomes.{answer_of}
+use Rattle.manager_core.specs.declared.outcome.Came.{Came}
+use Rattle.manager_core.specs.Outcomes.{CameTo, answer_of}
 use Rattle.manager_core.specs.State.{State, entry}
 use Rattle.manager_core.specs.Asked.{IsLater}
 use Rattle.manager_core.specs.Sound.{IsSound}
@@ -157,6 +158,11 @@ module _ {S E : Type 0} (g : Ghosts S) (old new : State S) (by : By) where
   if_answered e nothing (Ok o) a = answered_attempt g old new by e o nothing a
   if_answered e nothing (Err x) a = tt
 
+  -- the same where the outcome is left aside
+  pub came_answered : (e : Event) → AsksNothing g old e → (r : Result Came E) → IfOk r (λ c. CameTo c (Answered old new by e)) → IfOk r (λ c. CameTo c (Attempts g old new by e))
+  came_answered e nothing (Ok c) to = record { outcome = to.outcome; came_is = to.came_is; holds = answered_attempt g old new by e to.outcome nothing to.holds }
+  came_answered e nothing (Err x) to = tt
+
   pub if_awaited : (e : Event) → AsksNothing g old e → (r : Result Outcome E) → IfOk r (λ o. Awaited old new by e o) → OnOk r (IsSound g new) → IfOk r (λ o. Attempts g old new by e o)
   if_awaited e nothing (Ok o) a sound = awaited_attempt g old new by e o nothing sound.quiet a
   if_awaited e nothing (Err x) a sound = tt
@@ -169,6 +175,11 @@ module _ {S E : Type 0} (g : Ghosts S) (old new : State S) (by : By) where
       → IfOk r (λ o. Attempts g old new by e o)
   if_retried e t of waits (Ok o) a = retried_attempt g old new by e t o of waits a
   if_retried e t of waits (Err x) a = tt
+
+  pub came_retried : (e : Event) (t : Name) → accessor e ≡ Some t → IsWaitOf old.history by e → (r : Result Came E) → IfOk r (λ c. CameTo c (Retried old new t))
+      → IfOk r (λ c. CameTo c (Attempts g old new by e))
+  came_retried e t of waits (Ok c) to = record { outcome = to.outcome; came_is = to.came_is; holds = retried_attempt g old new by e t to.outcome of waits to.holds }
+  came_retried e t of waits (Err x) to = tt
 
 -- ---- which call may be made
 

@@ -23,14 +23,15 @@ use Rattle.txn_history.proofs.Exports.{held_up_lasts, next_can_give_up, next_is_
 use Rattle.durable_top.specs.declared.store.TopStore.{Ghosts}
 use Rattle.manager_core.specs.declared.outcome.Outcome.{Outcome}
 use Rattle.manager_core.specs.declared.outcome.Outcome.TheVariants as outcome
-use Rattle.manager_core.specs.Outcomes.{answer_of}
+use Rattle.manager_core.specs.Outcomes.{answer_of, came_of}
+use Rattle.manager_core.proofs.Exports.{waits_of}
 use Rattle.manager_core.specs.State.{State, entry}
 use Rattle.interleavings.specs.declared.crowd.Crowd.{Crowd}
-use Rattle.interleavings.specs.declared.noting.Came.{Came}
-use Rattle.interleavings.specs.declared.noting.Came.TheVariants as came
+use Rattle.manager_core.specs.declared.outcome.Came.{Came}
+use Rattle.manager_core.specs.declared.outcome.Came.TheVariants as came
 use Rattle.interleavings.specs.declared.ready.Ready.{Ready}
 use Rattle.interleavings.specs.Attempts.{Attempts, Enters, StaysOut}
-use Rattle.interleavings.specs.Crowds.{AreGathered, HasJoined, HasParked, IsGathered, IsPassedOver, IsStillGathered, IsStillIn, WaitsIn, came_of, is_abort}
+use Rattle.interleavings.specs.Crowds.{AreGathered, HasJoined, HasParked, IsGathered, IsPassedOver, IsStillGathered, IsStillIn, WaitsIn, is_abort}
 use Rattle.interleavings.specs.LeftOut.{AreLeftOut, IsIdle, IsLeftOut, IsLeftOutByBegins, IsNoted, IsParkedStill, IsStillOut, IsStillPlain, StaysBy, StaysOutBy, is_after}
 use Rattle.interleavings.specs.Turning.{AreTurns, IsDue, can_go_on, has_answer}
 use Rattle.interleavings.proofs.Attempts.{count_waits, other_answered, others_count}
@@ -163,11 +164,6 @@ done_of : (o : Outcome) → came_of o ≡ came.Done → (r : Reply) × (answer_o
 done_of (outcome.Done r) e = (r, refl)
 done_of outcome.Waits e = cc
 done_of (outcome.Refused f) e = cc
-
-pub waits_of : (o : Outcome) → came_of o ≡ came.Waits → o ≡ outcome.Waits
-waits_of (outcome.Done r) e = cc
-waits_of outcome.Waits e = refl
-waits_of (outcome.Refused f) e = cc
 
 no_wait_done : came.Waits ≡ came.Done → ⊥
 no_wait_done e = cc

@@ -9,10 +9,8 @@ use Rattle.serial_spec.specs.Operations.{kind}
 use Rattle.serial_spec.specs.Allowed.{has_waited, is_write}
 use Rattle.serial_spec.specs.Interleaving.{Session, next_event, next_line}
 use Rattle.txn_history.specs.Lines.{IsWaitOf}
-use Rattle.manager_core.specs.declared.outcome.Outcome.{Outcome}
-use Rattle.manager_core.specs.declared.outcome.Outcome.TheVariants.{Done, Waits, Refused}
-use Rattle.interleavings.specs.declared.noting.Came.{Came}
-use Rattle.interleavings.specs.declared.noting.Came.TheVariants as came
+use Rattle.manager_core.specs.declared.outcome.Came.{Came}
+use Rattle.manager_core.specs.declared.outcome.Came.TheVariants as came
 use Rattle.interleavings.specs.declared.crowd.Crowd.{Crowd}
 
 abbrev pub IsGathered : Crowd → ℕ → Type 0
@@ -67,12 +65,6 @@ AreJoinedBy old new s k labels = (u : ℕ) → u < 64 → IsGathered new u
 abbrev pub is_abort : Event → Bool
 is_abort (Abort t) = true
 is_abort e = false
-
--- what came of an attempt, its reply and its cause aside
-abbrev pub came_of : Outcome → Came
-came_of (Done reply) = came.Done
-came_of Waits = came.Waits
-came_of (Refused refusal) = came.Refused
 
 -- as another than session s, whose line, which asks this, aborts nobody
 abbrev pub StaysIn : Crowd → Crowd → ℕ → Event → ℕ → Type 0

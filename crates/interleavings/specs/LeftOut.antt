@@ -9,7 +9,7 @@ use Rattle.serial_spec.specs.Rows.{Rows}
 use Rattle.serial_spec.specs.Allowed.{known, most_keys}
 use Rattle.serial_spec.specs.Interleaving.{Session, next_event}
 use Rattle.manager_core.specs.Parking.{IsParked}
-use Rattle.interleavings.specs.declared.noting.Came.{Came}
+use Rattle.manager_core.specs.declared.outcome.Came.{Came}
 use Rattle.interleavings.specs.declared.ready.Ready.{Ready}
 use Rattle.interleavings.specs.Crowds.{AreGathered, HasParked, IsGathered, IsPassedOver, IsStillGathered, IsStillIn}
 use Rattle.interleavings.specs.Turning.{can_go_on}

@@ -1,13 +1,17 @@
 //! One attempt of a line.
-ghost use Rattle.std.specs.Prelude.{◌≡◌, ◌⊎◌, option_copied, IfOk, OnErr};
+ghost use Rattle.std.specs.Prelude.{◌≡◌, ◌⊎◌, is_some, option_copied, IfOk, IsTrue, OnErr};
 ghost use Rattle.txn_history.specs.Lines.{IsFree, IsLine, IsWaitOf, accessor};
 ghost use Rattle.event_lists.specs.Views.{asked};
+ghost use Rattle.serial_spec.specs.Waits.{wait_of};
+ghost use Rattle.manager_core.specs.Calls.{Retried};
+ghost use Rattle.manager_core.specs.Outcomes.{CameTo};
 ghost use Rattle.interleavings.specs.Attempts.{Attempts};
 
 use durable_top::TopStore;
 use event_lists::{Act, EventView};
-use manager_core::{Manager, Outcome};
-use serial_spec::{By, NoMemory};
+use manager_core::{Came, Manager, Outcome};
+use serial_spec::{Asked, By, NoMemory};
+use std::alloc::AllocError;
 use txn_names::Name;
 
 // The transaction that an access is of.
@@ -20,10 +24,9 @@ fn accessor<'a>(event: &EventView<'a>) -> Option<&'a Name>
     }
 }
 
-// Attempts a line that is free for its event. It is part of its caller, which reads of an outcome
-// only whether it waits: so no outcome is moved.
+// Calls what the event asks for, of a line that is free for it.
 #[inline(always)]
-fn attempt_free<S: TopStore>(
+fn call<S: TopStore>(
     manager: &mut Manager<S>,
     by: By,
     event: &EventView<'_>,
@@ -44,6 +47,58 @@ fn attempt_free<S: TopStore>(
     }
 }
 
+// Attempts a line that is free for its event. It is no part of its callers, since an outcome has room
+// for a name, which is cleared where a function begins.
+#[inline(never)]
+fn attempt_other<S: TopStore>(
+    manager: &mut Manager<S>,
+    by: By,
+    event: &EventView<'_>,
+) -> Result<Came, NoMemory>
+    requires free { IsFree manager.old.history by (asked event.now) }
+    ensures ok { IfOk result (λ came.
+        CameTo came (Attempts S.TopStore manager.old manager.new by (asked event.now))) }
+    ensures err { OnErr result (manager.new ≡ manager.old) }
+{
+    match &call(manager, by, event) {
+        Ok(outcome) => Ok(outcome.came()),
+        Err(_) => Err(AllocError),
+    }
+}
+
+// The same. It is part of its caller, and so is an access, of which no outcome is made.
+#[inline(always)]
+fn attempt_free<S: TopStore>(
+    manager: &mut Manager<S>,
+    by: By,
+    event: &EventView<'_>,
+) -> Result<Came, NoMemory>
+    requires free { IsFree manager.old.history by (asked event.now) }
+    ensures ok { IfOk result (λ came.
+        CameTo came (Attempts S.TopStore manager.old manager.new by (asked event.now))) }
+    ensures err { OnErr result (manager.new ≡ manager.old) }
+{
+    match event.act {
+        Act::Access(key, op) => manager.ask(by, event.name, &Asked::At(*key, *op)),
+        Act::Sum(group) => manager.ask(by, event.name, &Asked::Over(*group)),
+        _ => attempt_other(manager, by, event),
+    }
+}
+
+// Asks again for the access by which the transaction waits. It is no part of its callers either.
+#[inline(never)]
+fn attempt_again<S: TopStore>(manager: &mut Manager<S>, name: &Name) -> Result<Came, NoMemory>
+    requires waits { IsTrue (is_some (wait_of manager.old.history name.now)) }
+    ensures ok { IfOk result (λ came.
+        CameTo came (Retried manager.old manager.new name.now)) }
+    ensures err { OnErr result (manager.new ≡ manager.old) }
+{
+    match &manager.retry(name) {
+        Ok(outcome) => Ok(outcome.came()),
+        Err(_) => Err(AllocError),
+    }
+}
+
 /// Attempts a line that is free for its event, or by which an access waits: the access is asked for
 /// again.
 #[inline(always)]
@@ -51,12 +106,12 @@ pub(crate) fn attempt<S: TopStore>(
     manager: &mut Manager<S>,
     by: By,
     event: &EventView<'_>,
-) -> Result<Outcome, NoMemory>
+) -> Result<Came, NoMemory>
     requires line { IsLine by }
     requires next { IsFree manager.old.history by (asked event.now)
         ⊎ IsWaitOf manager.old.history by (asked event.now) }
-    ensures ok { IfOk result (λ outcome.
-        Attempts S.TopStore manager.old manager.new by (asked event.now) outcome) }
+    ensures ok { IfOk result (λ came.
+        CameTo came (Attempts S.TopStore manager.old manager.new by (asked event.now))) }
     ensures err { OnErr result (manager.new ≡ manager.old) }
 {
     if manager.nobody_waits() {
@@ -68,6 +123,6 @@ pub(crate) fn attempt<S: TopStore>(
     if manager.free(by, event) {
         attempt_free(manager, by, event)
     } else {
-        manager.retry(name)
+        attempt_again(manager, name)
     }
 }

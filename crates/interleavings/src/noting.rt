@@ -1,34 +1,14 @@
 //! What an attempt does to who may go on.
 ghost use Rattle.std.specs.Prelude.{◌≡◌, ◌⊎◌, ◌<◌, ◌≤◌, ℕ, List, IsTrue, Some, false};
 ghost use Rattle.event_lists.specs.Views.{asked};
-ghost use Rattle.interleavings.specs.Crowds.{AreGatheredBy, IsGathered, IsOfWriter, StaysIn, came_of, is_abort, is_write_at};
+ghost use Rattle.interleavings.specs.Crowds.{AreGatheredBy, IsGathered, IsOfWriter, StaysIn, is_abort, is_write_at};
 ghost use Rattle.interleavings.specs.LeftOut.{IsIdle, IsLeftOut, IsLeftOutByBegins, IsNoted, IsParkedAt, IsParkedStill, IsStillPlain, StaysBy, StaysOutBy, is_after};
 
 use crate::ready::Ready;
 use durable_top::TopStore;
 use event_lists::{Act, EventView};
-use manager_core::{Manager, Outcome};
+use manager_core::{Came, Manager};
 use serial_spec::{By, Kind};
-
-/// What came of an attempt, its reply and its cause aside.
-#[derive(Clone, Copy)]
-pub(crate) enum Came {
-    Done,
-    Waits,
-    Refused,
-}
-
-/// What came of an attempt that came to this.
-#[inline(always)]
-pub(crate) fn came_of(outcome: &Outcome) -> Came
-    ensures { result ≡ came_of outcome.now }
-{
-    match outcome {
-        Outcome::Done(_) => Came::Done,
-        Outcome::Waits => Came::Waits,
-        Outcome::Refused(_) => Came::Refused,
-    }
-}
 
 /// Whether this is an `after` line.
 #[inline(always)]

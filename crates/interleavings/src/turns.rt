@@ -15,17 +15,17 @@ ghost use Rattle.interleavings.specs.Turning.{IsClosed, IsDue, IsFirstOpen, IsSt
 mod looking;
 
 use crate::attempt::attempt;
-use crate::noting::{Came, came_of, is_after, note_attempt};
+use crate::noting::{is_after, note_attempt};
 use crate::progress::Progress;
 use crate::ready::Ready;
 use crate::report::{labels_of, report_of};
 use durable_top::{Row, TopStore};
 use event_lists::EventView;
-use manager_core::{Manager, OpenFault};
+use manager_core::{Came, Manager, OpenFault};
 use run_reports::Report;
 use serial_spec::{By, NoMemory};
 use session_text::Sessions;
-use std::alloc::{AllocError, Global};
+use std::alloc::Global;
 use std::marker::Model;
 
 // The first line of each of so many sessions.
@@ -248,11 +248,7 @@ impl<'a, S: TopStore> Turns<'a, S> {
         let _count = self.sessions.len();
         let by = By::Line { session, line };
         let before = self.manager.history().len();
-        // By reference, since an outcome has room for a name.
-        let came = match &attempt(&mut self.manager, by, due) {
-            Ok(outcome) => came_of(outcome),
-            Err(_) => return Err(AllocError),
-        };
+        let came = attempt(&mut self.manager, by, due)?;
         let next = self.next.as_slice();
         note_attempt(
             &mut self.ready,

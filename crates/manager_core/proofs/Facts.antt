@@ -1,5 +1,5 @@
 -- What callers are told of the manager, from what its type keeps.
-use Rattle.std.proofs.Common.{◌≡◌, ◌∷◌, false, cond, zero-add, sym, ap, subst, ◌∙◌}
+use Rattle.std.proofs.Common.{◌≡◌, ◌∷◌, false, cond, zero-add, refl, sym, ap, subst, ◌∙◌}
 use Rattle.std.proofs.lemmas.List.Sums.{sum_by-cons}
 use Rattle.serial_spec.specs.declared.entry.By.{By}
 use Rattle.serial_spec.specs.declared.event.Event.{Event}
@@ -10,6 +10,10 @@ use Rattle.serial_spec.specs.History.{History, effect_of}
 use Rattle.txn_history.proofs.Exports.{table_correctness, serial_correctness}
 use Rattle.durable_top.specs.declared.store.TopStore.{Ghosts}
 use Rattle.manager_core.specs.declared.manager.AtOpening.{AtOpening}
+use Rattle.manager_core.specs.declared.outcome.Came.TheVariants as came
+use Rattle.manager_core.specs.declared.outcome.Outcome.{Outcome}
+use Rattle.manager_core.specs.declared.outcome.Outcome.TheVariants as outcome
+use Rattle.manager_core.specs.Outcomes.{came_of}
 use Rattle.manager_core.specs.State.{State, entry}
 use Rattle.manager_core.specs.Kept.{IsSettled}
 use Rattle.manager_core.specs.StoredNumbers.{commits_top}
@@ -17,6 +21,14 @@ use Rattle.durable_top.specs.Numbered.{entries_in}
 use Rattle.manager_core.proofs.StoredNumbers.{numbered_next}
 use Rattle.manager_core.specs.Tables.{Tabled, rows_in}
 use Rattle.manager_core.specs.Sound.{is_store_refusal, IsBacked, IsSound}
+
+-- ---- what came
+
+-- an outcome that came to a wait is one
+pub waits_of : (o : Outcome) → came_of o ≡ came.Waits → o ≡ outcome.Waits
+waits_of (outcome.Done r) e = cc
+waits_of outcome.Waits e = refl
+waits_of (outcome.Refused f) e = cc
 
 -- all that callers are told
 pub sound : {S : Type 0} (g : Ghosts S) (m : State S) (tables : Tabled) → IsSettled g m.rows m.history tables m.opened m.store → m.table ≡ rows_in tables → IsSound g m

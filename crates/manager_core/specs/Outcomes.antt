@@ -1,10 +1,12 @@
 -- An outcome as the history keeps it.
-use Rattle.std.specs.Prelude.{Bool, true, false, Option, Some, None}
+use Rattle.std.specs.Prelude.{◌≡◌, Bool, true, false, Option, Some, None}
 use Rattle.serial_spec.specs.declared.entry.Refusal.{Refusal}
 use Rattle.serial_spec.specs.declared.operation.Reply.TheVariants.{Ok}
 use Rattle.serial_spec.specs.declared.entry.Answer.{Answer}
 use Rattle.serial_spec.specs.declared.entry.Answer.TheVariants as answer
 use Rattle.serial_spec.specs.declared.entry.Refusal.TheVariants.{Store}
+use Rattle.manager_core.specs.declared.outcome.Came.{Came}
+use Rattle.manager_core.specs.declared.outcome.Came.TheVariants as came
 use Rattle.manager_core.specs.declared.outcome.Outcome.{Outcome}
 use Rattle.manager_core.specs.declared.outcome.Outcome.TheVariants.{Done, Waits, Refused}
 
@@ -12,6 +14,18 @@ abbrev pub answer_of : Outcome → Answer
 answer_of (Done reply) = answer.Done reply
 answer_of Waits = answer.Waits
 answer_of (Refused refusal) = answer.Refused refusal
+
+-- what came of the call, its reply and its cause left aside
+abbrev pub came_of : Outcome → Came
+came_of (Done reply) = came.Done
+came_of Waits = came.Waits
+came_of (Refused refusal) = came.Refused
+
+-- the outcome came to this, and it is one of which this holds
+pub record CameTo (came : Came) (Holds : Outcome → Type 0) : Type 0 where
+  pub outcome : Outcome
+  pub came_is : came ≡ came_of outcome
+  pub holds : Holds outcome
 
 abbrev pub is_done : Outcome → Bool
 is_done (Done reply) = true

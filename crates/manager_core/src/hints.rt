@@ -2,8 +2,8 @@
 use serial_spec::{By, MOST_SESSIONS};
 use txn_tree::TxnNo;
 
-/// For each session, of `MOST_SESSIONS` at most, the number of the transaction that accessed for it
-/// last: its next line mostly names the same. It tells where to look first, so that any numbers
+/// For each session, of `MOST_SESSIONS` at most, the number of the transaction that began or accessed
+/// for it last: its next line mostly names the same. It tells where to look first, so that any numbers
 /// would do.
 #[derive(Drop)]
 pub(crate) struct Hints {
@@ -30,7 +30,7 @@ impl Hints {
         }
     }
 
-    /// Keeps that the transaction with this number accessed by the line.
+    /// Keeps that the transaction with this number began or accessed by the line.
     #[inline(always)]
     pub(crate) fn note(&mut self, by: By, txn: TxnNo) {
         if let By::Line { session, .. } = by {

@@ -24,4 +24,4 @@ mod tables;
 mod waiting;
 
 pub use manager::{Manager, Parts};
-pub use outcome::{OpenFault, Outcome};
+pub use outcome::{Came, OpenFault, Outcome};

@@ -146,7 +146,7 @@ impl<S: TopStore> Manager<S> {
         ensures sound { OnOk result (IsSound S.TopStore self.new) }
     {
         self.log.reserve(1)?;
-        let outcome = Outcome::of(self.tables.begin(name)?);
+        let outcome = Outcome::of(self.tables.begin(by, name)?);
         self.log.add(by, name, &Act::Begin, &outcome);
         Ok(outcome)
     }

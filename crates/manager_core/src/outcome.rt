@@ -1,7 +1,7 @@
 //! What a call comes to.
 ghost use Rattle.std.specs.Prelude.{◌≡◌};
 ghost use Rattle.event_lists.specs.Views.{answer_by, said_of};
-ghost use Rattle.manager_core.specs.Outcomes.{answer_of, outcome_of};
+ghost use Rattle.manager_core.specs.Outcomes.{answer_of, came_of, outcome_of};
 
 use durable_top::StoreFault;
 use event_lists::{Said, cause_of};
@@ -14,6 +14,14 @@ pub enum Outcome {
     Done(Reply),
     Waits,
     Refused(Refusal),
+}
+
+/// What came of a call, its reply and its cause left aside.
+#[derive(Clone, Copy, Debug, PartialEq, Eq)]
+pub enum Came {
+    Done,
+    Waits,
+    Refused,
 }
 
 /// Why a manager was not opened.
@@ -35,6 +43,18 @@ impl Outcome {
         match refusal {
             Some(refusal) => Outcome::Refused(refusal),
             None => Outcome::Done(Reply::Ok),
+        }
+    }
+
+    /// What came of the call.
+    #[inline(always)]
+    pub fn came(&self) -> Came
+        ensures { result ≡ came_of self.now }
+    {
+        match self {
+            Outcome::Done(_) => Came::Done,
+            Outcome::Waits => Came::Waits,
+            Outcome::Refused(_) => Came::Refused,
         }
     }
 

@@ -9,7 +9,7 @@ ghost use Rattle.manager_core.specs.Lines.{IsFree};
 use crate::accessing::{Attempt, Request};
 use crate::breaking::reserve_step;
 use crate::manager::Manager;
-use crate::outcome::Outcome;
+use crate::outcome::{Came, Outcome};
 use crate::settling::settle;
 use durable_top::TopStore;
 use serial_spec::{Asked, By, NoMemory, Op};
@@ -17,6 +17,7 @@ use txn_names::{Group, Key, Name};
 
 impl<S: TopStore> Manager<S> {
     ghost use Rattle.manager_core.specs.Calls.{Answered, Retried, WaitsOrIsUndone};
+    ghost use Rattle.manager_core.specs.Outcomes.{CameTo};
     ghost use Rattle.manager_core.specs.Sound.{IsSound};
 
     /// Reads or writes a key. It is refused by the first of these that holds: the transaction never
@@ -25,7 +26,6 @@ impl<S: TopStore> Manager<S> {
     /// waits where a lock keeps it out. If a cycle of waits comes of it, the last begun of those
     /// that lie on any is aborted as a victim, until none is left; the accessing transaction may be
     /// one, and then it waits no more.
-    #[inline(always)]
     pub fn access(&mut self, by: By, name: &Name, key: &Key, op: Op) -> Result<Outcome, NoMemory>
         requires free { IsFree self.old.history by (Access name.now key.now op) }
         ensures ok { IfOk result (λ outcome.
@@ -35,7 +35,7 @@ impl<S: TopStore> Manager<S> {
         ensures err { OnErr result (self.new ≡ self.old) }
         ensures sound { OnOk result (IsSound S.TopStore self.new) }
     {
-        self.ask(by, name, Asked::At(*key, op))
+        self.ask_telling(by, name, Asked::At(*key, op))
     }
 
     /// Reads the sum of the values of all present keys of a group, and keeps each key of the group
@@ -50,13 +50,45 @@ impl<S: TopStore> Manager<S> {
         ensures err { OnErr result (self.new ≡ self.old) }
         ensures sound { OnOk result (IsSound S.TopStore self.new) }
     {
-        self.ask(by, name, Asked::Over(*group))
+        self.ask_telling(by, name, Asked::Over(*group))
     }
 
-    // An operation at a key, or a sum over a group. It is part of its callers, so that its outcome
-    // is made where they want it.
+    /// As `access` and `sum`, of what is asked. It tells what came of it, and leaves the reply and the
+    /// cause of a refusal to the history. So its result has no room for a name. It is part of its
+    /// caller.
     #[inline(always)]
-    fn ask(&mut self, by: By, name: &Name, asked: Asked) -> Result<Outcome, NoMemory>
+    pub fn ask(&mut self, by: By, name: &Name, asked: &Asked) -> Result<Came, NoMemory>
+        requires free { IsFree self.old.history by (event_of name.now asked.now) }
+        ensures ok { IfOk result (λ came.
+            CameTo came (Answered self.old self.new by (event_of name.now asked.now))) }
+        ensures waits { IfOk result (λ came. came ≡ Came.Waits →
+            WaitsOrIsUndone self.new.history by name.now asked.now) }
+        ensures err { OnErr result (self.new ≡ self.old) }
+        ensures sound { OnOk result (IsSound S.TopStore self.new) }
+    {
+        let (log, tables, breaker) = (&mut self.log, &mut self.tables, &mut self.breaker);
+        reserve_step(log, tables, breaker)?;
+        let request = Request { by, name, asked };
+        let attempt = tables.ask(log, &request)?;
+        match attempt {
+            Attempt::Answered(reply) => {
+                settle(log, tables, breaker, &request, &Outcome::Done(reply));
+                Ok(Came::Done)
+            }
+            Attempt::Waits => {
+                settle(log, tables, breaker, &request, &Outcome::Waits);
+                Ok(Came::Waits)
+            }
+            Attempt::Refused => {
+                let refused = Outcome::Refused(tables.refusal_at_access(log, by, name, asked));
+                settle(log, tables, breaker, &request, &refused);
+                Ok(Came::Refused)
+            }
+        }
+    }
+
+    // As `ask`, and it tells the outcome.
+    fn ask_telling(&mut self, by: By, name: &Name, asked: Asked) -> Result<Outcome, NoMemory>
         requires free { IsFree self.old.history by (event_of name.now asked) }
         ensures ok { IfOk result (λ outcome.
             Answered self.old self.new by (event_of name.now asked) outcome) }
@@ -72,7 +104,6 @@ impl<S: TopStore> Manager<S> {
             name,
             asked: &asked,
         };
-        // Each arm makes its own outcome: one for all has room for a name, and is dear to move.
         let attempt = tables.ask(log, &request)?;
         match attempt {
             Attempt::Answered(reply) => {

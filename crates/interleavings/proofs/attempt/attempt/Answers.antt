@@ -1,6 +1,6 @@
 use Rattle.std.proofs.Common.{option_copied, sym, ap, ◌∙◌}
 use Rattle.event_lists.specs.Views.{asked}
-use Rattle.interleavings.proofs.Calls.{free_unless_access, free_where_none_waits, if_retried, waits_unless_free}
+use Rattle.interleavings.proofs.Calls.{free_unless_access, free_where_none_waits, came_retried, waits_unless_free}
 use Rattle.interleavings.proofs.attempt.attempt.Goals as goal
 
 pub attempt_free-requires : goal.attempt_free-requires
@@ -17,6 +17,6 @@ attempt_free-requires-in_default g c = record {
 pub returns-else-free-clause-ok : goal.returns-else-free-clause-ok
 returns-else-free-clause-ok g c =
     let m = c.args.manager.now in
-    if_retried g.S.TopStore m c.retry.new.self c.args.by (asked c.args.event.now) c.in-Some.name.now (sym c.in-Some.ensures)
+    came_retried g.S.TopStore m c.attempt_again.new.manager c.args.by (asked c.args.event.now) c.in-Some.name.now (sym c.in-Some.ensures)
     (waits_unless_free m.history c.args.by (asked c.args.event.now) c.free.result c.free.ensures c.if-free.false c.requires.next)
-    c.retry.result c.retry.ensures.ok
+    c.attempt_again.result c.attempt_again.ensures.ok
