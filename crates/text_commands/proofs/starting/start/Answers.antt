@@ -1,16 +1,13 @@
-use Rattle.std.proofs.Common.{◌≡◌, ◌∙◌, Result, Err, IfErr, subst, sym}
+use Rattle.std.proofs.Common.{◌∙◌}
 use Rattle.std.specs.IoError.{error_kind}
 use Rattle.text_commands.proofs.Serving.{no_words, served_in, unstarted}
 use Rattle.text_commands.proofs.starting.start.Goals as goal
 
-on_err : {T F : Type 0} (Q : F → Type 0) (r : Result T F) (why : F) → r ≡ Err why → Q why → IfErr r Q
-on_err {T} {F} Q r why is q = subst (λ (x : Result T F). IfErr x Q) (sym is) q
-
 pub returns-in-Err-clause-unread : goal.returns-in-Err-clause-unread
-returns-in-Err-clause-unread g c = on_err _ _ _ c.in-Err.is c.tell_no_words.ensures.said
+returns-in-Err-clause-unread g c = rw c.in-Err.is c.tell_no_words.ensures.said
 
 pub returns-in-Err-clause-unread_status : goal.returns-in-Err-clause-unread_status
-returns-in-Err-clause-unread_status g c = on_err _ _ _ c.in-Err.is c.tell_no_words.ensures.status
+returns-in-Err-clause-unread_status g c = rw c.in-Err.is c.tell_no_words.ensures.status
 
 pub returns-in-Err-clause-served : goal.returns-in-Err-clause-served
 returns-in-Err-clause-served g c = rw c.in-Err.is
