@@ -1,6 +1,6 @@
 -- What each way through the program comes to, by its exit status.
 use Rattle.std.proofs.Common.{◌≡◌, ◌≤◌, ◌⊎◌, ℕ, List, Option, Result, Ok, Bor, inl, inr, refl, subst, sym, arith}
-use Rattle.std.specs.Prelude.{◌≢◌, String, codes, drop}
+use Rattle.std.specs.Prelude.{String, codes, drop}
 use Rattle.std.specs.declared.io.ErrorKind.{ErrorKind}
 use Rattle.std.specs.declared.io.ErrorKind.TheVariants.{OutOfMemory}
 use Rattle.std.specs.declared.vec.IntoIter.{IntoIter}
