@@ -1,7 +1,7 @@
 -- The causes of refusals, by whether a transaction is active.
 use Rattle.std.proofs.Common.{◌≡◌, ◌<◌, ℕ, Bool, true, false, not, length, Option, Some, None, is_some, option_map, refl, sym, ap, ◌∙◌, true≢false, arith}
 use Rattle.std.specs.Prelude.{slice_get}
-use Rattle.std.proofs.lemmas.Bool.{false≢true}
+use Rattle.std.proofs.lemmas.Bool.{false≢true, not-true}
 use Rattle.std.proofs.lemmas.Map.Entries.{length-keys_of}
 use Rattle.std.proofs.lemmas.Option.{slice_get_within}
 use Rattle.txn_names.specs.Path.{Path}
@@ -72,10 +72,6 @@ module _ (tree : States) (t : Path) (active : is_active_in tree t ≡ true) wher
 
 -- ---- by number
 
-has_come : (b : Bool) → true ≡ not b → b ≡ false
-has_come true e = absurd (true≢false e)
-has_come false e = refl
-
 module _ (tree : States) (t : Path) (n : ℕ) (at : slice_get (names tree) n ≡ Some t) where
   pub active_here : is_active_at tree n ≡ is_active_in tree t
   active_here = ap (is_active_named tree) at
@@ -87,12 +83,12 @@ module _ (tree : States) (t : Path) (n : ℕ) (at : slice_get (names tree) n ≡
     pub ended_parent_at : Some (orphan_or (top_aborted_at tree n) NoParent) ≡ cause_at_parent tree t
     ended_parent_at =
         ap (λ o. Some (orphan_or (top_aborted_named tree o) NoParent)) at
-        ∙ ended_parent tree t (quiet_here quiet) (has_come (is_absent_in tree t) begun)
+        ∙ ended_parent tree t (quiet_here quiet) (not-true (is_absent_in tree t) (sym begun))
 
     pub ended_done_at : Some (orphan_or (top_aborted_at tree n) Done) ≡ cause_at_abort tree t
     ended_done_at =
         ap (λ o. Some (orphan_or (top_aborted_named tree o) Done)) at
-        ∙ ended_done tree t (quiet_here quiet) (has_come (is_absent_in tree t) begun)
+        ∙ ended_done tree t (quiet_here quiet) (not-true (is_absent_in tree t) (sym begun))
 
 lives : (s : Status) → is_live s ≡ true → s ≡ Live
 lives Live e = refl
