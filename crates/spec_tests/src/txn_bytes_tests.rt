@@ -3,7 +3,7 @@ use std::alloc::Global;
 use std::hash::{DefaultHasher, Hash, Hasher};
 use std::io;
 use std::io::{ErrorKind, Write};
-use txn_bytes::{Held, WriteFault, put};
+use txn_bytes::{Held, WriteFault, are_same, put};
 
 /// Takes up to `step` bytes at each of `calls` calls, and then answers an error, or that it took
 /// nothing.
@@ -53,6 +53,23 @@ fn holds_bytes(rt: HostRuntime) {
     assert!(rt;
         hash_of(&long) == hash_of(&Held::<4>::of(b"ab")) && hash_of(&long) != hash_of(&short)
     );
+}
+
+// Bytes of each length up to 33 are the same as themselves, and not as the same with another byte at
+// any place, or with one more.
+#[test]
+fn bytes_are_the_same(rt: HostRuntime) {
+    let ours = [b'a'; 34];
+    for len in 0..34 {
+        let whole = &ours[..len];
+        assert!(rt; are_same(whole, &[b'a'; 34][..len]), "{len}");
+        assert!(rt; !are_same(whole, &ours[..len + 1]), "{len} and one more");
+        for place in 0..len {
+            let mut theirs = ours;
+            theirs[place] = b'b';
+            assert!(rt; !are_same(whole, &theirs[..len]), "{len}, at {place}");
+        }
+    }
 }
 
 // Whether seven bytes, three of them at each of so many calls, are answered as they have to be, and

@@ -76,7 +76,7 @@ impl<const N: usize> Held<N> {
 const WORD: u8 = 8;
 
 // The number that the bytes of a word make, which is fed to a hash as these bytes.
-fn word_of(bytes: &[u8; 8]) -> u64
+pub(crate) fn word_of(bytes: &[u8; 8]) -> u64
     ensures read { result ≡ from_le_bytes w64 bytes.now }
     ensures fed { fed.u64 result ≡ bytes.now ∷ [] }
 {

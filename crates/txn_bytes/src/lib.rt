@@ -4,6 +4,7 @@
 mod bytes;
 mod call;
 mod held;
+mod same;
 mod sink;
 mod sinks;
 mod source;
@@ -11,5 +12,6 @@ mod source;
 pub use bytes::Bytes;
 pub use call::Sink;
 pub use held::Held;
+pub use same::are_same;
 pub use sink::{WriteFault, put};
 pub use source::{MOST_READS, ReadFault, Source};
