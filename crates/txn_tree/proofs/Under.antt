@@ -1,17 +1,18 @@
 -- Who stands below whom, by number: a superior has the smaller number.
-use Rattle.std.proofs.Common.{◌≡◌, ℕ, zero, suc, ◌<◌, ◌≤◌, Bool, true, false, not, ◌&&◌, List, [], ◌∷◌, Option, Some, None, is_some, unwrap_or, ◌⊎◌, inl, inr, refl, sym, ap, subst, ◌∙◌, true≢false, arith}
+use Rattle.std.proofs.Common.{◌≡◌, ℕ, zero, suc, ◌<◌, ◌≤◌, nat_lt, length, Bool, true, false, not, ◌&&◌, List, [], ◌∷◌, Option, Some, None, is_some, unwrap_or, ◌⊎◌, inl, inr, refl, sym, ap, subst, ◌∙◌, true≢false, arith}
 use Rattle.std.specs.Prelude.{slice_get}
+use Rattle.std.specs.Cmp.{both_ways}
 use Rattle.std.specs.Map.{lookup}
-use Rattle.std.proofs.lemmas.Bool.{false≢true, and_parts}
+use Rattle.std.proofs.lemmas.Bool.{false≢true, and_parts, lt-ltb}
 use Rattle.std.proofs.lemmas.Map.Entries.{lookup_head, lookup_tail}
 use Rattle.txn_names.specs.Path.{Path, path_eq, label_eq, is_front, parent}
 use Rattle.txn_names.specs.Text.{IsName}
-use Rattle.txn_names.proofs.Exports.{same_label, label_eq_self, path_eq-from, is_front_self, front_cases}
+use Rattle.txn_names.proofs.Exports.{same_label, same_path, label_eq_self, path_eq-from, is_front_self, is_front-parent, is_front-trans, front_cases}
 use Rattle.txn_tree.specs.declared.node.Children.{Children}
 use Rattle.txn_tree.specs.declared.node.Node.{Node}
 use Rattle.txn_tree.specs.States.{States, IsTree, names}
 use Rattle.txn_tree.specs.Asked.{is_absent_in}
-use Rattle.txn_tree.specs.Numbered.{is_front_of, is_under}
+use Rattle.txn_tree.specs.Numbered.{has_parent, is_front_of, is_parent_of, is_under}
 use Rattle.txn_tree.specs.Linked.{IsLinked, IsParentAt}
 use Rattle.txn_tree.proofs.Numbers.{is_begun}
 use Rattle.txn_tree.proofs.Places.{one_place}
@@ -50,6 +51,27 @@ comparable (x ∷ xs) (y ∷ ys) (z ∷ zs) f g =
   where
     both : (a b : Bool) → a ≡ true → b ≡ true → (a && b) ≡ true
     both a b e f = ap (λ c. c && b) e ∙ f
+
+-- a child and its parent
+child_is : (o q : Option Path) → is_parent_of o q ≡ true → (v : Path) × (q ≡ Some v) × (o ≡ Some (parent v))
+child_is None None e = absurd (false≢true e)
+child_is None (Some v) e = absurd (false≢true e)
+child_is (Some w) None e = absurd (false≢true e)
+child_is (Some w) (Some v) e = (v, refl, ap Some (sym (same_path (parent v) w e)))
+
+-- the parent of a path of one label is the root
+parent_at_top : (v : Path) → nat_lt 1 (length v) ≡ false → parent v ≡ []
+parent_at_top [] e = refl
+parent_at_top (l ∷ []) e = refl
+parent_at_top (l ∷ m ∷ ms) e = absurd (true≢false (sym (lt-ltb 1 (length (l ∷ m ∷ ms)) (omega arith)) ∙ e))
+
+-- whoever has begun is below itself
+pub under_itself : (tree : States) (n : ℕ) → is_some (slice_get (names tree) n) ≡ is_under tree n n
+under_itself tree n = by (slice_get (names tree) n)
+  where
+    by : (o : Option Path) → is_some o ≡ is_front_of o o
+    by None = refl
+    by (Some t) = sym (is_front_self t)
 
 module _ (tree : States) (nodes : List Node) (tops : Children) (is : IsTree tree) (linked : IsLinked tree nodes tops) where
   no_root_above : (a : ℕ) (u : Path) → slice_get (names tree) a ≡ Some u → is_front u [] ≡ true → ⊥
@@ -90,6 +112,43 @@ module _ (tree : States) (nodes : List Node) (tops : Children) (is : IsTree tree
     where
       by : (t : Bool) → is_under tree a b ≡ t → is_under tree a b ≡ false
       by true e = let w = under_parts a b e in let le = le_above a b w.0 w.1 w.2 w.3 w.4 in absurd (omega (arith, le, less))
+      by false e = e
+
+  -- one with a greater number is below another exactly where its parent is
+  pub under_by_parent : (a n p : ℕ) → a < n → is_parent_of (slice_get (names tree) p) (slice_get (names tree) n) ≡ true → is_under tree a n ≡ is_under tree a p
+  under_by_parent a n p less e = both_ways (is_under tree a n) (is_under tree a p) up down
+    where
+      child : (v : Path) × (slice_get (names tree) n ≡ Some v) × (slice_get (names tree) p ≡ Some (parent v))
+      child = child_is (slice_get (names tree) p) (slice_get (names tree) n) e
+
+      up : is_under tree a n ≡ true → is_under tree a p ≡ true
+      up under =
+          let w = under_parts a n under in
+          let same : w.1 ≡ child.0 = ap (λ o. unwrap_or o w.1) (sym w.3 ∙ child.1) in
+          elim (front_cases w.0 w.1 w.4) [
+            | inl one ↦ let eq = one_place (names tree) is.distinct w.0 a n w.2 (w.3 ∙ ap Some (sym one)) in absurd (omega (arith, eq, less))
+            | inr above ↦ ap (λ o. is_front_of o (slice_get (names tree) p)) w.2 ∙ ap (is_front_of (Some w.0)) child.2 ∙ subst (λ (v : Path). is_front w.0 (parent v) ≡ true) same above
+          ]
+
+      down : is_under tree a p ≡ true → is_under tree a n ≡ true
+      down under =
+          let w = under_parts a p under in
+          let same : w.1 ≡ parent child.0 = ap (λ o. unwrap_or o w.1) (sym w.3 ∙ child.2) in
+          ap (λ o. is_front_of o (slice_get (names tree) n)) w.2 ∙ ap (is_front_of (Some w.0)) child.1
+          ∙ is_front-trans w.0 (parent child.0) child.0 (subst (λ (v : Path). is_front w.0 v ≡ true) same w.4) (is_front-parent child.0)
+
+  -- one at the top is below nobody that began before
+  pub none_above : (a n : ℕ) → a < n → has_parent (slice_get (names tree) n) ≡ false → is_under tree a n ≡ false
+  none_above a n less top = by (is_under tree a n) refl
+    where
+      by : (t : Bool) → is_under tree a n ≡ t → is_under tree a n ≡ false
+      by true e =
+          let w = under_parts a n e in
+          let root : parent w.1 ≡ [] = parent_at_top w.1 (ap has_parent (sym w.3) ∙ top) in
+          elim (front_cases w.0 w.1 w.4) [
+            | inl one ↦ let eq = one_place (names tree) is.distinct w.0 a n w.2 (w.3 ∙ ap Some (sym one)) in absurd (omega (arith, eq, less))
+            | inr above ↦ absurd (no_root_above a w.0 w.2 (subst (λ (v : Path). is_front w.0 v ≡ true) root above))
+          ]
       by false e = e
 
   -- of two above one, the deeper has the greater number

@@ -128,19 +128,6 @@ impl Register {
         }
     }
 
-    // Whether both have begun and the second is the first or a descendant of it.
-    pub(crate) fn is_under(&self, txn: TxnNo, inferior: TxnNo) -> bool
-        ensures { result ≡ is_under self.now txn inferior }
-    {
-        match self.name_of(txn) {
-            Some(above) => match self.name_of(inferior) {
-                Some(below) => above.is_ancestor_or_self(below),
-                None => false,
-            },
-            None => false,
-        }
-    }
-
     // What holds of every register.
     pub(crate) fn is_tree(&self)
         ensures { IsTree self.now }

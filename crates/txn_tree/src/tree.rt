@@ -180,17 +180,33 @@ impl Tree {
         self.tops.first
     }
 
-    /// Whether both have begun and the second is the first or a descendant of it.
+    // Of two above a third the deeper one has the greater number. The call does nothing: it tells the
+    // prover so.
+    fn rises_down(&self, _inferior: TxnNo)
+        ensures { RisesDown self.now _inferior }
+    {
+        let _ = &self.nodes;
+    }
+
+    /// Whether both have begun and the second is the first or a descendant of it. It goes up by
+    /// numbers, from parent to parent, as far as the first may stand: whoever is above began before.
     pub fn is_under(&self, txn: TxnNo, inferior: TxnNo) -> bool
         ensures under { result ≡ is_under self.now txn inferior }
         ensures rises { RisesDown self.now inferior }
     {
         let _ = &self.nodes;
-        // Whoever is above began before, so that mostly no names are compared.
-        if inferior.place() < txn.place() {
+        self.rises_down(inferior);
+        let mut above = inferior;
+        while above.place() > txn.place() {
+            match self.parent_of(above) {
+                Some(parent) => above = parent,
+                None => return false,
+            }
+        }
+        if above.place() < txn.place() {
             return false;
         }
-        self.register.is_under(txn, inferior)
+        self.name_of(txn).is_some()
     }
 
     /// How many children of the transaction with this number are live; none if it is unassigned.
