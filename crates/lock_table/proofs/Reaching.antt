@@ -1,9 +1,9 @@
 -- Who keeps an access of a key, or a sum over a group, from being answered, by the three tables.
-use Rattle.std.proofs.Common.{◌≡◌, ◌↔◌, ◌<◌, ◌≤◌, ℕ, ◌+◌, take, nat_eq, Bool, true, false, not, ◌&&◌, cond, ◌⊎◌, inl, inr, List, [], ◌∷◌, length, refl, sym, ap, subst, ◌∙◌, true≢false, arith}
+use Rattle.std.proofs.Common.{◌≡◌, ◌↔◌, ◌<◌, ◌≤◌, ℕ, ◌+◌, take, nat_eq, Bool, true, false, not, ◌&&◌, cond, ◌⊎◌, inl, inr, List, [], ◌∷◌, length, refl, sym, ap, get_or, subst, ◌∙◌, true≢false, arith}
 use Rattle.std.specs.Prelude.{nat_lt}
 use Rattle.std.proofs.lemmas.Bool.{false≢true, and_parts, and_from, false_from_ne_true, not-true, not_from_false, lt-ltb, ltb-true}
 use Rattle.txn_names.specs.Path.{label_eq}
-use Rattle.txn_names.specs.Groups.{has}
+use Rattle.txn_names.specs.Groups.{IsGroupBefore, has}
 use Rattle.txn_names.proofs.Exports.{on_test, on_label, same_label, label_eq_self, dot_behind, same_front}
 use Rattle.txn_tree.specs.States.{States}
 use Rattle.serial_spec.specs.declared.operation.Kind.{Kind}
@@ -237,3 +237,11 @@ module _ (writers : one.Table) (t : ℕ) (k : List ℕ) (n u : ℕ) where
       and_true : (b : Bool) → (b && true) ≡ b
       and_true true = refl
       and_true false = refl
+
+-- ---- where groups end
+
+-- a group of the key ends before a dot
+pub no_dot : (k : List ℕ) (place : ℕ) → (place < length k → get_or k place 0 ≡ 46 → ⊥) → (g : List ℕ) → IsGroupBefore k place g → ⊥
+no_dot k place other g is =
+    let dot = dot_behind g k 0 is.0 in
+    other (subst (λ (n : ℕ). n < length k) is.2 dot.0) (subst (λ (n : ℕ). get_or k n 0 ≡ 46) is.2 dot.1)

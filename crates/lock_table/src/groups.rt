@@ -1,6 +1,7 @@
 //! The groups of a key, gone through in a table of locks by group.
-ghost use Rattle.std.specs.Prelude.{◌≡◌, ◌↔◌, IsTrue, IsOk, OnOk, List, ℕ};
+ghost use Rattle.std.specs.Prelude.{◌≡◌, ◌↔◌, IsFalse, IsTrue, IsOk, OnErr, OnOk, List, ℕ};
 ghost use Rattle.std.specs.List.Sorted.{IsStrictlyIncreasing};
+ghost use Rattle.txn_names.specs.Groups.{IsGroupBefore};
 ghost use Rattle.lock_table.specs.Locked as one;
 ghost use Rattle.lock_table.specs.Targeted.{AtGroups, BlocksBySum, IsJoined, IsUpTo, NoSumBlocks, marked_by, with_groups};
 
@@ -9,6 +10,17 @@ use crate::numbers::add_all;
 use serial_spec::{Kind, NoMemory};
 use txn_names::Key;
 use txn_tree::{Tree, TxnNo};
+
+// Whether a group of the key may end before this place. Where no dot stands there none does, and that
+// is told without one being made.
+#[inline(always)]
+#[tactic(auto, using(crate::proofs::Reaching::no_dot))]
+fn may_end_group(key: &Key, place: usize) -> bool
+    ensures { IsFalse result → (g : List ℕ) → IsGroupBefore key.now place g → ⊥ }
+{
+    let bytes = key.as_bytes();
+    place < bytes.len() && bytes[place] == b'.'
+}
 
 /// Whether no sum over a group of the key keeps the transaction from writing it.
 pub(crate) fn sums_let(sums: &Locks, tree: &Tree, txn: TxnNo, key: &Key) -> bool
@@ -19,9 +31,11 @@ pub(crate) fn sums_let(sums: &Locks, tree: &Tree, txn: TxnNo, key: &Key) -> bool
     }
     let len = key.as_bytes().len();
     for place in 1..len {
-        if let Some(group) = key.group_before(place) {
-            if sums.is_blocked(tree, txn, &group.as_key(), Kind::Write) {
-                return false;
+        if may_end_group(key, place) {
+            if let Some(group) = key.group_before(place) {
+                if sums.is_blocked(tree, txn, &group.as_key(), Kind::Write) {
+                    return false;
+                }
             }
         }
     }
@@ -74,6 +88,22 @@ pub(crate) fn add_summers(
     Ok(())
 }
 
+// Makes a place for the transaction at this group, if there is none. Mostly it wrote there last.
+fn make_mark(writers: &mut Locks, txn: TxnNo, group: &Key) -> Result<(), NoMemory>
+    ensures modes { (u : ℕ) → (g : List ℕ) →
+        one.modes_in writers.new u g ≡ one.modes_in writers.old u g }
+    ensures ok { OnOk result ((u : ℕ) → (g : List ℕ) → one.has_place writers.new u g
+        ≡ one.with_place (one.has_place writers.old) txn group.now u g) }
+    ensures err { OnErr result ((u : ℕ) → (g : List ℕ) →
+        one.has_place writers.new u g ≡ one.has_place writers.old u g) }
+    ensures succeeds { IsTrue (one.has_place writers.old txn group.now) → IsOk result }
+{
+    if writers.recalls_last(txn, group) {
+        return Ok(());
+    }
+    writers.reserve(txn, group)
+}
+
 /// Makes a place for the transaction at each group of the key. No lock changes. If memory runs out,
 /// the only error, there are places at some of them.
 pub(crate) fn make_marks(writers: &mut Locks, txn: TxnNo, key: &Key) -> Result<(), NoMemory>
@@ -87,8 +117,10 @@ pub(crate) fn make_marks(writers: &mut Locks, txn: TxnNo, key: &Key) -> Result<(
 {
     let len = key.as_bytes().len();
     for place in 1..len {
-        if let Some(group) = key.group_before(place) {
-            writers.reserve(txn, &group.as_key())?;
+        if may_end_group(key, place) {
+            if let Some(group) = key.group_before(place) {
+                make_mark(writers, txn, &group.as_key())?;
+            }
         }
     }
     Ok(())
@@ -104,8 +136,10 @@ pub(crate) fn mark(writers: &mut Locks, txn: TxnNo, key: &Key)
 {
     let len = key.as_bytes().len();
     for place in 1..len {
-        if let Some(group) = key.group_before(place) {
-            writers.hold(txn, &group.as_key(), Kind::Write);
+        if may_end_group(key, place) {
+            if let Some(group) = key.group_before(place) {
+                writers.hold(txn, &group.as_key(), Kind::Write);
+            }
         }
     }
 }

@@ -1,6 +1,10 @@
 -- The lists of keys by number: one more at the end, and one changed.
-use Rattle.std.proofs.Common.{◌≡◌, ◌+◌, ◌<◌, ◌≤◌, ℕ, zero, suc, cond, nat_eq, List, [], ◌∷◌, ◌++◌, length, set, refl, sym, ap, subst, ◌∙◌, arith}
-use Rattle.std.proofs.lemmas.Bool.{eq-eqb, false≢true, ne_eqb}
+use Rattle.std.proofs.Common.{◌≡◌, ◌+◌, ◌<◌, ◌≤◌, ℕ, zero, suc, cond, nat_eq, true, List, [], ◌∷◌, ◌++◌, length, set, slice_get, Option, Some, is_some, unwrap_or, refl, sym, ap, subst, ◌∙◌, arith}
+use Rattle.std.specs.List.{list_any}
+use Rattle.std.specs.Map.{keys_of}
+use Rattle.std.proofs.lemmas.Bool.{eq-eqb, false≢true, ne_eqb, or_left, or_right}
+use Rattle.txn_names.specs.Path.{label_eq}
+use Rattle.txn_names.proofs.Exports.{label_eq_self}
 use Rattle.txn_cells.specs.Kept.{Listed, Lists, busy_in, listed_at, one_busy}
 use Rattle.txn_cells.proofs.Puts.{on_number}
 
@@ -76,3 +80,9 @@ none_to_take lists t u none =
     on_number t u (λ b. listed_at lists u ≡ cond b [] (listed_at lists u))
     (λ e. subst (λ (v : ℕ). listed_at lists v ≡ []) e none)
     (λ _. refl)
+
+-- the key that is listed at a place is among those that are
+pub any_listed : (k : List ℕ) (p i : ℕ) (listed : List (List ℕ × ℕ)) → slice_get listed i ≡ Some (k, p) → list_any (label_eq k) (keys_of listed) ≡ true
+any_listed k p i [] at = absurd (false≢true (ap is_some at))
+any_listed k p zero (e ∷ es) at = or_left (label_eq k e.0) (list_any (label_eq k) (keys_of es)) (subst (λ (q : List ℕ). label_eq k q ≡ true) (sym (ap (λ (o : Option (List ℕ × ℕ)). (unwrap_or o e).0) at)) (label_eq_self k))
+any_listed k p (suc i) (e ∷ es) at = or_right (label_eq k e.0) (list_any (label_eq k) (keys_of es)) (any_listed k p i es at)

@@ -1,5 +1,5 @@
 //! The keys of each transaction.
-ghost use Rattle.std.specs.Prelude.{◌≡◌, ◌≤◌, ◌<◌, ◌++◌, ◌∷◌, [], nat_eq, length, slice_get, IsFalse, IsOk, IsTrue, OnErr, OnOk, ℕ, if◌then◌else◌};
+ghost use Rattle.std.specs.Prelude.{◌≡◌, ◌≤◌, ◌<◌, ◌++◌, ◌∷◌, [], nat_eq, length, slice_get, IfSome, IsFalse, IsOk, IsTrue, Some, OnErr, OnOk, ℕ, if◌then◌else◌};
 ghost use Rattle.std.specs.List.{IsDistinct, list_any};
 ghost use Rattle.std.specs.Map.{keys_of};
 ghost use Rattle.txn_names.specs.Path.{label_eq};
@@ -157,6 +157,16 @@ impl KeyLists {
         ensures { result ≡ slice_get (listed_at self.now txn) index }
     {
         self.lists.get(txn.place() as usize)?.get(index)
+    }
+
+    /// The place of the transaction's last key, if that is this one.
+    pub(crate) fn place_if_last(&self, txn: TxnNo, key: &Key) -> Option<usize>
+        ensures { IfSome result (λ place. (index : ℕ)
+            × (slice_get (listed_at self.now txn) index ≡ Some (key.now, place))) }
+    {
+        let last = self.count(txn).checked_sub(1)?;
+        let (found, place) = self.get(txn, last)?;
+        if found == *key { Some(place) } else { None }
     }
 
     // Gives each number up to the transaction's a list, empty as yet.

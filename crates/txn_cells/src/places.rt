@@ -115,6 +115,13 @@ impl<V: Inherit> Places<V> {
         }
     }
 
+    /// Takes this place for the remembered one.
+    pub(crate) fn expect(&mut self, place: usize)
+        ensures { self.new ≡ self.old }
+    {
+        self.recent = place;
+    }
+
     /// The place of the key among all keys. One that is not among them yet goes last, with no
     /// holders.
     pub(crate) fn place_for(&mut self, key: &Key) -> Result<usize, NoMemory>

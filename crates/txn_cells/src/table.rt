@@ -177,6 +177,21 @@ impl<V: Inherit> CellTable<V> {
         self.places.remember(key);
     }
 
+    /// Whether the key is the one at which the transaction got its last place, which is told without
+    /// a look-up. It is remembered then. It takes no memory.
+    pub fn recalls_last(&mut self, txn: TxnNo, key: &Key) -> bool
+        ensures place { IsTrue result → IsTrue (has_place self.old txn key.now) }
+        ensures same { self.new ≡ self.old }
+    {
+        match self.keys.place_if_last(txn, key) {
+            Some(place) => {
+                self.places.expect(place);
+                true
+            }
+            None => false,
+        }
+    }
+
     // As `at`, where the key mostly is the transaction's key at this index: its place stands in the
     // list then.
     fn at_listed(&self, txn: TxnNo, index: usize, key: &Key) -> Option<&KeyCells<V>>

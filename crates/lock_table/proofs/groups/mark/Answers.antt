@@ -7,12 +7,12 @@ use Rattle.lock_table.specs.Inherited.{with_held}
 use Rattle.lock_table.specs.Locked as one
 use Rattle.lock_table.proofs.Reaching.{none_marked, one_marked, all_marked}
 use Rattle.lock_table.proofs.groups.mark.Goals as goal
-use Rattle.lock_table.proofs.groups.mark.Goals.{in-Some, in_default}
+use Rattle.lock_table.proofs.groups.mark.Goals.{then-may_end_group+in-Some, then-may_end_group+in_default, else-may_end_group}
 
 pub loop-place-preserved : goal.loop-place-preserved
 loop-place-preserved c =
-    elim c.match-group_before.branch [
-      | in-Some w ↦ (
+    elim c.if-may_end_group.branch [
+      | then-may_end_group+in-Some w ↦ (
         λ u g.
             ap (λ (table : one.Table). one.modes_in table u g) w.writers-is
             ∙ w.hold.ensures.modes u g
@@ -23,11 +23,18 @@ loop-place-preserved c =
             (ap (λ (k : List ℕ). length k) w.as_key.ensures.value ∙ w.in-Some.ensures.some.2) g,
         λ u g. ap (λ (table : one.Table). one.has_place table u g) w.writers-is ∙ w.hold.ensures.places u g ∙ c.loop-place.invariant.1 u g,
       )
-      | in_default w ↦ (
+      | then-may_end_group+in_default w ↦ (
         λ u g.
             ap (λ (table : one.Table). one.modes_in table u g) w.writers-is
             ∙ c.loop-place.invariant.0 u g
-            ∙ none_marked c.args.writers.now c.args.txn c.args.key.now c.loop-place.place u (λ f there some is. w.in_default.not-Some f (c.group_before.ensures.all f (there, some, is))) g,
+            ∙ none_marked c.args.writers.now c.args.txn c.args.key.now c.loop-place.place u (λ f there some is. w.in_default.not-Some f (w.group_before.ensures.all f (there, some, is))) g,
+        λ u g. ap (λ (table : one.Table). one.has_place table u g) w.writers-is ∙ c.loop-place.invariant.1 u g,
+      )
+      | else-may_end_group w ↦ (
+        λ u g.
+            ap (λ (table : one.Table). one.modes_in table u g) w.writers-is
+            ∙ c.loop-place.invariant.0 u g
+            ∙ none_marked c.args.writers.now c.args.txn c.args.key.now c.loop-place.place u (λ f there some is. c.may_end_group.ensures w.if-may_end_group.false f (there, some, is)) g,
         λ u g. ap (λ (table : one.Table). one.has_place table u g) w.writers-is ∙ c.loop-place.invariant.1 u g,
       )
     ]
