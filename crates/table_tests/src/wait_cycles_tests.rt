@@ -1,7 +1,7 @@
 //! The worked values of the finder, and each call on waits once. Under a trial run that refuses a
 //! growth the call is made again.
 use crate::tools::{adds, begins, is_so, words};
-use serial_spec::{Asked, By, NoMemory, Op};
+use serial_spec::{Asked, By, NoMemory, Op, Target};
 use std::alloc::Global;
 use std::process::Abort;
 use test_kit::{group, key, name};
@@ -84,7 +84,7 @@ fn worked_values(rt: HostRuntime) {
     }
 }
 
-const SCRIPTS: [(&str, &str); 3] = [
+const SCRIPTS: [(&str, &str); 4] = [
     // A wait is found until it is cancelled, and its transaction may wait again.
     (
         "waits come and go",
@@ -115,6 +115,23 @@ const SCRIPTS: [(&str, &str); 3] = [
         cancel 9
         none 9 -> yes
         waits 4 1 -> yes
+        ",
+    ),
+    // A wait may meet its key, and not another one. A sum may meet any key, and each wait any group.
+    (
+        "what waits may meet",
+        "
+        meets x -> no
+        meets-group x -> no
+        wait 4 3
+        meets x -> yes
+        meets y -> no
+        meets-group y -> yes
+        wait-to-sum 9 2
+        meets y -> yes
+        cancel 9
+        cancel 4
+        meets x -> no
         ",
     ),
     // A transaction and its child wait no more, and its neighbour waits on.
@@ -176,6 +193,8 @@ fn holds(tree: &mut Tree, waits: &mut Waits, text: &str) -> bool {
         "waits-to-sum" => is_so(stands(waits, &sum), want),
         "only" => is_so(waits.len() == 1 && stands(waits, &read), want),
         "none" => is_so(waits.of(txn).is_none(), want),
+        "meets" => is_so(waits.may_meet(&Target::Key(key(who))), want),
+        "meets-group" => is_so(waits.may_meet(&Target::Group(group(who))), want),
         "cancel" => {
             waits.cancel(txn);
             true

@@ -9,4 +9,5 @@ pub mod Sorted
 pub mod Kept
 pub mod Listed
 pub mod Stored
+pub mod Marked
 pub mod Exports

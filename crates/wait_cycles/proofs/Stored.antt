@@ -6,6 +6,7 @@ use Rattle.std.proofs.lemmas.Bool.{cases_eq, cases_lt, eqb-true, eq-eqb}
 use Rattle.std.proofs.lemmas.List.{length-append, length-set}
 use Rattle.std.proofs.lemmas.Option.{none-some, same_Some, slice_get-get_or, slice_get_read, slice_get_within}
 use Rattle.slab.specs.Slab.{Slab, Updates, get, slab_len}
+use Rattle.txn_tree.proofs.Exports.{get_front, get_last, get_pushed}
 use Rattle.wait_cycles.specs.declared.records.Record.{Record}
 use Rattle.wait_cycles.specs.declared.waits.Wait.{Wait}
 use Rattle.wait_cycles.specs.Stored.{AreInTable, AreStored, no_wait, wait_under, waits_under}
@@ -18,25 +19,6 @@ use Rattle.wait_cycles.proofs.Lists.{get-map, get-unmap, length_map, map_append}
 pub mapped : {X Y : Type 0} (f : X → Y) (o : Option X) (y : Y) → option_map f o ≡ Some y → (x : X) × (o ≡ Some x) × (f x ≡ y)
 mapped f None y e = absurd (none-some y e)
 mapped f (Some x) y e = (x, refl, same_Some (f x) y e)
-
-get_front : {X : Type 0} (xs ys : List X) (i : ℕ) (x : X) → slice_get xs i ≡ Some x → slice_get (xs ++ ys) i ≡ Some x
-get_front [] ys i x e = absurd (none-some x e)
-get_front (y ∷ xs) ys zero x e = e
-get_front (y ∷ xs) ys (suc i) x e = get_front xs ys i x e
-
-get_back : {X : Type 0} (xs : List X) (y : X) → slice_get (xs ++ y ∷ []) (length xs) ≡ Some y
-get_back [] y = refl
-get_back (x ∷ xs) y = get_back xs y
-
-get_pushed : {X : Type 0} (xs : List X) (y : X) (i : ℕ) (x : X) → slice_get (xs ++ y ∷ []) i ≡ Some x → (slice_get xs i ≡ Some x) ⊎ ((i ≡ length xs) × (y ≡ x))
-get_pushed [] y zero x e = inr (refl, same_Some y x e)
-get_pushed [] y (suc i) x e = absurd (none-some x e)
-get_pushed (z ∷ xs) y zero x e = inl e
-get_pushed (z ∷ xs) y (suc i) x e =
-    elim (get_pushed xs y i x e) [
-      | inl there ↦ inl there
-      | inr last ↦ inr (ap suc last.0, last.1)
-    ]
 
 set_same : {X : Type 0} (xs : List X) (i : ℕ) (y : X) → i < length xs → slice_get (set xs i y) i ≡ Some y
 set_same [] i y within = absurd (omega (arith, within))
@@ -121,11 +103,11 @@ module _ (slab : Slab Record) (keys : List ℕ) (table : List (Option ℕ)) (are
       stored = λ i k at.
           elim (get_pushed keys key i k at) [
             | inl there ↦ let r = record_at i k there in ap (option_map (λ (q : Record). q.place)) (is k r.0 r.1) ∙ ap Some r.2
-            | inr last ↦ ap (λ (j : ℕ). option_map (λ (q : Record). q.place) (get new j)) (sym last.1) ∙ ap (option_map (λ (q : Record). q.place)) updates.changed ∙ ap Some (sym last.0)
+            | inr last ↦ ap (λ (j : ℕ). option_map (λ (q : Record). q.place) (get new j)) last.1 ∙ ap (option_map (λ (q : Record). q.place)) updates.changed ∙ ap Some (sym last.0)
           ];
       kept = λ k r at.
           elim (was k r at) [
-            | inl here ↦ ap (λ (q : Record). slice_get (keys ++ key ∷ []) q.place) (sym here.1) ∙ get_back keys key ∙ ap Some (sym here.0)
+            | inl here ↦ ap (λ (q : Record). slice_get (keys ++ key ∷ []) q.place) (sym here.1) ∙ get_last keys key ∙ ap Some (sym here.0)
             | inr there ↦ get_front keys (key ∷ []) r.place k (are.kept k r there.1)
           ];
       own = λ t k at.

@@ -4,4 +4,5 @@ pub mod Waiting
 pub mod Agreement
 pub mod Room
 pub mod Stored
+pub mod Sieve
 pub mod inner

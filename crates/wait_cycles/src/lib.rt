@@ -8,6 +8,7 @@ pub mod laws;
 mod order;
 mod reached;
 mod records;
+mod sieve;
 mod trail;
 mod waits;
 

@@ -1,11 +1,14 @@
 //! The accesses that wait.
-ghost use Rattle.std.specs.Prelude.{◌≡◌, ◌+◌, ◌<◌, ◌≤◌, [], ℕ, nat_eq, not, filter, length, slice_get, if◌then◌else◌, IsOk, IsSome, IsTrue, IfNone, IfSome, OnOk, OnErr, None, Some};
+ghost use Rattle.std.specs.Prelude.{◌≡◌, ◌+◌, ◌<◌, ◌≤◌, [], ℕ, nat_eq, not, filter, length, slice_get, if◌then◌else◌, false, IsFalse, IsOk, IsSome, IsTrue, IfNone, IfSome, OnOk, OnErr, None, Some};
 ghost use Rattle.std.specs.Option.{option_copied};
 ghost use Rattle.serial_spec.specs.declared.target.Asked.TheVariants.{At, Over};
+ghost use Rattle.serial_spec.specs.Targets.{meets, target as locked};
+ghost use Rattle.wait_cycles.specs.Sieve.{AreMarked};
 ghost use Rattle.wait_cycles.specs.Waiting.{AreOnce, HasJoined, StandsAt, is_under, is_under_in, wait_of, wait_with};
 
 use crate::records::Records;
-use serial_spec::{Asked, By, NoMemory, Op};
+use crate::sieve::Sieve;
+use serial_spec::{Asked, By, NoMemory, Op, Target};
 use std::alloc::Global;
 use std::marker::Model;
 use txn_names::{Group, Key};
@@ -23,14 +26,21 @@ pub struct Wait {
 #[derive(Drop)]
 pub struct Waits {
     records: Records,
+    // What they ask is marked.
+    sieve: Sieve,
+    // So many calls have taken waits out since the marks were made anew.
+    gone: usize,
 }
 
 impl Model for Waits {
     ghost use Rattle.wait_cycles.specs.Waiting.{Waiting};
+    ghost use Rattle.wait_cycles.specs.Sieve.{AreMarked};
 
     ghost Value = { Waiting };
 
     ghost view = { λ w. w.records };
+
+    ghost invariant = { λ w. AreMarked w.sieve w.records.waits };
 }
 
 // Whether the wait at this place is of the transaction or of one below it.
@@ -43,6 +53,19 @@ fn is_under_at(records: &Records, tree: &Tree, txn: TxnNo, place: usize) -> bool
     }
 }
 
+// Marks for what these ask alone.
+fn sieve_of(records: &Records) -> Sieve
+    ensures { AreMarked result records.now.waits }
+{
+    let mut sieve = Sieve::new();
+    for place in 0..records.len() {
+        if let Some(wait) = records.at(place) {
+            sieve.mark(&wait.asked);
+        }
+    }
+    sieve
+}
+
 impl Waits {
     /// Nobody waits. It takes no memory yet.
     pub fn new(alloc: Global) -> Self
@@ -51,6 +74,8 @@ impl Waits {
     {
         Waits {
             records: Records::new(alloc),
+            sieve: Sieve::new(),
+            gone: 0,
         }
     }
 
@@ -113,6 +138,29 @@ impl Waits {
         Some(found.place)
     }
 
+    /// Whether an access that waits may be for what has a key in common with the target. It looks
+    /// at no wait, and mostly tells no where none is.
+    pub fn may_meet(&self, target: &Target) -> bool
+        ensures { IsFalse result → (place : ℕ) (w : Wait) →
+            slice_get self.now.waits place ≡ Some w → meets target.now (locked w.asked) ≡ false }
+    {
+        match target {
+            Target::Key(key) => self.sieve.may_meet(key),
+            Target::Group(_) => !self.is_empty(),
+        }
+    }
+
+    // Makes the marks anew, where more calls have taken waits out than there are.
+    fn sift(&mut self)
+        ensures { self.new ≡ self.old }
+    {
+        self.gone = self.gone.saturating_add(1);
+        if self.gone > self.records.len() {
+            self.sieve = sieve_of(&self.records);
+            self.gone = 0;
+        }
+    }
+
     /// A transaction that did not wait waits for an operation at a key. If memory runs out, the
     /// only error, all is as before. Where there is room for one it succeeds.
     pub fn add(&mut self, txn: TxnNo, key: &Key, op: Op, by: By) -> Result<(), NoMemory>
@@ -165,6 +213,7 @@ impl Waits {
         ensures room { self.old.room ≡ self.new.room + 1 }
     {
         self.records.push(txn, asked, by);
+        self.sieve.mark(asked);
     }
 
     /// The transaction waits no more. So fewer wait, if it did.
@@ -181,6 +230,7 @@ impl Waits {
         };
         let place = record.place;
         self.records.take(place);
+        self.sift();
     }
 
     /// The transaction and all its descendants wait no more. So fewer wait, if any of them did.
@@ -199,5 +249,6 @@ impl Waits {
                 self.records.take(place);
             }
         }
+        self.sift();
     }
 }

@@ -1,6 +1,7 @@
 pub mod Passing
 pub mod HeldUp
 pub mod Alone
+pub mod Unmet
 pub mod OwnBranches
 pub mod TwoLists
 pub mod Alike

@@ -115,6 +115,12 @@ abbrev pub IsNobodysWay : States → List Wait → ℕ → Type 0
 IsNobodysWay tree waits t = (keeps : Keeps) (s : Target)
     → list_any (waits_by_way_of tree keeps waits t s) waits ≡ false
 
+-- nobody waits, by whichever locks, for another by way of anybody and for what has a key in common
+-- with this
+abbrev pub IsMetByNone : List Wait → Target → Type 0
+IsMetByNone waits s = (tree : States) (keeps : Keeps) (t : ℕ)
+    → list_any (waits_by_way_of tree keeps waits t s) waits ≡ false
+
 -- whether there is a wait, and it passes
 abbrev pub passes : (Wait → Bool) → Option Wait → Bool
 passes p (Some w) = p w

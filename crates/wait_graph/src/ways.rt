@@ -4,7 +4,7 @@ ghost use Rattle.std.specs.Prelude.{◌≡◌, ◌&&◌, slice_get, IsTrue};
 ghost use Rattle.std.specs.List.{list_any};
 ghost use Rattle.serial_spec.specs.Targets.{meets, target as locked};
 ghost use Rattle.wait_cycles.specs.Waiting.{AreOnce};
-ghost use Rattle.wait_graph.specs.Edges.{ByLocks, IsNobodysWay, is_beside_it, passes, OfWays, is_held_by_way_of};
+ghost use Rattle.wait_graph.specs.Edges.{ByLocks, IsMetByNone, IsNobodysWay, is_beside_it, passes, OfWays, is_held_by_way_of};
 
 use crate::branch::{is_in_branch, is_lone_top};
 use lock_table::TargetLocks;
@@ -96,6 +96,14 @@ fn is_way_of_none(tree: &Tree, waits: &Waits, txn: TxnNo) -> bool
     is_lone_top(tree, txn) && waits.of(txn).is_none()
 }
 
+// Whether it is seen at once that nobody waits for what has a key in common with the target.
+#[tactic(auto, using(crate::proofs::Unmet::nobody_meets))]
+fn is_met_by_none(waits: &Waits, target: &Target) -> bool
+    ensures { IsTrue result → IsMetByNone waits.now.waits target.now }
+{
+    !waits.may_meet(target)
+}
+
 /// Whether any access that waits for what has a key in common with the target waits for another by
 /// way of the transaction: the transaction keeps it from being answered, and the other, which
 /// waits, is in the branch of the transaction.
@@ -110,7 +118,7 @@ pub fn any_edge_by_way_of(
         (λ is_one. result ≡ list_any is_one waits.now.waits) }
     ensures once { AreOnce waits.now }
 {
-    if is_way_of_none(tree, waits, txn) {
+    if is_met_by_none(waits, target) || is_way_of_none(tree, waits, txn) {
         waits.has_each_once();
         return false;
     }

@@ -8,7 +8,7 @@ returns-clause-waits c u =
     let some = c.in-Some.ensures.some in
     let r = c.in-Some.record.now in
     let old = c.self.inside.records.waits in
-    rw (sym c.self.view_is) (
+    rw (c.sift.ensures, sym c.self.view_is) (
     without old c.take.new.self.waits r.place r.wait c.take.ensures.once.0.apart c.take.ensures.once.1.apart c.take.ensures.taken some.0 u
     ∙ ap (λ (t : ℕ). cond (nat_eq t u) None (wait_in old u)) some.1
     )

@@ -3,13 +3,14 @@ use Rattle.std.specs.Prelude.{slice_get}
 use Rattle.std.proofs.lemmas.Option.{slice_get_within}
 use Rattle.wait_cycles.specs.Waiting.{is_under}
 use Rattle.wait_cycles.proofs.Listed.{AreLeft, all_left, left_taken, left_there, none_passes, not_under, one_fewer, under_there}
+use Rattle.wait_cycles.proofs.Marked.{left_marked}
 use Rattle.wait_cycles.proofs.waits.Waits.drop_under.Goals as goal
 
 pub loop-place-init : goal.loop-place-init
 loop-place-init c =
     let old = c.self.inside.records.waits in
     let test = is_under c.args.tree.now c.args.txn in
-    (subst (λ (n : ℕ). AreLeft test n old old) (sym c.len-place.ensures.len) (all_left test old), omega arith)
+    (subst (λ (n : ℕ). AreLeft test n old old) (sym c.len-place.ensures.len) (all_left test old), omega arith, c.self.invariant)
 
 pub take-requires : goal.take-requires
 take-requires c =
@@ -25,7 +26,7 @@ loop-place-preserved c =
     let now = c.loop-place.self-inside.records.waits in
     let p = c.loop-place.place - 1 in
     let next : p + 1 ≡ c.loop-place.place = omega arith in
-    (left_there (is_under tree t) old now c.loop-place.place i.0 p next (not_under tree t (slice_get now p) (sym c.is_under_at.ensures ∙ c.if-is_under_at.false)), i.1)
+    (left_there (is_under tree t) old now c.loop-place.place i.0 p next (not_under tree t (slice_get now p) (sym c.is_under_at.ensures ∙ c.if-is_under_at.false)), i.1, i.2)
 
 pub loop-place-preserved-then-is_under_at : goal.loop-place-preserved-then-is_under_at
 loop-place-preserved-then-is_under_at c =
@@ -40,7 +41,7 @@ loop-place-preserved-then-is_under_at c =
     let once = c.take.ensures.once in
     let room = c.take.ensures.room in
     let more = i.1 in
-    (left_taken (is_under tree t) old now c.loop-place.place i.0 p next c.take.new.self.waits w.0 once.0.apart once.1.apart c.take.ensures.taken w.1 w.2, omega (arith, room, more))
+    (left_taken (is_under tree t) old now c.loop-place.place i.0 p next c.take.new.self.waits w.0 once.0.apart once.1.apart c.take.ensures.taken w.1 w.2, omega (arith, room, more), left_marked c.loop-place.self-inside.sieve now c.take.new.self.waits p c.take.ensures.taken i.2)
 
 pub returns-clause-waits : goal.returns-clause-waits
 returns-clause-waits c =
@@ -49,10 +50,10 @@ returns-clause-waits c =
     let old = c.self.inside.records.waits in
     let new = c.loop-place.self-inside.records.waits in
     let done : c.loop-place.place ≡ 0 = omega arith in
-    rw (sym c.self.view_is) (none_passes test old new (subst (λ (n : ℕ). AreLeft test n old new) done left))
+    rw (c.sift.ensures, sym c.self.view_is) (none_passes test old new (subst (λ (n : ℕ). AreLeft test n old new) done left))
 
 pub returns-clause-len : goal.returns-clause-len
-returns-clause-len c = rw (sym c.self.view_is) c.loop-place.invariant.0.len
+returns-clause-len c = rw (c.sift.ensures, sym c.self.view_is) c.loop-place.invariant.0.len
 
 pub returns-clause-fewer : goal.returns-clause-fewer
 returns-clause-fewer c =
@@ -61,7 +62,7 @@ returns-clause-fewer c =
     let old = c.self.inside.records.waits in
     let new = c.loop-place.self-inside.records.waits in
     let done : c.loop-place.place ≡ 0 = omega arith in
-    rw (sym c.self.view_is) (one_fewer test old new (subst (λ (n : ℕ). AreLeft test n old new) done left))
+    rw (c.sift.ensures, sym c.self.view_is) (one_fewer test old new (subst (λ (n : ℕ). AreLeft test n old new) done left))
 
 pub returns-clause-room : goal.returns-clause-room
-returns-clause-room c = rw (sym c.self.view_is) c.loop-place.invariant.1
+returns-clause-room c = rw (c.sift.ensures, sym c.self.view_is) c.loop-place.invariant.1
