@@ -29,7 +29,7 @@ pub struct Entries {
     names: Names,
     notes: Vec<Noted>,
     // For each session the numbers of its last entry's name, and of the ancestor that was told
-    // last: the next one mostly has these.
+    // last.
     last: [usize; MOST_SESSIONS],
     tops: [usize; MOST_SESSIONS],
     room: usize,
@@ -170,10 +170,12 @@ impl Entries {
     {
         let place = place_of(entry.by);
         let word = NameWord::of(entry.event.name);
-        let name = self.names.number_of(self.last[place], &word);
+        let last = self.last[place];
+        let name = self.names.number_of(last, &word);
         self.last[place] = name;
         let told = &mut self.tops[place];
         let top = number_of_top(&mut self.names, name, told, entry.said, entry.top);
+        self.names.follow(last, name);
         self.notes.push_reserved(Noted {
             by: entry.by,
             event: Asking {

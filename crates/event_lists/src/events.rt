@@ -16,7 +16,7 @@ use std::marker::Model;
 pub struct Events {
     names: Names,
     asked: Vec<Asking>,
-    // The number of the last event's name, which is mostly that of the next one.
+    // The number of the last event's name.
     last: usize,
 }
 
@@ -78,7 +78,7 @@ impl Events {
         ensures spelled { IfSome result (λ word. word.bytes.now ≡ spelled.now) }
         ensures word { IfSome result IsRead }
     {
-        let number = self.names.find(self.last, spelled)?;
+        let number = self.names.find_after(self.last, spelled)?;
         let name = self.names.get(number)?;
         Some(NameWord {
             bytes: spelled,
@@ -98,6 +98,7 @@ impl Events {
         self.names.reserve(1)?;
         self.asked.reserve(1)?;
         let name = self.names.number_of(word.likely, word);
+        self.names.follow(self.last, name);
         self.last = name;
         self.asked.push_reserved(Asking { name, act: *act });
         Ok(())

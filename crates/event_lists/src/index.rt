@@ -24,13 +24,15 @@ struct Likely {
     number: u32,
 }
 
-/// Numbers of names by their hashes. It tells where a name is likely to be found and no more: any
-/// numbers would do. A name that finds no place near its own takes that of another, so that a look
-/// costs as much whatever the names are.
+/// Numbers of names by their hashes, and which name follows which. It tells where a name is likely
+/// to be found and no more: any numbers would do. A name that finds no place near its own takes that
+/// of another, so that a look costs as much whatever the names are.
 #[derive(Drop)]
 pub(crate) struct NameIndex {
     // A power of two of them, or none.
     places: Vec<Likely>,
+    // For each name the number of the one that followed it last.
+    followers: Vec<u32>,
 }
 
 // A hash of the bytes, of which four bytes are kept.
@@ -45,6 +47,26 @@ impl NameIndex {
     pub(crate) fn new(alloc: Global) -> NameIndex {
         NameIndex {
             places: Vec::new(alloc),
+            followers: Vec::new(alloc),
+        }
+    }
+
+    /// The number of the name that followed the one with this number last, or any.
+    #[inline(always)]
+    pub(crate) fn follower(&self, number: usize) -> usize {
+        match self.followers.get(number) {
+            Some(follower) => *follower as usize,
+            None => 0,
+        }
+    }
+
+    /// Keeps that the second name followed the first.
+    #[inline(always)]
+    pub(crate) fn follow(&mut self, number: usize, follower: usize) {
+        if let Ok(follower) = u32::try_from(follower) {
+            if let Some(there) = self.followers.get_mut(number) {
+                *there = follower;
+            }
         }
     }
 
@@ -91,8 +113,10 @@ impl NameIndex {
         }
     }
 
-    /// Keeps the number of the name that the bytes spell, if it has four bytes.
+    /// Keeps the number of the name that the bytes spell, if it has four bytes. The name is likely
+    /// to follow itself.
     pub(crate) fn add(&mut self, number: usize, spelled: &[u8]) {
+        self.follow(number, number);
         if let Ok(number) = u32::try_from(number) {
             let hash = hash_of(spelled);
             self.keep(Likely { hash, number });
@@ -116,8 +140,10 @@ impl NameIndex {
             hash: 0,
             number: FREE,
         };
-        let places = 2 * names.min(MOST_NAMES);
-        index.places.resize(places.next_power_of_two(), free)?;
+        let names = names.min(MOST_NAMES);
+        index.places.resize((2 * names).next_power_of_two(), free)?;
+        index.followers.extend_from_slice(&self.followers)?;
+        index.followers.resize(names, 0)?;
         for likely in &self.places {
             if likely.number != FREE {
                 index.keep(*likely);

@@ -74,16 +74,28 @@ impl Names {
         is_spelled_at(&self.names, number, spelled)
     }
 
-    /// The number of the name that the bytes spell, if it is found. The likely one is looked at first.
+    /// The number of the name that the bytes spell, if it is found. The name that followed the last
+    /// one is looked at first, and the last one next.
     #[inline(always)]
-    pub(crate) fn find(&self, likely: usize, spelled: &[u8]) -> Option<usize>
+    pub(crate) fn find_after(&self, last: usize, spelled: &[u8]) -> Option<usize>
         ensures { IfSome result (λ number. IsSpelledAt self.now.items number spelled.now) }
     {
-        if is_spelled_at(&self.names, likely, spelled) {
-            Some(likely)
+        let follower = self.index.follower(last);
+        if is_spelled_at(&self.names, follower, spelled) {
+            Some(follower)
+        } else if last != follower && is_spelled_at(&self.names, last, spelled) {
+            Some(last)
         } else {
             self.index.find(&self.names, spelled)
         }
+    }
+
+    /// Keeps that the second name followed the first, so that it is looked at first the next time.
+    #[inline(always)]
+    pub(crate) fn follow(&mut self, last: usize, number: usize)
+        ensures { self.new ≡ self.old }
+    {
+        self.index.follow(last, number);
     }
 
     /// Makes room for so many more names. The only error is that memory runs out; the names are as
@@ -99,9 +111,9 @@ impl Names {
     }
 
     /// The number of the name that the word spells: that of a name that is found, or of a new one.
-    /// There is room for a name. The likely number is looked at first.
+    /// There is room for a name. The name that followed the last one is looked at first.
     #[inline(always)]
-    pub(crate) fn number_of(&mut self, likely: usize, word: &NameWord<'_>) -> usize
+    pub(crate) fn number_of(&mut self, last: usize, word: &NameWord<'_>) -> usize
         requires room { length self.old.items < self.old.capacity }
         requires word { IsRead word.now }
         ensures at { slice_get self.new.items result ≡ Some (named word.now) }
@@ -109,7 +121,7 @@ impl Names {
         ensures len { length self.new.items ≤ length self.old.items + 1 }
         ensures capacity { self.new.capacity ≡ self.old.capacity }
     {
-        match self.find(likely, word.bytes) {
+        match self.find_after(last, word.bytes) {
             Some(number) => number,
             None => self.add(word),
         }

@@ -19,7 +19,7 @@ impl Tables {
     {
         match self.tree.begin(name) {
             Ok(txn) => {
-                self.hints.note(by, txn);
+                self.hints.note_begun(by, txn);
                 Ok(None)
             }
             Err(TreeFault::Refused(refusal)) => Ok(Some(refusal)),

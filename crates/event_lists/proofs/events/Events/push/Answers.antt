@@ -11,7 +11,7 @@ invariant_of-self-2 c =
     let before = c.self.inside in
     let names : List (List (List ℕ)) = c.number_of-name.new.self.items in
     let keeps : Keeps before.names.items names = rw c.in_ok-reserve.ensures.items at c.number_of-name.ensures.keeps in
-    rw (c.push_reserved.ensures.items, c.in_ok-reserve-2.ensures.items)
+    rw (c.push_reserved.ensures.items, c.in_ok-reserve-2.ensures.items, c.follow.ensures)
     (named_and before.names.items names before.asked.items _ keeps c.self.invariant (named c.args.word.now, c.number_of-name.ensures.at))
 
 pub returns-clause-ok : goal.returns-clause-ok
@@ -20,7 +20,7 @@ returns-clause-ok c =
     let names : List (List (List ℕ)) = c.number_of-name.new.self.items in
     let act = c.args.act.now in
     let keeps : Keeps before.names.items names = rw c.in_ok-reserve.ensures.items at c.number_of-name.ensures.keeps in
-    rw (c.push_reserved.ensures.items, c.in_ok-reserve-2.ensures.items)
+    rw (c.push_reserved.ensures.items, c.in_ok-reserve-2.ensures.items, c.follow.ensures)
     (events_and before.names.items names before.asked.items _ keeps c.self.invariant
     ∙ ap (λ (t : List (List ℕ)). events_of before.names.items before.asked.items ++ event_by t act ∷ []) (found names c.number_of-name.result (named c.args.word.now) c.number_of-name.ensures.at)
     ∙ ap (λ (es : List Event). es ++ event_by (named c.args.word.now) act ∷ []) c.self.view_is)
