@@ -85,20 +85,6 @@ fn attempt_free<S: TopStore>(
     }
 }
 
-// Asks again for the access by which the transaction waits. It is no part of its callers either.
-#[inline(never)]
-fn attempt_again<S: TopStore>(manager: &mut Manager<S>, name: &Name) -> Result<Came, NoMemory>
-    requires waits { IsTrue (is_some (wait_of manager.old.history name.now)) }
-    ensures ok { IfOk result (λ came.
-        CameTo came (Retried manager.old manager.new name.now)) }
-    ensures err { OnErr result (manager.new ≡ manager.old) }
-{
-    match &manager.retry(name) {
-        Ok(outcome) => Ok(outcome.came()),
-        Err(_) => Err(AllocError),
-    }
-}
-
 /// Attempts a line that is free for its event, or by which an access waits: the access is asked for
 /// again.
 #[inline(always)]
@@ -123,6 +109,6 @@ pub(crate) fn attempt<S: TopStore>(
     if manager.free(by, event) {
         attempt_free(manager, by, event)
     } else {
-        attempt_again(manager, name)
+        manager.ask_again(name)
     }
 }

@@ -1,6 +1,6 @@
 -- The cause that the tables tell is the definitions' first.
 use Rattle.std.proofs.Common.{◌≡◌, ℕ, ◌<◌, Bool, true, false, not, length, Option, Some, None, is_some, refl, sym, ap, ap₂, ◌∙◌}
-use Rattle.std.proofs.lemmas.Bool.{false≢true, true≢false}
+use Rattle.std.proofs.lemmas.Bool.{false≢true, not-true, true≢false}
 use Rattle.std.specs.Prelude.{option_map}
 use Rattle.std.specs.List.{list_any}
 use Rattle.txn_names.specs.Path.{top_of}
@@ -28,10 +28,6 @@ use Rattle.manager_core.proofs.Victims.{may_end}
 
 -- ---- by number
 
-not_absent : (b : Bool) → true ≡ not b → b ≡ false
-not_absent true e = absurd (true≢false e)
-not_absent false e = refl
-
 not_committed : (s : Status) → (s ≡ state.Committed → ⊥) → is_committed s ≡ false
 not_committed state.Committed n = absurd (n refl)
 not_committed s n = refl
@@ -44,7 +40,7 @@ module _ (tables : Tabled) (t : Name) (n : ℕ) (number : IsNumberOf tables.tree
       ap (λ c. when c Done) (sym e ∙ ap (λ o. is_committed (status_named tables.tree o)) (name_at tables.tree t n number))
       ∙ ap (λ o. or_else (option_map (λ a. Orphan a) o) (when (has_committed_in tables.tree t) Done)) none
       ∙ ap (λ c. or_else (when c Unknown) (or_else (option_map (λ a. Orphan a) (top_of (is_marked tables.marks) t)) (when (has_committed_in tables.tree t) Done)))
-      (sym (not_absent (is_absent_in tables.tree t) begun))
+      (sym (not-true (is_absent_in tables.tree t) (sym begun)))
 
   pub done_by_state : status_at tables.tree n ≡ state.Committed → Some Done ≡ cause_in tables t
   done_by_state e = by_state true (ap is_committed e)
@@ -129,13 +125,11 @@ module _ (rows : Rows) (h : History) (tables : Tabled) (allowed : AreAllowed row
 pub orphan_cause : (m : Tabled) (t top : Name) → true ≡ not (is_absent_in m.tree t) → top_of (is_marked m.marks) t ≡ Some top
     → Some (Orphan top) ≡ cause_in m t
 orphan_cause m t top begun marked =
-    sym (ap₂ (λ (absent : Bool) (o : Option Name). why_ended absent o (has_committed_in m.tree t)) (not_absent (is_absent_in m.tree t) begun) marked)
+    sym (ap₂ (λ (absent : Bool) (o : Option Name). why_ended absent o (has_committed_in m.tree t)) (not-true (is_absent_in m.tree t) (sym begun)) marked)
 
--- so is the one that is found by numbers
+-- the topmost aborted one is found by numbers
 module _ (rows : Rows) (h : History) (tables : Tabled) (allowed : AreAllowed rows h) (are : AreTablesOf rows h tables) (t : Name) where
-  pub numbered_top : (n : ℕ) (top : Name) → true ≡ not (is_absent_in tables.tree t) → IsNumberOf tables.tree t n
-      → top_aborted_at tables.tree n ≡ Some top → Some (Orphan top) ≡ cause_in tables t
-  numbered_top n top begun number at =
-      orphan_cause tables t top begun
-      (top_by_marks h tables.marks are.marked t ∙ sym (top_by_states rows h tables.tree allowed are.in_tree t)
-      ∙ ap (top_aborted_named tables.tree) (sym (name_at tables.tree t n number)) ∙ at)
+  pub numbered_top : (n : ℕ) → IsNumberOf tables.tree t n → top_aborted_at tables.tree n ≡ top_of (is_marked tables.marks) t
+  numbered_top n number =
+      sym (top_by_marks h tables.marks are.marked t ∙ sym (top_by_states rows h tables.tree allowed are.in_tree t)
+      ∙ ap (top_aborted_named tables.tree) (sym (name_at tables.tree t n number)))

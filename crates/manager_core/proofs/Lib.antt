@@ -34,6 +34,7 @@ pub mod Branches
 pub mod Pairing
 pub mod Suspects
 pub mod Victims
+pub mod Entered
 pub mod Settled
 pub mod Asking
 pub mod Exports

@@ -31,14 +31,15 @@ use Rattle.wait_graph.specs.Edges.{ByLocks, Keeps, is_beside, is_beside_it, is_i
 use Rattle.wait_graph.specs.Walks.{IsLastThrough, IsOnNoCycle}
 use Rattle.manager_core.specs.State.{entry}
 use Rattle.manager_core.specs.Tables.{Tabled}
-use Rattle.manager_core.specs.inner.Victims.{StaysQuiet}
+use Rattle.txn_history.specs.Recorded.{Recorded}
+use Rattle.manager_core.specs.inner.Victims.{IsReadyFor, Settles, StaysQuiet}
 use Rattle.manager_core.proofs.Branches.{in_branch}
 use Rattle.manager_core.proofs.KeptOut.{no_wait_at}
 use Rattle.manager_core.proofs.Events.{accesses_own, done_at, refused_adds_none, same_asked}
 use Rattle.manager_core.proofs.Locks.{keeps_as, keeps_by, name_at, present, tells}
 use Rattle.wait_graph.proofs.Exports.{any_got}
 use Rattle.manager_core.proofs.Pairing.{are_waits, tell_waits}
-use Rattle.manager_core.proofs.Victims.{in_turn_acts}
+use Rattle.manager_core.proofs.Victims.{in_turn_acts, settled_quiet}
 use Rattle.txn_history.specs.Laws.{QuietBut}
 
 -- ---- who waits, by place and by name
@@ -194,3 +195,11 @@ module _ (rows : Rows) (h : History) (tables : Tabled) (by : By) (t : Name) (ask
       let at = name_at tables.tree t n number in
       let nobody = none (keeps_by (e ∷ h) tables.tree) (tells rows (e ∷ h) tables are) in
       access_adds_at_key rows e h allowed t asked r (done_at t asked r) (keeps_nobody_out rows (e ∷ h) tables are allowed once t n at (target asked) nobody) q
+
+-- where an access was refused the cycles are broken, since none stands
+pub settled_refused : {log last : Recorded} {tables : Tabled} {pairs : ℕ} {by : By} (t : Name) (asked : Asked) {r : Refusal}
+    → IsReadyFor log (entry by (event_of t asked) (Refused r)) tables pairs → last.rows ≡ log.rows
+    → last.entries ≡ entry by (event_of t asked) (Refused r) ∷ log.entries
+    → Settles log.rows (entry by (event_of t asked) (Refused r) ∷ log.entries) last tables tables
+settled_refused {tables = tables} {by = by} t asked {r = r} ready rows entries =
+    settled_quiet ready rows entries (quiet_if_refused _ _ tables by t asked r ready.allowed ready.are ready.quiet)

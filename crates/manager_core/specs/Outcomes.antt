@@ -3,6 +3,7 @@ use Rattle.std.specs.Prelude.{◌≡◌, Bool, true, false, Option, Some, None}
 use Rattle.serial_spec.specs.declared.entry.Refusal.{Refusal}
 use Rattle.serial_spec.specs.declared.operation.Reply.TheVariants.{Ok}
 use Rattle.serial_spec.specs.declared.entry.Answer.{Answer}
+use Rattle.serial_spec.specs.declared.entry.Entry.{Entry}
 use Rattle.serial_spec.specs.declared.entry.Answer.TheVariants as answer
 use Rattle.serial_spec.specs.declared.entry.Refusal.TheVariants.{Store}
 use Rattle.manager_core.specs.declared.outcome.Came.{Came}
@@ -26,6 +27,14 @@ pub record CameTo (came : Came) (Holds : Outcome → Type 0) : Type 0 where
   pub outcome : Outcome
   pub came_is : came ≡ came_of outcome
   pub holds : Holds outcome
+
+-- the outcome is the one that the history keeps by this answer
+abbrev pub Tells : Answer → Outcome → Type 0
+Tells a told = (outcome : Outcome) → a ≡ answer_of outcome → told ≡ outcome
+
+-- it is the one that it keeps by this entry
+abbrev pub TellsEntry : Option Entry → Outcome → Type 0
+TellsEntry o told = (e : Entry) → o ≡ Some e → Tells e.answer told
 
 abbrev pub is_done : Outcome → Bool
 is_done (Done reply) = true

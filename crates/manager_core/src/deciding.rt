@@ -2,16 +2,20 @@
 //! number.
 ghost use Rattle.std.specs.Prelude.{◌≡◌, ◌<◌, length, IfNone, IfOk, IfSome, IsTrue};
 ghost use Rattle.std.specs.Prelude.{None, Some, is_some, not, true};
+ghost use Rattle.std.specs.Option.{option_copied};
 ghost use Rattle.std.specs.Result.{result_err};
+ghost use Rattle.txn_names.specs.Path.{top_of};
+ghost use Rattle.orphans.specs.Marked.{is_marked};
+ghost use Rattle.event_lists.specs.Views.{refusal_by};
 ghost use Rattle.txn_tree.specs.Asked.{IsNumberOf, IsRootless, is_absent_in};
 ghost use Rattle.serial_spec.specs.Allowed.{cause_at_access, cause_at_commit, is_full_for};
 ghost use Rattle.serial_spec.specs.Legal.{AreAllowed};
-ghost use Rattle.serial_spec.specs.declared.entry.Refusal.TheVariants.{Orphan};
 ghost use Rattle.manager_core.specs.Kept.{AreTablesOf};
 ghost use Rattle.manager_core.specs.Tables.{cause_in};
 
 use crate::log::Log;
 use crate::tables::Tables;
+use event_lists::Cause;
 use serial_spec::{Asked, By, MOST_KEYS, Refusal};
 use txn_names::Name;
 use txn_tree::{Status, TxnNo};
@@ -58,9 +62,8 @@ impl Tables {
     fn orphan_top(&self, _log: &Log, name: &Name, txn: TxnNo) -> Option<&Name>
         requires allowed { AreAllowed _log.now.rows _log.now.entries }
         requires are { AreTablesOf _log.now.rows _log.now.entries self.now }
-        requires begun { true ≡ not (is_absent_in self.now.tree name.now) }
         requires number { IsNumberOf self.now.tree name.now txn }
-        ensures { IfSome result (λ top. Some (Orphan top.now) ≡ cause_in self.now name.now) }
+        ensures { option_copied result ≡ top_of (is_marked self.now.marks) name.now }
     {
         self.tree.top_aborted_at(txn)
     }
@@ -89,7 +92,7 @@ impl Tables {
     }
 
     /// The number of a transaction whose access nothing but a lock may keep out. It is none where
-    /// the access is refused. `refusal_at_access` tells the cause, so that this result is small.
+    /// the access is refused. `cause_at_access` tells the cause, so that this result is small.
     pub(crate) fn number_to_ask(
         &self,
         log: &Log,
@@ -119,45 +122,37 @@ impl Tables {
         Some(txn)
     }
 
-    /// Why an access is refused. Few accesses are, so this is kept out of the code of the callers.
-    /// Most of these are an orphan's: the name of the topmost aborted one is copied once. Room for a
-    /// name is cleared where a function begins, so the others are apart.
-    #[inline(never)]
-    pub(crate) fn refusal_at_access(&self, log: &Log, by: By, name: &Name, asked: &Asked) -> Refusal
+    /// Why an access is refused, and the topmost aborted transaction where it is an orphan's. For
+    /// another cause the name is any. No name is copied.
+    pub(crate) fn cause_at_access<'a>(
+        &'a self,
+        log: &Log,
+        by: By,
+        name: &'a Name,
+        _asked: &Asked,
+    ) -> (Cause, &'a Name)
         requires allowed { AreAllowed log.now.rows log.now.entries }
         requires are { AreTablesOf log.now.rows log.now.entries self.now }
         requires refused { IsTrue
-            (is_some (cause_at_access log.now.rows log.now.entries by name.now asked.now)) }
-        ensures { Some result
-            ≡ cause_at_access log.now.rows log.now.entries by name.now asked.now }
+            (is_some (cause_at_access log.now.rows log.now.entries by name.now _asked.now)) }
+        ensures { Some (refusal_by result.0 result.1.now)
+            ≡ cause_at_access log.now.rows log.now.entries by name.now _asked.now }
     {
         name.has_labels();
-        if let Some(txn) = self.tree.no_by_hint(name, self.hints.of(by)) {
-            if let Some(top) = self.orphan_top(log, name, txn) {
-                return Refusal::Orphan(*top);
-            }
+        let Some(txn) = self.tree.no_by_hint(name, self.hints.of(by)) else {
+            return (Cause::Unknown, name);
+        };
+        if let Some(top) = self.orphan_top(log, name, txn) {
+            return (Cause::Orphan, top);
         }
-        self.other_refusal_at_access(log, by, name, asked)
-    }
-
-    // Why an access is refused, for any cause.
-    #[inline(never)]
-    fn other_refusal_at_access(&self, _log: &Log, by: By, name: &Name, _asked: &Asked) -> Refusal
-        requires allowed { AreAllowed _log.now.rows _log.now.entries }
-        requires are { AreTablesOf _log.now.rows _log.now.entries self.now }
-        requires refused { IsTrue
-            (is_some (cause_at_access _log.now.rows _log.now.entries by name.now _asked.now)) }
-        ensures { Some result
-            ≡ cause_at_access _log.now.rows _log.now.entries by name.now _asked.now }
-    {
-        match self.number_by_marks(name, self.hints.of(by)) {
-            Err(refusal) => refusal,
-            Ok(txn) => {
+        match self.tree.status_at(txn) {
+            Status::Committed => (Cause::Done, name),
+            _ => {
                 if self.waits_elsewhere(txn, by) {
-                    Refusal::Waiting
+                    (Cause::Waiting, name)
                 } else {
                     // No other cause is left.
-                    Refusal::Full
+                    (Cause::Full, name)
                 }
             }
         }

@@ -1,14 +1,14 @@
 //! The history over the opening rows.
-ghost use Rattle.std.specs.Prelude.{◌≡◌, ◌+◌, ◌<◌, ◌≤◌, ◌↔◌, [], ◌∷◌, length, reverse, OnOk, IfOk, IsTrue};
+ghost use Rattle.std.specs.Prelude.{◌≡◌, ◌+◌, ◌<◌, ◌≤◌, ◌↔◌, [], ◌∷◌, length, reverse, slice_get, OnOk, IfOk, IsTrue};
 ghost use Rattle.std.specs.List.{list_any};
 ghost use Rattle.txn_names.specs.Path.{label_eq};
 ghost use Rattle.serial_spec.specs.declared.entry.Answer.TheVariants.{Stuck};
 ghost use Rattle.serial_spec.specs.Allowed.{known};
 ghost use Rattle.serial_spec.specs.History.{event_of};
-ghost use Rattle.event_lists.specs.Views.{asked, event_by, seen};
+ghost use Rattle.event_lists.specs.Views.{answer_by, asked, event_by, seen};
 ghost use Rattle.txn_history.specs.Lines.{IsLineFree, OnlyWaits};
 ghost use Rattle.manager_core.specs.State.{entry};
-ghost use Rattle.manager_core.specs.Outcomes.{answer_of};
+ghost use Rattle.manager_core.specs.Outcomes.{TellsEntry, answer_of};
 
 use crate::outcome::Outcome;
 use event_lists::{Act, Entries, EntryView, EventView, Said};
@@ -56,6 +56,24 @@ impl Log {
         self.history.into_entries()
     }
 
+    /// How many entries there are.
+    pub(crate) fn len(&self) -> usize
+        ensures { result ≡ length self.now.entries }
+    {
+        self.history.len()
+    }
+
+    /// The outcome that the entry at this place, which is that of a call, has: the oldest has place
+    /// 0. Where there is no such entry, or it is of a line that was given up, it is any.
+    pub(crate) fn outcome_at(&self, place: usize) -> Outcome
+        ensures { TellsEntry (slice_get (reverse self.now.entries) place) result }
+    {
+        match self.history.entries().get(place) {
+            Some(entry) => Outcome::told(&entry.entry().answer),
+            None => Outcome::Waits,
+        }
+    }
+
     /// Makes room for more entries.
     #[inline(always)]
     pub(crate) fn reserve(&mut self, additional: usize) -> Result<(), NoMemory>
@@ -95,20 +113,33 @@ impl Log {
         });
     }
 
-    /// Adds the entry of an access, and of the outcome.
+    /// Adds the entry of an access, and of what it was answered. The last name is that of the
+    /// topmost aborted transaction where an orphan is refused, and else any.
     #[inline(always)]
-    pub(crate) fn add_asked(&mut self, by: By, name: &Name, asked: &Asked, outcome: &Outcome)
+    pub(crate) fn add_asked<'a>(
+        &mut self,
+        by: By,
+        name: &'a Name,
+        asked: &Asked,
+        said: Said,
+        top: &'a Name,
+    )
         requires { 0 < self.old.room }
         ensures rows { self.new.rows ≡ self.old.rows }
         ensures entries { self.new.entries
-            ≡ entry by (event_of name.now asked.now) (answer_of outcome.now) ∷ self.old.entries }
+            ≡ entry by (event_of name.now asked.now) (answer_by said top.now) ∷ self.old.entries }
         ensures room { self.old.room ≤ self.new.room + 1 }
     {
         let act = match asked {
             Asked::At(key, op) => Act::Access(*key, *op),
             Asked::Over(group) => Act::Sum(*group),
         };
-        self.add(by, name, &act, outcome);
+        self.push(&EntryView {
+            by,
+            event: EventView { name, act: &act },
+            said,
+            top,
+        });
     }
 
     /// Adds the entry of a line that is given up.

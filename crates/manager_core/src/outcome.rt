@@ -1,11 +1,11 @@
 //! What a call comes to.
 ghost use Rattle.std.specs.Prelude.{◌≡◌};
 ghost use Rattle.event_lists.specs.Views.{answer_by, said_of};
-ghost use Rattle.manager_core.specs.Outcomes.{answer_of, came_of, outcome_of};
+ghost use Rattle.manager_core.specs.Outcomes.{Tells, answer_of, came_of, outcome_of};
 
 use durable_top::StoreFault;
 use event_lists::{Said, cause_of};
-use serial_spec::{Refusal, Reply};
+use serial_spec::{Answer, Refusal, Reply};
 use txn_names::Name;
 
 /// What a call comes to: a reply, a wait, or a refusal.
@@ -43,6 +43,18 @@ impl Outcome {
         match refusal {
             Some(refusal) => Outcome::Refused(refusal),
             None => Outcome::Done(Reply::Ok),
+        }
+    }
+
+    /// The outcome that the history keeps by this answer. A line that was given up has none, and any
+    /// is given for it.
+    pub(crate) fn told(answer: &Answer) -> Outcome
+        ensures { Tells answer.now result }
+    {
+        match answer {
+            Answer::Done(reply) => Outcome::Done(*reply),
+            Answer::Refused(refusal) => Outcome::Refused(*refusal),
+            Answer::Waits | Answer::Stuck => Outcome::Waits,
         }
     }
 

@@ -1,7 +1,9 @@
 -- What the breaking of cycles does to the history and the tables, where there is none to break, and
 -- what room it takes.
-use Rattle.std.specs.Prelude.{◌≡◌, ℕ, ◌≤◌, ◌+◌, ◌*◌, List, ◌∷◌, length}
-use Rattle.serial_spec.specs.declared.entry.Answer.TheVariants.{Done}
+use Rattle.std.specs.Prelude.{◌≡◌, ℕ, ◌≤◌, ◌+◌, ◌*◌, List, ◌∷◌, length, Option, Some}
+use Rattle.serial_spec.specs.declared.entry.Answer.TheVariants.{Done, Refused}
+use Rattle.serial_spec.specs.declared.entry.Refusal.{Refusal}
+use Rattle.serial_spec.specs.Allowed.{cause_at_access}
 use Rattle.serial_spec.specs.declared.entry.By.{By}
 use Rattle.serial_spec.specs.declared.entry.Entry.{Entry}
 use Rattle.serial_spec.specs.declared.operation.Reply.{Reply}
@@ -12,7 +14,8 @@ use Rattle.serial_spec.specs.Rows.{Rows}
 use Rattle.serial_spec.specs.Waits.{Quiet}
 use Rattle.serial_spec.specs.Interleaving.{AfterVictims}
 use Rattle.txn_history.specs.Recorded.{Recorded}
-use Rattle.manager_core.specs.Tables.{Tabled, HasOtherRoom, rows_in}
+use Rattle.manager_core.specs.declared.accessing.Request.{Request}
+use Rattle.manager_core.specs.Tables.{Tabled, HasOtherRoom, entry_of, rows_in}
 use Rattle.manager_core.specs.Kept.{AreTablesOf}
 use Rattle.manager_core.specs.State.{entry}
 
@@ -48,6 +51,17 @@ pub record IsReadyFor (log : Recorded) (e : Entry) (tables : Tabled) (pairs : �
   pub room : length tables.waits.waits + 1 ≤ log.room
   pub marks_room : length tables.waits.waits ≤ tables.marks.room
   pub work_room : length tables.waits.waits * length tables.waits.waits ≤ pairs
+
+-- why what a line asks is refused, where it is
+abbrev pub cause_of_request : Recorded → Request → Option Refusal
+cause_of_request log r = cause_at_access log.rows log.entries r.by r.name.now r.asked.now
+
+-- the log has one entry more: it is refused, by the first cause that holds
+pub record EntersRefusal (old new : Recorded) (r : Request) : Type 0 where
+  pub refusal : Refusal
+  pub cause : Some refusal ≡ cause_of_request old r
+  pub rows : new.rows ≡ old.rows
+  pub entries : new.entries ≡ entry_of r (Refused refusal) ∷ old.entries
 
 -- the log and the tables say the same as before, with other room
 pub record HasMadeRoom (log0 log : Recorded) (old new : Tabled) : Type 0 where

@@ -10,7 +10,7 @@ use crate::accessing::{Attempt, Request};
 use crate::breaking::reserve_step;
 use crate::manager::Manager;
 use crate::outcome::{Came, Outcome};
-use crate::settling::settle;
+use crate::settling::{settle_answered, settle_waiting};
 use durable_top::TopStore;
 use serial_spec::{Asked, By, NoMemory, Op};
 use txn_names::{Group, Key, Name};
@@ -35,7 +35,7 @@ impl<S: TopStore> Manager<S> {
         ensures err { OnErr result (self.new ≡ self.old) }
         ensures sound { OnOk result (IsSound S.TopStore self.new) }
     {
-        self.ask_telling(by, name, Asked::At(*key, op))
+        self.ask_telling(by, name, &Asked::At(*key, op))
     }
 
     /// Reads the sum of the values of all present keys of a group, and keeps each key of the group
@@ -50,7 +50,7 @@ impl<S: TopStore> Manager<S> {
         ensures err { OnErr result (self.new ≡ self.old) }
         ensures sound { OnOk result (IsSound S.TopStore self.new) }
     {
-        self.ask_telling(by, name, Asked::Over(*group))
+        self.ask_telling(by, name, &Asked::Over(*group))
     }
 
     /// As `access` and `sum`, of what is asked. It tells what came of it, and leaves the reply and the
@@ -72,54 +72,33 @@ impl<S: TopStore> Manager<S> {
         let attempt = tables.ask(log, &request)?;
         match attempt {
             Attempt::Answered(reply) => {
-                settle(log, tables, breaker, &request, &Outcome::Done(reply));
+                settle_answered(log, tables, breaker, &request, reply);
                 Ok(Came::Done)
             }
             Attempt::Waits => {
-                settle(log, tables, breaker, &request, &Outcome::Waits);
+                settle_waiting(log, tables, breaker, &request);
                 Ok(Came::Waits)
             }
             Attempt::Refused => {
-                let refused = Outcome::Refused(tables.refusal_at_access(log, by, name, asked));
-                settle(log, tables, breaker, &request, &refused);
+                tables.refuse(log, &request);
                 Ok(Came::Refused)
             }
         }
     }
 
-    // As `ask`, and it tells the outcome.
-    fn ask_telling(&mut self, by: By, name: &Name, asked: Asked) -> Result<Outcome, NoMemory>
-        requires free { IsFree self.old.history by (event_of name.now asked) }
+    // As `ask`, and it tells the outcome, which is read off the entry.
+    fn ask_telling(&mut self, by: By, name: &Name, asked: &Asked) -> Result<Outcome, NoMemory>
+        requires free { IsFree self.old.history by (event_of name.now asked.now) }
         ensures ok { IfOk result (λ outcome.
-            Answered self.old self.new by (event_of name.now asked) outcome) }
+            Answered self.old self.new by (event_of name.now asked.now) outcome) }
         ensures waits { IfOk result (λ outcome. outcome ≡ Outcome.Waits →
-            WaitsOrIsUndone self.new.history by name.now asked) }
+            WaitsOrIsUndone self.new.history by name.now asked.now) }
         ensures err { OnErr result (self.new ≡ self.old) }
         ensures sound { OnOk result (IsSound S.TopStore self.new) }
     {
-        let (log, tables, breaker) = (&mut self.log, &mut self.tables, &mut self.breaker);
-        reserve_step(log, tables, breaker)?;
-        let request = Request {
-            by,
-            name,
-            asked: &asked,
-        };
-        let attempt = tables.ask(log, &request)?;
-        match attempt {
-            Attempt::Answered(reply) => {
-                settle(log, tables, breaker, &request, &Outcome::Done(reply));
-                Ok(Outcome::Done(reply))
-            }
-            Attempt::Waits => {
-                settle(log, tables, breaker, &request, &Outcome::Waits);
-                Ok(Outcome::Waits)
-            }
-            Attempt::Refused => {
-                let refused = Outcome::Refused(tables.refusal_at_access(log, by, name, &asked));
-                settle(log, tables, breaker, &request, &refused);
-                Ok(refused)
-            }
-        }
+        let place = self.log.len();
+        self.ask(by, name, asked)?;
+        Ok(self.log.outcome_at(place))
     }
 
     /// Asks again for the access by which the transaction waits. It is answered now, by its own
@@ -127,6 +106,20 @@ impl<S: TopStore> Manager<S> {
     pub fn retry(&mut self, name: &Name) -> Result<Outcome, NoMemory>
         requires waits { IsTrue (is_some (wait_of self.old.history name.now)) }
         ensures ok { IfOk result (λ outcome. Retried self.old self.new name.now outcome) }
+        ensures err { OnErr result (self.new ≡ self.old) }
+        ensures sound { OnOk result (IsSound S.TopStore self.new) }
+    {
+        let place = self.log.len();
+        match self.ask_again(name)? {
+            Came::Waits => Ok(Outcome::Waits),
+            _ => Ok(self.log.outcome_at(place)),
+        }
+    }
+
+    /// As `retry`. It tells what came of it, as `ask` does.
+    pub fn ask_again(&mut self, name: &Name) -> Result<Came, NoMemory>
+        requires waits { IsTrue (is_some (wait_of self.old.history name.now)) }
+        ensures ok { IfOk result (λ came. CameTo came (Retried self.old self.new name.now)) }
         ensures err { OnErr result (self.new ≡ self.old) }
         ensures sound { OnOk result (IsSound S.TopStore self.new) }
     {
@@ -141,15 +134,14 @@ impl<S: TopStore> Manager<S> {
         let attempt = tables.ask_again(log, &request)?;
         match attempt {
             Attempt::Answered(reply) => {
-                settle(log, tables, breaker, &request, &Outcome::Done(reply));
-                Ok(Outcome::Done(reply))
+                settle_answered(log, tables, breaker, &request, reply);
+                Ok(Came::Done)
             }
-            Attempt::Waits => Ok(Outcome::Waits),
+            Attempt::Waits => Ok(Came::Waits),
             Attempt::Refused => {
-                let refused = Outcome::Refused(tables.refusal_at_access(log, by, name, &asked));
+                tables.refuse(log, &request);
                 tables.end_wait(name);
-                settle(log, tables, breaker, &request, &refused);
-                Ok(refused)
+                Ok(Came::Refused)
             }
         }
     }

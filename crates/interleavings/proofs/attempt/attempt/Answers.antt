@@ -17,6 +17,6 @@ attempt_free-requires-in_default g c = record {
 pub returns-else-free-clause-ok : goal.returns-else-free-clause-ok
 returns-else-free-clause-ok g c =
     let m = c.args.manager.now in
-    came_retried g.S.TopStore m c.attempt_again.new.manager c.args.by (asked c.args.event.now) c.in-Some.name.now (sym c.in-Some.ensures)
+    came_retried g.S.TopStore m c.ask_again.new.self c.args.by (asked c.args.event.now) c.in-Some.name.now (sym c.in-Some.ensures)
     (waits_unless_free m.history c.args.by (asked c.args.event.now) c.free.result c.free.ensures c.if-free.false c.requires.next)
-    c.attempt_again.result c.attempt_again.ensures.ok
+    c.ask_again.result c.ask_again.ensures.ok
