@@ -3,6 +3,7 @@ ghost use Rattle.std.specs.Prelude.{◌≡◌, ◌↔◌, IsFalse, IsTrue, IsOk,
 ghost use Rattle.std.specs.List.Sorted.{IsStrictlyIncreasing};
 ghost use Rattle.txn_names.specs.Groups.{IsGroupBefore};
 ghost use Rattle.lock_table.specs.Locked as one;
+ghost use Rattle.lock_table.specs.Locked.{has_place, modes_in, with_place};
 ghost use Rattle.lock_table.specs.Targeted.{AtGroups, BlocksBySum, IsJoined, IsUpTo, NoSumBlocks, marked_by, with_groups};
 
 use crate::locks::Locks;
@@ -91,12 +92,12 @@ pub(crate) fn add_summers(
 // Makes a place for the transaction at this group, if there is none. Mostly it wrote there last.
 fn make_mark(writers: &mut Locks, txn: TxnNo, group: &Key) -> Result<(), NoMemory>
     ensures modes { (u : ℕ) → (g : List ℕ) →
-        one.modes_in writers.new u g ≡ one.modes_in writers.old u g }
-    ensures ok { OnOk result ((u : ℕ) → (g : List ℕ) → one.has_place writers.new u g
-        ≡ one.with_place (one.has_place writers.old) txn group.now u g) }
+        modes_in writers.new u g ≡ modes_in writers.old u g }
+    ensures ok { OnOk result ((u : ℕ) → (g : List ℕ) → has_place writers.new u g
+        ≡ with_place (has_place writers.old) txn group.now u g) }
     ensures err { OnErr result ((u : ℕ) → (g : List ℕ) →
-        one.has_place writers.new u g ≡ one.has_place writers.old u g) }
-    ensures succeeds { IsTrue (one.has_place writers.old txn group.now) → IsOk result }
+        has_place writers.new u g ≡ has_place writers.old u g) }
+    ensures succeeds { IsTrue (has_place writers.old txn group.now) → IsOk result }
 {
     if writers.recalls_last(txn, group) {
         return Ok(());
