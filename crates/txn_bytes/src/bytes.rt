@@ -2,6 +2,7 @@
 ghost use Rattle.std.specs.Prelude.{◌≡◌, ◌≤◌, ◌<◌, ◌+◌, ◌==◌, ◌++◌, [], length, MatchBool, Some};
 
 use crate::call::Sink;
+use crate::copy::copy;
 use crate::sink::WriteFault;
 use std::io;
 use std::io::Write;
@@ -76,7 +77,7 @@ impl<const N: usize> Bytes<N> {
         }
         let end = start + more.len();
         let all = &mut self.bytes[..];
-        all[start..end].copy_from_slice(more);
+        copy(&mut all[start..end], more);
         self.len = end;
         true
     }

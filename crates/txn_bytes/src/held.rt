@@ -7,6 +7,7 @@ ghost use Rattle.std.specs.Cmp.{partial_equiv_from_equiv};
 ghost use Rattle.std.specs.Cmp.Lexicographic.{pointwise, slice_cmp, nat_list_eq_equiv, nat_list_cmp_total, texts_po, texts_ties};
 ghost use Rattle.txn_bytes.specs.Held.{alike, fed_held};
 
+use crate::copy::copy;
 use std::cmp::Ordering;
 use std::hash::{Hash, Hasher};
 use std::marker::Model;
@@ -56,7 +57,7 @@ impl<const N: usize> Held<N> {
         ensures { result ≡ bytes.now }
     {
         let mut held = [0; N];
-        held[..bytes.len()].copy_from_slice(bytes);
+        copy(&mut held[..bytes.len()], bytes);
         Held {
             bytes: held,
             len: bytes.len() as u8,

@@ -3,6 +3,7 @@
 
 mod bytes;
 mod call;
+mod copy;
 mod held;
 mod same;
 mod sink;

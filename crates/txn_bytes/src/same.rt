@@ -1,5 +1,5 @@
 //! Whether bytes are the same, found by whole words.
-ghost use Rattle.std.specs.Prelude.{◌≡◌, ◌<◌, ◌↔◌, [], ◌∷◌, length, IsTrue};
+ghost use Rattle.std.specs.Prelude.{◌≡◌, ◌-◌, ◌<◌, ◌↔◌, [], ◌∷◌, drop, length, IsTrue};
 ghost use Rattle.std.specs.Hash as fed;
 ghost use Rattle.std.specs.Int.{from_le_bytes, w32};
 
@@ -47,17 +47,18 @@ fn are_few_same(ours: &[u8], theirs: &[u8]) -> bool
     }
 }
 
-/// Whether both are the same bytes. Words are compared as numbers, which costs a third of a
-/// comparison byte by byte.
-pub fn are_same(ours: &[u8], theirs: &[u8]) -> bool
+// Whether both are the same, of which the last word is: word by word, of which the last may lap with that.
+fn are_fronts_same(ours: &[u8], theirs: &[u8]) -> bool
+    requires len { length ours.now ≡ length theirs.now }
+    requires last { drop (length ours.now - 8) ours.now ≡ drop (length theirs.now - 8) theirs.now }
     ensures { IsTrue result ↔ (ours.now ≡ theirs.now) }
 {
-    if ours.len() != theirs.len() {
-        return false;
-    }
     let mut left = ours;
     let mut right = theirs;
-    while let Some((word, more)) = left.split_first_chunk::<8>() {
+    while left.len() > 8 {
+        let Some((word, more)) = left.split_first_chunk::<8>() else {
+            return false;
+        };
         let Some((their_word, their_more)) = right.split_first_chunk::<8>() else {
             return false;
         };
@@ -67,5 +68,21 @@ pub fn are_same(ours: &[u8], theirs: &[u8]) -> bool
         left = more;
         right = their_more;
     }
-    are_few_same(left, right)
+    true
+}
+
+/// Whether both are the same bytes. Words are compared as numbers, which costs a third of a
+/// comparison byte by byte: the last one first, since names of one job begin alike.
+pub fn are_same(ours: &[u8], theirs: &[u8]) -> bool
+    ensures { IsTrue result ↔ (ours.now ≡ theirs.now) }
+{
+    if ours.len() != theirs.len() {
+        return false;
+    }
+    match (ours.last_chunk::<8>(), theirs.last_chunk::<8>()) {
+        (Some(last), Some(their_last)) => {
+            is_same_word(last, their_last) && are_fronts_same(ours, theirs)
+        }
+        _ => are_few_same(ours, theirs),
+    }
 }
