@@ -1,6 +1,7 @@
 //! A list of events.
-ghost use Rattle.std.specs.Prelude.{◌≡◌, ◌↔◌, [], ◌∷◌, ◌++◌, length, slice_get, IfSome, IsTrue, OnErr, OnOk};
+ghost use Rattle.std.specs.Prelude.{◌≡◌, ◌<◌, ◌↔◌, [], ◌∷◌, ◌++◌, length, slice_get, vec_capacity, vec_len, IfSome, IsTrue, OnErr, OnOk, Some};
 ghost use Rattle.std.specs.Option.{option_map};
+ghost use Rattle.event_lists.specs.Lists.{Keeps};
 ghost use Rattle.event_lists.specs.Views.{asked, event_by};
 ghost use Rattle.event_lists.specs.Words.{IsRead, named};
 
@@ -10,6 +11,10 @@ use crate::word::NameWord;
 use serial_spec::NoMemory;
 use std::alloc::Global;
 use std::marker::Model;
+
+/// Room is made for at least so many events at once, and for eight times as many as there are: so they
+/// are seldom moved, and room that is not used is not touched.
+const LEAST_ROOM: usize = 128;
 
 /// Events in order. A name is mostly kept once for all events that have it.
 #[derive(Drop)]
@@ -31,6 +36,54 @@ impl Model for Events {
     ghost view = { λ e. events_of e.names.items e.asked.items };
 
     ghost invariant = { λ e. AllByRecursion (HasName e.names.items) e.asked.items };
+}
+
+// What stands behind a space at the front.
+#[inline(always)]
+fn behind_space(bytes: &[u8]) -> Option<&[u8]>
+    ensures { IfSome result (λ behind. bytes.now ≡ 32 ∷ behind.now) }
+{
+    match bytes {
+        [b' ', behind @ ..] => Some(behind),
+        _ => None,
+    }
+}
+
+// The number of the name of which this is asked, where there is room for one. A name that begins is
+// mostly new.
+#[inline(always)]
+fn number_for(names: &mut Names, last: usize, word: &NameWord<'_>, act: &Act) -> usize
+    requires room { length names.old.items < names.old.capacity }
+    requires word { IsRead word.now }
+    ensures at { slice_get names.new.items result ≡ Some (named word.now) }
+    ensures keeps { Keeps names.old.items names.new.items }
+{
+    match act {
+        Act::Begin => names.number_unseen(word),
+        _ => names.number_likely(last, word),
+    }
+}
+
+// Makes room for one more.
+#[inline(always)]
+fn reserve_one(asked: &mut Vec<Asking>) -> Result<(), NoMemory>
+    ensures items { asked.new.items ≡ asked.old.items }
+    ensures room { OnOk result (vec_len asked.new < vec_capacity asked.new) }
+{
+    if asked.len() < asked.capacity() {
+        return Ok(());
+    }
+    grow(asked)
+}
+
+// The same, where there is none. It is no part of its caller, which mostly finds room.
+#[inline(never)]
+fn grow(asked: &mut Vec<Asking>) -> Result<(), NoMemory>
+    ensures items { asked.new.items ≡ asked.old.items }
+    ensures room { OnOk result (vec_len asked.new < vec_capacity asked.new) }
+{
+    asked.reserve(asked.len().saturating_mul(7).max(LEAST_ROOM))?;
+    Ok(())
 }
 
 impl Events {
@@ -87,6 +140,29 @@ impl Events {
         })
     }
 
+    /// The word in front of the first space, and what stands behind that, where the word spells the
+    /// name that is likely next. No name has a space, so that none is looked for.
+    #[inline(always)]
+    pub fn known_front<'a>(&self, bytes: &'a [u8]) -> Option<(NameWord<'a>, &'a [u8])>
+        ensures parts { IfSome result (λ r. bytes.now ≡ r.0.bytes.now ++ 32 ∷ r.1.now) }
+        ensures word { IfSome result (λ r. IsRead r.0) }
+    {
+        let likely = self.names.follower(self.last);
+        let name = self.names.get(likely)?;
+        let (front, rest) = bytes.split_at_checked(name.spelled().len())?;
+        let behind = behind_space(rest)?;
+        if !name.is_spelled(front) {
+            return None;
+        }
+        let (bytes, depth) = (front, name.depth());
+        let word = NameWord {
+            bytes,
+            depth,
+            likely,
+        };
+        Some((word, behind))
+    }
+
     /// Adds an event behind the others: what is asked of the transaction that the word names. The
     /// only error is that memory runs out; the events are as before then.
     #[inline(always)]
@@ -96,8 +172,8 @@ impl Events {
         ensures err { OnErr result (self.new ≡ self.old) }
     {
         self.names.reserve(1)?;
-        self.asked.reserve(1)?;
-        let name = self.names.number_of(word.likely, word);
+        reserve_one(&mut self.asked)?;
+        let name = number_for(&mut self.names, self.last, word, act);
         self.names.follow(self.last, name);
         self.last = name;
         self.asked.push_reserved(Asking { name, act: *act });

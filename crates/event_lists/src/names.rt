@@ -74,6 +74,12 @@ impl Names {
         is_spelled_at(&self.names, number, spelled)
     }
 
+    /// The number of the name that followed the one with this number last, or any.
+    #[inline(always)]
+    pub(crate) fn follower(&self, last: usize) -> usize {
+        self.index.follower(last)
+    }
+
     /// The number of the name that the bytes spell, if it is found. The name that followed the last
     /// one is looked at first, and the last one next.
     #[inline(always)]
@@ -122,6 +128,53 @@ impl Names {
         ensures capacity { self.new.capacity ≡ self.old.capacity }
     {
         match self.find_after(last, word.bytes) {
+            Some(number) => number,
+            None => self.add(word),
+        }
+    }
+
+    /// The same. The name with the number that the word tells is looked at first: it is mostly the one.
+    #[inline(always)]
+    pub(crate) fn number_likely(&mut self, last: usize, word: &NameWord<'_>) -> usize
+        requires room { length self.old.items < self.old.capacity }
+        requires word { IsRead word.now }
+        ensures at { slice_get self.new.items result ≡ Some (named word.now) }
+        ensures keeps { Keeps self.old.items self.new.items }
+        ensures len { length self.new.items ≤ length self.old.items + 1 }
+        ensures capacity { self.new.capacity ≡ self.old.capacity }
+    {
+        if self.is_spelled(word.likely, word.bytes) {
+            word.likely
+        } else {
+            self.number_elsewhere(last, word)
+        }
+    }
+
+    // The number of a name that is not the likely one. It is no part of its callers, most of which find
+    // that.
+    #[inline(never)]
+    fn number_elsewhere(&mut self, last: usize, word: &NameWord<'_>) -> usize
+        requires room { length self.old.items < self.old.capacity }
+        requires word { IsRead word.now }
+        ensures at { slice_get self.new.items result ≡ Some (named word.now) }
+        ensures keeps { Keeps self.old.items self.new.items }
+        ensures len { length self.new.items ≤ length self.old.items + 1 }
+        ensures capacity { self.new.capacity ≡ self.old.capacity }
+    {
+        self.number_of(last, word)
+    }
+
+    /// The same of a name that is likely to be new: it is looked for by its hash alone.
+    #[inline(never)]
+    pub(crate) fn number_unseen(&mut self, word: &NameWord<'_>) -> usize
+        requires room { length self.old.items < self.old.capacity }
+        requires word { IsRead word.now }
+        ensures at { slice_get self.new.items result ≡ Some (named word.now) }
+        ensures keeps { Keeps self.old.items self.new.items }
+        ensures len { length self.new.items ≤ length self.old.items + 1 }
+        ensures capacity { self.new.capacity ≡ self.old.capacity }
+    {
+        match self.index.find(&self.names, word.bytes) {
             Some(number) => number,
             None => self.add(word),
         }

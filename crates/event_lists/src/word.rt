@@ -6,6 +6,9 @@ ghost use Rattle.event_lists.specs.Words.{IsRead, named};
 use crate::events::Events;
 use txn_names::{Name, NameFault};
 
+/// The number where none is likely.
+const NONE: usize = usize::MAX;
+
 /// A word that spells a name, and the number of its labels. The name, which has room for 271 bytes,
 /// is made where it is to stand, and only if it does not stand there yet.
 #[derive(Clone, Copy)]
@@ -34,7 +37,7 @@ impl<'a> NameWord<'a> {
         Ok(NameWord {
             bytes,
             depth,
-            likely: 0,
+            likely: NONE,
         })
     }
 
@@ -47,7 +50,7 @@ impl<'a> NameWord<'a> {
         NameWord {
             bytes: name.spelled(),
             depth: name.depth(),
-            likely: 0,
+            likely: NONE,
         }
     }
 

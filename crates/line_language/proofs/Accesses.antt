@@ -1,19 +1,24 @@
 -- Words of a line that asks for an access, of which the last is not searched for a space.
-use Rattle.std.proofs.Common.{◌≡◌, ℕ, ℤ, List, [], ◌∷◌, Result, Ok, Err, Option, Some, None, MatchResult, refl, sym, ap, ◌∙◌, subst}
+use Rattle.std.proofs.Common.{◌≡◌, ℕ, ℤ, List, [], ◌∷◌, ◌++◌, Result, Ok, Err, Option, Some, None, MatchResult, refl, sym, ap, ◌∙◌, subst}
 use Rattle.std.specs.List.{join_with_byte}
 use Rattle.std.specs.Option.{ok_or}
+use Rattle.txn_names.specs.Fields.{spelled_pieces}
 use Rattle.txn_names.specs.Path.{Path}
+use Rattle.txn_names.specs.Reading.{name_of}
 use Rattle.txn_names.specs.Text.{IsKey, is_key_byte}
+use Rattle.txn_names.proofs.Exports.{name_of-spelled}
+use Rattle.event_lists.specs.Words.{IsRead, named}
+use Rattle.event_lists.specs.declared.word.NameWord.{NameWord}
 use Rattle.line_language.specs.declared.fault.LineKind.{LineKind}
 use Rattle.line_language.specs.Commands.{Words, one, name_in, key_in, number_in, keyed, valued}
 use Rattle.line_language.specs.declared.fault.LineKind.TheVariants as kind
-use Rattle.line_language.specs.Steps.{◌>>=◌}
+use Rattle.line_language.specs.Steps.{◌>>=◌, or_fault}
 use Rattle.line_language.specs.Numbers.{number_of}
 use Rattle.line_language.specs.Words.{cut_at}
-use Rattle.line_language.proofs.Bytes.{Lacks, Lacks-from_all, cut_lacking, joined_cut}
+use Rattle.line_language.proofs.Bytes.{Lacks, Lacks-from_all, cut_behind, cut_lacking, joined_cut}
 use Rattle.line_language.proofs.Numerals.{number_reads}
 use Rattle.line_language.proofs.Reading.{one_reads}
-use Rattle.line_language.proofs.Spelled.{number_lacks, space}
+use Rattle.line_language.proofs.Spelled.{name_lacks, number_lacks, space}
 
 -- a key has no space, so it is one word
 pub key_alone : (k : List ℕ) → IsKey k → cut_at 32 k ≡ k ∷ []
@@ -96,3 +101,25 @@ number_fits a k w p v hn hk hv =
     ap (λ (ws : Words). valued_on a k (one ws)) (number_alone w v hv)
     ∙ number_read a k w p hn hk
     ∙ ap (λ (o : Option ℤ). ok_or o kind.Number >>= λ v. Ok (triple v)) hv
+
+-- ---- a word that is known to spell a name, in front of a space
+
+word_named : (w : NameWord) → IsRead w → name_in w.bytes.now ≡ Ok (named w)
+word_named w h = ap (or_fault kind.Name) (ap name_of (sym (spelled_pieces w.bytes.now)) ∙ name_of-spelled (named w) h.name)
+
+pub word_cut : (bs : List ℕ) (w : NameWord) (rest : List ℕ) → IsRead w → bs ≡ w.bytes.now ++ 32 ∷ rest → cut_at 32 bs ≡ w.bytes.now ∷ cut_at 32 rest
+word_cut bs w rest h e =
+    ap (cut_at 32) e ∙ cut_behind 32 w.bytes.now rest (subst (Lacks 32) (spelled_pieces w.bytes.now) (name_lacks 32 space (named w) h.name))
+
+pub keyed_known : (w : NameWord) (k : List ℕ) → IsRead w → IsKey k → key_in k ≡ Ok k → keyed (w.bytes.now ∷ cut_at 32 k) ≡ Ok (named w, k)
+keyed_known w k h key hk =
+    let pair : Path → List ℕ → Path × List ℕ = λ n k. (n, k) in
+    ap (λ (ws : Words). keyed (w.bytes.now ∷ ws)) (key_alone k key)
+    ∙ ap (λ (r : Result Path LineKind). r >>= with_key k) (word_named w h)
+    ∙ ap (λ (r : Result (List ℕ) LineKind). r >>= λ k. Ok (pair (named w) k)) hk
+
+pub valued_known : (w : NameWord) (rest k u : List ℕ) (v : ℤ) → IsRead w → cut_at 32 rest ≡ k ∷ cut_at 32 u → key_in k ≡ Ok k → number_of u ≡ Some v
+    → valued (w.bytes.now ∷ cut_at 32 rest) ≡ Ok (named w, k, v)
+valued_known w rest k u v h parts hk hv =
+    ap (λ (ws : Words). valued (w.bytes.now ∷ ws)) parts
+    ∙ number_fits w.bytes.now k u (named w) v (word_named w h) hk hv

@@ -9,6 +9,7 @@ pub mod Longest
 pub mod Feeding
 pub mod ReadBack
 pub mod Counting
+pub mod FewDigits
 pub mod Accesses
 pub mod Parts
 pub mod Rows

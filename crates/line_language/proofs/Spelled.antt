@@ -46,7 +46,7 @@ plain_name false true e1 e2 r n h = refl
 plain_name true b e1 e2 r n h = cc
 plain_name false false e1 e2 r n h = cc
 
-name_lacks : (c : ℕ) → IsGap c → (n : Path) → IsName n → Lacks c (spelled_name n)
+pub name_lacks : (c : ℕ) → IsGap c → (n : Path) → IsName n → Lacks c (spelled_name n)
 name_lacks c g n h =
     let bs : List ℕ = spelled_name n in
     Lacks-from_all c is_name_byte g.name bs

@@ -1,5 +1,5 @@
 //! Command lines: the words behind the first, read as the first asks.
-ghost use Rattle.std.specs.Prelude.{◌≡◌, IfOk, MatchResult};
+ghost use Rattle.std.specs.Prelude.{◌≡◌, ◌∷◌, IfOk, IfSome, MatchResult, Ok};
 ghost use Rattle.std.specs.Option.{option_copied};
 ghost use Rattle.event_lists.specs.Views.{act_of, name_of};
 ghost use Rattle.event_lists.specs.Words.{IsRead, named};
@@ -160,6 +160,74 @@ pub(crate) fn valued_words<'a>(
         key,
         op: with_operand(op, value),
     })
+}
+
+// The operation that a line asks of a key, with the number 0 where it has one, and the words behind the
+// word of it. Of other lines nothing is told.
+#[inline(always)]
+fn operation_front(bytes: &[u8]) -> Option<(Op, &[u8])>
+    ensures { IfSome result (λ r. event_of bytes.now ≡ access_of r.0 (cut_at 32 r.1.now)) }
+{
+    match bytes {
+        [b'g', b'e', b't', b' ', words @ ..] => Some((Op::Get, words)),
+        [b's', b'e', b't', b' ', words @ ..] => Some((Op::Set(0), words)),
+        [b'a', b'd', b'd', b' ', words @ ..] => Some((Op::Add(0), words)),
+        [b'd', b'e', b'l', b' ', words @ ..] => Some((Op::Del, words)),
+        _ => None,
+    }
+}
+
+// The words of a line whose last word is this key.
+#[inline(always)]
+fn keyed_likely<'a>(name: &NameWord<'a>, key: &'a [u8], op: Op) -> Option<AccessWords<'a>>
+    requires { IsRead name.now }
+    ensures read { IfSome result (λ access.
+        keyed_access op (name.now.bytes.now ∷ cut_at 32 key.now) ≡ Ok (asked_in access)) }
+    ensures words { IfSome result AreRead }
+{
+    match Key::check(key) {
+        Ok(()) => Some(AccessWords {
+            name: *name,
+            key,
+            op,
+        }),
+        Err(_) => None,
+    }
+}
+
+// The words of a line that has a key and a number behind the name.
+#[inline(always)]
+fn valued_likely<'a>(name: &NameWord<'a>, words: &'a [u8], op: Op) -> Option<AccessWords<'a>>
+    requires { IsRead name.now }
+    ensures read { IfSome result (λ access.
+        valued_access op (name.now.bytes.now ∷ cut_at 32 words.now) ≡ Ok (asked_in access)) }
+    ensures words { IfSome result AreRead }
+{
+    let (key, last) = cut(words, b' ');
+    let value = parse_number(last?)?;
+    match Key::check(key) {
+        Ok(()) => Some(AccessWords {
+            name: *name,
+            key,
+            op: with_operand(op, value),
+        }),
+        Err(_) => None,
+    }
+}
+
+/// The words of a line that asks for an access of a key, where it names the transaction that is likely
+/// next behind these events, and has no fault. Of other lines nothing is told. It is part of its caller.
+#[inline(always)]
+pub fn likely_access<'a>(bytes: &'a [u8], before: &Events) -> Option<AccessWords<'a>>
+    ensures read { IfSome result (λ access. event_of bytes.now ≡ Ok (asked_in access)) }
+    ensures words { IfSome result AreRead }
+{
+    let (op, words) = operation_front(bytes)?;
+    let (name, operands) = before.known_front(words)?;
+    match operand(op) {
+        None => keyed_likely(&name, operands, op),
+        Some(_) => valued_likely(&name, operands, op),
+    }
 }
 
 // The words of a line that asks this operation, behind the word of it.

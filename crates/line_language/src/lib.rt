@@ -9,6 +9,7 @@
 
 mod answer;
 mod command;
+mod digits;
 mod entry;
 mod fault;
 pub mod laws;
@@ -21,7 +22,7 @@ mod row;
 mod spelling;
 mod verbs;
 
-pub use command::{AccessWords, one};
+pub use command::{AccessWords, likely_access, one};
 pub use entry::{ReportEntry, parse_entry, put_entry, read_entry};
 pub use event_lists::{Cause, cause_of};
 pub use fault::LineKind;

@@ -6,6 +6,7 @@ ghost use Rattle.txn_names.specs.Text.{spelled_name};
 ghost use Rattle.event_lists.specs.Views.{answer_by, asked, refusal_by};
 ghost use Rattle.line_language.specs.Printing.{spelled_access, spelled_answer, spelled_event, spelled_number, spelled_refusal, spelled_reply, spelled_when};
 
+use crate::digits::put_digits;
 use crate::refusals::refused;
 use crate::verbs::{lead, operand};
 use event_lists::{Act, Cause, EventView, Said};
@@ -14,9 +15,9 @@ use serial_spec::{Op, Reply, When};
 use txn_bytes::{Sink, WriteFault, put};
 use txn_names::{Group, Key, Name};
 
-/// Writes the number as it is spelled. After a fault, the only one, the writer has taken a beginning
-/// of that.
-pub fn put_number<W: Sink>(out: &mut W, number: i64) -> Result<(), WriteFault>
+// A number below 0, or any.
+#[inline(never)]
+fn put_signed<W: Sink>(out: &mut W, number: i64) -> Result<(), WriteFault>
     ensures ok { PutsAll W.Sink out.old out.new (spelled_number number) result }
     ensures err { PutsFront W.Sink out.old out.new (spelled_number number) result }
     ensures asked { OnErr result (IsStopped W.Sink out.new) }
@@ -25,13 +26,27 @@ pub fn put_number<W: Sink>(out: &mut W, number: i64) -> Result<(), WriteFault>
     put(out, buffer.format(number).as_bytes())
 }
 
+/// Writes the number as it is spelled. After a fault, the only one, the writer has taken a beginning
+/// of that.
+#[inline(always)]
+pub fn put_number<W: Sink>(out: &mut W, number: i64) -> Result<(), WriteFault>
+    ensures ok { PutsAll W.Sink out.old out.new (spelled_number number) result }
+    ensures err { PutsFront W.Sink out.old out.new (spelled_number number) result }
+    ensures asked { OnErr result (IsStopped W.Sink out.new) }
+{
+    match u64::try_from(number) {
+        Ok(count) => put_digits(out, count),
+        Err(_) => put_signed(out, number),
+    }
+}
+
+#[inline(always)]
 pub(crate) fn put_count<W: Sink>(out: &mut W, count: u32) -> Result<(), WriteFault>
     ensures ok { PutsAll W.Sink out.old out.new (decimal count) result }
     ensures err { PutsFront W.Sink out.old out.new (decimal count) result }
     ensures asked { OnErr result (IsStopped W.Sink out.new) }
 {
-    let mut buffer = Buffer::new();
-    put(out, buffer.format(count).as_bytes())
+    put_digits(out, u64::from(count))
 }
 
 /// Writes the size in digits. After a fault, the only one, the writer has taken a beginning of that.

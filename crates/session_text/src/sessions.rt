@@ -1,5 +1,5 @@
 //! The sessions of a text.
-ghost use Rattle.std.specs.Prelude.{◌≡◌, ◌==◌, ◌++◌, [], ◌∷◌, length, MatchResult, OnErr, OnOk, Ok, None};
+ghost use Rattle.std.specs.Prelude.{◌≡◌, ◌==◌, ◌++◌, [], ◌∷◌, length, IfSome, MatchResult, OnErr, OnOk, Ok, None};
 ghost use Rattle.std.specs.Option.{option_copied, option_map};
 ghost use Rattle.serial_spec.specs.declared.event.Event.{Event};
 ghost use Rattle.event_lists.specs.Views.{asked, event_by};
@@ -15,7 +15,7 @@ mod growing;
 use crate::fault::TextFault;
 use crate::header::{labelled, words_of_header};
 use event_lists::{Act, EventView, Events, NameWord, act_in, name_in};
-use line_language::{AccessWords, LineKind, access_in, cut_line, parse_event};
+use line_language::{AccessWords, LineKind, access_in, cut_line, likely_access, parse_event};
 use serial_spec::{MOST_LINES, MOST_SESSIONS, NoMemory};
 use std::alloc::Global;
 use std::marker::Model;
@@ -173,7 +173,20 @@ impl Sessions {
     }
 
     // One command line more, the line of this number. Its own faults come before that of its place.
+    // Most lines access a key by the transaction that is likely next, and are read here; the others
+    // are read apart, since what is large is cleared where a function begins.
     fn add_command(&mut self, number: usize, bytes: &[u8]) -> Result<(), TextFault>
+        ensures { IsPlaced self.old number (command_of bytes.now) self.new result }
+    {
+        match likely_in(bytes, &self.sessions) {
+            Some(access) => self.add_access(number, &access, bytes),
+            None => self.add_searched(number, bytes),
+        }
+    }
+
+    // The same, of any line.
+    #[inline(never)]
+    fn add_searched(&mut self, number: usize, bytes: &[u8]) -> Result<(), TextFault>
         ensures { IsPlaced self.old number (command_of bytes.now) self.new result }
     {
         match access_in(bytes, open_events(&self.sessions)) {
@@ -184,6 +197,7 @@ impl Sessions {
     }
 
     // A line more that asks for an access of a key, the line of this number, by its words.
+    #[inline(always)]
     fn add_access(
         &mut self,
         number: usize,
@@ -259,6 +273,15 @@ fn is_taken(label: &Label, sessions: &[Session]) -> bool
     ensures { result ≡ is_taken label.now sessions.now }
 {
     sessions.iter().any(|s| *label == s.label)
+}
+
+// The words of a line that accesses a key by the transaction that is likely next in the last session.
+#[inline(always)]
+fn likely_in<'a>(bytes: &'a [u8], sessions: &[Session]) -> Option<AccessWords<'a>>
+    ensures read { IfSome result (λ access. event_of bytes.now ≡ Ok (asked_in access)) }
+    ensures words { IfSome result AreRead }
+{
+    likely_access(bytes, open_events(sessions)?)
 }
 
 // The lines of the last session, if there is one.

@@ -5,7 +5,7 @@ ghost use Rattle.txn_names.specs.Path.{path_eq};
 ghost use Rattle.txn_names.specs.Text.{IsName};
 ghost use Rattle.txn_tree.specs.States.{IsTree, names, status_in, GetsStatus, GetsStatusAt};
 ghost use Rattle.txn_tree.specs.Asked.{IsNumberOf, IsRootless, is_absent_in};
-ghost use Rattle.txn_tree.specs.Numbered.{is_under, status_at};
+ghost use Rattle.txn_tree.specs.Numbered.{status_at};
 ghost use Rattle.txn_tree.specs.Causes.{cause_at_begin};
 
 use crate::number::TxnNo;
