@@ -9,6 +9,7 @@ use Rattle.std.proofs.lemmas.List.Edits.{length-insert, length-remove}
 use Rattle.std.proofs.lemmas.Map.{lookup-insert, none_passes_from_lookup}
 use Rattle.std.proofs.lemmas.Map.Entries.{length-keys_of}
 use Rattle.std.proofs.lemmas.Option.{get_or_from_slice_get, slice_get-get_or, slice_get_within}
+use Rattle.txn_cells.specs.Cells.{joined_here}
 use Rattle.txn_cells.specs.Kept.{Held, IsChangedAt, content_of, holds}
 use Rattle.txn_cells.proofs.ByKey.{any_at, rises, rising_without}
 use Rattle.txn_cells.proofs.Puts.{none_from, on_number}
@@ -99,6 +100,14 @@ module _ {V : Type 0} (held : Held V) (t : ℕ) (fresh : holds held t ≡ false)
       on_number t u (λ b. lookup (nat_eq u) held ≡ cond b None (lookup (nat_eq u) held))
       (λ e. subst (λ (v : ℕ). lookup (nat_eq v) held ≡ None) e (none_from (lookup (nat_eq t) held) fresh))
       (λ _. refl)
+
+-- what is added in a place that is new is added to nothing
+pub put_joined : {V : Type 0} (old new : Held V) (t : ℕ) (join : Option V → V) → holds old t ≡ false → IsChangedAt old new t (Some None)
+    → (u : ℕ) → cond (nat_eq t u) (Some (join None)) (content_of new u) ≡ joined_here (content_of old) t join u
+put_joined old new t join fresh changed u =
+    on_number t u (λ b. cond b (Some (join None)) (content_of new u) ≡ cond b (Some (join (content_of old u))) (content_of old u))
+    (λ e. ap (λ o. Some (join o)) (sym (subst (λ (v : ℕ). content_of old v ≡ None) e (nothing_had old t fresh))))
+    (λ _. put_contents old new t changed u fresh)
 
 -- who stands at an index has a place
 pub holds_at : {V : Type 0} (held : Held V) (t i : ℕ) → slice_get (keys_of held) i ≡ Some t → holds held t ≡ true

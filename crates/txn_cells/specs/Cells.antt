@@ -30,6 +30,11 @@ abbrev pub with_joined : {V : Type 0} → (ℕ → List ℕ → Option V) → �
 with_joined content t k join u q =
     if nat_eq t u && label_eq k q then Some (join (content u q)) else content u q
 
+-- t has at k what this makes of what it had there, and all else is as it was
+abbrev pub HasJoined : {V : Type 0} → (Option V → V) → ℕ → List ℕ
+    → (ℕ → List ℕ → Option V) → (ℕ → List ℕ → Option V) → Type 0
+HasJoined join t k old new = (u : ℕ) → (q : List ℕ) → new u q ≡ with_joined old t k join u q
+
 -- where there are places, once the parent has one at each key of the child
 abbrev pub with_childs : (ℕ → List ℕ → Bool) → ℕ → ℕ → ℕ → List ℕ → Bool
 with_childs place child parent u q = (nat_eq parent u && place child q) || place u q

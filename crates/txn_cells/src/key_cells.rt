@@ -153,6 +153,30 @@ impl<V: Inherit> KeyCells<V> {
         }
     }
 
+    /// Makes a place for the transaction, if it has none, and adds this to what it has, as an
+    /// access of its own. It tells whether it had no place. The only error is that memory runs out,
+    /// and then nothing changes.
+    #[inline(always)]
+    pub(crate) fn take(&mut self, txn: TxnNo, added: V) -> Result<bool, NoMemory>
+        ensures made { IfOk result (λ made. made ≡ not (holds self.old txn)) }
+        ensures contents { OnOk result ((u : ℕ) → content_of self.new u
+            ≡ joined_here (content_of self.old) txn (V.joined added) u) }
+        ensures ok { OnOk result ((u : ℕ) → holds self.new u ≡ (nat_eq txn u || holds self.old u)) }
+        ensures err { OnErr result (self.new ≡ self.old) }
+        ensures succeeds { IsTrue (holds self.old txn) → IsOk result }
+    {
+        if let Some((index, own)) = self.found(txn) {
+            self.recent = index;
+            self.put_at(index, txn, V::join(added, own));
+            return Ok(false);
+        }
+        make_room_to_mark(&mut self.marked, &self.cells)?;
+        let index = self.cells.insert(txn)?;
+        self.recent = index;
+        self.put_at(index, txn, V::join(added, None));
+        Ok(true)
+    }
+
     // Takes the transaction out, and gives what it had.
     fn remove(&mut self, txn: TxnNo) -> Option<V>
         ensures had { result ≡ content_of self.old txn }

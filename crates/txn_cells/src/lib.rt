@@ -14,6 +14,7 @@ mod marks;
 mod numbers;
 mod places;
 mod table;
+mod taking;
 
 pub use inherit::Inherit;
 pub use key_cells::KeyCells;

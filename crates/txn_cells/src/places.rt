@@ -3,7 +3,7 @@ ghost use Rattle.std.specs.Prelude.{◌≡◌, not, nat_eq, false, length, slice
 ghost use Rattle.std.specs.List.Sorted.{IsStrictlyIncreasing};
 ghost use Rattle.std.specs.Map.{keys_of};
 ghost use Rattle.txn_names.specs.Path.{label_eq};
-ghost use Rattle.txn_cells.specs.Cells.{is_it, with_place, AreGivenUp, AreHandedUp, is_among, with_content, with_joined};
+ghost use Rattle.txn_cells.specs.Cells.{is_it, with_place, AreGivenUp, AreHandedUp, HasJoined, is_among, with_content, with_joined};
 ghost use Rattle.txn_cells.specs.Kept.{AreAt, StayAt, content_kept, held_at, place_kept, stands};
 
 use crate::inherit::Inherit;
@@ -115,6 +115,12 @@ impl<V: Inherit> Places<V> {
         }
     }
 
+    /// The remembered place.
+    #[inline(always)]
+    pub(crate) fn recent(&self) -> usize {
+        self.recent
+    }
+
     /// Takes this place for the remembered one.
     pub(crate) fn expect(&mut self, place: usize)
         ensures { self.new ≡ self.old }
@@ -162,6 +168,30 @@ impl<V: Inherit> Places<V> {
         ensures succeeds { IsTrue (place_kept self.old txn key.now) → IsOk result }
     {
         self.holders.get_index_mut(place).unwrap().add(txn)
+    }
+
+    /// Makes a place for the transaction, if it has none, at the key that has this index among all
+    /// keys, and adds this to what it has there, as an access of its own. It tells whether it had no
+    /// place. The only error is that memory runs out, and then nothing changes.
+    #[inline(always)]
+    pub(crate) fn take(
+        &mut self,
+        txn: TxnNo,
+        key: &Key,
+        place: usize,
+        added: V,
+    ) -> Result<bool, NoMemory>
+        requires at { slice_get (keys_of self.old) place ≡ Some key.now }
+        ensures keys { keys_of self.new ≡ keys_of self.old }
+        ensures made { IfOk result (λ made. made ≡ not (place_kept self.old txn key.now)) }
+        ensures contents { OnOk result (HasJoined (V.joined added) txn key.now
+            (content_kept self.old) (content_kept self.new)) }
+        ensures ok { OnOk result ((u : ℕ) → (q : List ℕ) → place_kept self.new u q
+            ≡ with_place (place_kept self.old) txn key.now u q) }
+        ensures err { OnErr result ((q : List ℕ) → held_at self.new q ≡ held_at self.old q) }
+        ensures succeeds { IsTrue (place_kept self.old txn key.now) → IsOk result }
+    {
+        self.holders.get_index_mut(place).unwrap().take(txn, added)
     }
 
     /// Sets what the transaction has at the key. It takes no memory.

@@ -21,8 +21,8 @@ use txn_tree::{Tree, TxnNo};
 /// and a key; a new place is empty.
 #[derive(Drop)]
 pub struct CellTable<V: Inherit> {
-    places: Places<V>,
-    keys: KeyLists,
+    pub(crate) places: Places<V>,
+    pub(crate) keys: KeyLists,
 }
 
 impl<V: Inherit> Model for CellTable<V> {
@@ -190,6 +190,22 @@ impl<V: Inherit> CellTable<V> {
             }
             None => false,
         }
+    }
+
+    /// Where the key stands that was remembered, reserved or taken last. It is a hint for `expect`,
+    /// and nothing rests on it.
+    #[inline(always)]
+    pub fn hint(&self) -> usize {
+        self.places.recent()
+    }
+
+    /// Takes the key that stands there for the one that was remembered last. Where it is not the
+    /// one that is asked for next, that is looked up.
+    #[inline(always)]
+    pub fn expect(&mut self, hint: usize)
+        ensures { self.new ≡ self.old }
+    {
+        self.places.expect(hint);
     }
 
     // As `at`, where the key mostly is the transaction's key at this index: its place stands in the

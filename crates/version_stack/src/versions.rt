@@ -208,6 +208,22 @@ impl Versions {
         i64::try_from(self.sum_seen(tree, txn, group)).ok()
     }
 
+    /// Where the key stands at which a place was made, or a value put, last. It is a hint for
+    /// `expect`, and nothing rests on it.
+    #[inline(always)]
+    pub fn hint(&self) -> usize {
+        self.written.hint()
+    }
+
+    /// Takes the key that stands there for the one that is asked for next, so that it is found
+    /// without a look-up. Any other is looked up.
+    #[inline(always)]
+    pub fn expect(&mut self, hint: usize)
+        ensures { self.new ≡ self.old }
+    {
+        self.written.expect(hint);
+    }
+
     /// Makes a place for the transaction and the key, if there is none, so that a value can be put
     /// there without memory. Nothing that was left changes, and each other place stays. If memory
     /// runs out, the only error, no place is made.
