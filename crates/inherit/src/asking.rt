@@ -1,5 +1,5 @@
 //! Accesses of keys and sums over groups: what is asked, in the locks and the versions at once.
-ghost use Rattle.std.specs.Prelude.{◌≡◌, ◌≤◌, ◌↔◌, ℕ, List, IsOk, OnOk, IsSome, IfNone, IfSome, IsTrue};
+ghost use Rattle.std.specs.Prelude.{◌≡◌, ◌≤◌, ◌↔◌, ℕ, List, IsOk, IfOk, OnErr, OnOk, IsSome, IfNone, IfSome, IsTrue};
 ghost use Rattle.serial_spec.specs.declared.operation.Kind.TheVariants.{Read};
 ghost use Rattle.serial_spec.specs.declared.target.Asked.TheVariants.{At, Over};
 ghost use Rattle.serial_spec.specs.declared.target.Target.TheVariants as target;
@@ -38,7 +38,26 @@ fn reply_for(versions: &Versions, tree: &Tree, txn: TxnNo, asked: &Asked) -> Rep
     }
 }
 
+// Makes a place for the value that is left by what is asked, if one is.
+#[inline(always)]
+fn make_place(versions: &mut Versions, txn: TxnNo, asked: &Asked) -> Result<(), NoMemory>
+    ensures left { (u : ℕ) → (q : List ℕ) → left_in versions.new u q ≡ left_in versions.old u q }
+    ensures base { versions.new.base ≡ versions.old.base }
+    ensures ok { OnOk result (MayLeave versions.new txn asked.now) }
+    ensures succeeds { MayLeave versions.old txn asked.now → IsOk result }
+    ensures read { kind_of asked.now ≡ Read → versions.new ≡ versions.old }
+{
+    match asked {
+        Asked::At(key, op) => match op.kind() {
+            Kind::Read => Ok(()),
+            Kind::Write => versions.reserve(txn, key),
+        },
+        Asked::Over(_) => Ok(()),
+    }
+}
+
 // The transaction leaves what its access leaves by this reply, if it is something.
+#[inline(always)]
 fn leave(versions: &mut Versions, txn: TxnNo, asked: &Asked, reply: Reply)
     requires { MayLeave versions.old txn asked.now }
     ensures left { (u : ℕ) → (q : List ℕ) →
@@ -56,6 +75,26 @@ fn leave(versions: &mut Versions, txn: TxnNo, asked: &Asked, reply: Reply)
 }
 
 impl Estate {
+    // Tells the versions where they have the key that the locks remember.
+    #[inline(always)]
+    fn expect_versions(&mut self)
+        ensures { self.new ≡ self.old }
+    {
+        if let Some(hint) = self.hints.at(self.locks.key_hint()) {
+            self.versions.expect(hint);
+        }
+    }
+
+    // Keeps in mind where the versions have the key that has been locked, if it is written.
+    #[inline(always)]
+    fn note_versions(&mut self, asked: &Asked)
+        ensures { self.new ≡ self.old }
+    {
+        if asked.kind() == Kind::Write {
+            self.hints.put(self.locks.key_hint(), self.versions.hint());
+        }
+    }
+
     /// Makes all growths of an access or a sum beforehand, as `reserve_for` of its event does. The
     /// only error is that memory runs out.
     pub fn reserve_asked(&mut self, txn: TxnNo, asked: &Asked) -> Result<(), NoMemory>
@@ -66,13 +105,7 @@ impl Estate {
         ensures read { kind_of asked.now ≡ Read → self.new.versions ≡ self.old.versions }
     {
         self.locks.reserve_asked(txn, asked)?;
-        match asked {
-            Asked::At(key, op) => match op.kind() {
-                Kind::Read => Ok(()),
-                Kind::Write => self.versions.reserve(txn, key),
-            },
-            Asked::Over(_) => Ok(()),
-        }
+        make_place(&mut self.versions, txn, asked)
     }
 
     /// Whether no lock keeps the transaction from what it asks, as `may_ask` of the locks tells it.
@@ -100,6 +133,31 @@ impl Estate {
         self.locks.hold_asked(txn, asked);
         leave(&mut self.versions, txn, asked, reply);
         reply
+    }
+
+    /// Makes all growths of what is asked of a transaction that no lock keeps out, as `may_ask` of
+    /// the locks told, and does it: what `reserve_asked` and then `grant` do, by one look at a key
+    /// among the locks. The only error is that memory runs out. What is locked, left and seen is
+    /// then as it was.
+    #[inline(always)]
+    pub fn take(&mut self, tree: &Tree, txn: TxnNo, asked: &Asked) -> Result<Reply, NoMemory>
+        requires may { MayAsk tree.now self.old.locks txn asked.now }
+        ensures reply { IfOk result (λ reply.
+            reply ≡ reply_at (seen_in tree.now self.old.versions txn) asked.now) }
+        ensures accessed { IfOk result (λ reply.
+            HasAccessed self.old self.new txn asked.now reply) }
+        ensures same { OnErr result (IsSame self.old self.new) }
+        ensures base { self.new.versions.base ≡ self.old.versions.base }
+        ensures read { kind_of asked.now ≡ Read → self.new.versions ≡ self.old.versions }
+        ensures succeeds { HasPlace self.old txn asked.now → IsOk result }
+    {
+        self.expect_versions();
+        make_place(&mut self.versions, txn, asked)?;
+        self.locks.lock_asked(txn, asked)?;
+        let reply = reply_for(&self.versions, tree, txn, asked);
+        leave(&mut self.versions, txn, asked, reply);
+        self.note_versions(asked);
+        Ok(reply)
     }
 
     /// Does what is asked: nothing where a lock keeps the transaction out, and then nothing has

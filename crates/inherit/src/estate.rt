@@ -9,6 +9,7 @@ ghost use Rattle.inherit.specs.LocksAndVersions.{IsRead, IsReady, IsReadyToAsk, 
 ghost use Rattle.inherit.specs.Steps.{HasDropped, HasGoneUp};
 ghost use Rattle.version_stack.specs.Versioned.{base_after};
 
+use crate::hints::Hints;
 use lock_table::TargetLocks;
 use serial_spec::{Asked, Event, NoMemory, PlainTable};
 use std::alloc::Global;
@@ -24,6 +25,8 @@ pub struct Estate {
     pub(crate) alloc: Global,
     pub(crate) locks: TargetLocks,
     pub(crate) versions: Versions,
+    // Where the versions of a key stand, by where its locks stand.
+    pub(crate) hints: Hints,
 }
 
 impl Model for Estate {
@@ -48,6 +51,7 @@ impl Estate {
             alloc,
             locks: TargetLocks::new(alloc),
             versions: Versions::new(alloc, base),
+            hints: Hints::new(alloc),
         }
     }
 

@@ -5,5 +5,6 @@
 mod asking;
 mod changes;
 mod estate;
+mod hints;
 
 pub use estate::Estate;

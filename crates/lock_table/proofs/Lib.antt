@@ -8,4 +8,6 @@ pub mod Summers
 pub mod Found
 pub mod Listed
 mod Bare
+mod Dots
+mod InTurn
 pub mod Exports

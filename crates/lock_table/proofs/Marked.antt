@@ -68,6 +68,13 @@ writers_same keys keys2 writers are same = record {
   marked = λ u g q some i h. are.marked u g q some i (sym (same u q) ∙ h);
 }
 
+-- and where two have the same marks
+pub marks_same : (keys writers writers2 : one.Table) → AreWriters keys writers → ((u : ℕ) (g : List ℕ) → one.modes_in writers2 u g ≡ one.modes_in writers u g) → AreWriters keys writers2
+marks_same keys writers writers2 are same = record {
+  wrote = λ u g h. are.wrote u g (sym (ap writes (same u g)) ∙ h);
+  marked = λ u g q some i h. ap writes (same u g) ∙ are.marked u g q some i h;
+}
+
 pub writers_read : (keys keys2 writers : one.Table) (t : ℕ) (k : List ℕ) → AreWriters keys writers → ((u : ℕ) (q : List ℕ) → one.modes_in keys2 u q ≡ one.held_by keys t k mode.Read u q) → AreWriters keys2 writers
 writers_read keys keys2 writers t k are held = writers_same keys keys2 writers are (λ u q. ap writes (held u q) ∙ read_by (nat_eq t u && label_eq k q) (one.modes_in keys u q))
 

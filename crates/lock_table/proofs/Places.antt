@@ -11,7 +11,7 @@ use Rattle.serial_spec.specs.declared.operation.Kind.TheVariants.{Write}
 use Rattle.serial_spec.specs.declared.target.Target.{Target}
 use Rattle.serial_spec.specs.declared.target.Target.TheVariants.{Key, Group}
 use Rattle.lock_table.specs.Locked as one
-use Rattle.lock_table.specs.Targeted.{AtGroups, HasPlaces, IsUpTo, MayGoUpTo, MayHold, has_place, with_groups}
+use Rattle.lock_table.specs.Targeted.{AtGroups, HasModes, HasPlaces, IsUpTo, MayGoUpTo, MayHold, has_place, modes_at, with_groups}
 
 -- nothing is made as yet
 pub up_to_none : {X : Type 0} (old wanted : ℕ → X → Bool) → ((u : ℕ) (x : X) → old u x ≡ true → wanted u x ≡ true) → IsUpTo old old wanted
@@ -44,11 +44,22 @@ pub sums_same : (keys sums sums2 writers : one.Table) → ((u : ℕ) (g : List �
 sums_same keys sums sums2 writers same u (Key k) = refl
 sums_same keys sums sums2 writers same u (Group g) = same u g
 
+-- its modes too
+pub sums_modes_same : (keys sums sums2 writers : one.Table) → ((u : ℕ) (g : List ℕ) → one.modes_in sums2 u g ≡ one.modes_in sums u g)
+    → HasModes (record { keys = keys; sums = sums2; writers = writers }) (modes_at (record { keys = keys; sums = sums; writers = writers }))
+sums_modes_same keys sums sums2 writers same u (Key k) = refl
+sums_modes_same keys sums sums2 writers same u (Group g) = same u g
+
 module _ (keys keys2 sums writers writers2 : one.Table) where
   pub keys_same : ((u : ℕ) (q : List ℕ) → one.has_place keys2 u q ≡ one.has_place keys u q)
       → HasPlaces (record { keys = keys2; sums = sums; writers = writers2 }) (has_place (record { keys = keys; sums = sums; writers = writers }))
   keys_same same u (Key k) = same u k
   keys_same same u (Group g) = refl
+
+  pub keys_modes_same : ((u : ℕ) (q : List ℕ) → one.modes_in keys2 u q ≡ one.modes_in keys u q)
+      → HasModes (record { keys = keys2; sums = sums; writers = writers2 }) (modes_at (record { keys = keys; sums = sums; writers = writers }))
+  keys_modes_same same u (Key k) = same u k
+  keys_modes_same same u (Group g) = refl
 
   -- a key that has a place now may be locked
   pub may_hold : (t : ℕ) (k : List ℕ) (x : Kind) → (x ≡ Write → AtGroups k (λ g. one.has_place writers2 t g ≡ true))

@@ -177,16 +177,6 @@ other_length : (m n : ℕ) → (m ≡ n → ⊥) → nat_lt m (n + 1) ≡ nat_lt
 other_length m n h = grind (arith, h)
 
 module _ (writers : one.Table) (t : ℕ) (k : List ℕ) (n u : ℕ) where
-  -- no group of n bytes
-  pub none_marked : ((g : List ℕ) → has g k ≡ true → 0 < length g → length g ≡ n → ⊥) → (g : List ℕ) → marked_below writers t k n u g ≡ marked_below writers t k (n + 1) u g
-  none_marked none g =
-      let m = one.modes_in writers u g in
-      on_test (has g k) (λ h. has g k ≡ h → cond (nat_eq t u && (h && (nat_lt 0 (length g) && nat_lt (length g) n))) (with_held m mode.Write) m ≡ cond (nat_eq t u && (h && (nat_lt 0 (length g) && nat_lt (length g) (n + 1)))) (with_held m mode.Write) m)
-      (λ _ i. on_test (nat_lt 0 (length g)) (λ z. nat_lt 0 (length g) ≡ z → cond (nat_eq t u && (true && (z && nat_lt (length g) n))) (with_held m mode.Write) m ≡ cond (nat_eq t u && (true && (z && nat_lt (length g) (n + 1)))) (with_held m mode.Write) m)
-      (λ _ z. ap (λ b. cond (nat_eq t u && (true && (true && b))) (with_held m mode.Write) m) (sym (other_length (length g) n (none g i (ltb-true 0 (length g) z)))))
-      (λ _ _. refl) refl)
-      (λ _ _. refl) refl
-
   -- one, which is marked
   pub one_marked : (f : List ℕ) → has f k ≡ true → 0 < n → length f ≡ n → (g : List ℕ)
       → cond (nat_eq t u && label_eq f g) (with_held (marked_below writers t k n u g) mode.Write) (marked_below writers t k n u g) ≡ marked_below writers t k (n + 1) u g

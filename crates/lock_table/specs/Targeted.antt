@@ -1,6 +1,6 @@
 -- Locks by target: one table of locks by key, one by group, and one that tells by group who has
 -- written a key of it. The bytes of a group are those of a key, so that each is a table by key.
-use Rattle.std.specs.Prelude.{◌≡◌, ◌<◌, ℕ, Bool, true, false, nat_eq, nat_lt, not, ◌&&◌, ◌||◌, ◌↔◌, ◌⊎◌, if◌then◌else◌, List, [], length, take, Option}
+use Rattle.std.specs.Prelude.{◌≡◌, ◌<◌, ◌≤◌, ℕ, Bool, true, false, nat_eq, nat_lt, not, ◌&&◌, ◌||◌, ◌↔◌, ◌⊎◌, if◌then◌else◌, IfSome, List, [], length, take, Option, Some, None}
 use Rattle.std.specs.List.{list_any}
 use Rattle.std.specs.List.Sorted.{IsStrictlyIncreasing}
 use Rattle.txn_names.specs.Groups.{has}
@@ -201,6 +201,35 @@ abbrev pub AddsMarkPlaces : Targeted → Targeted → (ℕ → List ℕ → Bool
 AddsMarkPlaces old new wanted = IsUpTo (has_mark_place old) (has_mark_place new) wanted
 
 -- ---- marks
+
+-- a group of the key, with some bytes
+abbrev pub IsGroupOf : List ℕ → List ℕ → Type 0
+IsGroupOf k g = (has g k ≡ true) × (0 < length g)
+
+-- the same with at least so many bytes
+abbrev pub IsGroupFrom : List ℕ → ℕ → List ℕ → Type 0
+IsGroupFrom k least g = (has g k ≡ true) × (0 < length g) × (least ≤ length g)
+
+-- t has marked the group
+abbrev pub IsMarkedAt : one.Table → ℕ → List ℕ → Type 0
+IsMarkedAt writers t g = (one.modes_in writers t g).held ≡ mode.Write
+
+-- whether g is shorter than this group, if there is one
+abbrev pub IsShorter : Option (List ℕ) → List ℕ → Type 0
+IsShorter None g = Unit {0}
+IsShorter (Some f) g = length g < length f
+
+-- this is a group of the key, and t has marked all that are shorter; all of the key's, if it is none
+pub record IsMarkedUpTo (writers : one.Table) (t : ℕ) (k : List ℕ) (o : Option (List ℕ))
+    : Type 0 where
+  pub group : IfSome o (IsGroupOf k)
+  pub marked : AtGroups k (λ g. IsShorter o g → IsMarkedAt writers t g)
+
+-- the first group that is not marked, where this was the first so far and it is known whether g is
+abbrev pub first_unmarked : Option (List ℕ) → Bool → List ℕ → Option (List ℕ)
+first_unmarked (Some f) marked g = Some f
+first_unmarked None true g = None
+first_unmarked None false g = Some g
 
 -- where t has marked the groups of the key that have some bytes, and fewer than n
 abbrev pub marked_below : one.Table → ℕ → List ℕ → ℕ → ℕ → List ℕ → Modes

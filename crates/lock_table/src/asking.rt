@@ -96,4 +96,25 @@ impl TargetLocks {
             Asked::Over(group) => self.hold_group(txn, group),
         }
     }
+
+    /// Makes the places that the lock of what is asked needs, and locks its target, as `lock` and
+    /// `lock_group` do. If memory runs out, the only error, no lock changes, and the target has no
+    /// new place.
+    #[inline(always)]
+    pub fn lock_asked(&mut self, txn: TxnNo, asked: &Asked) -> Result<(), NoMemory>
+        ensures modes { OnOk result (HasModes self.new
+            (held_at self.old txn (target asked.now) (mode_of (kind_of asked.now)))) }
+        ensures ok { OnOk result (MayHoldAsked self.new txn asked.now) }
+        ensures kept { OnErr result (HasModes self.new (modes_at self.old)) }
+        ensures err { OnErr result (HasPlaces self.new (has_place self.old)) }
+        ensures places { AddsPlaces self.old self.new
+            (with_place_at self.old txn (target asked.now)) }
+        ensures marks { AddsMarkPlaces self.old self.new (with_marks_asked self.old txn asked.now) }
+        ensures succeeds { MayHoldAsked self.old txn asked.now → IsOk result }
+    {
+        match asked {
+            Asked::At(key, op) => self.lock(txn, key, op.kind()),
+            Asked::Over(group) => self.lock_group(txn, group),
+        }
+    }
 }

@@ -7,6 +7,7 @@ mod key_locks;
 mod locks;
 mod modes;
 mod numbers;
+mod taking;
 mod targets;
 
 pub use locks::Locks;

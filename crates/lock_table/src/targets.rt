@@ -23,11 +23,11 @@ use txn_tree::{Tree, TxnNo};
 /// How far each transaction, by its number, locks each key and each group.
 #[derive(Drop)]
 pub struct TargetLocks {
-    keys: Locks,
+    pub(crate) keys: Locks,
     // By the bytes of the group.
-    sums: Locks,
+    pub(crate) sums: Locks,
     // Who locks a key of a group to write, by the bytes of the group.
-    writers: Locks,
+    pub(crate) writers: Locks,
 }
 
 impl Model for TargetLocks {
