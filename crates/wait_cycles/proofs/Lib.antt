@@ -9,5 +9,6 @@ pub mod Sorted
 pub mod Kept
 pub mod Listed
 pub mod Stored
+pub mod Bits
 pub mod Marked
 pub mod Exports

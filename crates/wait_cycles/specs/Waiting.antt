@@ -1,7 +1,9 @@
 -- Accesses that wait, at most one of a transaction.
-use Rattle.std.specs.Prelude.{◌≡◌, ◌+◌, Bool, false, ◌<◌, ℕ, nat_eq, List, length, Option, Some, find, slice_get, if◌then◌else◌}
+use Rattle.std.specs.Prelude.{◌≡◌, ◌+◌, Bool, false, ◌<◌, ◌≤◌, ℕ, nat_eq, List, length, Option, Some, find, slice_get, if◌then◌else◌}
 use Rattle.std.specs.Option.{option_map, unwrap_or}
 use Rattle.txn_tree.specs.States.{States}
+use Rattle.serial_spec.specs.declared.target.Target.{Target}
+use Rattle.serial_spec.specs.Targets.{meets, target}
 pub use Rattle.txn_tree.specs.Numbered.{is_under}
 use Rattle.wait_cycles.specs.declared.waits.Wait.{Wait}
 
@@ -46,3 +48,9 @@ pub record IsTaken (place : ℕ) (old new : List Wait) : Type 0 where
   pub len : length new + 1 ≡ length old
   pub from : (i : ℕ) → i < length new
       → slice_get new i ≡ slice_get old (if nat_eq i place then length new else i)
+
+-- no wait that stands at or behind the first place, and before the second, is for what has a key in
+-- common with this
+abbrev pub AreUnmet : List Wait → Target → ℕ → ℕ → Type 0
+AreUnmet waits s from to = (place : ℕ) (w : Wait) → from ≤ place → place < to
+    → slice_get waits place ≡ Some w → meets s (target w.asked) ≡ false

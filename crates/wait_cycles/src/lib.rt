@@ -6,6 +6,7 @@ mod cycle;
 mod finder;
 pub mod laws;
 mod order;
+mod places;
 mod reached;
 mod records;
 mod sieve;

@@ -4,7 +4,7 @@ ghost use Rattle.std.specs.Option.{option_copied};
 ghost use Rattle.serial_spec.specs.declared.target.Asked.TheVariants.{At, Over};
 ghost use Rattle.serial_spec.specs.Targets.{meets, target as locked};
 ghost use Rattle.wait_cycles.specs.Sieve.{AreMarked};
-ghost use Rattle.wait_cycles.specs.Waiting.{AreOnce, HasJoined, StandsAt, is_under, is_under_in, wait_of, wait_with};
+ghost use Rattle.wait_cycles.specs.Waiting.{AreOnce, AreUnmet, HasJoined, IsTaken, StandsAt, is_under, is_under_in, wait_of, wait_with};
 
 use crate::records::Records;
 use crate::sieve::Sieve;
@@ -22,11 +22,14 @@ pub struct Wait {
     pub by: By,
 }
 
+/// At least so many calls take waits out before the marks are made anew.
+const LEAST_GONE: usize = 16;
+
 /// The accesses that wait, at most one of a transaction. Only `reserve` and `add` take memory.
 #[derive(Drop)]
 pub struct Waits {
     records: Records,
-    // What they ask is marked.
+    // The place of each is marked for what it asks.
     sieve: Sieve,
     // So many calls have taken waits out since the marks were made anew.
     gone: usize,
@@ -53,17 +56,31 @@ fn is_under_at(records: &Records, tree: &Tree, txn: TxnNo, place: usize) -> bool
     }
 }
 
-// Marks for what these ask alone.
-fn sieve_of(records: &Records) -> Sieve
-    ensures { AreMarked result records.now.waits }
+// Marks the places of these for what they ask, and no others.
+fn mark_anew(sieve: &mut Sieve, records: &Records)
+    ensures { AreMarked sieve.new records.now.waits }
 {
-    let mut sieve = Sieve::new();
+    sieve.clear();
     for place in 0..records.len() {
         if let Some(wait) = records.at(place) {
-            sieve.mark(&wait.asked);
+            sieve.mark(&wait.asked, place);
         }
     }
-    sieve
+}
+
+// Takes the wait at this place out. The last stands there then, and is marked there.
+fn take_out(records: &mut Records, sieve: &mut Sieve, place: usize)
+    requires within { place < length records.old.waits }
+    requires marked { AreMarked sieve.old records.old.waits }
+    ensures taken { IsTaken place records.old.waits records.new.waits }
+    ensures once { AreOnce records.old × AreOnce records.new }
+    ensures room { records.old.room ≡ records.new.room }
+    ensures marked { AreMarked sieve.new records.new.waits }
+{
+    records.take(place);
+    if let Some(wait) = records.at(place) {
+        sieve.mark(&wait.asked, place);
+    }
 }
 
 impl Waits {
@@ -145,18 +162,45 @@ impl Waits {
             slice_get self.now.waits place ≡ Some w → meets target.now (locked w.asked) ≡ false }
     {
         match target {
-            Target::Key(key) => self.sieve.may_meet(key),
+            Target::Key(key) => !self.is_empty() && self.sieve.may_meet(key),
             Target::Group(_) => !self.is_empty(),
         }
     }
 
-    // Makes the marks anew, where more calls have taken waits out than there are.
+    // The first place from this one on that is marked for what may have a key in common with the
+    // target. Of a group that is each place.
+    #[inline(always)]
+    fn next_marked(&self, target: &Target, from: usize) -> Option<usize>
+        ensures some { IfSome result (λ next. (from ≤ next)
+            × AreUnmet self.now.waits target.now from next) }
+        ensures none { IfNone result ((to : ℕ) → AreUnmet self.now.waits target.now from to) }
+    {
+        match target {
+            Target::Key(key) => self.sieve.next_met(key, from),
+            Target::Group(_) => Some(from),
+        }
+    }
+
+    /// The first place from this one on at which an access waits that may be for what has a key in
+    /// common with the target. None that stands between is, and where there is no such place none
+    /// that stands from this one on is. It looks at no wait, and passes over most that are not.
+    pub fn next_met(&self, target: &Target, from: usize) -> Option<usize>
+        ensures some { IfSome result (λ next. (from ≤ next) × (next < length self.now.waits)
+            × AreUnmet self.now.waits target.now from next) }
+        ensures none { IfNone result
+            (AreUnmet self.now.waits target.now from (length self.now.waits)) }
+    {
+        let next = self.next_marked(target, from)?;
+        if next < self.len() { Some(next) } else { None }
+    }
+
+    // Makes the marks anew, where more calls have taken waits out than there are, and not a few.
     fn sift(&mut self)
         ensures { self.new ≡ self.old }
     {
         self.gone = self.gone.saturating_add(1);
-        if self.gone > self.records.len() {
-            self.sieve = sieve_of(&self.records);
+        if self.gone > self.records.len().max(LEAST_GONE) {
+            mark_anew(&mut self.sieve, &self.records);
             self.gone = 0;
         }
     }
@@ -212,8 +256,9 @@ impl Waits {
         ensures len { length self.new.waits ≡ length self.old.waits + 1 }
         ensures room { self.old.room ≡ self.new.room + 1 }
     {
+        let place = self.records.len();
         self.records.push(txn, asked, by);
-        self.sieve.mark(asked);
+        self.sieve.mark(asked, place);
     }
 
     /// The transaction waits no more. So fewer wait, if it did.
@@ -229,7 +274,7 @@ impl Waits {
             return;
         };
         let place = record.place;
-        self.records.take(place);
+        take_out(&mut self.records, &mut self.sieve, place);
         self.sift();
     }
 
@@ -246,7 +291,7 @@ impl Waits {
         while place > 0 {
             place -= 1;
             if is_under_at(&self.records, tree, txn, place) {
-                self.records.take(place);
+                take_out(&mut self.records, &mut self.sieve, place);
             }
         }
         self.sift();

@@ -3,6 +3,7 @@ pub mod HeldUp
 pub mod Alone
 pub mod Unmet
 pub mod OwnBranches
+pub mod Branches
 pub mod TwoLists
 pub mod Alike
 pub mod Walking

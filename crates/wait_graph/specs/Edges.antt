@@ -42,6 +42,14 @@ abbrev pub is_in_branch : States → ℕ → ℕ → ℕ → Bool
 is_in_branch tree t b u =
     is_beside (slice_get (names tree) t) (slice_get (names tree) b) (slice_get (names tree) u)
 
+-- whoever is top or below it is in the branch by which b parts from t, and nobody else is
+abbrev pub IsBranch : States → ℕ → ℕ → ℕ → Type 0
+IsBranch tree t b top = (u : ℕ) → is_in_branch tree t b u ≡ is_under tree top u
+
+-- nobody is in the branch by which b parts from t
+abbrev pub IsNoBranch : States → ℕ → ℕ → Type 0
+IsNoBranch tree t b = (u : ℕ) → IsFalse (is_in_branch tree t b u)
+
 -- whether b keeps this access from being answered, and u is in its branch
 abbrev pub is_held_up : States → Keeps → Wait → ℕ → ℕ → Bool
 is_held_up tree keeps w u b = keeps w.txn w.asked b && is_in_branch tree w.txn b u
@@ -96,6 +104,10 @@ is_edge_to tree keeps s w b = is_some (wait_of s b) && is_held_up tree keeps w b
 abbrev pub is_beside_it : States → ℕ → ℕ → Wait → Bool
 is_beside_it tree t b v = is_in_branch tree t b v.txn
 
+-- whether it is of this transaction or of one below it
+abbrev pub is_below_it : States → ℕ → Wait → Bool
+is_below_it tree top v = is_under tree top v.txn
+
 -- whether t keeps it from being answered, and one that waits is in the branch of t
 abbrev pub is_held_by_way_of : States → Keeps → List Wait → ℕ → Wait → Bool
 is_held_by_way_of tree keeps others t w =
@@ -113,12 +125,6 @@ OfWays tree locks waits t s P = ByLocks tree locks (λ keeps. P (waits_by_way_of
 -- nobody waits, for whatever and by whichever locks, for another by way of t
 abbrev pub IsNobodysWay : States → List Wait → ℕ → Type 0
 IsNobodysWay tree waits t = (keeps : Keeps) (s : Target)
-    → list_any (waits_by_way_of tree keeps waits t s) waits ≡ false
-
--- nobody waits, by whichever locks, for another by way of anybody and for what has a key in common
--- with this
-abbrev pub IsMetByNone : List Wait → Target → Type 0
-IsMetByNone waits s = (tree : States) (keeps : Keeps) (t : ℕ)
     → list_any (waits_by_way_of tree keeps waits t s) waits ≡ false
 
 -- whether there is a wait, and it passes

@@ -1,6 +1,6 @@
 //! Sibling branches: who is in the branch by which a blocker parts from a transaction.
-ghost use Rattle.std.specs.Prelude.{◌≡◌, IfSome, IsTrue};
-ghost use Rattle.wait_graph.specs.Edges.{AreOwnBranches, IsAlone, IsOwnBranch, is_in_branch};
+ghost use Rattle.std.specs.Prelude.{◌≡◌, IfNone, IfSome, IsTrue};
+ghost use Rattle.wait_graph.specs.Edges.{AreOwnBranches, IsAlone, IsBranch, IsNoBranch, IsOwnBranch, is_in_branch};
 
 use txn_names::Name;
 use txn_tree::{Tree, TxnNo};
@@ -21,6 +21,28 @@ pub(crate) fn is_in_branch(tree: &Tree, txn: TxnNo, blocker: TxnNo, other: TxnNo
         }
         _ => false,
     }
+}
+
+/// The topmost of those in the branch by which the blocker parts from the transaction: whoever is
+/// in the branch is that one or below it. Nobody is in it if either has not begun, or if the blocker
+/// is the transaction or above it.
+pub(crate) fn branch_of(tree: &Tree, txn: TxnNo, blocker: TxnNo) -> Option<TxnNo>
+    ensures some { IfSome result (IsBranch tree.now txn blocker) }
+    ensures none { IfNone result (IsNoBranch tree.now txn blocker) }
+{
+    tree.name_of(txn)?;
+    tree.name_of(blocker)?;
+    if tree.is_under(blocker, txn) {
+        return None;
+    }
+    let mut top = blocker;
+    while let Some(parent) = tree.parent_of(top) {
+        if tree.is_under(parent, txn) {
+            return Some(top);
+        }
+        top = parent;
+    }
+    Some(top)
 }
 
 /// Whether the transaction is top-level and has no descendants. Then it is in nobody's branch but

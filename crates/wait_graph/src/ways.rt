@@ -1,41 +1,48 @@
 //! Whether anybody who waits waits for another by way of a transaction: where that one keeps the
 //! first from being answered, and the other is in its branch.
-ghost use Rattle.std.specs.Prelude.{◌≡◌, ◌&&◌, slice_get, IsTrue};
+ghost use Rattle.std.specs.Prelude.{◌≡◌, ◌≤◌, ◌&&◌, length, slice_get, IsTrue};
 ghost use Rattle.std.specs.List.{list_any};
 ghost use Rattle.serial_spec.specs.Targets.{meets, target as locked};
-ghost use Rattle.wait_cycles.specs.Waiting.{AreOnce};
-ghost use Rattle.wait_graph.specs.Edges.{ByLocks, IsMetByNone, IsNobodysWay, is_beside_it, passes, OfWays, is_held_by_way_of};
+ghost use Rattle.wait_cycles.specs.Waiting.{AreOnce, AreUnmet};
+ghost use Rattle.wait_graph.specs.Edges.{ByLocks, IsNobodysWay, is_below_it, is_beside_it, passes, OfWays, is_held_by_way_of};
 
-use crate::branch::{is_in_branch, is_lone_top};
+use crate::branch::{branch_of, is_lone_top};
 use lock_table::TargetLocks;
 use serial_spec::{Asked, Target};
 use txn_tree::{Tree, TxnNo};
 use wait_cycles::{Wait, Waits};
 
-// Whether one waits at this place that is in the branch by which the blocker parts from the
-// transaction.
-fn waits_in_branch_at(tree: &Tree, waits: &Waits, txn: TxnNo, blocker: TxnNo, place: usize) -> bool
-    ensures { result ≡
-        passes (is_beside_it tree.now txn blocker) (slice_get waits.now.waits place) }
+// Whether the transaction or one below it waits at this place.
+fn waits_below_at(tree: &Tree, waits: &Waits, txn: TxnNo, place: usize) -> bool
+    ensures { result ≡ passes (is_below_it tree.now txn) (slice_get waits.now.waits place) }
 {
     match waits.at(place) {
-        Some(other) => is_in_branch(tree, txn, blocker, other.txn),
+        Some(wait) => tree.is_under(txn, wait.txn),
         None => false,
     }
 }
 
-// Whether any that waits is in the branch by which the blocker parts from the transaction.
+// Whether the transaction or any below it waits.
 #[tactic(auto, using(crate::proofs::Passing::here_passes, crate::proofs::Passing::next_fails))]
-fn any_waits_in_branch(tree: &Tree, waits: &Waits, txn: TxnNo, blocker: TxnNo) -> bool
-    ensures result { result ≡ list_any (is_beside_it tree.now txn blocker) waits.now.waits }
-    ensures once { AreOnce waits.now }
+fn any_waits_below(tree: &Tree, waits: &Waits, txn: TxnNo) -> bool
+    ensures { result ≡ list_any (is_below_it tree.now txn) waits.now.waits }
 {
     for place in 0..waits.len() {
-        if waits_in_branch_at(tree, waits, txn, blocker, place) {
+        if waits_below_at(tree, waits, txn, place) {
             return true;
         }
     }
     false
+}
+
+// Whether any that waits is in the branch by which the blocker parts from the transaction.
+fn any_waits_in_branch(tree: &Tree, waits: &Waits, txn: TxnNo, blocker: TxnNo) -> bool
+    ensures { result ≡ list_any (is_beside_it tree.now txn blocker) waits.now.waits }
+{
+    match branch_of(tree, txn, blocker) {
+        Some(top) => any_waits_below(tree, waits, top),
+        None => false,
+    }
 }
 
 // Whether the transaction keeps the access, which waits, from being answered, and one that waits is
@@ -96,12 +103,17 @@ fn is_way_of_none(tree: &Tree, waits: &Waits, txn: TxnNo) -> bool
     is_lone_top(tree, txn) && waits.of(txn).is_none()
 }
 
-// Whether it is seen at once that nobody waits for what has a key in common with the target.
-#[tactic(auto, using(crate::proofs::Unmet::nobody_meets))]
-fn is_met_by_none(waits: &Waits, target: &Target) -> bool
-    ensures { IsTrue result → IsMetByNone waits.now.waits target.now }
+// The first place from this one on at which one may wait for what has a key in common with the
+// target, or behind all that wait where there is none.
+#[inline(always)]
+fn next_met(waits: &Waits, target: &Target, from: usize) -> usize
+    ensures unmet { AreUnmet waits.now.waits target.now from result }
+    ensures later { from ≤ length waits.now.waits → from ≤ result }
 {
-    !waits.may_meet(target)
+    match waits.next_met(target, from) {
+        Some(next) => next,
+        None => waits.len(),
+    }
 }
 
 /// Whether any access that waits for what has a key in common with the target waits for another by
@@ -118,14 +130,16 @@ pub fn any_edge_by_way_of(
         (λ is_one. result ≡ list_any is_one waits.now.waits) }
     ensures once { AreOnce waits.now }
 {
-    if is_met_by_none(waits, target) || is_way_of_none(tree, waits, txn) {
-        waits.has_each_once();
+    let count = waits.len();
+    let mut place = next_met(waits, target, 0);
+    if place < count && is_way_of_none(tree, waits, txn) {
         return false;
     }
-    for place in 0..waits.len() {
+    while place < count {
         if has_edge_by_way_of_at(tree, locks, waits, txn, target, place) {
             return true;
         }
+        place = next_met(waits, target, place + 1);
     }
     false
 }

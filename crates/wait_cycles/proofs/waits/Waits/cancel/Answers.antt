@@ -9,6 +9,6 @@ returns-clause-waits c u =
     let r = c.in-Some.record.now in
     let old = c.self.inside.records.waits in
     rw (c.sift.ensures, sym c.self.view_is) (
-    without old c.take.new.self.waits r.place r.wait c.take.ensures.once.0.apart c.take.ensures.once.1.apart c.take.ensures.taken some.0 u
+    without old c.take_out.new.records.waits r.place r.wait c.take_out.ensures.once.0.apart c.take_out.ensures.once.1.apart c.take_out.ensures.taken some.0 u
     ∙ ap (λ (t : ℕ). cond (nat_eq t u) None (wait_in old u)) some.1
     )

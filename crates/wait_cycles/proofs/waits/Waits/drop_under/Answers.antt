@@ -3,7 +3,6 @@ use Rattle.std.specs.Prelude.{slice_get}
 use Rattle.std.proofs.lemmas.Option.{slice_get_within}
 use Rattle.wait_cycles.specs.Waiting.{is_under}
 use Rattle.wait_cycles.proofs.Listed.{AreLeft, all_left, left_taken, left_there, none_passes, not_under, one_fewer, under_there}
-use Rattle.wait_cycles.proofs.Marked.{left_marked}
 use Rattle.wait_cycles.proofs.waits.Waits.drop_under.Goals as goal
 
 pub loop-place-init : goal.loop-place-init
@@ -12,8 +11,8 @@ loop-place-init c =
     let test = is_under c.args.tree.now c.args.txn in
     (subst (λ (n : ℕ). AreLeft test n old old) (sym c.len-place.ensures.len) (all_left test old), omega arith, c.self.invariant)
 
-pub take-requires : goal.take-requires
-take-requires c =
+pub take_out-requires-clause-within : goal.take_out-requires-clause-within
+take_out-requires-clause-within c =
     let w = under_there c.args.tree.now c.args.txn _ (sym c.is_under_at.ensures ∙ c.if-is_under_at.true) in
     slice_get_within _ _ w.0 w.1
 
@@ -38,10 +37,10 @@ loop-place-preserved-then-is_under_at c =
     let p = c.loop-place.place - 1 in
     let next : p + 1 ≡ c.loop-place.place = omega arith in
     let w = under_there tree t (slice_get now p) (sym c.is_under_at.ensures ∙ c.if-is_under_at.true) in
-    let once = c.take.ensures.once in
-    let room = c.take.ensures.room in
+    let once = c.take_out.ensures.once in
+    let room = c.take_out.ensures.room in
     let more = i.1 in
-    (left_taken (is_under tree t) old now c.loop-place.place i.0 p next c.take.new.self.waits w.0 once.0.apart once.1.apart c.take.ensures.taken w.1 w.2, omega (arith, room, more), left_marked c.loop-place.self-inside.sieve now c.take.new.self.waits p c.take.ensures.taken i.2)
+    (left_taken (is_under tree t) old now c.loop-place.place i.0 p next c.take_out.new.records.waits w.0 once.0.apart once.1.apart c.take_out.ensures.taken w.1 w.2, omega (arith, room, more), c.take_out.ensures.marked)
 
 pub returns-clause-waits : goal.returns-clause-waits
 returns-clause-waits c =

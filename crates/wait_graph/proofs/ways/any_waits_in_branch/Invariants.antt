@@ -1,7 +1,0 @@
-use Rattle.std.proofs.Common.{◌≡◌, false, take}
-use Rattle.std.specs.List.{list_any}
-use Rattle.wait_graph.specs.Edges.{is_beside_it}
-use Rattle.wait_graph.proofs.ways.any_waits_in_branch.Given as goal
-
-abbrev pub invariant-loop-place : goal.invariant-loop-place
-invariant-loop-place l = list_any (is_beside_it l.tree l.txn l.blocker) (take l.place l.waits.waits) ≡ false
