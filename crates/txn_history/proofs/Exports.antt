@@ -139,6 +139,8 @@ pub use Rattle.txn_history.proofs.OwnLines.{other_session}
 pub use Rattle.txn_history.proofs.NextLines.{next_can_give_up}
 -- The next line of a session is free for its event, or its access waits by this line.
 pub use Rattle.txn_history.proofs.NextLines.{next_is_free}
+-- A line by which an access waits is the next of its session, and asks this access.
+pub use Rattle.txn_history.proofs.NextWaits.{wait_is_next}
 -- A line that is held up stays so by an entry that ends nothing.
 pub use Rattle.txn_history.proofs.HeldUp.{held_up_lasts}
 -- The close finishes a run that is under way.

@@ -1,9 +1,8 @@
 -- A line that is held up stays so by an entry of another line, unless that may be what it waits for: locks only rise until a
 -- transaction ends.
-use Rattle.std.proofs.Common.{◌≡◌, ◌<◌, ℕ, Bool, true, false, not, cond, ◌&&◌, ◌||◌, nat_le, List, ◌∷◌, length, Option, Some, is_some, refl, sym, ap, ◌∙◌}
+use Rattle.std.proofs.Common.{◌≡◌, ◌<◌, ℕ, Bool, true, false, not, cond, ◌&&◌, ◌||◌, nat_le, ◌∷◌, length, Option, Some, is_some, refl, sym, ap, ◌∙◌}
 use Rattle.std.proofs.Common.{None as Nothing}
 use Rattle.std.proofs.lemmas.Bool.{false≢true, true≢false, and_parts, and_right, false_from_ne_true, lt-leb, not-true, or_right}
-use Rattle.std.specs.Prelude.{IsTrue}
 use Rattle.std.specs.List.{list_any}
 use Rattle.txn_names.specs.Path.{label_eq, path_eq, top_of}
 use Rattle.txn_names.proofs.Exports.{on_test}
@@ -11,7 +10,6 @@ use Rattle.serial_spec.specs.declared.event.Event.{Event}
 use Rattle.serial_spec.specs.declared.event.Event.TheVariants.{Begin, Access, Sum, Commit, Abort, After}
 use Rattle.serial_spec.specs.declared.event.When.{When}
 use Rattle.serial_spec.specs.declared.event.When.TheVariants.{Begun, Done as Ended}
-use Rattle.serial_spec.specs.declared.entry.By.{By}
 use Rattle.serial_spec.specs.declared.entry.By.TheVariants.{Line}
 use Rattle.serial_spec.specs.declared.entry.Answer.{Answer}
 use Rattle.serial_spec.specs.declared.entry.Answer.TheVariants.{Done, Waits}
@@ -20,7 +18,6 @@ use Rattle.serial_spec.specs.declared.entry.Refusal.TheVariants.{Full, Waiting}
 use Rattle.serial_spec.specs.declared.mode.Mode.{Mode}
 use Rattle.serial_spec.specs.declared.mode.Mode.TheVariants as mode
 use Rattle.serial_spec.specs.declared.operation.Kind.{Kind}
-use Rattle.serial_spec.specs.declared.operation.Kind.TheVariants.{Read, Write}
 use Rattle.serial_spec.specs.declared.operation.Reply.{Reply}
 use Rattle.serial_spec.specs.declared.operation.Reply.TheVariants.{Ok}
 use Rattle.serial_spec.specs.declared.target.Asked.{Asked}
@@ -31,10 +28,9 @@ use Rattle.serial_spec.specs.Items.{Access as Accessed, Items, items, with_item}
 use Rattle.serial_spec.specs.Locks.{conflicts, footprint, greater, is_blocked, is_blocker, mode_of}
 use Rattle.serial_spec.specs.Rows.{Rows}
 use Rattle.serial_spec.specs.Waits.{accesses, is_waits, same_line, wait_of}
-use Rattle.serial_spec.specs.Allowed.{answer, answer_to_access, cause_at_access, cause_at_end, has_come, has_waited, is_full_for, is_other_line, known, most_keys, refused_or, waits_elsewhere}
+use Rattle.serial_spec.specs.Allowed.{answer_to_access, cause_at_access, cause_at_end, has_come, has_waited, is_full_for, is_other_line, known, most_keys, waits_elsewhere}
 use Rattle.serial_spec.specs.Causes.{when}
 use Rattle.serial_spec.specs.Legal.{AreAllowed}
-use Rattle.txn_history.specs.Lines.{CanGiveUp}
 use Rattle.txn_history.specs.Steps.{acts_next, sets_status, unless_by}
 use Rattle.txn_history.specs.Turns.{HeldUpLasts, is_end, may_free}
 use Rattle.txn_history.proofs.Tests.{clash}
