@@ -17,9 +17,8 @@ use Rattle.serial_spec.specs.Waits.{same_line}
 use Rattle.serial_spec.specs.Allowed.{Allowed, answer, known, most_keys}
 use Rattle.serial_spec.specs.Legal.{AreAllowed}
 use Rattle.serial_spec.specs.Interleaving.{Session, lines_of, answered, next_event, next_line, victim, AfterVictims}
-use Rattle.txn_history.specs.Lines.{IsFree, IsWaitOf}
 use Rattle.txn_history.specs.Turns.{IsUnderWay, may_free}
-use Rattle.txn_history.proofs.Exports.{held_up_lasts, next_can_give_up, next_is_free, other_session, legal_allowed}
+use Rattle.txn_history.proofs.Exports.{held_up_lasts, next_can_give_up, other_session, legal_allowed, wait_is_next}
 use Rattle.durable_top.specs.declared.store.TopStore.{Ghosts}
 use Rattle.manager_core.specs.declared.outcome.Outcome.{Outcome}
 use Rattle.manager_core.specs.declared.outcome.Outcome.TheVariants as outcome
@@ -36,7 +35,7 @@ use Rattle.interleavings.specs.LeftOut.{AreLeftOut, IsIdle, IsLeftOut, IsLeftOut
 use Rattle.interleavings.specs.Turning.{AreTurns, IsDue, can_go_on, has_answer}
 use Rattle.interleavings.proofs.Attempts.{count_waits, other_answered, others_count}
 use Rattle.interleavings.proofs.Crowds.{joins, moved, parks, passed_over, waits_on}
-use Rattle.interleavings.proofs.Numbers.{session_there, unsome}
+use Rattle.interleavings.proofs.Numbers.{session_there}
 use Rattle.interleavings.proofs.Stuck.{no_answer, none_past, told_held_up}
 
 module _ (rows : Rows) (ss : List Session) (h : History) where
@@ -139,18 +138,18 @@ no_victims h (t ∷ ts) h2 after few = absurd (omega (arith, no_fewer (victim t 
 -- ---- what is noted
 
 -- where some are left out again, who are parked still
-pub noted_parked : (old mid new : Ready) (next : List ℕ) (rows : Rows) (h : History) (before s : ℕ) (due : Event) (what : Came) → IsNoted old mid next rows h before s due what
-    → ((u : ℕ) → IsLeftOut new u → IsLeftOut mid u ⊎ IsParkedStill old next rows h s u)
-    → ((u : ℕ) → IsLeftOutByBegins new u → IsLeftOutByBegins mid u ⊎ IsParkedStill old next rows h s u)
-    → ((u : ℕ) → IsIdle new u → IsIdle mid u) → new.crowd ≡ mid.crowd → IsNoted old new next rows h before s due what
-noted_parked old mid new next rows h before s due what noted out begins idle same = record {
+pub noted_parked : (old mid new : Ready) (rows : Rows) (h : History) (before s : ℕ) (due : Event) (what : Came) → IsNoted old mid rows h before s due what
+    → ((u : ℕ) → IsLeftOut new u → IsLeftOut mid u ⊎ IsParkedStill old rows h s u)
+    → ((u : ℕ) → IsLeftOutByBegins new u → IsLeftOutByBegins mid u ⊎ IsParkedStill old rows h s u)
+    → ((u : ℕ) → IsIdle new u → IsIdle mid u) → new.crowd ≡ mid.crowd → IsNoted old new rows h before s due what
+noted_parked old mid new rows h before s due what noted out begins idle same = record {
   out = λ u low o. ⊎_elim
       (λ (was : IsLeftOut mid u). noted.out u low was)
-      (λ (parked : IsParkedStill old next rows h s u). inr (inr parked))
+      (λ (parked : IsParkedStill old rows h s u). inr (inr parked))
       (out u o);
   begins = λ u low o. ⊎_elim
       (λ (was : IsLeftOutByBegins mid u). noted.begins u low was)
-      (λ (parked : IsParkedStill old next rows h s u). inr (inr (inl parked.out)))
+      (λ (parked : IsParkedStill old rows h s u). inr (inr (inl parked.out)))
       (begins u o);
   idle = λ u i. noted.idle u (idle u i);
   crowd = λ u low gathered.
@@ -208,7 +207,7 @@ module _ {S : Type 0} (g : Ghosts S) (ss : List Session) (old : State S) (number
 
   module _ (small : length ss ≤ 64) (r r2 : Ready) (left : AreLeftOut old.rows ss h r) (before : ℕ) (counted : before ≡ length h)
       (what : Came) (what_is : what ≡ came_of o) (way : IsUnderWay new.rows ss new.history)
-      (noted : IsNoted r r2 numbers new.rows new.history before s e what) where
+      (noted : IsNoted r r2 new.rows new.history before s e what) where
     nothing_there : (u : ℕ) → 64 ≤ u → next_event ss new.history u ≡ None
     nothing_there u past = none_past ss new.history u (omega (arith, small, past))
 
@@ -291,19 +290,11 @@ module _ {S : Type 0} (g : Ghosts S) (ss : List Session) (old : State S) (number
         by (inl made) (inr (inl passed)) = passed_held u low s_low passed few fewer_keys made
         by (inl made) (inr (inr parked)) = parked_held u parked few made
 
-    -- one that is held up by the number of its line
-    parked_still : (u : ℕ) → IsParkedStill r numbers new.rows new.history s u → can_go_on new.rows ss new.history u ≡ false
-    parked_still u p = by (next_event ss new.history u) refl
-      where
-        by : (x : Option Event) → next_event ss new.history u ≡ x → can_go_on new.rows ss new.history u ≡ false
-        by None is = ap (has_answer new.rows new.history u) is
-        by (Some d) is =
-            let number : p.at.line ≡ suc (answered new.history u) =
-            unsome _ _ (sym p.at.number ∙ turns.next.each u (session_there ss new.history u d is))
-            ∙ ap suc (sym (others_count g old new s l e o tried u p.other)) in
-            let free = subst (λ n. IsFree new.history (Line u n) d ⊎ IsWaitOf new.history (Line u n) d) (sym number)
-            (next_is_free new.rows ss new.history (legal_allowed new.rows new.history way.legal) way.in_turn u d is) in
-            sym (told_held_up ss new.history new.rows way u p.at.line d (record { event = is; number = number }) true (λ _. p.at.parked d free, λ _. refl))
+    -- one of which an access is kept out: that is what its next line asks
+    parked_still : (u : ℕ) → IsParkedStill r new.rows new.history s u → can_go_on new.rows ss new.history u ≡ false
+    parked_still u p =
+        let next = wait_is_next new.rows ss new.history way.in_turn u p.parked.line p.parked.event p.parked.waits in
+        sym (told_held_up ss new.history new.rows way u p.parked.line p.parked.event (record { event = next.1; number = next.0 }) true (λ _. p.parked.kept, λ _. refl))
 
     -- ---- who waits for no condition
 
@@ -375,10 +366,10 @@ module _ {S : Type 0} (g : Ghosts S) (ss : List Session) (old : State S) (number
       held = λ u out. ⊎_elim
           (λ (low : u < 64). ⊎_elim
           (λ (idle : IsIdle r u). ap (has_answer new.rows new.history u) (still_idle u idle))
-          (λ (still : IsStillOut r new.rows new.history before s e what u ⊎ IsParkedStill r numbers new.rows new.history s u).
+          (λ (still : IsStillOut r new.rows new.history before s e what u ⊎ IsParkedStill r new.rows new.history s u).
           ⊎_elim
           (λ (o : IsStillOut r new.rows new.history before s e what u). still_held u low o)
-          (λ (p : IsParkedStill r numbers new.rows new.history s u). parked_still u p)
+          (λ (p : IsParkedStill r new.rows new.history s u). parked_still u p)
           still)
           (noted.out u low out))
           (λ (past : 64 ≤ u). ap (has_answer new.rows new.history u) (nothing_there u past))
@@ -392,7 +383,7 @@ module _ {S : Type 0} (g : Ghosts S) (ss : List Session) (old : State S) (number
     }
       where
         begins_low : (u : ℕ) → u < 64 → IsLeftOutByBegins r2 u
-            → IsIdle r u ⊎ (IsStillOut r new.rows new.history before s e what u ⊎ IsParkedStill r numbers new.rows new.history s u)
+            → IsIdle r u ⊎ (IsStillOut r new.rows new.history before s e what u ⊎ IsParkedStill r new.rows new.history s u)
             → IsIdle r u ⊎ IsStillPlain r s e u → is_after (next_event ss new.history u) ≡ false
         begins_low u low out (inl idle) b = ap is_after (still_idle u idle)
         begins_low u low out (inr still) (inl idle) = ap is_after (still_idle u idle)

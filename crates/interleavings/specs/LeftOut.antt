@@ -1,14 +1,13 @@
 -- Which sessions are left out where lines are attempted, and what an attempt does to that.
-use Rattle.std.specs.Prelude.{◌≡◌, ◌⊎◌, ◌<◌, ◌≤◌, ◌+◌, ℕ, Bool, true, false, List, length, slice_get, Option, Some, None}
+use Rattle.std.specs.Prelude.{◌≡◌, ◌⊎◌, ◌<◌, ◌≤◌, ◌+◌, ℕ, Bool, true, false, List, length, Option, Some, None}
 use Rattle.std.specs.Int.{bit_at}
-use Rattle.serial_spec.specs.declared.entry.By.TheVariants.{Line}
 use Rattle.serial_spec.specs.declared.event.Event.{Event}
 use Rattle.serial_spec.specs.declared.event.Event.TheVariants.{Begin, Commit, Abort, After}
 use Rattle.serial_spec.specs.History.{History}
 use Rattle.serial_spec.specs.Rows.{Rows}
 use Rattle.serial_spec.specs.Allowed.{known, most_keys}
 use Rattle.serial_spec.specs.Interleaving.{Session, next_event}
-use Rattle.manager_core.specs.Parking.{IsParked}
+use Rattle.manager_core.specs.Parking.{IsSessionParked}
 use Rattle.manager_core.specs.declared.outcome.Came.{Came}
 use Rattle.interleavings.specs.declared.ready.Ready.{Ready}
 use Rattle.interleavings.specs.Crowds.{AreGathered, HasParked, IsGathered, IsPassedOver, IsStillGathered, IsStillIn}
@@ -70,26 +69,25 @@ abbrev pub IsStillPlain : Ready → ℕ → Event → ℕ → Type 0
 IsStillPlain r s due u =
     ((u ≡ s) × (is_after (Some due) ≡ false)) ⊎ (IsLeftOutByBegins r u ⊎ IsGathered r.crowd u)
 
--- the line of session u that has its number among these is held up
-pub record IsParkedAt (next : List ℕ) (rows : Rows) (h : History) (u : ℕ) : Type 0 where
-  pub line : ℕ
-  pub number : slice_get next u ≡ Some line
-  pub parked : IsParked rows h (Line u line)
+-- session u is of this set and was left out before, by no `after` line, and is another than s
+pub record IsOutAgain (r : Ready) (set s u : ℕ) : Type 0 where
+  pub out : IsLeftOutByBegins r u
+  pub of_set : bit_at set u ≡ 1
+  pub other : u ≡ s → ⊥
 
--- and the session, another than s, was left out before, by no `after` line
-pub record IsParkedStill (r : Ready) (next : List ℕ) (rows : Rows) (h : History)
-    (s u : ℕ) : Type 0 where
+-- the session, another than s, was left out before, by no `after` line, and an access of it is kept
+-- out
+pub record IsParkedStill (r : Ready) (rows : Rows) (h : History) (s u : ℕ) : Type 0 where
   pub out : IsLeftOutByBegins r u
   pub other : u ≡ s → ⊥
-  pub at : IsParkedAt next rows h u
+  pub parked : IsSessionParked rows h u
 
--- What is left out after an attempt of session s, of a line that asks this, of which this came. The
--- numbers are those of the next lines
-pub record IsNoted (old new : Ready) (next : List ℕ) (rows : Rows) (h : History) (before s : ℕ)
-    (due : Event) (what : Came) : Type 0 where
+-- what is left out after an attempt of session s, of a line that asks this, of which this came
+pub record IsNoted (old new : Ready) (rows : Rows) (h : History) (before s : ℕ) (due : Event)
+    (what : Came) : Type 0 where
   pub out : (u : ℕ) → u < 64 → IsLeftOut new u
       → IsIdle old u ⊎ (IsStillOut old rows h before s due what u
-      ⊎ IsParkedStill old next rows h s u)
+      ⊎ IsParkedStill old rows h s u)
   pub begins : (u : ℕ) → u < 64 → IsLeftOutByBegins new u
       → IsIdle old u ⊎ IsStillPlain old s due u
   pub idle : (u : ℕ) → IsIdle new u → IsIdle old u

@@ -1,9 +1,7 @@
 //! One attempt of a line.
-ghost use Rattle.std.specs.Prelude.{◌≡◌, ◌⊎◌, is_some, option_copied, IfOk, IsTrue, OnErr};
+ghost use Rattle.std.specs.Prelude.{◌≡◌, ◌⊎◌, option_copied, IfOk, OnErr};
 ghost use Rattle.txn_history.specs.Lines.{IsFree, IsLine, IsWaitOf, accessor};
 ghost use Rattle.event_lists.specs.Views.{asked};
-ghost use Rattle.serial_spec.specs.Waits.{wait_of};
-ghost use Rattle.manager_core.specs.Calls.{Retried};
 ghost use Rattle.manager_core.specs.Outcomes.{CameTo};
 ghost use Rattle.interleavings.specs.Attempts.{Attempts};
 
@@ -109,6 +107,6 @@ pub(crate) fn attempt<S: TopStore>(
     if manager.free(by, event) {
         attempt_free(manager, by, event)
     } else {
-        manager.ask_again(name)
+        manager.ask_again(by, name)
     }
 }

@@ -2,7 +2,7 @@
 ghost use Rattle.std.specs.Prelude.{◌<◌, ℕ, length, IsTrue};
 ghost use Rattle.interleavings.specs.Crowds.{AreJoinedBy, IsCrowdAt, IsGathered, IsStillIn};
 
-use crate::sets::{lacks, with, without};
+use session_sets::{has, with, without};
 use txn_names::{Key, Name};
 
 /// Sessions whose next lines wait for accesses at one key, by transactions of one depth. None of
@@ -36,7 +36,7 @@ impl Crowd {
         requires { session < 64 }
         ensures { IsTrue result → IsGathered self.now session }
     {
-        lacks(self.apart, session)
+        !has(self.apart, session)
     }
 
     /// The session is no more of the crowd.

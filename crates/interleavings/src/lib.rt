@@ -15,7 +15,6 @@ mod report;
 mod run;
 mod schedule;
 mod served;
-mod sets;
 mod turns;
 
 pub use progress::Progress;

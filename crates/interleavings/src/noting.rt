@@ -1,14 +1,14 @@
 //! What an attempt does to who may go on.
-ghost use Rattle.std.specs.Prelude.{◌≡◌, ◌⊎◌, ◌<◌, ◌≤◌, ℕ, List, IsTrue, Some, false};
+ghost use Rattle.std.specs.Prelude.{◌≡◌, ◌⊎◌, ◌<◌, ◌≤◌, ℕ, IsTrue, Some, false};
 ghost use Rattle.event_lists.specs.Views.{asked};
 ghost use Rattle.interleavings.specs.Crowds.{AreGatheredBy, IsGathered, IsOfWriter, StaysIn, is_abort, is_write_at};
-ghost use Rattle.interleavings.specs.LeftOut.{IsIdle, IsLeftOut, IsLeftOutByBegins, IsNoted, IsParkedAt, IsParkedStill, IsStillPlain, StaysBy, StaysOutBy, is_after};
+ghost use Rattle.interleavings.specs.LeftOut.{IsIdle, IsLeftOut, IsLeftOutByBegins, IsNoted, IsParkedStill, IsStillPlain, StaysBy, StaysOutBy, is_after};
 
 use crate::ready::Ready;
 use durable_top::TopStore;
 use event_lists::{Act, EventView};
 use manager_core::{Came, Manager};
-use serial_spec::{By, Kind};
+use serial_spec::Kind;
 
 /// Whether this is an `after` line.
 #[inline(always)]
@@ -133,46 +133,20 @@ fn note_entry(ready: &mut Ready, session: u32, due: &EventView<'_>, came: Came)
     }
 }
 
-// Whether the session's next line, by these numbers, is seen at once to be held up.
-fn is_parked_at<S: TopStore>(manager: &Manager<S>, next: &[u32], session: u32) -> bool
-    ensures { IsTrue result
-        → IsParkedAt next.now manager.now.rows manager.now.history session }
-{
-    match next.get(session as usize) {
-        Some(line) => manager.is_parked(By::Line {
-            session,
-            line: *line,
-        }),
-        None => false,
-    }
-}
-
-// Leaves those others out again that were so before, by no `after` line, and whose lines are still
-// kept out by somebody who has not ended.
-#[inline(never)]
-fn leave_parked<S: TopStore>(
-    ready: &mut Ready,
-    was: &Ready,
-    manager: &Manager<S>,
-    next: &[u32],
-    session: u32,
-)
-    // Wide: who was left out, the next lines, and the history by which they are kept out.
+// Leaves those out again, but for its own session, that were so before by no `after` line, and of
+// whom an access is kept out still by somebody who has not ended.
+#[inline(always)]
+fn leave_parked<S: TopStore>(ready: &mut Ready, was: &Ready, manager: &Manager<S>, own: u32)
+    requires { own < 64 }
     ensures out { (u : ℕ) → IsLeftOut ready.new u → IsLeftOut ready.old u
-        ⊎ IsParkedStill was.now next.now manager.now.rows manager.now.history session u }
-    // Wide: the same.
+        ⊎ IsParkedStill was.now manager.now.rows manager.now.history own u }
+    // Wide: two cases of equal weight.
     ensures begins { (u : ℕ) → IsLeftOutByBegins ready.new u → IsLeftOutByBegins ready.old u
-        ⊎ IsParkedStill was.now next.now manager.now.rows manager.now.history session u }
+        ⊎ IsParkedStill was.now manager.now.rows manager.now.history own u }
     ensures idle { (u : ℕ) → IsIdle ready.new u → IsIdle ready.old u }
     ensures crowd { ready.new.crowd ≡ ready.old.crowd }
 {
-    let mut from = 0;
-    while let Some(other) = was.next_out(from) {
-        if other != session && was.leaves_out(other) && is_parked_at(manager, next, other) {
-            ready.leave_out(other, false);
-        }
-        from = other + 1;
-    }
+    ready.leave_out_again(was, manager.parked_sessions(), own);
 }
 
 // What an attempt does to who may go on, by the entries that came of it. A line to which nothing
@@ -189,8 +163,8 @@ fn note_entries<S: TopStore>(
     came: Came,
 )
     requires { session < 64 }
-    ensures { (next : List ℕ) → IsNoted ready.old ready.new next manager.now.rows
-        manager.now.history before session (asked due.now) came }
+    ensures { IsNoted ready.old ready.new manager.now.rows manager.now.history before session
+        (asked due.now) came }
 {
     let entries = manager.history().len();
     if entries <= before {
@@ -203,28 +177,27 @@ fn note_entries<S: TopStore>(
 }
 
 /// Notes who may go on after an attempt of the session's line, which asks this and of which this
-/// came, where there were so many entries before and the numbers of the next lines were these. Of
-/// those that wait at one key the first that writes it keeps the others out, which need not be
-/// looked at, and who was kept out by one that has not ended is so still.
+/// came, where there were so many entries before. Of those that wait at one key the first that writes
+/// it keeps the others out, which need not be looked at, and who was kept out by one that has not
+/// ended is so still.
 #[inline(always)]
 pub(crate) fn note_attempt<S: TopStore>(
     ready: &mut Ready,
     manager: &Manager<S>,
-    next: &[u32],
     before: usize,
     session: u32,
     due: &EventView<'_>,
     came: Came,
 )
     requires { session < 64 }
-    ensures { IsNoted ready.old ready.new next.now manager.now.rows manager.now.history before
-        session (asked due.now) came }
+    ensures { IsNoted ready.old ready.new manager.now.rows manager.now.history before session
+        (asked due.now) came }
 {
     let was = *ready;
     note_entries(ready, manager, before, session, due, came);
     // Nobody comes back but by an end. Where there is none, nobody need be looked at.
     let ends = is_end(due) || manager.history().len().saturating_sub(before) > 1;
-    if ends && manager.parks_any() {
-        leave_parked(ready, &was, manager, next, session);
+    if ends {
+        leave_parked(ready, &was, manager, session);
     }
 }

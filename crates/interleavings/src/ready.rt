@@ -1,11 +1,11 @@
 //! Which sessions may go on, one bit for each.
 ghost use Rattle.std.specs.Prelude.{◌≡◌, ◌⊎◌, ◌<◌, ◌≤◌, ℕ, length, false, IfNone, IfSome, IsTrue};
 ghost use Rattle.interleavings.specs.Crowds.{AreJoinedBy, IsGathered, IsStillIn};
-ghost use Rattle.interleavings.specs.LeftOut.{IsIdle, IsLeftOut, IsLeftOutByBegins, IsWoken};
+ghost use Rattle.interleavings.specs.LeftOut.{IsIdle, IsLeftOut, IsLeftOutByBegins, IsOutAgain, IsWoken};
 
 use crate::crowd::Crowd;
-use crate::sets::{first_from, lacks, with, without};
 use serial_spec::MOST_SESSIONS;
+use session_sets::{first_from, with, without};
 use txn_names::{Key, Name};
 
 /// The sessions that may go on, by their numbers below `MOST_SESSIONS`. Of those that are left out
@@ -36,15 +36,6 @@ impl Ready {
             busy: u64::MAX,
             crowd: Crowd::none(),
         }
-    }
-
-    /// Whether the session is left out, and waits by no `after` line.
-    #[inline(always)]
-    pub(crate) fn leaves_out(&self, session: u32) -> bool
-        requires { session < 64 }
-        ensures { IsTrue result → IsLeftOutByBegins self.now session }
-    {
-        lacks(self.may, session) && lacks(self.afters, session)
     }
 
     /// Leaves the session out, whose next line is an `after` line or is not.
@@ -80,6 +71,21 @@ impl Ready {
             self.afters = without(self.afters, session);
             self.busy = without(self.busy, session);
         }
+    }
+
+    /// Leaves those of this set out that were left out before by no `after` line, but for the session.
+    #[inline(always)]
+    pub(crate) fn leave_out_again(&mut self, was: &Ready, parked: u64, session: u32)
+        requires { session < 64 }
+        ensures out { (u : ℕ) → IsLeftOut self.new u →
+            IsLeftOut self.old u ⊎ IsOutAgain was.now parked session u }
+        ensures begins { (u : ℕ) → IsLeftOutByBegins self.new u →
+            IsLeftOutByBegins self.old u ⊎ IsOutAgain was.now parked session u }
+        ensures idle { (u : ℕ) → IsIdle self.new u → IsIdle self.old u }
+        ensures crowd { self.new.crowd ≡ self.old.crowd }
+    {
+        let again = without(!was.may & !was.afters & parked, session);
+        self.may &= !again;
     }
 
     /// Leaves all of the crowd out, which wait for no condition.
@@ -160,14 +166,6 @@ impl Ready {
         self.may = with(self.may, session);
         self.busy = with(self.busy, session);
         self.crowd.leave(session);
-    }
-
-    /// The first session from this one on that is left out, though it may have a line left.
-    #[inline(always)]
-    pub(crate) fn next_out(&self, from: u32) -> Option<u32>
-        ensures { IfSome result (λ next. (from ≤ next) × (next < 64)) }
-    {
-        first_from(self.busy & !self.may, from)
     }
 
     /// The first session from this one on that may go on.

@@ -249,16 +249,7 @@ impl<'a, S: TopStore> Turns<'a, S> {
         let by = By::Line { session, line };
         let before = self.manager.history().len();
         let came = attempt(&mut self.manager, by, due)?;
-        let next = self.next.as_slice();
-        note_attempt(
-            &mut self.ready,
-            &self.manager,
-            next,
-            before,
-            session,
-            due,
-            came,
-        );
+        note_attempt(&mut self.ready, &self.manager, before, session, due, came);
         match came {
             Came::Waits => Ok(Turn::Parked),
             _ => {

@@ -1,6 +1,7 @@
 -- What keeps a line from its answer, by the tables and by the history.
 use Rattle.std.proofs.Common.{◌≡◌, ◌<◌, ℕ, Bool, true, false, not, cond, ◌&&◌, ◌||◌, List, [], ◌∷◌, length, Option, Some, None, option_map, is_some, unwrap_or, refl, sym, ap, subst, ◌∙◌, arith}
-use Rattle.std.specs.Prelude.{IsTrue, ◌↔◌}
+use Rattle.std.specs.Prelude.{IsTrue, ◌↔◌, nat_le}
+use Rattle.std.proofs.lemmas.Bool.Decides.{nat_tests}
 use Rattle.std.proofs.lemmas.Bool.{and_parts, eq-eqb, not-true, true≢false}
 use Rattle.serial_spec.specs.declared.target.Asked.{Asked}
 use Rattle.serial_spec.specs.declared.operation.Reply.{Reply}
@@ -10,6 +11,7 @@ use Rattle.serial_spec.specs.declared.entry.Refusal.{Refusal}
 use Rattle.serial_spec.specs.declared.entry.Refusal.TheVariants.{Unknown, Done as HasCommitted, Orphan, Waiting, Full}
 use Rattle.serial_spec.specs.declared.event.When.{When}
 use Rattle.serial_spec.specs.declared.event.When.TheVariants.{Begun, Done as Ended}
+use Rattle.serial_spec.specs.declared.event.Event.{Event}
 use Rattle.serial_spec.specs.declared.event.Event.TheVariants.{Abort, Access, After, Begin, Commit, Sum}
 use Rattle.serial_spec.specs.declared.target.Asked.TheVariants.{At, Over}
 use Rattle.serial_spec.specs.declared.entry.Answer.{Answer}
@@ -21,14 +23,14 @@ use Rattle.serial_spec.specs.Locks.{is_blocked}
 use Rattle.serial_spec.specs.Values.{seen}
 use Rattle.serial_spec.specs.Rows.{Rows, value_in}
 use Rattle.serial_spec.specs.Waits.{accesses, open_waits, same_line, wait_of}
-use Rattle.serial_spec.specs.Allowed.{refused_or, is_full_for, waits_elsewhere, cause_at_end, cause_at_access, has_come, has_waited, answer}
+use Rattle.serial_spec.specs.Allowed.{known, most_keys, refused_or, is_full_for, waits_elsewhere, cause_at_end, cause_at_access, has_come, has_waited, answer}
 use Rattle.serial_spec.specs.Causes.{when}
 use Rattle.serial_spec.specs.Legal.{AreAllowed}
 use Rattle.manager_core.specs.Kept.{AreTablesOf}
 use Rattle.manager_core.specs.Lines.{IsWaitOf, access_by, waiting_access}
 use Rattle.lock_table.specs.ByAsked.{BlocksAsked, MayAsk}
-use Rattle.std.specs.List.{IsDistinct}
-use Rattle.txn_names.specs.Path.{path_eq}
+use Rattle.std.specs.List.{IsDistinct, list_any}
+use Rattle.txn_names.specs.Path.{label_eq, path_eq}
 use Rattle.txn_tree.specs.States.{names}
 use Rattle.manager_core.specs.Looked.{IsKeptFrom}
 use Rattle.manager_core.proofs.Looked.{numbered}
@@ -161,21 +163,44 @@ pub parked : (rows : Rows) (h : History) (tables : Tabled) → AreAllowed rows h
 parked rows h tables allowed are by t asked n waits blocked event next =
     subst (IsKeptOut rows h by) (sym (only_event h by t asked waits.waits event next)) (out_if_blocked rows h tables allowed are by t asked n waits blocked)
 
+-- where fewer keys are known than may be, none is one too many
+pub few_room : (rows : Rows) (h : History) → length (known rows h) < most_keys → (a : Asked) → is_full_for rows h a ≡ false
+few_room rows h few (Over g) = refl
+few_room rows h few (At k o) = by (list_any (label_eq k) (known rows h))
+  where
+    by : (b : Bool) → (not b && nat_le most_keys (length (known rows h))) ≡ false
+    by true = refl
+    by false = grind (arith, nat_tests, few)
+
 module _ (rows : Rows) (h : History) (tables : Tabled) (allowed : AreAllowed rows h) (are : AreTablesOf rows h tables) (distinct : IsDistinct path_eq (names tables.tree))
     (by : By) (n : ℕ) where
-  -- so is the line of one that was seen, where its key is none too many
-  pub parked_as : (m : ℕ) (kept : IsKeptFrom tables.tree tables.estate.locks tables.waits.waits by n m) → is_full_for rows h kept.asked ≡ false → IsParked rows h by
-  parked_as m kept room =
+  -- one that was seen waits by its line, where its key is none too many
+  seen_waits : (m : ℕ) (kept : IsKeptFrom tables.tree tables.estate.locks tables.waits.waits by n m) → is_full_for rows h kept.asked ≡ false
+      → (t : Name) × WaitsOn rows h tables.tree by t kept.asked n
+  seen_waits m kept room =
       let named = numbered tables.tree distinct n kept.begun in
       let found = sym (kept_access_of h tables.tree tables.waits are.waiting named.0 n named.1) ∙ ap access_of kept.waiting in
-      let is = waiting_is rows h allowed named.0 by kept.asked found in
-      parked rows h tables allowed are by named.0 kept.asked n
-      (record {
-        number = named.1;
-        waits = is_wait h by named.0 kept.asked (record { wait = is.wait; waits = is.waits; of_line = is.of_line; event_is = is.event_is });
-        room = room;
-      })
-      (λ may. may m kept.blocks)
+      let is = waiting_is rows h allowed named.0 by kept.asked found in (
+        named.0,
+        record {
+          number = named.1;
+          waits = is_wait h by named.0 kept.asked (record { wait = is.wait; waits = is.waits; of_line = is.of_line; event_is = is.event_is });
+          room = room;
+        },
+      )
+
+  -- so the line is kept out
+  pub parked_as : (m : ℕ) (kept : IsKeptFrom tables.tree tables.estate.locks tables.waits.waits by n m) → is_full_for rows h kept.asked ≡ false → IsParked rows h by
+  parked_as m kept room =
+      let waits = seen_waits m kept room in
+      parked rows h tables allowed are by waits.0 kept.asked n waits.1 (λ may. may m kept.blocks)
+
+  -- and what it waits for is known
+  pub parked_access : (m : ℕ) (kept : IsKeptFrom tables.tree tables.estate.locks tables.waits.waits by n m) → is_full_for rows h kept.asked ≡ false
+      → (e : Event) × IsWaitOf h by e × IsKeptOut rows h by e
+  parked_access m kept room =
+      let waits = seen_waits m kept room in
+      (event_of waits.0 kept.asked, waits.1.waits, out_if_blocked rows h tables allowed are by waits.0 kept.asked n waits.1 (λ may. may m kept.blocks))
 
   -- one that waits by this line is kept from what it asks by whoever blocks it
   abbrev pub kept_as : (w : Wait) → kept_wait tables.waits n ≡ Some w → same_line w.by by ≡ true → (m : ℕ) → BlocksAsked tables.tree tables.estate.locks n w.asked m

@@ -1,5 +1,6 @@
 -- Accesses that were seen kept out, and that are so still.
 use Rattle.std.specs.Prelude.{◌≡◌, ℕ, true, false, List, slice_get, Some}
+use Rattle.std.specs.Int.{bit_at}
 use Rattle.txn_tree.specs.States.{States}
 use Rattle.txn_tree.specs.Numbered.{is_under}
 use Rattle.lock_table.specs.Blocking.{has_number}
@@ -16,14 +17,21 @@ use Rattle.manager_core.specs.declared.looks.Looks.{Looks}
 -- number n, and was kept out by the one with the number m
 abbrev pub IsLast : Looks → By → ℕ → ℕ → Type 0
 IsLast looks (Line s l) n m =
-    slice_get looks.last s ≡ Some (Some (record { txn = n; line = l; keeper = m }))
+    slice_get looks.last s ≡ Some (record { txn = n; line = l; keeper = m })
 IsLast looks by n m = ⊥
 
 -- and it stands
 abbrev pub HasSeen : Looks → By → ℕ → ℕ → Type 0
 HasSeen looks (Line s l) n m =
-    (slice_get looks.stands s ≡ Some true) × IsLast looks (Line s l) n m
+    (bit_at looks.stands s ≡ 1) × IsLast looks (Line s l) n m
 HasSeen looks by n m = ⊥
+
+-- an access of the session does
+pub record SomeStands (looks : Looks) (s : ℕ) : Type 0 where
+  pub line : ℕ
+  pub txn : ℕ
+  pub keeper : ℕ
+  pub seen : HasSeen looks (Line s line) txn keeper
 
 -- neither n nor m is at or below t
 pub record IsApart (tree : States) (t n m : ℕ) : Type 0 where

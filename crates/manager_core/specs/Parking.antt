@@ -4,6 +4,7 @@ use Rattle.std.specs.Prelude.{◌≡◌, ◌⊎◌, ℕ, Bool, true, false, Opti
 use Rattle.txn_tree.specs.Asked.{IsNumberOf}
 use Rattle.txn_tree.specs.States.{States}
 use Rattle.serial_spec.specs.declared.entry.By.{By}
+use Rattle.serial_spec.specs.declared.entry.By.TheVariants.{Line}
 use Rattle.serial_spec.specs.declared.entry.Refusal.{Refusal}
 use Rattle.serial_spec.specs.declared.entry.Refusal.TheVariants.{Unknown}
 use Rattle.serial_spec.specs.declared.event.Event.{Event}
@@ -51,6 +52,13 @@ NobodyWaits h = (by : By) (event : Event) → IsWaitOf h by event → ⊥
 abbrev pub IsParked : Rows → History → By → Type 0
 IsParked rows h by = (event : Event) → IsFree h by event ⊎ IsWaitOf h by event
     → IsKeptOut rows h by event
+
+-- an access waits by a line of the session, and is kept out
+pub record IsSessionParked (rows : Rows) (h : History) (s : ℕ) : Type 0 where
+  pub line : ℕ
+  pub event : Event
+  pub waits : IsWaitOf h (Line s line) event
+  pub kept : IsKeptOut rows h (Line s line) event
 
 -- Whether a condition holds, by the cause that refuses an abort: whoever has begun is live, or has
 -- come to its end

@@ -80,7 +80,7 @@ impl Tables {
     {
         let attempt = self.access(log, request)?;
         if let Attempt::Answered(_) = attempt {
-            self.end_wait(request.name);
+            self.end_wait(request.by, request.name);
         }
         Ok(attempt)
     }
@@ -109,8 +109,7 @@ impl Tables {
         if !self.may_remembering(txn, asked) {
             return Ok(Attempt::Waits);
         }
-        self.estate.reserve_asked(txn, asked)?;
-        let reply = self.estate.grant(&self.tree, txn, asked);
+        let reply = self.estate.take(&self.tree, txn, asked)?;
         self.hints.note(by, txn);
         Ok(Attempt::Answered(reply))
     }

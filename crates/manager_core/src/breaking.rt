@@ -68,11 +68,12 @@ pub(crate) fn break_cycles(log: &mut Log, tables: &mut Tables, breaker: &mut Cyc
 }
 
 // The transaction that is aborted next, if a cycle of waits stands, where each goes through this
-// transaction. There is room to look for it.
+// transaction, which the line named. There is room to look for it.
 fn next_own_victim(
     _log: &Log,
     tables: &Tables,
     breaker: &mut CycleSearch,
+    by: By,
     name: &Name,
 ) -> Option<Name>
     requires allowed { AreAllowed _log.now.rows _log.now.entries }
@@ -83,20 +84,21 @@ fn next_own_victim(
     ensures none { IfNone result (Quiet _log.now.entries) }
     ensures room { breaker.old ≤ breaker.new }
 {
-    let txn = tables.tree.no_of(name)?;
+    let txn = tables.tree.no_by_hint(name, tables.hints.of(by))?;
     tables.tree.has_distinct_names();
     tables.waits.has_each_once();
     let last = breaker.last_through(&tables.tree, tables.estate.locks(), &tables.waits, txn)?;
     tables.tree.name_of(last).copied()
 }
 
-/// As `break_cycles`, where each cycle goes through this transaction. So it is after each abort
+/// As `break_cycles`, where each cycle goes through this transaction, which the line named. So it is after each abort
 /// too, which only takes pairs away, so that those alone are looked at that the transaction waits
 /// for, or that one of these waits for in turn.
 pub(crate) fn break_own_cycles(
     log: &mut Log,
     tables: &mut Tables,
     breaker: &mut CycleSearch,
+    by: By,
     name: &Name,
 )
     requires allowed { AreAllowed log.old.rows log.old.entries }
@@ -107,7 +109,7 @@ pub(crate) fn break_own_cycles(
     requires work_room { length tables.old.waits.waits * length tables.old.waits.waits ≤ breaker.old }
     ensures { Settles log.old.rows log.old.entries log.new tables.old tables.new }
 {
-    while let Some(last) = next_own_victim(log, tables, breaker, name) {
+    while let Some(last) = next_own_victim(log, tables, breaker, by, name) {
         abort_victim(log, tables, &last);
     }
 }

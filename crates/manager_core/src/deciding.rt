@@ -1,13 +1,13 @@
 //! Why a line is refused, read off the tables. What is not refused goes on by the transaction's
 //! number.
 ghost use Rattle.std.specs.Prelude.{◌≡◌, ◌<◌, length, IfNone, IfOk, IfSome, IsTrue};
-ghost use Rattle.std.specs.Prelude.{None, Some, is_some, not, true};
+ghost use Rattle.std.specs.Prelude.{None, Some, is_some};
 ghost use Rattle.std.specs.Option.{option_copied};
 ghost use Rattle.std.specs.Result.{result_err};
 ghost use Rattle.txn_names.specs.Path.{top_of};
 ghost use Rattle.orphans.specs.Marked.{is_marked};
 ghost use Rattle.event_lists.specs.Views.{refusal_by};
-ghost use Rattle.txn_tree.specs.Asked.{IsNumberOf, IsRootless, is_absent_in};
+ghost use Rattle.txn_tree.specs.Asked.{IsNumberOf, IsRootless};
 ghost use Rattle.serial_spec.specs.Allowed.{cause_at_access, cause_at_commit, is_full_for};
 ghost use Rattle.serial_spec.specs.Legal.{AreAllowed};
 ghost use Rattle.manager_core.specs.Kept.{AreTablesOf};

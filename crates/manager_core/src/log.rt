@@ -6,7 +6,7 @@ ghost use Rattle.serial_spec.specs.declared.entry.Answer.TheVariants.{Stuck};
 ghost use Rattle.serial_spec.specs.Allowed.{known};
 ghost use Rattle.serial_spec.specs.History.{event_of};
 ghost use Rattle.event_lists.specs.Views.{answer_by, asked, event_by, seen};
-ghost use Rattle.txn_history.specs.Lines.{IsLineFree, OnlyWaits};
+ghost use Rattle.txn_history.specs.Uses.{HasUse};
 ghost use Rattle.manager_core.specs.State.{entry};
 ghost use Rattle.manager_core.specs.Outcomes.{TellsEntry, answer_of};
 
@@ -15,7 +15,7 @@ use event_lists::{Act, Entries, EntryView, EventView, Said};
 use serial_spec::{Asked, By, NoMemory, PlainTable};
 use std::alloc::Global;
 use std::marker::Model;
-use txn_history::History;
+use txn_history::{History, LineUse};
 use txn_names::{Key, Name};
 
 /// The entries over the opening rows.
@@ -84,15 +84,16 @@ impl Log {
         self.history.reserve(additional)
     }
 
-    // Adds the entry. It is no part of its callers, which are many.
+    // Adds the entry. The spot is a number that is mostly told with the same key, or any. It is no part
+    // of its callers, which are many.
     #[inline(never)]
-    fn push(&mut self, entry: &EntryView<'_>)
+    fn push(&mut self, entry: &EntryView<'_>, spot: usize)
         requires { 0 < self.old.room }
         ensures rows { self.new.rows ≡ self.old.rows }
         ensures entries { self.new.entries ≡ seen entry.now ∷ self.old.entries }
         ensures room { self.old.room ≤ self.new.room + 1 }
     {
-        self.history.push(entry);
+        self.history.push_near(entry, spot);
     }
 
     /// Adds the entry of what is asked of a transaction, and of the outcome. It is part of each
@@ -105,16 +106,18 @@ impl Log {
             entry by (event_by name.now act.now) (answer_of outcome.now) ∷ self.old.entries }
         ensures room { self.old.room ≤ self.new.room + 1 }
     {
-        self.push(&EntryView {
+        let entry = EntryView {
             by,
             event: EventView { name, act },
             said: outcome.said(),
             top: outcome.top(name),
-        });
+        };
+        self.push(&entry, 0);
     }
 
     /// Adds the entry of an access, and of what it was answered. The last name is that of the
-    /// topmost aborted transaction where an orphan is refused, and else any.
+    /// topmost aborted transaction where an orphan is refused, and else any. The spot is a number that
+    /// is mostly told with the same key, or any.
     #[inline(always)]
     pub(crate) fn add_asked<'a>(
         &mut self,
@@ -123,6 +126,7 @@ impl Log {
         asked: &Asked,
         said: Said,
         top: &'a Name,
+        spot: usize,
     )
         requires { 0 < self.old.room }
         ensures rows { self.new.rows ≡ self.old.rows }
@@ -134,12 +138,13 @@ impl Log {
             Asked::At(key, op) => Act::Access(*key, *op),
             Asked::Over(group) => Act::Sum(*group),
         };
-        self.push(&EntryView {
+        let entry = EntryView {
             by,
             event: EventView { name, act: &act },
             said,
             top,
-        });
+        };
+        self.push(&entry, spot);
     }
 
     /// Adds the entry of a line that is given up.
@@ -149,12 +154,13 @@ impl Log {
         ensures entries { self.new.entries ≡
             entry by (asked event.now) Stuck ∷ self.old.entries }
     {
-        self.push(&EntryView {
+        let entry = EntryView {
             by,
             event: *event,
             said: Said::Stuck,
             top: event.name,
-        });
+        };
+        self.push(&entry, 0);
     }
 
     /// Whether the key is in an opening row or in an answered access.
@@ -171,17 +177,11 @@ impl Log {
         self.history.known()
     }
 
-    /// Whether the line has no entry, or one alone, that it waits with this event.
-    pub(crate) fn free(&self, by: By, event: &EventView<'_>) -> bool
-        ensures { IsTrue result ↔ IsLineFree self.now.entries by (asked event.now) }
+    /// What the entries of the line are to this event.
+    #[inline(always)]
+    pub(crate) fn line_use(&self, by: By, event: &EventView<'_>) -> LineUse
+        ensures { HasUse self.now.entries by (asked event.now) result }
     {
-        self.history.free(by, event)
-    }
-
-    /// Whether the line has one entry alone, that it waits with this event.
-    pub(crate) fn waits_with(&self, by: By, event: &EventView<'_>) -> bool
-        ensures { IsTrue result ↔ OnlyWaits self.now.entries by (asked event.now) }
-    {
-        self.history.waits_with(by, event)
+        self.history.line_use(by, event)
     }
 }

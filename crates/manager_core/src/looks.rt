@@ -2,13 +2,16 @@
 ghost use Rattle.std.specs.Prelude.{◌≡◌, ◌⊎◌, ℕ, true, false, IfSome, IsTrue};
 ghost use Rattle.txn_tree.specs.Numbered.{is_under};
 ghost use Rattle.serial_spec.specs.declared.entry.By.{By};
-ghost use Rattle.manager_core.specs.Looked.{HasSeen, IsApart, IsLast};
+ghost use Rattle.std.specs.Int.{bit_at};
+ghost use Rattle.manager_core.specs.Looked.{HasSeen, IsApart, IsLast, SomeStands};
 
 use serial_spec::{By, MOST_SESSIONS};
+use session_sets::{first_from, has, with, without};
 use txn_tree::{Tree, TxnNo};
 
 /// An access that was seen kept out: by the number of its transaction, that of its line in the
-/// session, and that of somebody who keeps it out.
+/// session, and that of somebody who keeps it out. Lines count from 1, so that where there was none
+/// the line is 0.
 #[derive(Clone, Copy)]
 pub(crate) struct Look {
     pub(crate) txn: TxnNo,
@@ -21,10 +24,9 @@ pub(crate) struct Look {
 /// as long as it waits and neither its own transaction nor the keeper has ended since.
 #[derive(Drop)]
 pub(crate) struct Looks {
-    pub(crate) last: [Option<Look>; MOST_SESSIONS],
-    pub(crate) stands: [bool; MOST_SESSIONS],
-    // Whether any may stand.
-    pub(crate) some: bool,
+    pub(crate) last: [Look; MOST_SESSIONS],
+    // The sessions whose last one stands.
+    pub(crate) stands: u64,
 }
 
 impl Looks {
@@ -32,19 +34,19 @@ impl Looks {
     pub(crate) fn new() -> Looks
         ensures { (by : By) (n m : ℕ) → HasSeen result by n m → ⊥ }
     {
+        let none = Look {
+            txn: TxnNo::new(0),
+            line: 0,
+            keeper: TxnNo::new(0),
+        };
         Looks {
-            last: [None; MOST_SESSIONS],
-            stands: [false; MOST_SESSIONS],
-            some: false,
+            last: [none; MOST_SESSIONS],
+            stands: 0,
         }
     }
 
-    /// Whether any access may be seen kept out. It is a hint.
-    pub(crate) fn has_some(&self) -> bool {
-        self.some
-    }
-
     /// The access that was last seen kept out by this line, whether or not it stands.
+    #[inline(always)]
     pub(crate) fn last_at(&self, by: By) -> Option<Look>
         ensures { IfSome result (λ look. IsLast self.now by look.txn look.keeper) }
     {
@@ -52,22 +54,35 @@ impl Looks {
             return None;
         };
         match self.last.get(session as usize) {
-            Some(Some(look)) if look.line == line => Some(*look),
+            Some(look) if look.line == line => Some(*look),
             _ => None,
         }
     }
 
     /// The access by this line that was seen kept out and stands.
+    #[inline(always)]
     pub(crate) fn at(&self, by: By) -> Option<Look>
         ensures { IfSome result (λ look. HasSeen self.now by look.txn look.keeper) }
     {
         let By::Line { session, .. } = by else {
             return None;
         };
-        match self.stands.get(session as usize) {
-            Some(true) => self.last_at(by),
-            _ => None,
+        if session as usize >= MOST_SESSIONS || !has(self.stands, session) {
+            return None;
         }
+        self.last_at(by)
+    }
+
+    /// The sessions whose last access that was seen kept out stands.
+    #[inline(always)]
+    pub(crate) fn standing(&self) -> u64
+        ensures { (s : ℕ) → bit_at result s ≡ 1 → SomeStands self.now s }
+    {
+        // So the prover knows how many places there are.
+        if self.last.as_slice().len() < MOST_SESSIONS {
+            return 0;
+        }
+        self.stands
     }
 
     /// Keeps that the transaction's access by this line was seen kept out by the keeper.
@@ -78,9 +93,8 @@ impl Looks {
         if let By::Line { session, line } = by {
             let place = session as usize;
             if place < MOST_SESSIONS {
-                self.last[place] = Some(Look { txn, line, keeper });
-                self.stands[place] = true;
-                self.some = true;
+                self.last[place] = Look { txn, line, keeper };
+                self.stands = with(self.stands, session);
             }
         }
     }
@@ -91,19 +105,10 @@ impl Looks {
             HasSeen self.old b n m × (b ≡ by → ⊥) }
     {
         if let By::Line { session, .. } = by {
-            let place = session as usize;
-            if place < MOST_SESSIONS {
-                self.stands[place] = false;
+            if (session as usize) < MOST_SESSIONS {
+                self.stands = without(self.stands, session);
             }
         }
-    }
-
-    // Forgets all that was seen.
-    fn clear(&mut self)
-        ensures { (by : By) (n m : ℕ) → HasSeen self.new by n m → ⊥ }
-    {
-        self.stands = [false; MOST_SESSIONS];
-        self.some = false;
     }
 
     /// Forgets who waits at or below the transaction, which ends, and whom one at or below it keeps
@@ -113,18 +118,17 @@ impl Looks {
             HasSeen self.old by n m × IsApart tree.now txn n m }
     {
         if nobody_waits {
-            self.clear();
+            self.stands = 0;
             return;
         }
         let is_leaf = has_nobody_below(tree, txn);
-        let mut some = false;
-        for place in 0..MOST_SESSIONS {
-            let stood = self.stands[place];
-            let stands = still_stands(stood, &self.last[place], tree, txn, is_leaf);
-            self.stands[place] = stands;
-            some |= stands;
+        let mut from = 0;
+        while let Some(session) = first_from(self.stands, from) {
+            if !still_stands(&self.last[session as usize], tree, txn, is_leaf) {
+                self.stands = without(self.stands, session);
+            }
+            from = session + 1;
         }
-        self.some = some;
     }
 }
 
@@ -148,19 +152,12 @@ fn is_apart(tree: &Tree, txn: TxnNo, other: TxnNo, is_leaf: bool) -> bool
     }
 }
 
-// Whether a look stands still: it stood, and neither the one who waits nor the one who keeps it out
-// is at or below the transaction.
+// Whether a look that stood stands still: neither the one who waits nor the one who keeps it out is at
+// or below the transaction.
 #[inline(always)]
-fn still_stands(stands: bool, last: &Option<Look>, tree: &Tree, txn: TxnNo, is_leaf: bool) -> bool
+fn still_stands(look: &Look, tree: &Tree, txn: TxnNo, is_leaf: bool) -> bool
     requires { IsTrue is_leaf → (u : ℕ) → is_under tree.now txn u ≡ true → u ≡ txn }
-    ensures stood { IsTrue result → IsTrue stands }
-    ensures apart { IsTrue result →
-        IfSome last.now (λ look. IsApart tree.now txn look.txn look.keeper) }
+    ensures { IsTrue result → IsApart tree.now txn look.now.txn look.now.keeper }
 {
-    match last {
-        Some(look) if stands => {
-            is_apart(tree, txn, look.keeper, is_leaf) && is_apart(tree, txn, look.txn, is_leaf)
-        }
-        _ => false,
-    }
+    is_apart(tree, txn, look.keeper, is_leaf) && is_apart(tree, txn, look.txn, is_leaf)
 }

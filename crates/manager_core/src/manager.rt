@@ -24,6 +24,7 @@ use event_lists::{Act, Entries, EventView};
 use serial_spec::{By, MOST_ROWS, NoMemory, PlainTable, Refusal, Reply};
 use std::alloc::Global;
 use std::marker::Model;
+use txn_history::LineUse;
 use txn_names::Name;
 use wait_graph::CycleSearch;
 
@@ -271,7 +272,7 @@ impl<S: TopStore> Manager<S> {
     pub fn waiting(&self, name: &Name) -> bool
         ensures { result ≡ is_some (wait_of self.now.history name.now) }
     {
-        self.tables.waiting_access(name).is_some()
+        self.tables.waiting_access(By::Close, name).is_some()
     }
 
     // Whether no access of the event's transaction waits.
@@ -289,7 +290,11 @@ impl<S: TopStore> Manager<S> {
     pub fn free(&self, by: By, event: &EventView<'_>) -> bool
         ensures { IsTrue result ↔ IsFree self.now.history by (asked event.now) }
     {
-        self.log.free(by, event) && (!self.log.waits_with(by, event) || self.waits_no_more(event))
+        match self.log.line_use(by, event) {
+            LineUse::Unused => true,
+            LineUse::Waits => self.waits_no_more(event),
+            LineUse::Used => false,
+        }
     }
 
     /// The entries, the oldest first.

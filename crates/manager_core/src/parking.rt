@@ -1,5 +1,6 @@
 //! What keeps a line from its answer, read off the tables.
-ghost use Rattle.std.specs.Prelude.{◌≡◌, ◌↔◌, not, IfNone, IfSome, IsTrue, Some};
+ghost use Rattle.std.specs.Prelude.{◌≡◌, ◌↔◌, ℕ, not, IfNone, IfSome, IsTrue, Some};
+ghost use Rattle.std.specs.Int.{bit_at};
 ghost use Rattle.lock_table.specs.ByAsked.{MayAsk};
 ghost use Rattle.serial_spec.specs.Allowed.{has_come, is_full_for};
 ghost use Rattle.serial_spec.specs.History.{event_of};
@@ -10,12 +11,13 @@ ghost use Rattle.wait_cycles.specs.declared.waits.Wait.{Wait};
 ghost use Rattle.manager_core.specs.Kept.{AreTablesOf, OfAllowed, OfNumber, OfTables};
 ghost use Rattle.manager_core.specs.Lines.{IsWaitOf};
 ghost use Rattle.manager_core.specs.Looked.{IsKeptFrom};
-ghost use Rattle.manager_core.specs.Parking.{IsKeptOut, IsParked, NobodyWaits, WaitsOn, come_by};
+ghost use Rattle.manager_core.specs.Parking.{IsKeptOut, IsParked, IsSessionParked, NobodyWaits, WaitsOn, come_by};
 ghost use Rattle.manager_core.specs.Tables.{wait_at};
 
 use crate::deciding::is_full_for;
 use crate::keepers::keeper_of;
 use crate::log::Log;
+use crate::looks::Look;
 use crate::tables::Tables;
 use crate::waiting::same_line;
 use serial_spec::{Asked, By, MOST_KEYS, Refusal, When};
@@ -163,6 +165,20 @@ impl Tables {
         }
     }
 
+    /// The sessions of which an access is seen at once to be kept out still, as `is_parked` tells it of
+    /// a line: one bit for each. Where no key more may be known it is none.
+    #[inline(always)]
+    pub(crate) fn parked_sessions(&self, log: &Log) -> u64
+        requires allowed { AreAllowed log.now.rows log.now.entries }
+        requires are { AreTablesOf log.now.rows log.now.entries self.now }
+        ensures { (s : ℕ) → bit_at result s ≡ 1
+            → IsSessionParked log.now.rows log.now.entries s }
+    {
+        self.tree.has_distinct_names();
+        let has_room = log.known() < MOST_KEYS;
+        if has_room { self.looks.standing() } else { 0 }
+    }
+
     // Somebody who keeps the access of the transaction with this number out, if it waits by this
     // line and nothing else refuses it.
     fn keeper_by(&self, log: &Log, by: By, txn: TxnNo) -> Option<TxnNo>
@@ -184,21 +200,18 @@ impl Tables {
         Some(keeper)
     }
 
-    // As `stays_parked`, of an access that was not seen kept out since its keeper ended.
+    // As `stays_parked`, of an access that was last seen so and does not stand.
     #[inline(never)]
-    fn is_seen_again(&mut self, log: &Log, by: By) -> bool
+    fn is_seen_again(&mut self, log: &Log, by: By, last: Look) -> bool
         requires allowed { AreAllowed log.now.rows log.now.entries }
         requires are { AreTablesOf log.now.rows log.now.entries self.old }
         ensures parked { IsTrue result → IsParked log.now.rows log.now.entries by }
         ensures same { self.new ≡ self.old }
     {
-        let Some(look) = self.looks.last_at(by) else {
+        let Some(keeper) = self.keeper_by(log, by, last.txn) else {
             return false;
         };
-        let Some(keeper) = self.keeper_by(log, by, look.txn) else {
-            return false;
-        };
-        self.looks.put(by, look.txn, keeper);
+        self.looks.put(by, last.txn, keeper);
         true
     }
 
@@ -211,6 +224,10 @@ impl Tables {
         ensures parked { IsTrue result → IsParked log.now.rows log.now.entries by }
         ensures same { self.new ≡ self.old }
     {
-        self.is_parked(log, by) || self.is_seen_again(log, by)
+        // Of most lines no access was ever seen kept out.
+        match self.looks.last_at(by) {
+            Some(last) => self.is_parked(log, by) || self.is_seen_again(log, by, last),
+            None => false,
+        }
     }
 }

@@ -4,7 +4,7 @@
 //! Each step looks for pairs of which the first waits for the second only where the step itself can
 //! have added one. All pairs together are as many as those that wait, squared, and most steps add
 //! none.
-ghost use Rattle.std.specs.Prelude.{◌≡◌, ◌<◌, ◌∷◌, is_some, IsFalse, IsTrue};
+ghost use Rattle.std.specs.Prelude.{◌<◌, ◌∷◌, is_some, IsFalse, IsTrue};
 ghost use Rattle.serial_spec.specs.declared.entry.Answer.TheVariants.{Done, Waits};
 ghost use Rattle.serial_spec.specs.declared.target.Asked.{Asked};
 ghost use Rattle.serial_spec.specs.Legal.{AreAllowed};
@@ -55,7 +55,9 @@ pub(crate) fn settle_answered(
         log.new tables.old tables.new }
 {
     let Request { by, name, asked } = *request;
-    log.add_asked(by, name, asked, Said::Done(reply), name);
+    // The locks looked the key up last.
+    let spot = tables.estate.locks().key_hint();
+    log.add_asked(by, name, asked, Said::Done(reply), name, spot);
     if may_close_cycle(tables, by, name, asked) {
         break_cycles(log, tables, breaker);
     }
@@ -74,8 +76,8 @@ pub(crate) fn settle_waiting(
         log.new tables.old tables.new }
 {
     let Request { by, name, asked } = *request;
-    log.add_asked(by, name, asked, Said::Waits, name);
-    break_own_cycles(log, tables, breaker, name);
+    log.add_asked(by, name, asked, Said::Waits, name, 0);
+    break_own_cycles(log, tables, breaker, by, name);
 }
 
 impl Tables {
@@ -91,6 +93,6 @@ impl Tables {
     {
         let Request { by, name, asked } = *request;
         let (cause, top) = self.cause_at_access(log, by, name, asked);
-        log.add_asked(by, name, asked, Said::Refused(cause), top);
+        log.add_asked(by, name, asked, Said::Refused(cause), top, 0);
     }
 }

@@ -10,7 +10,7 @@ use crate::hints::Hints;
 use crate::looks::Looks;
 use inherit::Estate;
 use orphans::Marks;
-use serial_spec::{NoMemory, PlainTable};
+use serial_spec::{By, NoMemory, PlainTable};
 use std::alloc::Global;
 use std::marker::Model;
 use txn_names::Name;
@@ -89,13 +89,14 @@ impl Tables {
         estate.into_base()
     }
 
-    /// The number of a transaction that has begun.
-    pub(crate) fn number_of(&self, name: &Name) -> TxnNo
+    /// The number of a transaction that has begun. The one that the line's session is likely to name
+    /// is looked at first.
+    pub(crate) fn number_near(&self, by: By, name: &Name) -> TxnNo
         requires { IsFalse (is_absent_in self.now.tree name.now) }
         ensures number { IsNumberOf self.now.tree name.now result }
         ensures rootless { IsRootless self.now.tree }
     {
-        self.tree.no_of(name).unwrap()
+        self.tree.no_by_hint(name, self.hints.of(by)).unwrap()
     }
 
     /// The number of the parent of a subtransaction with this number.

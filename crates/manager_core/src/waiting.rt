@@ -41,11 +41,12 @@ impl Tables {
         Some((wait.by, wait.asked))
     }
 
-    /// The access by which the transaction waits, with its line.
-    pub(crate) fn waiting_access(&self, name: &Name) -> Option<(By, Asked)>
+    /// The access by which the transaction waits, with its line. That is likely to be this line.
+    pub(crate) fn waiting_access(&self, by: By, name: &Name) -> Option<(By, Asked)>
         ensures { OfTables self.now (λ h. result ≡ waiting_access (wait_of h name.now)) }
     {
-        self.waiting_access_at(self.tree.no_of(name)?)
+        let txn = self.tree.no_by_hint(name, self.hints.of(by))?;
+        self.waiting_access_at(txn)
     }
 
     /// Whether the transaction with this number waits by another line than this.
@@ -72,21 +73,21 @@ impl Tables {
             (Some (entry_of request.now answer.Waits)) }
         ensures grown { length self.new.waits.waits ≡ length self.old.waits.waits + 1 }
     {
-        let txn = self.number_of(request.name);
+        let txn = self.number_near(request.by, request.name);
         self.waits.add_reserved(txn, request.asked, request.by);
         if let Some(keeper) = keeper_of(&self.tree, self.estate.locks(), txn, request.asked) {
             self.looks.put(request.by, txn, keeper);
         }
     }
 
-    /// The transaction waits no more.
-    pub(crate) fn end_wait(&mut self, name: &Name)
+    /// The transaction waits no more. It is likely to wait by this line.
+    pub(crate) fn end_wait(&mut self, by: By, name: &Name)
         requires { IsFalse (is_absent_in self.old.tree name.now) }
         ensures beside { self.new ≡ record self.old { waits = self.new.waits } }
         ensures waits { SetsWait self.old self.new name.now None }
         ensures grown { length self.new.waits.waits ≤ length self.old.waits.waits }
     {
-        let txn = self.number_of(name);
+        let txn = self.number_near(by, name);
         if let Some(wait) = self.waits.of(txn) {
             self.looks.forget(wait.by);
         }

@@ -110,14 +110,15 @@ impl<S: TopStore> Manager<S> {
         ensures sound { OnOk result (IsSound S.TopStore self.new) }
     {
         let place = self.log.len();
-        match self.ask_again(name)? {
+        match self.ask_again(By::Close, name)? {
             Came::Waits => Ok(Outcome::Waits),
             _ => Ok(self.log.outcome_at(place)),
         }
     }
 
-    /// As `retry`. It tells what came of it, as `ask` does.
-    pub fn ask_again(&mut self, name: &Name) -> Result<Came, NoMemory>
+    /// As `retry`. It tells what came of it, as `ask` does. The line by which it waits is likely to be
+    /// this one: any line would do.
+    pub fn ask_again(&mut self, likely: By, name: &Name) -> Result<Came, NoMemory>
         requires waits { IsTrue (is_some (wait_of self.old.history name.now)) }
         ensures ok { IfOk result (λ came. CameTo came (Retried self.old self.new name.now)) }
         ensures err { OnErr result (self.new ≡ self.old) }
@@ -125,7 +126,7 @@ impl<S: TopStore> Manager<S> {
     {
         let (log, tables, breaker) = (&mut self.log, &mut self.tables, &mut self.breaker);
         reserve_step(log, tables, breaker)?;
-        let (by, asked) = tables.waiting_access(name).unwrap();
+        let (by, asked) = tables.waiting_access(likely, name).unwrap();
         let request = Request {
             by,
             name,
@@ -140,7 +141,7 @@ impl<S: TopStore> Manager<S> {
             Attempt::Waits => Ok(Came::Waits),
             Attempt::Refused => {
                 tables.refuse(log, &request);
-                tables.end_wait(name);
+                tables.end_wait(by, name);
                 Ok(Came::Refused)
             }
         }

@@ -1,11 +1,12 @@
 //! Lines that wait for a condition, and lines that are given up.
-ghost use Rattle.std.specs.Prelude.{◌≡◌, ◌<◌, ◌↔◌, ◌∷◌, length, IfOk, IsOk, OnErr, OnOk, IsFalse, IsTrue};
+ghost use Rattle.std.specs.Prelude.{◌≡◌, ◌<◌, ◌↔◌, ◌∷◌, ℕ, length, IfOk, IsOk, OnErr, OnOk, IsFalse, IsTrue};
+ghost use Rattle.std.specs.Int.{bit_at};
 ghost use Rattle.serial_spec.specs.declared.event.Event.TheVariants.{After};
 ghost use Rattle.serial_spec.specs.declared.entry.Answer.TheVariants.{Stuck};
 ghost use Rattle.serial_spec.specs.Allowed.{has_come, known, most_keys};
 ghost use Rattle.event_lists.specs.Views.{asked};
 ghost use Rattle.manager_core.specs.Lines.{CanGiveUp, IsFree, IsWaitOf};
-ghost use Rattle.manager_core.specs.Parking.{Awaited, IsKeptOut, IsParked, NobodyWaits};
+ghost use Rattle.manager_core.specs.Parking.{Awaited, IsKeptOut, IsParked, IsSessionParked, NobodyWaits};
 ghost use Rattle.manager_core.specs.State.{entry};
 
 use crate::manager::Manager;
@@ -83,9 +84,15 @@ impl<S: TopStore> Manager<S> {
         self.tables.is_parked(&self.log, by)
     }
 
-    /// Whether `is_parked` may tell yes of any line. It is a hint, which spares to ask for each line.
-    pub fn parks_any(&self) -> bool {
-        self.tables.looks.has_some()
+    /// The sessions of which it is seen at once that an access waits and is kept out still, as
+    /// `is_parked` tells it of a line: one bit for each of the first 64. Of the others nothing is
+    /// told. It takes no memory.
+    #[inline(always)]
+    pub fn parked_sessions(&self) -> u64
+        ensures { (s : ℕ) → bit_at result s ≡ 1
+            → IsSessionParked self.now.rows self.now.history s }
+    {
+        self.tables.parked_sessions(&self.log)
     }
 
     /// As `is_parked`, and where who kept it out has ended since, the locks are asked once more. An
@@ -107,7 +114,7 @@ impl<S: TopStore> Manager<S> {
         ensures sound { OnOk result (IsSound S.TopStore self.new) }
     {
         self.log.reserve(1)?;
-        self.tables.end_wait(event.name);
+        self.tables.end_wait(by, event.name);
         self.log.add_stuck(by, event);
         Ok(())
     }

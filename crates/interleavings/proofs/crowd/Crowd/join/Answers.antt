@@ -13,4 +13,4 @@ returns-then-takes c u low gathered =
       other = still.other;
       same = record { key = sym at.key ∙ still.same.key; depth = c.depth-self.ensures.depth ∙ sym at.depth ∙ still.same.depth };
     }))
-    (c.without-self.ensures u gathered)
+    (c.without-self.ensures.lacks u gathered)

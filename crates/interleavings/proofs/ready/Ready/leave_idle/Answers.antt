@@ -5,5 +5,5 @@ pub returns-then-session-lt-MOST_SESSIONS-clause-begins : goal.returns-then-sess
 returns-then-session-lt-MOST_SESSIONS-clause-begins c u out =
     ⊎_elim
     (λ same. inl same)
-    (λ was. ⊎_elim (λ same. inl same) (λ plain. inr (was, plain)) (c.without-self-then-session-lt-MOST_SESSIONS.ensures u out.1))
-    (c.without-self.ensures u out.0)
+    (λ was. ⊎_elim (λ same. inl same) (λ plain. inr (was, plain)) (c.without-self-then-session-lt-MOST_SESSIONS.ensures.lacks u out.1))
+    (c.without-self.ensures.lacks u out.0)

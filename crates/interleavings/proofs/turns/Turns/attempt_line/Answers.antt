@@ -43,7 +43,7 @@ invariant_of-self-in-Waits g c =
       left_out_after g.S.TopStore c.self.inside.sessions.now c.self.inside.manager.value c.self.inside.next.items c.self.invariant.0 c.args.session c.args.line (asked c.args.due.now) due
           c.attempt.new.manager to.outcome to.holds c.len-count.ensures.text.few c.self.inside.ready c.note_attempt.new.ready c.self.invariant.1 c.len-before.result
           (c.len-before.ensures ∙ sym (length-reverse c.history.result.now.entries) ∙ ap length (rw c.deref.ensures at c.history.ensures)) c.in_ok-came.came to.came_is
-          turns.way (rw (c.deref-2.ensures, c.as_slice-next.ensures.value) at c.note_attempt.ensures),
+          turns.way (rw c.deref-2.ensures at c.note_attempt.ensures),
     )
 
 pub invariant_of-self-in_default : goal.invariant_of-self-in_default
@@ -58,7 +58,7 @@ invariant_of-self-in_default g c =
       left_out_after g.S.TopStore c.self.inside.sessions.now c.self.inside.manager.value c.self.inside.next.items c.self.invariant.0 c.args.session c.args.line (asked c.args.due.now) due
           c.attempt.new.manager to.outcome to.holds c.len-count.ensures.text.few c.self.inside.ready c.note_attempt.new.ready c.self.invariant.1 c.len-before.result
           (c.len-before.ensures ∙ sym (length-reverse c.history.result.now.entries) ∙ ap length (rw c.deref.ensures at c.history.ensures)) c.in_ok-came.came to.came_is
-          turns.way (rw (c.deref-2.ensures, c.as_slice-next.ensures.value) at c.note_attempt.ensures),
+          turns.way (rw c.deref-2.ensures at c.note_attempt.ensures),
     )
 
 pub returns-in-Waits-clause-ok : goal.returns-in-Waits-clause-ok

@@ -6,7 +6,7 @@ use Rattle.manager_core.proofs.tables.Tables.end_wait.Goals.{in-Some, in_default
 pub invariant_of-self : goal.invariant_of-self
 invariant_of-self c =
     let m = c.self.inside in
-    let n = c.number_of-txn.result in
+    let n = c.number_near-txn.result in
     elim c.match-of.branch [
       | in-Some w ↦
           let sets = rw w.self-inside-is at c.cancel.ensures.waits in
