@@ -1,15 +1,14 @@
 -- From what a write shows to the words of the contracts.
-use Rattle.std.proofs.Common.{◌≡◌, ◌^◌, ◌<◌, ◌≤◌, ℕ, List, [], length, set, refl, sym, ap, ◌∙◌, subst, IsTrue, arith, inl, Ok, Err, OnOk, OnErr, IfErr, Result, is_err, true, false, true≢false}
+use Rattle.std.proofs.Common.{◌≡◌, ◌^◌, ◌<◌, ℕ, List, length, set, refl, sym, ap, ◌∙◌, subst, IsTrue, arith, inl, Ok, Err, OnOk, OnErr, IfErr, Result, is_err, true, false, true≢false}
 use Rattle.sqlite_value.specs.Order.{Row}
 use Rattle.std.proofs.lemmas.Result.{on_ok_weaker, on_err_weaker}
 use Rattle.sqlite_trees.specs.declared.error.StoreError.{StoreError}
 use Rattle.sqlite_trees.specs.declared.error.StoreError.TheVariants.{OutOfMemory}
-use Rattle.sqlite_trees.specs.Tree.{Trees, with_tree}
 use Rattle.sqlite_trees.specs.View.{View, KeepsSchema, IsFailure, SetsTree, OnlyWrites, IsQuiet}
 use Rattle.sqlite_trees.specs.Objects.{FailsToRelist}
 use Rattle.row_store.specs.declared.store.RowStore.{RowStore}
 use Rattle.row_store.specs.Path.{State}
-use Rattle.row_store.specs.RowView.{rows_in, shown, now, row_view, Leads}
+use Rattle.row_store.specs.RowView.{rows_in, now, row_view, Leads}
 use Rattle.row_store.proofs.Views.{edited_shown, wrote, stayed}
 
 pub failed : (old new : View) → new ≡ record old { cursors = new.cursors } → (e : StoreError) → IsFailure old new e

@@ -1,24 +1,22 @@
 -- One tree's rows are edited.
 use Rattle.slot_list.specs.Slotted.{Slotted}
-use Rattle.std.proofs.Common.{◌≡◌, ◌≢◌, ℕ, ◌+◌, ◌<◌, ◌≤◌, List, [], ◌∷◌, ◌++◌, map, length, get_or, set, refl, sym, ap, ◌∙◌, arith, inl, inr, true, false, cond, eqb, IsTrue}
+use Rattle.std.proofs.Common.{◌≡◌, ℕ, ◌<◌, ◌≤◌, List, [], ◌∷◌, ◌++◌, map, length, get_or, set, refl, ap, arith, inl, inr}
 use Rattle.std.proofs.lemmas.Bool.{cases_eq}
-use Rattle.std.proofs.lemmas.List.{length-set, length-map, get_or-set_same, get_or-set_other, set-get_or}
-use Rattle.std.proofs.Math.Logic.{∥∥₁_elim, ∥∥₁_map}
+use Rattle.std.proofs.lemmas.List.{length-set, length-map, get_or-set_same, get_or-set_other}
 use Rattle.sqlite_value.specs.Order.{Row}
 use Rattle.sqlite_trees.specs.declared.store.Shape.{Shape}
 use Rattle.sqlite_trees.specs.declared.store.Shape.TheVariants.{Absent, Table, Index, Pageless, FrozenTable, FrozenIndex}
 use Rattle.sqlite_trees.specs.View.{IsShaped}
-use Rattle.sqlite_trees.specs.Listing.{Heading, no_heading, shape_in}
+use Rattle.sqlite_trees.specs.Listing.{Heading, shape_in}
 use Rattle.sqlite_trees.proofs.TreeLemmas.{IsShaped-filter, IsShaped-put_row, IsIndex-insert_entry}
-use Rattle.sqlite_trees.proofs.StoreLemmas.{get_or-set_cases}
 use Rattle.row_store.specs.declared.edit.Edit.{Edit}
 use Rattle.row_store.specs.declared.edit.Edit.TheVariants.{Put, Delete, Insert, Remove, Empty}
 use Rattle.row_store.specs.declared.rows.Change.{Change}
 use Rattle.row_store.specs.declared.log.Undo.{Undo}
-use Rattle.row_store.specs.declared.log.Undo.TheVariants.{Rows, Listed, Version}
-use Rattle.row_store.specs.Undo.{reverted, IsRevertible, IsUndoneBy}
+use Rattle.row_store.specs.declared.log.Undo.TheVariants.{Rows}
+use Rattle.row_store.specs.Undo.{reverted, IsUndoneBy}
 use Rattle.row_store.specs.inner.Edit.{edited, Suits, IsFor, EditsRows, HasRoomOf}
-use Rattle.row_store.specs.Path.{State, undo, Fits, undone, IsSound, IsPath}
+use Rattle.row_store.specs.Path.{State, undo, IsPath}
 use Rattle.row_store.proofs.Lists.{map_set, set_at, read_at, set_back}
 use Rattle.row_store.proofs.Paths.{path_push, path_grow}
 use Rattle.row_store.specs.Shown.{path_now}

@@ -1,5 +1,5 @@
 -- A store without rows lists no tables.
-use Rattle.std.proofs.Common.{◌≡◌, List, [], ◌∷◌, refl, subst, filter, true}
+use Rattle.std.proofs.Common.{◌≡◌, List, [], ◌∷◌, refl, subst}
 use Rattle.std.specs.List.{AllZip}
 use Rattle.sqlite_schema.specs.declared.schema.Schema.{Schema}
 use Rattle.sqlite_trees.specs.Tree.{Trees}

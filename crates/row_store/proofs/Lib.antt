@@ -1,4 +1,6 @@
+pub mod Firsts
 pub mod Lists
+pub mod Words
 pub mod Places
 pub mod Paths
 pub mod Views

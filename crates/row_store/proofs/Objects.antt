@@ -1,19 +1,16 @@
 -- A tree is made, dropped or listed otherwise.
-use Rattle.std.proofs.Common.{◌≡◌, ◌≢◌, ◌^◌, ◌+◌, ◌<◌, ◌≤◌, ℕ, pos, List, [], ◌∷◌, ◌++◌, length, set, get_or, fold, refl, sym, ap, ◌∙◌, arith, false, ne_eqb}
-use Rattle.std.proofs.lemmas.List.{length-set}
-use Rattle.std.proofs.lemmas.List.Sums.{fold_push}
+use Rattle.std.proofs.Common.{◌≡◌, ◌≢◌, ◌^◌, ◌+◌, ◌<◌, ℕ, pos, List, [], ◌∷◌, length, set, refl, sym, ap, ◌∙◌, arith, false, ne_eqb}
 use Rattle.sqlite_value.specs.Order.{Row}
-use Rattle.sqlite_trees.specs.declared.store.Shape.{Shape}
 use Rattle.sqlite_trees.specs.declared.store.Shape.TheVariants.{Absent}
 use Rattle.sqlite_trees.specs.declared.schema.Object.{Object}
 use Rattle.sqlite_trees.specs.Tree.{Trees, with_tree, put_row, without_rowid}
 use Rattle.sqlite_trees.specs.View.{View}
-use Rattle.sqlite_trees.specs.Objects.{catalog_tree, description, object_row, set_at, SetsObject, Creates, Destroys, Relists}
+use Rattle.sqlite_trees.specs.Objects.{catalog_tree, description, object_row, set_at, Creates, Destroys, Relists}
 use Rattle.sqlite_trees.specs.Listing.{Heading, no_heading, reals_unless_absent, objects_from, objects_from-set, objects_from-unset}
 use Rattle.sqlite_trees.proofs.StoreLemmas.{present_reals}
 use Rattle.row_store.specs.declared.store.RowStore.{RowStore}
 use Rattle.row_store.specs.Path.{State}
-use Rattle.row_store.specs.RowView.{rows_in, shown, now, row_view, Leads}
+use Rattle.row_store.specs.RowView.{now, row_view, Leads}
 use Rattle.row_store.proofs.Views.{set_same, edited_shown, listed_shown, wrote}
 
 -- the tree has no rows, and is listed otherwise

@@ -1,8 +1,6 @@
 -- What a log of undone writes keeps: a write leads back to what stood before it, and the states on the way stay sound.
-use Rattle.std.proofs.Common.{◌≡◌, ℕ, ◌+◌, ◌<◌, ◌≤◌, List, [], ◌∷◌, ◌++◌, length, get_or, refl, ap, ◌∙◌, arith}
-use Rattle.std.proofs.Math.Logic.{∥∥₁_elim}
+use Rattle.std.proofs.Common.{◌≡◌, ℕ, ◌≤◌, List, [], ◌∷◌, ◌++◌, get_or, refl, ap, ◌∙◌, arith}
 use Rattle.row_store.specs.declared.log.Undo.{Undo}
-use Rattle.row_store.specs.declared.log.Undo.TheVariants.{Rows, Listed, Version}
 use Rattle.row_store.specs.Path.{State, undo, Fits, undone, IsSound, IsPath}
 
 pub undone-push : (log : List Undo) (u : Undo) (s : State) → undone (log ++ u ∷ []) s ≡ undone log (undo u s)

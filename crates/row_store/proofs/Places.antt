@@ -1,16 +1,18 @@
 -- From the place that a search finds to what a write does there, and what undoes it.
 use Rattle.std.proofs.Common.{◌≡◌, ℕ, ℤ, zero, suc, ◌<◌, ◌≤◌, Bool, true, false, not, List, [], ◌∷◌, filter, length, get_or, set, refl, sym, ap, ◌∙◌, arith, Ordering, Less, Equal, Greater, is_lt, is_eq, true≢false}
 use Rattle.std.specs.List.{AllByRecursion, insert, remove}
-use Rattle.std.specs.Cmp.{IsTotalOrder}
 use Rattle.std.proofs.lemmas.Cmp.{alike_right}
+use Rattle.sqlite_value.specs.declared.value.Value.{Value}
 use Rattle.sqlite_value.specs.declared.value.Value.TheVariants.{Int}
 use Rattle.sqlite_value.specs.declared.keys.Order.{Order}
 use Rattle.sqlite_value.specs.Order.{Row, value_cmp}
 use Rattle.sqlite_value.specs.Keys.{entry_cmp}
 use Rattle.sqlite_value.proofs.KeyLemmas.{entry_cmp_total}
+use Rattle.sqlite_value.proofs.OrderLemmas.{value_cmp_total}
 use Rattle.sqlite_trees.specs.Tree.{rowid, IsTable, IsIndex, has_rowid, without_rowid, remove_entry}
 use Rattle.sqlite_trees.specs.Probe.{IsPlaceOf}
-use Rattle.sqlite_trees.proofs.ListLemmas.{all_weaker, filter_all}
+use Rattle.sqlite_trees.proofs.ListLemmas.{all_weaker, ascending-get_or, filter_all}
+use Rattle.sqlite_trees.proofs.MemoryLemmas.{cut_below_rowid, fails_after}
 use Rattle.sqlite_trees.proofs.TreeLemmas.{later_rowids}
 
 pub remove-insert : {X : Type 0} (xs : List X) (i : ℕ) (x : X) → i ≤ length xs → remove (insert xs i x) i ≡ xs
@@ -56,6 +58,22 @@ later_entries o e x rows h = all_weaker _ (λ r. is_eq (entry_cmp o r e) ≡ fal
     go r below Less is = refl
     go r below Greater is = refl
     go r below Equal is = absurd (true≢false (sym (ap is_lt (sym (alike_right (entry_cmp_total o) r e x is) ∙ below)) ∙ h))
+
+tied : (o : Ordering) → is_eq o ≡ true → o ≡ Equal
+tied Less h = absurd (true≢false (sym h))
+tied Equal h = refl
+tied Greater h = absurd (true≢false (sym h))
+
+-- rowids rise, so that the row that has one stands at its place
+pub rowid_place : (v : Value) (rows : List Row) (at : ℕ) → IsTable rows → at < length rows → is_eq (value_cmp (rowid (get_or rows at [])) v) ≡ true
+    → IsPlaceOf (λ r. is_lt (value_cmp (rowid r) v)) rows at
+rowid_place v rows at table within same =
+    let tie = tied (value_cmp (rowid (get_or rows at [])) v) same in
+    record {
+      within = omega (arith, within);
+      before = λ k h. ap is_lt (sym (alike_right value_cmp_total (rowid (get_or rows at [])) v (rowid (get_or rows k [])) tie) ∙ ascending-get_or _ rows k at [] table h within);
+      after = λ k h q. fails_after (λ r. is_lt (value_cmp (rowid r) v)) rows at (cut_below_rowid v rows table) (ap is_lt tie) k h q;
+    }
 
 module _ (id : ℤ) where
   abbrev IsIdPlace : List Row → ℕ → Type 0

@@ -1,6 +1,6 @@
 -- One tree is listed otherwise, and what undoes the newest write is made.
 use Rattle.slot_list.specs.Slotted.{Slotted}
-use Rattle.std.proofs.Common.{◌≡◌, ◌≢◌, ℕ, ◌+◌, ◌-◌, ◌<◌, ◌≤◌, List, [], ◌∷◌, ◌++◌, map, take, drop, length, get_or, set, refl, sym, ap, ◌∙◌, subst, arith, inl, inr}
+use Rattle.std.proofs.Common.{◌≡◌, ℕ, ◌-◌, ◌<◌, ◌≤◌, List, [], ◌∷◌, ◌++◌, map, drop, length, get_or, set, sym, ap, ◌∙◌, subst, arith, inl, inr}
 use Rattle.std.proofs.lemmas.Bool.{cases_eq}
 use Rattle.std.proofs.Math.Logic.{∥∥₁_elim, ∥∥₁_map}
 use denote.Struct.Props.{props}
@@ -11,14 +11,14 @@ use Rattle.sqlite_trees.specs.View.{IsShaped}
 use Rattle.sqlite_trees.specs.Listing.{Heading, no_heading, shape_in}
 use Rattle.row_store.specs.declared.log.Head.{Head}
 use Rattle.row_store.specs.declared.log.Undo.{Undo}
-use Rattle.row_store.specs.declared.log.Undo.TheVariants.{Rows, Listed, Version}
+use Rattle.row_store.specs.declared.log.Undo.TheVariants.{Rows, Listed}
 use Rattle.row_store.specs.declared.rows.Change.{Change}
 use Rattle.row_store.specs.declared.rows.Change.TheVariants.{Nothing, Inserted, Replaced, Removed, Emptied}
 use Rattle.row_store.specs.declared.store.RowStore.{RowStore}
 use Rattle.row_store.specs.Undo.{reverted, IsRevertible}
 use Rattle.row_store.specs.RowView.{now, rows_in}
 use Rattle.row_store.specs.Heading.{heading}
-use Rattle.row_store.specs.Path.{State, undo, Fits, undone, IsSound, IsPath}
+use Rattle.row_store.specs.Path.{State, undo, Fits, undone, IsPath}
 use Rattle.row_store.proofs.Lists.{map_set, set_at, read_at, set_back}
 use Rattle.row_store.proofs.Paths.{path_push, path_pop}
 use Rattle.row_store.specs.Shown.{path_now}

@@ -1,22 +1,20 @@
 -- What a write shows.
-use Rattle.std.proofs.Common.{◌≡◌, ◌≢◌, ℕ, ◌+◌, ◌-◌, ◌^◌, ◌<◌, ◌≤◌, cond, eqb, List, [], ◌∷◌, ◌++◌, map, take, drop, length, get_or, set, All, refl, sym, ap, ◌∙◌, arith, true, false, inl, inr, eq-eqb, ne_eqb, take-append-drop, length-take-le, append_assoc, append-nil}
+use Rattle.std.proofs.Common.{◌≡◌, ℕ, ◌^◌, ◌<◌, ◌≤◌, cond, eqb, List, [], ◌∷◌, ◌++◌, map, take, drop, length, get_or, set, All, refl, sym, ap, ◌∙◌, arith, true, false, inl, inr, eq-eqb, ne_eqb, take-append-drop, length-take-le, append_assoc, append-nil}
 use Rattle.std.proofs.lemmas.Bool.{cases_eq}
 use Rattle.std.proofs.lemmas.List.{drop-append-le, take_at, drop_at}
 use Rattle.std.proofs.lemmas.List.Elements.{All-head, All-tail}
 use mathlib.Core.Path.{fun_ext}
 use Rattle.sqlite_value.specs.Order.{Row}
-use Rattle.sqlite_trees.specs.declared.store.Shape.{Shape}
 use Rattle.sqlite_trees.specs.declared.store.Shape.TheVariants.{Table}
 use Rattle.sqlite_trees.specs.Tree.{Trees, with_tree}
-use Rattle.sqlite_trees.specs.View.{View, Snapshot}
-use Rattle.sqlite_trees.specs.Objects.{catalog_tree, version_tree, with_version, set_at}
+use Rattle.sqlite_trees.specs.Objects.{catalog_tree, set_at}
 use Rattle.sqlite_trees.specs.Listing.{Heading, no_heading, shape_in, reals_in, reals_unless_absent, objects_from}
 use Rattle.sqlite_trees.proofs.StoreLemmas.{named, under_version, versioned_edit, get_or-set_cases}
 use Rattle.row_store.specs.declared.log.Undo.{Undo}
 use Rattle.row_store.specs.declared.store.RowStore.{RowStore}
-use Rattle.row_store.specs.Path.{State, undo, undone}
+use Rattle.row_store.specs.Path.{State, undone}
 use Rattle.row_store.specs.RowView.{rows_in, shown, now, row_view, Leads}
-use Rattle.row_store.proofs.Paths.{undone-push, undone-append}
+use Rattle.row_store.proofs.Paths.{undone-append}
 
 pub set_same : {X : Type 0} (f : ℕ → X) (t : ℕ) → set_at f t (f t) ≡ f
 set_same f t = fun_ext (λ k. elim (cases_eq k t) [ inl same ↦ rw (eq-eqb k t same, same) | inr other ↦ rw (ne_eqb k t other) ])

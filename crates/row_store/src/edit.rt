@@ -8,6 +8,18 @@ use sqlite_value::keys::Order;
 use sqlite_value::row::Row;
 use std::alloc::{AllocError, Global};
 
+// A copy of the row, made over a spare one where there is one, so that it allocates only to grow.
+fn copied(alloc: Global, spare: &mut Vec<Row>, row: &Row) -> Result<Row, AllocError>
+    ensures { IfOk result (λ copy. copy ≡ row.now) }
+{
+    let mut copy = match spare.pop() {
+        Some(old) => old,
+        None => Row::new(alloc),
+    };
+    copy.copy_from(row)?;
+    Ok(copy)
+}
+
 #[derive(Clone, Copy)]
 pub(crate) enum Edit<'a> {
     Put(&'a Row),
@@ -25,6 +37,7 @@ impl Edit<'_> {
         self,
         alloc: Global,
         rows: &mut SlotList<Row>,
+        spare: &mut Vec<Row>,
         near: &mut usize,
     ) -> Result<Change, AllocError>
         requires { Suits self rows.old.items }
@@ -34,9 +47,11 @@ impl Edit<'_> {
         ensures room { rows.old.capacity ≤ rows.new.capacity }
     {
         match self {
-            Edit::Put(row) => put(rows, near, row.copy(alloc)?),
+            Edit::Put(row) => put(rows, near, copied(alloc, spare, row)?),
             Edit::Delete(id) => Ok(delete(alloc, rows, near, id)),
-            Edit::Insert(order, entry) => insert(rows, near, order, entry.copy(alloc)?),
+            Edit::Insert(order, entry) => {
+                insert(rows, near, order, copied(alloc, spare, entry)?)
+            }
             Edit::Remove(order, entry) => Ok(remove(alloc, rows, near, order, entry)),
             Edit::Empty => empty(alloc, rows),
         }
@@ -46,6 +61,7 @@ impl Edit<'_> {
         self,
         alloc: Global,
         rows: &mut SlotList<Row>,
+        spare: &mut Vec<Row>,
         near: &mut usize,
     ) -> Result<Change, AllocError>
         requires { Suits self rows.old.items }
@@ -55,7 +71,7 @@ impl Edit<'_> {
         ensures room { rows.old.capacity ≤ rows.new.capacity }
         ensures within { length rows.new.items ≤ rows.new.capacity }
     {
-        let made = self.make(alloc, rows, near);
+        let made = self.make(alloc, rows, spare, near);
         // The length tells the prover that the rows have room.
         let _len = rows.len();
         made

@@ -8,6 +8,7 @@ mod open;
 mod probe;
 mod rows;
 mod store;
+mod texts;
 mod traits;
 mod typed;
 

@@ -11,6 +11,9 @@ use sqlite_value::row::Row;
 use sqlite_value::value::ValueRef;
 use std::alloc::{AllocError, Global};
 
+/// So many spare rows are kept at most.
+const SPARE: usize = 256;
+
 /// How a tree is listed: its shape, its REAL columns, and its type, name, table and SQL text.
 #[derive(Drop)]
 pub(crate) struct Head {
@@ -66,4 +69,18 @@ pub(crate) enum Undo {
     Rows(usize, Change),
     Listed(usize, Head),
     Version(u32),
+}
+
+impl Undo {
+    /// Where this has a row, that is kept as a spare one, unless there are enough.
+    pub(crate) fn spare_row(self, spare: &mut Vec<Row>) {
+        let row = match self {
+            Undo::Rows(_, Change::Replaced(_, row)) => row,
+            Undo::Rows(_, Change::Removed(_, row)) => row,
+            _ => return,
+        };
+        if spare.len() < SPARE {
+            let _ = spare.push(row);
+        }
+    }
 }

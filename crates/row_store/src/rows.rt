@@ -7,7 +7,7 @@ ghost use Rattle.sqlite_trees.specs.View.{IsShaped, Finds};
 ghost use Rattle.sqlite_trees.specs.declared.store.Shape.TheVariants as shape;
 ghost use Rattle.row_store.specs.Undo.{reverted, IsRevertible, IsUndoneBy};
 
-use crate::probe::{Probe, has_entry_at, has_rowid_at};
+use crate::probe::{Probe, has_entry_at, has_rowid_at, place_of_rowid};
 use slot_list::SlotList;
 use sqlite_value::keys::Order;
 use sqlite_value::row::Row;
@@ -71,7 +71,7 @@ pub(crate) fn get(
     requires { IsShaped shape.Table rows.now.items }
     ensures { IfOk result (Finds rows.now.items id row.new) }
 {
-    let at = Probe::BelowRowid(ValueRef::Int(id)).place(rows, near);
+    let at = place_of_rowid(rows, near, ValueRef::Int(id));
     if has_rowid_at(rows, at, ValueRef::Int(id)) {
         row.copy_from(rows.at(at))?;
         Ok(true)
@@ -92,7 +92,7 @@ pub(crate) fn put(
     ensures err { OnErr result (rows.new.items ≡ rows.old.items) }
     ensures room { rows.old.capacity ≤ rows.new.capacity }
 {
-    let at = Probe::BelowRowid(new.get(0)).place(rows, near);
+    let at = place_of_rowid(rows, near, new.get(0));
     if has_rowid_at(rows, at, new.get(0)) {
         let old = rows.replace(at, new);
         return Ok(Change::Replaced(at, old));
@@ -123,7 +123,7 @@ pub(crate) fn delete(alloc: Global, rows: &mut SlotList<Row>, near: &mut usize, 
     ensures undone { IsUndoneBy result rows.new.items rows.old.items }
     ensures room { rows.old.capacity ≤ rows.new.capacity }
 {
-    let at = Probe::BelowRowid(ValueRef::Int(id)).place(rows, near);
+    let at = place_of_rowid(rows, near, ValueRef::Int(id));
     if has_rowid_at(rows, at, ValueRef::Int(id)) {
         Change::Removed(at, rows.remove(at, Row::new(alloc)))
     } else {

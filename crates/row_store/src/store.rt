@@ -9,7 +9,7 @@ ghost use Rattle.row_store.specs.Path.{IsPath};
 
 use crate::edit::Edit;
 use crate::log::{Head, Undo};
-use crate::probe::Probe;
+use crate::probe::{Probe, place_up_to_key};
 use crate::rows::{Change, revert};
 use slot_list::SlotList;
 use sqlite_trees::error::StoreError;
@@ -45,6 +45,8 @@ pub struct RowStore {
     pub(crate) log: Vec<Undo>,
     /// The length of the log at each savepoint.
     pub(crate) marks: Vec<usize>,
+    /// Rows that a commit let go. Copies are made over them.
+    pub(crate) spare: Vec<Row>,
     ghost within: { All (λ n. n ≤ length log.items) marks.items },
     ghost rising: { (i j : ℕ) → i ≤ j → j < length marks.items
         → slice_index marks.items i ≤ slice_index marks.items j },
@@ -87,6 +89,7 @@ impl RowStore {
             places: [0; TREES],
             log: Vec::new(alloc),
             marks: Vec::new(alloc),
+            spare: Vec::new(alloc),
         })
     }
 
@@ -138,7 +141,7 @@ impl RowStore {
         };
         let at = match direction {
             Direction::Forward => Probe::BelowKey(order, key).place(rows, near),
-            Direction::Backward => Probe::UpToKey(order, key).place(rows, near),
+            Direction::Backward => place_up_to_key(order, key, rows, near),
         };
         Cursor {
             tree,
@@ -188,6 +191,7 @@ impl RowStore {
     fn edit_rows(
         alloc: Global,
         rows: &mut Vec<SlotList<Row>>,
+        spare: &mut Vec<Row>,
         near: &mut usize,
         tree: usize,
         edit: Edit<'_>,
@@ -200,7 +204,7 @@ impl RowStore {
             ≡ map (λ v. v.items) rows.old.items) }
         ensures room { HasRoomOf rows.old.items rows.new.items }
     {
-        edit.apply(alloc, &mut rows[tree], near)
+        edit.apply(alloc, &mut rows[tree], spare, near)
     }
 
     /// Makes one write, and notes what undoes it.
@@ -217,7 +221,8 @@ impl RowStore {
     {
         self.log.reserve(1)?;
         let near = &mut self.places[tree as usize];
-        let change = Self::edit_rows(self.alloc, &mut self.rows, near, tree as usize, edit)?;
+        let (rows, spare) = (&mut self.rows, &mut self.spare);
+        let change = Self::edit_rows(self.alloc, rows, spare, near, tree as usize, edit)?;
         self.log.push_reserved(Undo::Rows(tree as usize, change));
         self.cursors.clear();
         Ok(())
@@ -304,6 +309,17 @@ impl RowStore {
             }
             Some(Undo::Listed(tree, head)) => self.headings[tree] = head,
             Some(Undo::Version(version)) => self.version = version,
+        }
+    }
+
+    /// Ends the log, whose rows are kept as spare ones.
+    pub(crate) fn end_log(spare: &mut Vec<Row>, log: &mut Vec<Undo>)
+        ensures { log.new.items ≡ [] }
+    {
+        while log.len() > 0 {
+            if let Some(undo) = log.pop() {
+                undo.spare_row(spare);
+            }
         }
     }
 

@@ -125,7 +125,7 @@ impl Store for RowStore {
 
     fn commit(&mut self) -> Result<(), StoreError> {
         self.marks.clear();
-        self.log.clear();
+        Self::end_log(&mut self.spare, &mut self.log);
         Ok(())
     }
 

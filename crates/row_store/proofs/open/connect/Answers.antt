@@ -1,9 +1,7 @@
-use Rattle.std.proofs.Common.{◌≡◌, ◌≢◌, [], true, refl, ap, ◌∙◌, arith}
+use Rattle.std.proofs.Common.{◌≢◌, true, refl, ap, ◌∙◌, arith}
 use Rattle.sqlite_trees.specs.Tree.{Trees}
 use Rattle.sqlite_trees.specs.Objects.{catalog_tree, version_tree}
 use Rattle.sqlite_trees.proofs.Doubt.{no_doubt}
-use Rattle.sqlite.specs.Held.{state}
-use Rattle.row_store.specs.Steps.{over_memory}
 use Rattle.row_store.proofs.Empty.{no_objects}
 use Rattle.row_store.proofs.open.connect.Goals as goal
 

@@ -1,19 +1,16 @@
-use Rattle.std.proofs.Common.{◌∙◌, subst, is_lt, arith, length, get_or, sym}
+use Rattle.std.proofs.Common.{◌∙◌, subst, is_lt, arith}
 use Rattle.std.proofs.lemmas.List.{length-set}
 use Rattle.std.proofs.lemmas.List.Edits.{length-insert}
 use Rattle.sqlite_value.specs.Order.{value_cmp}
 use Rattle.sqlite_trees.specs.Tree.{rowid}
 use Rattle.sqlite_trees.specs.Probe.{IsPlaceOf}
-use Rattle.sqlite_trees.proofs.MemoryLemmas.{cut_below_rowid, set-put_row, insert-put_row}
+use Rattle.sqlite_trees.proofs.MemoryLemmas.{set-put_row, insert-put_row}
 use Rattle.row_store.proofs.Places.{remove-insert, set-back}
 use Rattle.row_store.proofs.rows.put.Goals as goal
 
-pub place-at-requires : goal.place-at-requires
-place-at-requires c = cut_below_rowid _ _ c.requires.0
-
 pub returns-then-has_rowid_at-clause-ok : goal.returns-then-has_rowid_at-clause-ok
 returns-then-has_rowid_at-clause-ok c =
-    let place = subst (λ id. IsPlaceOf (λ e. is_lt (value_cmp (rowid e) id)) c.args.rows.now.items c.place-at.result) c.get.ensures c.place-at.ensures in
+    let place = subst (λ id. IsPlaceOf (λ e. is_lt (value_cmp (rowid e) id)) c.args.rows.now.items c.place_of_rowid-at.result) c.get.ensures c.place_of_rowid-at.ensures in
     let test = rw c.get-2.ensures at c.if-has_rowid_at.ensures in
     c.replace-old.ensures.items ∙ set-put_row c.args.new _ _ place test.0 test.1
 
@@ -27,14 +24,14 @@ returns-then-has_rowid_at-clause-undone c =
 
 pub returns-clause-ok : goal.returns-clause-ok
 returns-clause-ok c =
-    let place = subst (λ id. IsPlaceOf (λ e. is_lt (value_cmp (rowid e) id)) c.args.rows.now.items c.place-at.result) c.get.ensures c.place-at.ensures in
+    let place = subst (λ id. IsPlaceOf (λ e. is_lt (value_cmp (rowid e) id)) c.args.rows.now.items c.place_of_rowid-at.result) c.get.ensures c.place_of_rowid-at.ensures in
     let test = rw c.get-2.ensures at c.if-has_rowid_at.ensures in
     c.in_ok-insert.ensures.ok ∙ insert-put_row c.args.new _ _ place test
 
 pub returns-clause-undone : goal.returns-clause-undone
 returns-clause-undone c =
-    let place = c.place-at.ensures in
-    let more = length-insert _ c.place-at.result c.args.new place.within in
+    let place = c.place_of_rowid-at.ensures in
+    let more = length-insert _ c.place_of_rowid-at.result c.args.new place.within in
     record {
       fits = rw c.in_ok-insert.ensures.ok (omega (arith, place.within, more));
       back = rw c.in_ok-insert.ensures.ok (remove-insert _ _ c.args.new place.within);

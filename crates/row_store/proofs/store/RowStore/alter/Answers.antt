@@ -1,4 +1,4 @@
-use Rattle.std.proofs.Common.{arith, ◌≡◌, subst, sym}
+use Rattle.std.proofs.Common.{arith, subst}
 use Rattle.row_store.specs.inner.Edit.{edited, IsFor}
 use Rattle.row_store.proofs.Kept.{low_tree, low_rows, named_shape}
 use Rattle.row_store.proofs.Calls.{write_ok, write_err, write_only}

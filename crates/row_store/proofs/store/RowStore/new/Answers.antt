@@ -1,9 +1,8 @@
-use Rattle.std.proofs.Common.{◌≡◌, ◌<◌, ◌≤◌, ℕ, List, [], length, map, replicate, get_or, refl, ap, ◌∙◌, sym, arith}
+use Rattle.std.proofs.Common.{◌≡◌, ℕ, List, [], length, map, replicate, refl, ap, arith}
 use Rattle.sqlite_value.specs.Order.{Row}
-use Rattle.sqlite_trees.specs.View.{IsShaped}
-use Rattle.sqlite_trees.specs.Listing.{Heading, no_heading, shape_in}
+use Rattle.sqlite_trees.specs.Listing.{Heading, no_heading}
 use Rattle.row_store.specs.Heading.{heading}
-use Rattle.row_store.specs.Path.{State, IsSound}
+use Rattle.row_store.specs.Path.{IsSound}
 use Rattle.row_store.proofs.Lists.{all_default}
 use Rattle.row_store.proofs.store.RowStore.new.Goals as goal
 

@@ -11,8 +11,8 @@ place-at-requires c =
     let tree : rows_in (now c.args.self.now).rows c.args.tree ≡ c.in-Some.rows.now.items = grind (arith, common_steps, c.in-Some.ensures.lookup) in
     rw (c.order-order.ensures, c.shape_at.ensures) (lemma.cut_below_key _ _ _ (sorted_shape _ _ (rw tree at (shaped_in c.args.self.now c.args.tree))))
 
-pub place-at-requires-in-Backward : goal.place-at-requires-in-Backward
-place-at-requires-in-Backward c =
+pub place_up_to_key-at-requires : goal.place_up_to_key-at-requires
+place_up_to_key-at-requires c =
     let tree : rows_in (now c.args.self.now).rows c.args.tree ≡ c.in-Some.rows.now.items = grind (arith, common_steps, c.in-Some.ensures.lookup) in
     rw (c.order-order.ensures, c.shape_at.ensures) (lemma.cut_up_to_key _ _ _ (sorted_shape _ _ (rw tree at (shaped_in c.args.self.now c.args.tree))))
 
@@ -24,4 +24,4 @@ returns-in-Forward c =
 pub returns-in-Backward : goal.returns-in-Backward
 returns-in-Backward c =
     let tree : rows_in (now c.args.self.now).rows c.args.tree ≡ c.in-Some.rows.now.items = grind (arith, common_steps, c.in-Some.ensures.lookup) in
-    rw (c.in-Backward.is, tree, ← c.shape_at.ensures, ← c.order-order.ensures, lemma.take-up_to_key _ _ _ _ c.place-at-in-Backward.ensures)
+    rw (c.in-Backward.is, tree, ← c.shape_at.ensures, ← c.order-order.ensures, lemma.take-up_to_key _ _ _ _ c.place_up_to_key-at.ensures)

@@ -1,12 +1,12 @@
 use Rattle.slot_list.specs.Slotted.{Slotted}
-use Rattle.std.proofs.Common.{◌≡◌, ◌+◌, ◌-◌, ◌<◌, ◌≤◌, [], ◌∷◌, ◌++◌, length, map, take, drop, set, refl, ap, ◌∙◌, arith, sym}
+use Rattle.std.proofs.Common.{◌≡◌, [], ◌∷◌, ◌++◌, length, map, set, ap, ◌∙◌, arith, sym}
 use Rattle.std.proofs.lemmas.List.{length_push}
 use Rattle.std.proofs.Math.Logic.{∥∥₁_map}
 use Rattle.sqlite_value.specs.Order.{Row}
 use Rattle.row_store.specs.declared.log.Undo.TheVariants.{Rows, Listed, Version}
 use Rattle.row_store.specs.Heading.{heading}
-use Rattle.row_store.specs.RowView.{now, rows_in}
-use Rattle.row_store.specs.Path.{State, undo, undone, IsPath}
+use Rattle.row_store.specs.RowView.{now}
+use Rattle.row_store.specs.Path.{undo}
 use Rattle.row_store.proofs.Lists.{map_set}
 use Rattle.row_store.proofs.Paths.{path_grow}
 use Rattle.row_store.proofs.Relabels.{popped, path_popped, low_rows_popped, fits_popped, room_popped, low_head_popped}

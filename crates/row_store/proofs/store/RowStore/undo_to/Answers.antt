@@ -1,4 +1,4 @@
-use Rattle.std.proofs.Common.{◌≡◌, ◌-◌, ◌<◌, length, take, drop, arith, sym, ap, ◌∙◌, take-take, length-take-le}
+use Rattle.std.proofs.Common.{◌≡◌, ◌-◌, ◌<◌, length, take, drop, arith, ap, ◌∙◌, take-take, length-take-le}
 use Rattle.row_store.specs.Path.{undone}
 use Rattle.row_store.specs.RowView.{now}
 use Rattle.row_store.proofs.Lists.{same_take, same_drop}

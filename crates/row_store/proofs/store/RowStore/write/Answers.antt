@@ -1,13 +1,11 @@
 use Rattle.slot_list.specs.Slotted.{Slotted}
-use Rattle.std.proofs.Common.{◌≡◌, ◌<◌, [], ◌∷◌, ◌++◌, length, map, set, refl, ap, ◌∙◌, arith, sym, subst}
-use Rattle.std.proofs.lemmas.List.{length_push, length-map}
+use Rattle.std.proofs.Common.{◌≡◌, [], ◌∷◌, ◌++◌, length, map, refl, ap, arith, sym, subst}
+use Rattle.std.proofs.lemmas.List.{length_push}
 use Rattle.std.proofs.Math.Logic.{∥∥₁_map}
 use Rattle.sqlite_value.specs.Order.{Row}
 use Rattle.row_store.specs.declared.log.Undo.TheVariants.{Rows}
-use Rattle.row_store.specs.RowView.{now, rows_in}
-use Rattle.row_store.specs.Path.{State, undo, IsPath}
-use Rattle.row_store.specs.Undo.{reverted}
-use Rattle.row_store.specs.inner.Edit.{edited}
+use Rattle.row_store.specs.RowView.{now}
+use Rattle.row_store.specs.Path.{State, IsPath}
 use Rattle.row_store.proofs.Kept.{counted, shaped_in}
 use Rattle.row_store.proofs.Edits.{suits, path_edited, rows_back}
 use Rattle.row_store.proofs.Paths.{path_grow}

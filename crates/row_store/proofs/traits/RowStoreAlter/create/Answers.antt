@@ -1,9 +1,9 @@
-use Rattle.std.proofs.Common.{true, refl, ◌≡◌, [], ap, sym, ◌∙◌, arith}
+use Rattle.std.proofs.Common.{true, refl, ◌≡◌, [], sym, ◌∙◌, arith}
 use Rattle.sqlite_trees.specs.declared.store.Shape.TheVariants.{Absent}
 use Rattle.sqlite_trees.specs.Listing.{shape_in}
 use Rattle.sqlite_trees.proofs.Doubt.{no_doubt}
-use Rattle.row_store.specs.RowView.{row_view, now, rows_in}
-use Rattle.row_store.proofs.Calls.{both, led_quiet, led_err, memory_alone}
+use Rattle.row_store.specs.RowView.{now, rows_in}
+use Rattle.row_store.proofs.Calls.{both, led_quiet, led_err}
 use Rattle.row_store.proofs.Edits.{none_shaped}
 use Rattle.row_store.proofs.Kept.{named_shape, named_rows, shaped_in, low_heads}
 use Rattle.row_store.proofs.Objects.{creates}

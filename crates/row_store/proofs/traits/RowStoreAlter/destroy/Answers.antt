@@ -1,7 +1,7 @@
-use Rattle.std.proofs.Common.{true, refl, ◌≡◌, ◌<◌, length, take, drop, ap, sym, ◌∙◌, arith}
+use Rattle.std.proofs.Common.{true, refl, ◌≡◌, length, take, drop, ap, sym, ◌∙◌, arith}
 use Rattle.sqlite_trees.specs.View.{View}
 use Rattle.sqlite_trees.proofs.Doubt.{no_doubt}
-use Rattle.row_store.specs.RowView.{row_view, now, Leads}
+use Rattle.row_store.specs.RowView.{row_view, now}
 use Rattle.row_store.specs.Path.{undone}
 use Rattle.row_store.proofs.Calls.{failed, quiet, both, went, refused, any_error}
 use Rattle.row_store.proofs.Kept.{low_tree, low_rows, low_heads}

@@ -1,4 +1,4 @@
-use Rattle.std.proofs.Common.{◌≡◌, ◌≢◌, ◌<◌, length, map, rules, append_assoc, get_or, arith}
+use Rattle.std.proofs.Common.{◌≡◌, ◌≢◌, ◌<◌, length, rules, append_assoc, get_or, arith}
 use Rattle.std.proofs.lemmas.List.{length-map}
 use Rattle.sqlite_trees.specs.declared.store.Shape.TheVariants.{Absent}
 use Rattle.sqlite_trees.specs.Listing.{no_heading}

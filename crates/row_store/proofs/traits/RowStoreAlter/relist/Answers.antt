@@ -1,4 +1,4 @@
-use Rattle.std.proofs.Common.{◌≡◌, ◌<◌, ◌+◌, take, drop, ℕ, zero, suc, true, List, [], ◌∷◌, length, get_or, refl, sym, false, Result, Ok, Err, true≢false, ap, ◌∙◌, arith, All, inl}
+use Rattle.std.proofs.Common.{◌≡◌, ◌<◌, ◌+◌, take, drop, ℕ, zero, suc, true, List, [], ◌∷◌, length, get_or, refl, sym, ap, ◌∙◌, arith}
 use Rattle.std.specs.List.{AllByRecursion}
 use Rattle.std.proofs.lemmas.List.{take_more}
 use Rattle.sqlite_trees.specs.View.{View}
@@ -7,11 +7,11 @@ use Rattle.sqlite_trees.specs.Objects.{Relists, MayRelist}
 use Rattle.sqlite_trees.proofs.Doubt.{no_doubt}
 use Rattle.sqlite_trees.proofs.StoreLemmas.{relists_more}
 use Rattle.row_store.specs.Path.{undone}
-use Rattle.row_store.specs.RowView.{now, row_view, Leads}
+use Rattle.row_store.specs.RowView.{now, row_view}
 use Rattle.row_store.proofs.Calls.{went, refused, quiet, fails_to_relist}
 use Rattle.row_store.proofs.Kept.{named_shape, low_heads}
 use Rattle.row_store.proofs.Objects.{relists}
-use Rattle.row_store.proofs.Views.{wrote, stayed, led_back, led_now, led_on}
+use Rattle.row_store.proofs.Views.{stayed, led_back, led_now, led_on}
 use Rattle.row_store.proofs.traits.RowStoreAlter.relist.Goals as goal
 
 each_at : {X : Type 0} (P : X → Type 0) (xs : List X) (at : ℕ) (d : X) → AllByRecursion P xs → at < length xs → P (get_or xs at d)

@@ -1,4 +1,4 @@
-use Rattle.std.proofs.Common.{◌≡◌, take}
+use Rattle.std.proofs.Common.{take}
 use Rattle.sqlite_trees.specs.Objects.{Relists}
 use Rattle.row_store.specs.RowView.{now, row_view, Leads}
 use Rattle.row_store.proofs.traits.RowStoreAlter.relist.Given as goal

@@ -2,7 +2,6 @@ use Rattle.std.proofs.Common.{◌≡◌, [], ◌∷◌, ◌++◌, length, refl, 
 use Rattle.std.proofs.lemmas.List.{length_push}
 use Rattle.std.proofs.Math.Logic.{∥∥₁_map}
 use Rattle.sqlite_trees.specs.View.{View}
-use Rattle.sqlite_trees.proofs.StoreLemmas.{version_twice}
 use Rattle.row_store.specs.declared.log.Undo.TheVariants.{Version}
 use Rattle.row_store.specs.RowView.{now}
 use Rattle.row_store.proofs.Backs.{numbers, number_path}

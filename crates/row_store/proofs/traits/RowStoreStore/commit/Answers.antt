@@ -1,8 +1,8 @@
-use Rattle.std.proofs.Common.{◌≡◌, ℕ, length, refl, ap, ◌∙◌, arith, true, inl}
+use Rattle.std.proofs.Common.{length, refl, ap, ◌∙◌, arith, true, inl}
 use Rattle.std.proofs.Math.Logic.{∥∥₁_map}
 use Rattle.sqlite_trees.specs.View.{View}
 use Rattle.sqlite_trees.proofs.Doubt.{no_doubt}
-use Rattle.row_store.specs.RowView.{now, row_view}
+use Rattle.row_store.specs.RowView.{now}
 use Rattle.row_store.specs.Shown.{path_now}
 use Rattle.row_store.proofs.Backs.{commits, only_commits}
 use Rattle.row_store.proofs.traits.RowStoreStore.commit.Goals as goal
@@ -14,13 +14,13 @@ invariant_of-self c =
     record {
       within = λ k d low. absurd (omega (arith, none, low));
       rising = λ i j a b. absurd (omega (arith, none, b));
-      path = ∥∥₁_map s.path (λ h. rw c.clear-2.ensures.items (path_now _ s.log.items (now s) h));
+      path = ∥∥₁_map s.path (λ h. rw c.end_log.ensures (path_now _ s.log.items (now s) h));
     }
 
 pub returns-clause-ok : goal.returns-clause-ok
 returns-clause-ok c _ =
     let s = c.args.self.now in
-    commits (now s) s.log.items s.marks.items s.cursors.items (now s) c.clear-2.new.self.items c.clear.new.self.items s.cursors.items refl c.clear-2.ensures.items c.clear.ensures.items
+    commits (now s) s.log.items s.marks.items s.cursors.items (now s) c.end_log.new.log.items c.clear.new.self.items s.cursors.items refl c.end_log.ensures c.clear.ensures.items
 
 pub returns-clause-frame : goal.returns-clause-frame
 returns-clause-frame c clean = only_commits _ _ (returns-clause-ok c clean)

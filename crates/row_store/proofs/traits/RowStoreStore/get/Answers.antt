@@ -1,5 +1,5 @@
 use Rattle.slot_list.specs.Slotted.{Slotted}
-use Rattle.std.proofs.Common.{true, refl, arith, ◌≡◌, ◌<◌, sym, ◌∙◌, length, to_z-of_z, get_or, []}
+use Rattle.std.proofs.Common.{true, refl, arith, ◌≡◌, ◌<◌, sym, ◌∙◌, length, to_z-of_z, []}
 use Rattle.sqlite_value.specs.Order.{Row}
 use Rattle.sqlite_trees.specs.declared.store.Shape.TheVariants.{Table}
 use Rattle.sqlite_trees.specs.View.{IsShaped}

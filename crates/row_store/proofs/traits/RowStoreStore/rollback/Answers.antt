@@ -1,4 +1,4 @@
-use Rattle.std.proofs.Common.{◌≡◌, ℕ, [], length, refl, ap, ◌∙◌, arith, inl}
+use Rattle.std.proofs.Common.{◌≡◌, length, ap, ◌∙◌, arith, inl}
 use Rattle.row_store.specs.RowView.{now, shown}
 use Rattle.row_store.specs.Path.{State, undone}
 use Rattle.row_store.proofs.Backs.{rolled_back}

@@ -1,7 +1,6 @@
-use Rattle.std.proofs.Common.{◌≡◌, ◌-◌, ◌<◌, ◌≤◌, ℕ, length, get_or, All, slice_get, Some, refl, sym, ◌∙◌, ap, arith, inl}
+use Rattle.std.proofs.Common.{◌≡◌, ◌-◌, ◌<◌, ◌≤◌, length, get_or, All, slice_get, Some, sym, ◌∙◌, ap, arith, inl}
 use Rattle.std.proofs.lemmas.List.{get_or_default}
 use Rattle.std.proofs.lemmas.Option.{slice_get_within, get_or_from_slice_get}
-use Rattle.sqlite_trees.specs.View.{View}
 use Rattle.row_store.specs.declared.store.RowStore.{RowStore}
 use Rattle.row_store.specs.Path.{State, undone}
 use Rattle.row_store.specs.RowView.{now, shown}

@@ -1,5 +1,4 @@
 use Rattle.std.proofs.Common.{refl}
-use Rattle.row_store.specs.RowView.{row_view}
 use Rattle.row_store.proofs.Calls.{any_error, failed}
 use Rattle.row_store.proofs.traits.RowStoreStore.seek.Goals as goal
 
