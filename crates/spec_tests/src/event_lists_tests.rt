@@ -53,6 +53,24 @@ fn events_of_names_in_turn(rt: HostRuntime) {
     assert!(rt; NameWord::parse(b"a/", Some(&events)).err() == Some(NameFault::Empty));
 }
 
+// Whether the name is found in front of these words, which are given then.
+fn is_front(events: &Events, line: &str, text: &str) -> bool {
+    match events.known_front(line.as_bytes()) {
+        Some((word, rest)) => word.bytes == text.as_bytes() && rest == b"x y".as_slice(),
+        None => false,
+    }
+}
+
+#[test]
+fn the_likely_name_stands_in_front(rt: HostRuntime) {
+    let mut events = Events::new(rt.alloc());
+    for text in TEXTS {
+        add(&rt, &mut events, text);
+        let line = format!(in rt.alloc(); "{text} x y").expect(&rt, "memory");
+        assert!(rt; is_front(&events, &line, text), "{text}");
+    }
+}
+
 // So many that the lists find places for them anew several times.
 #[test]
 fn events_of_many_names(rt: HostRuntime) {

@@ -4,7 +4,7 @@ ghost use Rattle.std.specs.Prelude.{◌<◌};
 use event_lists::{Cause, EntryView, EventView, Said, act_in, name_in};
 use serial_spec::{By, Event, Op, PlainTable, Reply};
 use std::process::Abort;
-use txn_history::History;
+use txn_history::{History, LineUse};
 use txn_names::{Group, Key, Name};
 
 fn name(rt: &impl Abort) -> Name {
@@ -40,12 +40,17 @@ fn make_room(rt: &impl Abort, history: &mut History)
 fn add(rt: &impl Abort, history: &mut History, by: By, event: Event, said: Said) {
     make_room(rt, history);
     let (name, act) = (name_in(&event), act_in(&event));
-    history.push(&EntryView {
+    let entry = EntryView {
         by,
         event: EventView { name, act: &act },
         said,
         top: name,
-    });
+    };
+    // A spot may be told with another key each time.
+    match history.len() % 8 {
+        0 => history.push(&entry),
+        spot => history.push_near(&entry, 4095 * spot),
+    }
 }
 
 fn is_free(history: &History, by: By, event: &Event) -> bool {
@@ -58,14 +63,30 @@ fn waits_with(history: &History, by: By, event: &Event) -> bool {
     history.waits_with(by, &EventView { name, act: &act })
 }
 
+fn use_of(history: &History, by: By, event: &Event) -> LineUse {
+    let (name, act) = (name_in(event), act_in(event));
+    history.line_use(by, &EventView { name, act: &act })
+}
+
+// What the line's use is, by whether it is free and whether it waits.
+fn use_by(free: bool, waits: bool) -> LineUse {
+    match (free, waits) {
+        (true, true) => LineUse::Waits,
+        (true, false) => LineUse::Unused,
+        _ => LineUse::Used,
+    }
+}
+
 // Whether the line is free for an access of the key with this number, and whether it waits with it
 // alone.
 fn asked(rt: &impl Abort, history: &History, by: By, number: u8) -> (bool, bool) {
     let event = access(rt, number);
-    (
+    let (free, waits) = (
         is_free(history, by, &event),
         waits_with(history, by, &event),
-    )
+    );
+    assert!(rt; use_of(history, by, &event) == use_by(free, waits));
+    (free, waits)
 }
 
 // Whether the known keys with numbers below 100 are those with numbers below 40.

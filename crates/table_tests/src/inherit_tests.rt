@@ -9,7 +9,7 @@ use txn_names::{Change, Group, Key, Name};
 use txn_tree::{Tree, TxnNo};
 
 /// The name of a script, the script, and how many rows the base has at last.
-const SCRIPTS: [(&str, &str, usize); 4] = [
+const SCRIPTS: [(&str, &str, usize); 5] = [
     // What a child wrote goes with it where it is aborted, and the base keeps what it has until the
     // topmost one commits.
     (
@@ -80,6 +80,32 @@ const SCRIPTS: [(&str, &str, usize); 4] = [
         ask set b g.z 4 -> ok
         ",
         4,
+    ),
+    // What is asked is done by one step, by those who have a place already and by those who have not.
+    (
+        "one step does what is asked",
+        "
+        begin a
+        begin a/l
+        begin b
+        take set a g.h.x 1 -> ok
+        take get a/l g.h.x -> 1
+        take set a/l g.h.x 9 -> ok
+        take set a/l g.h.y 4 -> ok
+        take get a/l g.h.x -> 9
+        take get b g.h.x -> kept-out
+        take sum b g.h -> kept-out
+        modes a/l g.h.y -> write none
+        abort a/l
+        take sum a g -> 1
+        group-modes a g -> read none
+        take del a g.h.x -> ok
+        take get a g.h.x -> none
+        commit a
+        take get b g.h.x -> none
+        take sum b g.h -> 0
+        ",
+        0,
     ),
     // A sum that is not an i64 locks its group all the same. It is one where a part of it is none.
     (
@@ -182,6 +208,19 @@ fn is_granted(estate: &mut Estate, tree: &Tree, txn: TxnNo, asked: &Asked, want:
     false
 }
 
+// The same by one step, where no lock keeps the transaction out.
+fn is_taken(estate: &mut Estate, tree: &Tree, txn: TxnNo, asked: &Asked, want: &str) -> bool {
+    for _ in 0..2 {
+        if !estate.may_ask_remembering(tree, txn, asked) {
+            return is_reply(None, want);
+        }
+        if let Ok(reply) = estate.take(tree, txn, asked) {
+            return is_reply(Some(reply), want);
+        }
+    }
+    false
+}
+
 // Whether these keep the transaction from what it asks, in this order.
 fn is_kept(estate: &Estate, tree: &Tree, txn: TxnNo, asked: &Asked, want: &str) -> bool {
     for _ in 0..2 {
@@ -221,6 +260,7 @@ fn is_asked_by(
 ) -> bool {
     match verb {
         "ask" => is_granted(estate, tree, txn, asked, want),
+        "take" => is_taken(estate, tree, txn, asked, want),
         "may" => is_so(estate.locks().may_ask(tree, txn, asked), want),
         "may-remembering" => is_so(estate.may_ask_remembering(tree, txn, asked), want),
         "blocks" => match tree.no_of(&name(want)) {

@@ -9,6 +9,8 @@ mod lock_table_tests;
 #[cfg(test)]
 mod orphans_tests;
 #[cfg(test)]
+mod session_sets_tests;
+#[cfg(test)]
 mod target_locks_tests;
 #[cfg(test)]
 mod tools;

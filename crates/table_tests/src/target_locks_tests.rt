@@ -8,7 +8,7 @@ use test_kit::{group, grouped_key, key, name, numbered_name};
 use txn_names::{Group, Key};
 use txn_tree::{Tree, TxnNo};
 
-const SCRIPTS: [(&str, &str); 3] = [
+const SCRIPTS: [(&str, &str); 4] = [
     // A sum keeps others from writing any key of its group, present or not, and goes up at a
     // commit.
     (
@@ -103,6 +103,29 @@ const SCRIPTS: [(&str, &str); 3] = [
         group-list a g 1 -> none
         ",
     ),
+    // A lock is taken by one step, also where the transaction has written in the group before, or
+    // in one of the key's groups alone.
+    (
+        "places and locks at once",
+        "
+        begin a
+        begin b
+        lock-read b g.h.x
+        may-sum a g.h -> yes
+        lock-write b g.y
+        may-sum a g -> no
+        may-sum a g.h -> yes
+        lock-write b g.h.i.x
+        kept-from-sum a g.h -> b
+        kept-from-sum a g.h.i -> b
+        lock-write b g.h.i.y
+        modes b g.h.i.y -> write none
+        modes b g.h.x -> read none
+        lock-sum a f
+        group-modes a f -> read none
+        may-write b f.x -> no
+        ",
+    ),
 ];
 
 // Whether the transaction gets a lock on the group.
@@ -114,6 +137,16 @@ fn is_summed(locks: &mut TargetLocks, txn: TxnNo, group: &Group) -> bool {
         }
     }
     false
+}
+
+// Whether the transaction takes a lock on the key by one step.
+fn is_locked(locks: &mut TargetLocks, txn: TxnNo, key: &Key, kind: Kind) -> bool {
+    locks.lock(txn, key, kind).is_ok() || locks.lock(txn, key, kind).is_ok()
+}
+
+// Whether it takes one on the group.
+fn is_group_locked(locks: &mut TargetLocks, txn: TxnNo, group: &Group) -> bool {
+    locks.lock_group(txn, group).is_ok() || locks.lock_group(txn, group).is_ok()
 }
 
 // Whether the locks go up to the parent.
@@ -163,6 +196,8 @@ fn is_key_so(tree: &Tree, locks: &mut TargetLocks, txn: TxnNo, text: &str) -> bo
     match verb {
         "read" => is_held(locks, txn, &key, Kind::Read),
         "write" => is_held(locks, txn, &key, Kind::Write),
+        "lock-read" => is_locked(locks, txn, &key, Kind::Read),
+        "lock-write" => is_locked(locks, txn, &key, Kind::Write),
         "modes" => {
             are_modes(locks.modes_of(txn, &key), want)
                 && are_modes(locks.modes_listed(txn, 0, &key), want)
@@ -189,6 +224,7 @@ fn holds(tree: &Tree, locks: &mut TargetLocks, txn: TxnNo, text: &str) -> bool {
     let holder = tree.no_of(&name(holder)).unwrap_or(txn);
     match verb {
         "sum" => is_summed(locks, txn, &group),
+        "lock-sum" => is_group_locked(locks, txn, &group),
         "up" => match tree.parent_of(txn) {
             Some(parent) => goes_up(locks, txn, parent),
             None => false,

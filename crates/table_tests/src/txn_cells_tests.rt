@@ -172,6 +172,15 @@ fn one_look_tells_what_all_have(rt: HostRuntime) {
         "joined"
     );
     assert!(rt; tells(&mut table, [1, 3, 0]), "behind");
+    for (txn, value) in [(child, 4), (TxnNo::new(2), 5)] {
+        let key = numbered_key(KEYS);
+        assert!(rt;
+            table.take(txn, &key, Latest(value)).is_ok()
+                || table.take(txn, &key, Latest(value)).is_ok(),
+            "taken"
+        );
+        assert!(rt; is_value(table.get(txn, &key), value), "what was taken");
+    }
     assert!(rt;
         is_value(table.get_listed(child, 1, &numbered_key(1)), 2),
         "listed"

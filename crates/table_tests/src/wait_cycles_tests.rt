@@ -84,7 +84,7 @@ fn worked_values(rt: HostRuntime) {
     }
 }
 
-const SCRIPTS: [(&str, &str); 4] = [
+const SCRIPTS: [(&str, &str); 5] = [
     // A wait is found until it is cancelled, and its transaction may wait again.
     (
         "waits come and go",
@@ -132,6 +132,27 @@ const SCRIPTS: [(&str, &str); 4] = [
         cancel 9
         cancel 4
         meets x -> no
+        ",
+    ),
+    // The next place that may meet a key. The last wait stands at the place of one that is gone.
+    (
+        "where waits may meet",
+        "
+        next x 0 -> none
+        wait 4 3
+        next x 0 -> 0
+        next x 1 -> none
+        next y 0 -> none
+        wait-to-sum 9 2
+        next y 0 -> 1
+        wait 7 4
+        next x 2 -> 2
+        cancel 4
+        next x 0 -> 0
+        next x 1 -> 1
+        cancel 9
+        next x 0 -> 0
+        next y 0 -> none
         ",
     ),
     // A transaction and its child wait no more, and its neighbour waits on.
@@ -195,6 +216,7 @@ fn holds(tree: &mut Tree, waits: &mut Waits, text: &str) -> bool {
         "none" => is_so(waits.of(txn).is_none(), want),
         "meets" => is_so(waits.may_meet(&Target::Key(key(who))), want),
         "meets-group" => is_so(waits.may_meet(&Target::Group(group(who))), want),
+        "next" => waits.next_met(&Target::Key(key(who)), line as usize) == want.parse().ok(),
         "cancel" => {
             waits.cancel(txn);
             true
