@@ -13,7 +13,7 @@ use std::alloc::Global;
 use std::marker::Model;
 
 /// Room is made for at least so many events at once, and for eight times as many as there are: so they
-/// are seldom moved, and room that is not used is not touched.
+/// are seldom moved, and room that is not used is not touched. Where that is refused, it is made for one.
 const LEAST_ROOM: usize = 128;
 
 /// Events in order. A name is mostly kept once for all events that have it.
@@ -82,7 +82,10 @@ fn grow(asked: &mut Vec<Asking>) -> Result<(), NoMemory>
     ensures items { asked.new.items ≡ asked.old.items }
     ensures room { OnOk result (vec_len asked.new < vec_capacity asked.new) }
 {
-    asked.reserve(asked.len().saturating_mul(7).max(LEAST_ROOM))?;
+    let more = asked.len().saturating_mul(7).max(LEAST_ROOM);
+    if asked.reserve(more).is_err() {
+        asked.reserve(1)?;
+    }
     Ok(())
 }
 

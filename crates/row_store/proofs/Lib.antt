@@ -1,6 +1,5 @@
 pub mod Firsts
 pub mod Lists
-pub mod Words
 pub mod Places
 pub mod Paths
 pub mod Views

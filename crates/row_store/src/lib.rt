@@ -8,7 +8,6 @@ mod open;
 mod probe;
 mod rows;
 mod store;
-mod texts;
 mod traits;
 mod typed;
 

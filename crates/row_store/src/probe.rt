@@ -10,13 +10,13 @@ ghost use Rattle.sqlite_trees.specs.Tree.{rowid, IsTable};
 ghost use Rattle.sqlite_trees.specs.Probe.{IsCutBy, IsPlaceOf, IsTestAt};
 ghost use Rattle.row_store.specs.inner.Passes.{IsFirstIn};
 
-use crate::texts::compare_texts;
 use slot_list::SlotList;
 use sqlite_value::keys::Order;
 use sqlite_value::order::compare;
 use sqlite_value::row::Row;
 use sqlite_value::value::ValueRef;
 use std::cmp::Ordering;
+use txn_bytes::compare_texts;
 
 /// A search that reaches as far as this is not near the place where it began.
 const FAR: usize = 1 << 24;

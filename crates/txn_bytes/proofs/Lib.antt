@@ -1,4 +1,5 @@
 pub mod Appending
+pub mod Cut
 pub mod Fields
 mod LastWords
 mod Ordered

@@ -3,7 +3,7 @@ use Rattle.std.proofs.Common.{◌≡◌, ℕ, zero, suc, ◌+◌, ◌*◌, ◌-�
 use Rattle.std.specs.List.{AllByRecursion}
 use Rattle.std.specs.Ordering.{nat_cmp, ordering_then}
 use Rattle.std.specs.Cmp.Lexicographic.{slice_cmp}
-use Rattle.std.specs.Int.{from_be_bytes, w64}
+use Rattle.std.specs.Int.{from_be_bytes, w32, w64}
 use Rattle.std.proofs.Math.Nat.{mul-le-mul_right, suc-mul}
 use Rattle.std.proofs.lemmas.Bool.Decides.{nat_tests}
 use Rattle.std.proofs.lemmas.List.{length-take, take-take}
@@ -93,6 +93,11 @@ worth_of_word : (xs : List ℕ) → length xs ≡ 8 → from_be_bytes w64 xs ≡
 worth_of_word (a ∷ b ∷ c ∷ d ∷ e ∷ f ∷ g ∷ h ∷ []) l = omega arith
 worth_of_word xs l = absurd (omega (arith, l))
 
+-- so is half a word
+worth_of_half : (xs : List ℕ) → length xs ≡ 4 → from_be_bytes w32 xs ≡ worth xs
+worth_of_half (a ∷ b ∷ c ∷ d ∷ []) l = omega arith
+worth_of_half xs l = absurd (omega (arith, l))
+
 all_bytes : (xs : List ℕ) → ((i : ℕ) → get_or xs i 0 < 256) → AreBytes xs
 all_bytes [] small = tt
 all_bytes (x ∷ xs) small = (small 0, all_bytes xs (λ i. small (suc i)))
@@ -102,6 +107,13 @@ pub words_compare : (xs ys : List ℕ) → length xs ≡ 8 → length ys ≡ 8 �
 words_compare xs ys l m all also =
     ap (λ n. nat_cmp n (from_be_bytes w64 ys)) (worth_of_word xs l)
     ∙ ap (nat_cmp (worth xs)) (worth_of_word ys m)
+    ∙ by_worth xs ys (l ∙ sym m) (all_bytes xs all) (all_bytes ys also)
+
+pub halves_compare : (xs ys : List ℕ) → length xs ≡ 4 → length ys ≡ 4 → ((i : ℕ) → get_or xs i 0 < 256) → ((i : ℕ) → get_or ys i 0 < 256)
+    → nat_cmp (from_be_bytes w32 xs) (from_be_bytes w32 ys) ≡ slice_cmp nat_cmp xs ys
+halves_compare xs ys l m all also =
+    ap (λ n. nat_cmp n (from_be_bytes w32 ys)) (worth_of_half xs l)
+    ∙ ap (nat_cmp (worth xs)) (worth_of_half ys m)
     ∙ by_worth xs ys (l ∙ sym m) (all_bytes xs all) (all_bytes ys also)
 
 -- ---- texts, with zeros behind them

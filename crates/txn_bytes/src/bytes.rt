@@ -1,5 +1,5 @@
 //! Bytes that are gathered, one behind the other.
-ghost use Rattle.std.specs.Prelude.{◌≡◌, ◌≤◌, ◌<◌, ◌+◌, ◌==◌, ◌++◌, [], length, MatchBool, Some};
+ghost use Rattle.std.specs.Prelude.{◌≡◌, ◌≤◌, ◌<◌, ◌+◌, ◌==◌, ◌++◌, [], length, take, MatchBool, Some};
 
 use crate::call::Sink;
 use crate::copy::copy;
@@ -45,6 +45,14 @@ impl<const N: usize> Bytes<N> {
         self.len == 0
     }
 
+    /// How many there are.
+    #[inline(always)]
+    pub fn len(&self) -> usize
+        ensures { result ≡ length self.now }
+    {
+        self.len
+    }
+
     /// The bytes.
     #[inline(always)]
     pub fn as_bytes(&self) -> &[u8]
@@ -60,6 +68,15 @@ impl<const N: usize> Bytes<N> {
         ensures { self.new ≡ [] }
     {
         self.len = 0;
+    }
+
+    /// Keeps the first so many, and forgets those behind them.
+    #[inline(always)]
+    pub fn truncate(&mut self, len: usize)
+        requires { len ≤ length self.old }
+        ensures { self.new ≡ take len self.old }
+    {
+        self.len = len;
     }
 
     /// Puts more bytes behind these, unless they would be more than `N`, and answers whether it

@@ -8,6 +8,7 @@ ghost use Rattle.std.specs.Cmp.Lexicographic.{pointwise, slice_cmp, nat_list_eq_
 ghost use Rattle.txn_bytes.specs.Held.{alike, fed_held};
 
 use crate::copy::copy;
+use crate::texts::compare_words;
 use std::cmp::Ordering;
 use std::hash::{Hash, Hasher};
 use std::marker::Model;
@@ -99,14 +100,6 @@ fn start_of(bytes: &[u8]) -> &[u8]
     ensures { result.now ≡ take 8 bytes.now }
 {
     &bytes[..bytes.len().min(WORD as usize)]
-}
-
-// How two words compare, as their bytes do: by the numbers that they make, the first byte of which
-// is worth most.
-fn compare_words(ours: &[u8; 8], theirs: &[u8; 8]) -> Ordering
-    ensures { result ≡ slice_cmp nat_cmp ours.now theirs.now }
-{
-    u64::from_be_bytes(*ours).cmp(&u64::from_be_bytes(*theirs))
 }
 
 // How the first words of two fields compare, as their bytes do.

@@ -9,6 +9,7 @@ mod same;
 mod sink;
 mod sinks;
 mod source;
+mod texts;
 
 pub use bytes::Bytes;
 pub use call::Sink;
@@ -16,3 +17,4 @@ pub use held::Held;
 pub use same::are_same;
 pub use sink::{WriteFault, put};
 pub use source::{MOST_READS, ReadFault, Source};
+pub use texts::compare_texts;

@@ -1,7 +1,7 @@
 use Rattle.std.proofs.Common.{◌≡◌, length}
 use Rattle.std.specs.Ordering.{nat_cmp}
 use Rattle.std.specs.Cmp.Lexicographic.{slice_cmp}
-use Rattle.row_store.proofs.texts.compare_bytes.Given as goal
+use Rattle.txn_bytes.proofs.texts.compare_bytes.Given as goal
 
 -- what is left compares as the whole does
 abbrev pub invariant-loop-left : goal.invariant-loop-left

@@ -6,10 +6,10 @@ ghost use Rattle.std.specs.Cmp.Lexicographic.{slice_cmp};
 
 use std::cmp::Ordering;
 
-// How two words compare, as their bytes do: by the numbers that they make, the first byte of which
-// is worth most.
+/// How two words compare, as their bytes do: by the numbers that they make, the first byte of which
+/// is worth most.
 #[inline(always)]
-fn compare_words(ours: &[u8; 8], theirs: &[u8; 8]) -> Ordering
+pub(crate) fn compare_words(ours: &[u8; 8], theirs: &[u8; 8]) -> Ordering
     ensures { result ≡ slice_cmp nat_cmp ours.now theirs.now }
 {
     u64::from_be_bytes(*ours).cmp(&u64::from_be_bytes(*theirs))
@@ -67,7 +67,7 @@ fn compare_rests(ours: &[u8], theirs: &[u8]) -> Ordering
 /// How two texts compare, by their bytes. Words are compared as numbers, which costs a quarter of a
 /// comparison byte by byte.
 #[inline(always)]
-pub(crate) fn compare_texts(ours: &[u8], theirs: &[u8]) -> Ordering
+pub fn compare_texts(ours: &[u8], theirs: &[u8]) -> Ordering
     ensures { result ≡ slice_cmp nat_cmp ours.now theirs.now }
 {
     let mut left = ours;
