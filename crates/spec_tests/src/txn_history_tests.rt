@@ -53,40 +53,14 @@ fn add(rt: &impl Abort, history: &mut History, by: By, event: Event, said: Said)
     }
 }
 
-fn is_free(history: &History, by: By, event: &Event) -> bool {
-    let (name, act) = (name_in(event), act_in(event));
-    history.free(by, &EventView { name, act: &act })
-}
-
-fn waits_with(history: &History, by: By, event: &Event) -> bool {
-    let (name, act) = (name_in(event), act_in(event));
-    history.waits_with(by, &EventView { name, act: &act })
-}
-
 fn use_of(history: &History, by: By, event: &Event) -> LineUse {
     let (name, act) = (name_in(event), act_in(event));
     history.line_use(by, &EventView { name, act: &act })
 }
 
-// What the line's use is, by whether it is free and whether it waits.
-fn use_by(free: bool, waits: bool) -> LineUse {
-    match (free, waits) {
-        (true, true) => LineUse::Waits,
-        (true, false) => LineUse::Unused,
-        _ => LineUse::Used,
-    }
-}
-
-// Whether the line is free for an access of the key with this number, and whether it waits with it
-// alone.
-fn asked(rt: &impl Abort, history: &History, by: By, number: u8) -> (bool, bool) {
-    let event = access(rt, number);
-    let (free, waits) = (
-        is_free(history, by, &event),
-        waits_with(history, by, &event),
-    );
-    assert!(rt; use_of(history, by, &event) == use_by(free, waits));
-    (free, waits)
+// What the line is to an access of the key with this number.
+fn asked(rt: &impl Abort, history: &History, by: By, number: u8) -> LineUse {
+    use_of(history, by, &access(rt, number))
 }
 
 // Whether the known keys with numbers below 100 are those with numbers below 40.
@@ -134,15 +108,15 @@ fn tells_lines_and_keys(rt: HostRuntime) {
     assert!(rt; history.len() == 56 && history.entries().len() == 56);
 
     let cases = [
-        (line(0, 49), 14, (false, false)),
-        (line(0, 51), 71, (true, true)),
-        (line(0, 51), 72, (false, false)),
-        (line(0, 52), 72, (false, false)),
-        (line(0, 53), 73, (false, false)),
-        (line(0, 54), 71, (true, false)),
-        (line(1, 51), 71, (true, false)),
-        (By::Victim, 74, (false, false)),
-        (By::Close, 75, (false, false)),
+        (line(0, 49), 14, LineUse::Used),
+        (line(0, 51), 71, LineUse::Waits),
+        (line(0, 51), 72, LineUse::Used),
+        (line(0, 52), 72, LineUse::Used),
+        (line(0, 53), 73, LineUse::Used),
+        (line(0, 54), 71, LineUse::Unused),
+        (line(1, 51), 71, LineUse::Unused),
+        (By::Victim, 74, LineUse::Used),
+        (By::Close, 75, LineUse::Used),
     ];
     for (by, number, wanted) in cases {
         assert!(rt; asked(&rt, &history, by, number) == wanted, "{by:?}");
@@ -161,14 +135,14 @@ fn tells_lines_of_sums(rt: HostRuntime) {
     let mut history = History::new(rt.alloc(), &rows).expect(&rt, "memory");
     let by = line(0, 1);
     let (asked, other) = (sum(&rt, "k01"), sum(&rt, "k02"));
-    assert!(rt; is_free(&history, by, &asked) && !waits_with(&history, by, &asked));
+    assert!(rt; use_of(&history, by, &asked) == LineUse::Unused);
     add(&rt, &mut history, by, asked, Said::Waits);
-    assert!(rt; is_free(&history, by, &asked) && waits_with(&history, by, &asked));
+    assert!(rt; use_of(&history, by, &asked) == LineUse::Waits);
     for event in [other, access(&rt, 1)] {
-        assert!(rt; !is_free(&history, by, &event) && !waits_with(&history, by, &event));
+        assert!(rt; use_of(&history, by, &event) == LineUse::Used);
     }
     let reply = Said::Done(Reply::Value(0));
     add(&rt, &mut history, by, asked, reply);
-    assert!(rt; !is_free(&history, by, &asked) && !waits_with(&history, by, &asked));
+    assert!(rt; use_of(&history, by, &asked) == LineUse::Used);
     assert!(rt; history.known() == 0 && !history.knows(&key(&rt, 1)));
 }
