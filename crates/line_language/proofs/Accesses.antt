@@ -10,14 +10,14 @@ use Rattle.txn_names.proofs.Exports.{name_of-spelled}
 use Rattle.event_lists.specs.Words.{IsRead, named}
 use Rattle.event_lists.specs.declared.word.NameWord.{NameWord}
 use Rattle.line_language.specs.declared.fault.LineKind.{LineKind}
-use Rattle.line_language.specs.Commands.{Words, one, name_in, key_in, number_in, keyed, valued}
+use Rattle.line_language.specs.Commands.{Words, one, name_in, key_in, number_in, named as named_alone, keyed, valued}
 use Rattle.line_language.specs.declared.fault.LineKind.TheVariants as kind
 use Rattle.line_language.specs.Steps.{◌>>=◌, or_fault}
 use Rattle.line_language.specs.Numbers.{number_of}
 use Rattle.line_language.specs.Words.{cut_at}
 use Rattle.line_language.proofs.Bytes.{Lacks, Lacks-from_all, cut_behind, cut_lacking, joined_cut}
 use Rattle.line_language.proofs.Numerals.{number_reads}
-use Rattle.line_language.proofs.Reading.{one_reads}
+use Rattle.line_language.proofs.Reading.{name_reads, one_reads}
 use Rattle.line_language.proofs.Spelled.{name_lacks, number_lacks, space}
 
 -- a key has no space, so it is one word
@@ -29,6 +29,17 @@ pub number_alone : (w : List ℕ) (v : ℤ) → number_of w ≡ Some v → cut_a
 number_alone w v h =
     let r = number_reads w v h in
     cut_lacking 32 w (subst (Lacks 32) (sym r.1) (number_lacks 32 space v r.0))
+
+-- nor has a name
+name_alone : (w : List ℕ) (p : Path) → name_in w ≡ Ok p → cut_at 32 w ≡ w ∷ []
+name_alone w p h =
+    let r = name_reads w p h in
+    cut_lacking 32 w (subst (Lacks 32) (sym r.1) (name_lacks 32 space p r.0))
+
+pub read_alone : (w : List ℕ) (p : Path) → name_of w ≡ Ok p → named_alone (cut_at 32 w) ≡ Ok p
+read_alone w p h =
+    let read : name_in w ≡ Ok p = ap (or_fault kind.Name) h in
+    ap named_alone (name_alone w p read) ∙ read
 
 -- where there is one word, it is all that was cut
 pub one_whole : (bs w : List ℕ) → one (cut_at 32 bs) ≡ Ok w → bs ≡ w

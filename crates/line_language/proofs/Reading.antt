@@ -61,7 +61,7 @@ pick false x y z h f g = g refl h
 
 -- ---- each operand: what is read is spelled so, and what is spelled so is read
 
-name_reads : (w : List ℕ) (n : Path) → name_in w ≡ Ok n → IsName n × (w ≡ spelled_name n)
+pub name_reads : (w : List ℕ) (n : Path) → name_in w ≡ Ok n → IsName n × (w ≡ spelled_name n)
 name_reads w n h = read_is_name w n (or_fault_ok kind.Name (name_of w) n h)
 
 name_again : (n : Path) → IsName n → name_in (spelled_name n) ≡ Ok n

@@ -15,6 +15,7 @@ mod fault;
 pub mod laws;
 mod lengths;
 mod line;
+mod named;
 mod number;
 mod parting;
 mod refusals;
@@ -31,6 +32,7 @@ pub use lengths::{
     MOST_NUMBER, MOST_REQUEST, MOST_WORD,
 };
 pub use line::{Line, parse_event, parse_line};
+pub use named::named_in;
 pub use number::parse_number;
 pub use parting::{cut, cut_line};
 pub use refusals::{cause_word, causes};

@@ -15,7 +15,9 @@ mod growing;
 use crate::fault::TextFault;
 use crate::header::{labelled, words_of_header};
 use event_lists::{Act, EventView, Events, NameWord, act_in, name_in};
-use line_language::{AccessWords, LineKind, access_in, cut_line, likely_access, parse_event};
+use line_language::{
+    AccessWords, LineKind, access_in, cut_line, likely_access, named_in, parse_event,
+};
 use serial_spec::{MOST_LINES, MOST_SESSIONS, NoMemory};
 use std::alloc::Global;
 use std::marker::Model;
@@ -192,7 +194,29 @@ impl Sessions {
         match access_in(bytes, open_events(&self.sessions)) {
             Some(Ok(access)) => self.add_access(number, &access, bytes),
             Some(Err(kind)) => Err(TextFault::Bad { line: number, kind }),
-            None => self.add_other(number, bytes),
+            None => self.add_named(number, bytes),
+        }
+    }
+
+    // A line more that asks this of the transaction that the word names, the line of this number.
+    #[inline(always)]
+    fn add_read(
+        &mut self,
+        number: usize,
+        name: &NameWord<'_>,
+        act: &Act,
+        bytes: &[u8],
+    ) -> Result<(), TextFault>
+        requires word { IsRead name.now }
+        requires read { event_of bytes.now ≡ Ok (event_by (named name.now) act.now) }
+        ensures { IsPlaced self.old number (command_of bytes.now) self.new result }
+    {
+        match self.fault_of_command() {
+            Some(kind) => Err(TextFault::Bad { line: number, kind }),
+            None => match self.add_event(name, act, bytes) {
+                Ok(()) => Ok(()),
+                Err(NoMemory) => Err(TextFault::NoMemory),
+            },
         }
     }
 
@@ -208,12 +232,17 @@ impl Sessions {
         requires words { AreRead access.now }
         ensures { IsPlaced self.old number (command_of bytes.now) self.new result }
     {
-        match self.fault_of_command() {
-            Some(kind) => Err(TextFault::Bad { line: number, kind }),
-            None => match self.add_event(access.name(), &access.act(), bytes) {
-                Ok(()) => Ok(()),
-                Err(NoMemory) => Err(TextFault::NoMemory),
-            },
+        self.add_read(number, access.name(), &access.act(), bytes)
+    }
+
+    // A line more that accesses no key, the line of this number. Most of these name a transaction alone.
+    #[inline(never)]
+    fn add_named(&mut self, number: usize, bytes: &[u8]) -> Result<(), TextFault>
+        ensures { IsPlaced self.old number (command_of bytes.now) self.new result }
+    {
+        match named_in(bytes, open_events(&self.sessions)) {
+            Some((name, act)) => self.add_read(number, &name, &act, bytes),
+            None => self.add_other(number, bytes),
         }
     }
 
@@ -222,19 +251,14 @@ impl Sessions {
     fn add_other(&mut self, number: usize, bytes: &[u8]) -> Result<(), TextFault>
         ensures { IsPlaced self.old number (command_of bytes.now) self.new result }
     {
-        let misplaced = self.fault_of_command();
         match &parse_event(bytes) {
             Err(kind) => Err(TextFault::Bad {
                 line: number,
                 kind: *kind,
             }),
-            Ok(event) => match misplaced {
-                Some(kind) => Err(TextFault::Bad { line: number, kind }),
-                None => match self.add_event(&NameWord::of(name_in(event)), &act_in(event), bytes) {
-                    Ok(()) => Ok(()),
-                    Err(NoMemory) => Err(TextFault::NoMemory),
-                },
-            },
+            Ok(event) => {
+                self.add_read(number, &NameWord::of(name_in(event)), &act_in(event), bytes)
+            }
         }
     }
 
