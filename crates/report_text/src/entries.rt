@@ -1,12 +1,13 @@
 //! The lines of a report.
-ghost use Rattle.std.specs.Prelude.{◌++◌, codes, drop, reverse, slice_get, OnErr};
+ghost use Rattle.std.specs.Prelude.{◌≡◌, [], ◌++◌, codes, drop, reverse, slice_get, OnErr, OnOk};
 ghost use Rattle.txn_bytes.specs.Written.{IsStopped, PutsAll, PutsFront};
 ghost use Rattle.line_language.specs.Printing.{spelled_number};
 ghost use Rattle.event_lists.specs.Views.{seen};
+ghost use Rattle.report_text.specs.inner.Batched.{Batches};
 ghost use Rattle.report_text.specs.Lines.{entry_line, entry_lines, row_lines};
 ghost use Rattle.line_language.specs.Report.{line, spelled_history, spelled_rows};
 
-use crate::line_buffer::LineBuffer;
+use crate::line_buffer::{LineBatch, LineBuffer};
 use event_lists::{Entries, EntryView};
 use line_language::{put_entry, put_row};
 use serial_spec::PlainTable;
@@ -89,40 +90,59 @@ fn put_entry_parts<W: Sink>(
     put(out, b"\n")
 }
 
-// The line of an entry, spelled in the buffer and handed on at once.
+// Hands on the lines that are held.
+fn hand_on<W: Sink>(out: &mut W, batch: &mut LineBatch) -> Result<(), WriteFault>
+    ensures ok { PutsAll W.Sink out.old out.new batch.old result }
+    ensures none { OnOk result (batch.new ≡ []) }
+    ensures err { PutsFront W.Sink out.old out.new batch.old result }
+    ensures asked { OnErr result (IsStopped W.Sink out.new) }
+{
+    put(out, batch.as_bytes())?;
+    batch.clear();
+    Ok(())
+}
+
+// The line of an entry, spelled behind those that are held. Where there is no room for it, they are
+// handed on, and then its parts.
+#[inline(always)]
 fn put_entry_line<W: Sink>(
     out: &mut W,
-    buffer: &mut LineBuffer,
+    batch: &mut LineBatch,
     labels: &[Label],
     entry: &EntryView<'_>,
 ) -> Result<(), WriteFault>
-    ensures ok { PutsAll W.Sink out.old out.new (entry_line labels.now (seen entry.now)) result }
-    ensures err { PutsFront W.Sink out.old out.new (entry_line labels.now (seen entry.now)) result }
+    ensures ok { OnOk result (Batches (W.contents out.old) (W.contents out.new) batch.old batch.new
+        (entry_line labels.now (seen entry.now))) }
+    ensures err { PutsFront W.Sink out.old out.new
+        (batch.old ++ entry_line labels.now (seen entry.now)) result }
     ensures asked { OnErr result (IsStopped W.Sink out.new) }
 {
-    buffer.clear();
-    match put_entry_parts(buffer, labels, entry) {
-        Ok(()) => put(out, buffer.as_bytes()),
-        Err(WriteFault) => put_entry_parts(out, labels, entry),
+    let held = batch.len();
+    if put_entry_parts(batch, labels, entry).is_ok() {
+        return Ok(());
     }
+    batch.truncate(held);
+    hand_on(out, batch)?;
+    put_entry_parts(out, labels, entry)
 }
 
 // The line of the entry at this place, if there is one.
+#[inline(always)]
 fn put_entry_at<W: Sink>(
     out: &mut W,
-    buffer: &mut LineBuffer,
+    batch: &mut LineBatch,
     labels: &[Label],
     entries: &Entries,
     place: usize,
 ) -> Result<(), WriteFault>
-    ensures ok { PutsAll W.Sink out.old out.new
-        (entry_lines labels.now (slice_get entries.now.entries place)) result }
+    ensures ok { OnOk result (Batches (W.contents out.old) (W.contents out.new) batch.old batch.new
+        (entry_lines labels.now (slice_get entries.now.entries place))) }
     ensures err { PutsFront W.Sink out.old out.new
-        (entry_lines labels.now (slice_get entries.now.entries place)) result }
+        (batch.old ++ entry_lines labels.now (slice_get entries.now.entries place)) result }
     ensures asked { OnErr result (IsStopped W.Sink out.new) }
 {
     match entries.get(place) {
-        Some(entry) => put_entry_line(out, buffer, labels, &entry),
+        Some(entry) => put_entry_line(out, batch, labels, &entry),
         None => Ok(()),
     }
 }
@@ -140,10 +160,10 @@ pub(crate) fn put_history<W: Sink>(
         (spelled_history labels.now (reverse (drop told entries.now.entries))) result }
     ensures asked { OnErr result (IsStopped W.Sink out.new) }
 {
-    let mut buffer = LineBuffer::new();
+    let mut batch = LineBatch::new();
     let left = entries.len().saturating_sub(told);
     for place in 0..left {
-        put_entry_at(out, &mut buffer, labels, entries, told + place)?;
+        put_entry_at(out, &mut batch, labels, entries, told + place)?;
     }
-    Ok(())
+    hand_on(out, &mut batch)
 }

@@ -1,4 +1,4 @@
-//! A line, spelled before the writer is asked to take it: its parts cost less here than at a
+//! Lines, spelled before the writer is asked to take them: their parts cost less here than at a
 //! writer.
 use txn_bytes::Bytes;
 
@@ -8,3 +8,6 @@ const MOST_BYTES: usize = 640;
 
 /// The bytes of a line, as far as they are spelled. It takes no memory.
 pub(crate) type LineBuffer = Bytes<MOST_BYTES>;
+
+/// Lines that the writer has not been asked to take, some fifty of them. It takes no memory.
+pub(crate) type LineBatch = Bytes<2048>;
