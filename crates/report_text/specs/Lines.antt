@@ -1,5 +1,5 @@
 -- The lines of a report, one by one.
-use Rattle.std.specs.Prelude.{ℕ, ℤ, List, [], ◌++◌, codes, Option, Some, None}
+use Rattle.std.specs.Prelude.{ℕ, ℤ, List, [], ◌++◌, codes, slice_get, Option, Some, None}
 use Rattle.serial_spec.specs.declared.entry.Entry.{Entry}
 use Rattle.line_language.specs.Printing.{spelled_number}
 use Rattle.line_language.specs.Report.{line, report, spelled_entry, spelled_rows}
@@ -28,6 +28,10 @@ entry_line labels e = line (spelled_entry labels e.by e.event e.answer)
 abbrev pub entry_lines : List (List ℕ) → Option Entry → List ℕ
 entry_lines labels None = []
 entry_lines labels (Some e) = entry_line labels e
+
+-- the line of the entry at this place, if there is one
+abbrev pub lines_at : List (List ℕ) → List Entry → ℕ → List ℕ
+lines_at labels entries place = entry_lines labels (slice_get entries place)
 
 -- the bytes of a whole report
 abbrev pub spelled_report : Told → List ℕ

@@ -3,8 +3,8 @@ ghost use Rattle.std.specs.Prelude.{◌≡◌, [], ◌++◌, codes, drop, revers
 ghost use Rattle.txn_bytes.specs.Written.{IsStopped, PutsAll, PutsFront};
 ghost use Rattle.line_language.specs.Printing.{spelled_number};
 ghost use Rattle.event_lists.specs.Views.{seen};
-ghost use Rattle.report_text.specs.inner.Batched.{Batches};
-ghost use Rattle.report_text.specs.Lines.{entry_line, entry_lines, row_lines};
+ghost use Rattle.report_text.specs.inner.Batched.{BatchesAll};
+ghost use Rattle.report_text.specs.Lines.{entry_line, lines_at, row_lines};
 ghost use Rattle.line_language.specs.Report.{line, spelled_history, spelled_rows};
 
 use crate::line_buffer::{LineBatch, LineBuffer};
@@ -111,8 +111,8 @@ fn put_entry_line<W: Sink>(
     labels: &[Label],
     entry: &EntryView<'_>,
 ) -> Result<(), WriteFault>
-    ensures ok { OnOk result (Batches (W.contents out.old) (W.contents out.new) batch.old batch.new
-        (entry_line labels.now (seen entry.now))) }
+    ensures ok { BatchesAll W.Sink (out.old, batch.old) (out.new, batch.new)
+        (entry_line labels.now (seen entry.now)) result }
     ensures err { PutsFront W.Sink out.old out.new
         (batch.old ++ entry_line labels.now (seen entry.now)) result }
     ensures asked { OnErr result (IsStopped W.Sink out.new) }
@@ -135,10 +135,10 @@ fn put_entry_at<W: Sink>(
     entries: &Entries,
     place: usize,
 ) -> Result<(), WriteFault>
-    ensures ok { OnOk result (Batches (W.contents out.old) (W.contents out.new) batch.old batch.new
-        (entry_lines labels.now (slice_get entries.now.entries place))) }
+    ensures ok { BatchesAll W.Sink (out.old, batch.old) (out.new, batch.new)
+        (lines_at labels.now entries.now.entries place) result }
     ensures err { PutsFront W.Sink out.old out.new
-        (batch.old ++ entry_lines labels.now (slice_get entries.now.entries place)) result }
+        (batch.old ++ lines_at labels.now entries.now.entries place) result }
     ensures asked { OnErr result (IsStopped W.Sink out.new) }
 {
     match entries.get(place) {
