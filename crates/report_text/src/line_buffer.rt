@@ -9,5 +9,6 @@ const MOST_BYTES: usize = 640;
 /// The bytes of a line, as far as they are spelled. It takes no memory.
 pub(crate) type LineBuffer = Bytes<MOST_BYTES>;
 
-/// Lines that the writer has not been asked to take, some fifty of them. It takes no memory.
-pub(crate) type LineBatch = Bytes<2048>;
+/// Lines that the writer has not been asked to take, some twenty-five of them. It takes no memory. The
+/// room is cleared for each request of a live run too, so there is no more of it.
+pub(crate) type LineBatch = Bytes<1024>;
