@@ -6,6 +6,8 @@
 
 mod desk;
 mod jobs;
+mod lanes;
+mod own;
 mod serving;
 mod workers;
 

@@ -7,7 +7,8 @@ ghost use Rattle.worker_pool.specs.Jobs.{IsJob, IsNextJob};
 ghost use Rattle.worker_pool.specs.inner.Working.{IsAfterOpening};
 
 use crate::desk::{Desk, Opening, Tried};
-use crate::jobs::{Channel, Job, Lanes};
+use crate::jobs::{Channel, Job};
+use crate::lanes::Lanes;
 use crossbeam_channel::Pass;
 use durable_top::TopStore;
 use event_lists::EventView;
@@ -20,7 +21,8 @@ use std::thread;
 use std::thread::Threads;
 use std::time::{Clock, Duration};
 
-/// What is called around a line, by whoever tries it and outside the lock.
+/// What is called around a line, by whoever tries it and outside the lock. It must not wait for a line
+/// of another session, whose turn may be the same worker's.
 pub trait Gate {
     /// Before each attempt of a line, also before one that comes to nothing because another worker
     /// has the lock.
@@ -33,17 +35,21 @@ pub trait Gate {
 /// The most workers of a run.
 pub const MOST_WORKERS: u32 = 16;
 
-/// For how long a worker sleeps behind a parked line, once it has found as many parked in a row as
-/// there are sessions, in microseconds.
+/// For how long a worker sleeps behind a parked line, once it has found twice as many parked in a row
+/// as there are sessions, in microseconds.
 const REST: u64 = 50;
 
 /// For how long a worker stands back that finds the lock taken, or no job, in microseconds. Each
 /// time in a row it is twice as long, up to the longest.
 const LOCK_REST: u64 = 200;
 
-/// The longest time for which a worker stands back that finds the lock taken, or no job, again and
-/// again, in microseconds.
+/// The longest time for which a worker stands back that finds the lock taken again and again, in
+/// microseconds.
 const LONGEST_REST: u64 = 6400;
+
+/// The same where it finds no job, in microseconds. It is shorter, since a look for one keeps nobody
+/// out, and the end of the run waits for all workers.
+const LONGEST_IDLE: u64 = 1600;
 
 // Tries a line under the lock, unless another worker has it.
 fn try_line<S: TopStore, J: Opening<S>>(
@@ -116,27 +122,24 @@ struct Patience {
     rest: u64,
 }
 
-// Counts a line that was tried. Behind a parked one it rests, once as many in a row were parked as
-// there are sessions, so that each may have been tried. Meanwhile nobody has the line's job, and
-// the other workers wait for theirs.
+// Counts a line that was tried. Behind a parked one it rests, once twice as many in a row were parked as
+// there are sessions, so that each may have been tried, and a line that must be given up was looked for.
+// Meanwhile nobody has the line's job, and the other workers wait for theirs.
 fn count_tried<R: Clock>(rt: &R, patience: &mut Patience, sessions: u32, tried: &Tried) {
     patience.rest = 0;
     if tried.turn == Turn::Answered || tried.given_up.is_some() {
         patience.parked = 0;
-    } else if patience.parked < sessions {
+    } else if patience.parked < sessions.saturating_mul(2) {
         patience.parked += 1;
     } else {
         thread::sleep(rt, Duration::from_micros(REST));
     }
 }
 
-// Counts a line that was not tried, since another worker has the lock, or that no job was there.
-fn count_idle(patience: &mut Patience) {
-    patience.rest = patience
-        .rest
-        .saturating_mul(2)
-        .max(LOCK_REST)
-        .min(LONGEST_REST);
+// Counts a line that was not tried, since another worker has the lock, or that no job was there. The
+// rest is so long at most.
+fn count_idle(patience: &mut Patience, longest: u64) {
+    patience.rest = patience.rest.saturating_mul(2).max(LOCK_REST).min(longest);
 }
 
 // Stands back, where it found the lock taken, or no job. It has passed its job on, so that whoever
@@ -172,7 +175,7 @@ fn follow<R: Clock, S: TopStore, J: Opening<S>, G: Gate>(
             next_job(session, line, &tried)
         }
         Ok(None) => {
-            count_idle(patience);
+            count_idle(patience, LONGEST_REST);
             Some(job)
         }
         Err(_) => Some(Job::Stop),
@@ -196,6 +199,15 @@ fn take_job<R: Wait>(rt: &R, lanes: &mut Lanes<'_>, patience: &mut Patience) -> 
     lanes.take_ready(rt)
 }
 
+// Counts a line that was tried, or shares what was kept where another worker has the lock.
+fn note_turn<R: Wait>(rt: &R, lanes: &mut Lanes<'_>, patience: &Patience) {
+    if patience.rest > 0 {
+        lanes.share(rt);
+    } else {
+        lanes.count();
+    }
+}
+
 // Does jobs until there is a stop, which is sent on.
 fn work<R: Wait + Clock, S: TopStore, J: Opening<S>, G: Gate>(
     rt: &R,
@@ -211,14 +223,16 @@ fn work<R: Wait + Clock, S: TopStore, J: Opening<S>, G: Gate>(
     };
     for _ in rt.forever() {
         if let Some(job) = take_job(rt, &mut lanes, &mut patience) {
-            if let Some(next) = follow(rt, sessions, desk, gate, job, &mut patience) {
+            let next = follow(rt, sessions, desk, gate, job, &mut patience);
+            note_turn(rt, &mut lanes, &patience);
+            if let Some(next) = next {
                 lanes.put(rt, next);
                 if matches!(next, Job::Stop) {
                     return;
                 }
             }
         } else {
-            count_idle(&mut patience);
+            count_idle(&mut patience, LONGEST_IDLE);
         }
         stand_back(rt, &patience);
     }
@@ -263,6 +277,7 @@ fn start_all<
     G: Gate + Sync,
 >(
     rt: &R,
+    alloc: Global,
     ready: &Channel,
     mut to_ready: Pass<Job, ()>,
     parked: &Channel,
@@ -291,7 +306,7 @@ fn start_all<
                 );
                 let worker = move || work(
                     rt,
-                    Lanes::new(ready, parked, first, second),
+                    Lanes::new(alloc, ready, parked, first, second),
                     sessions,
                     desk,
                     gate,
@@ -371,7 +386,7 @@ pub(crate) fn work_through<
         return Err(ServeFault::NoMemory);
     };
     if !start_all(
-        rt, &ready, to_ready, &parked, to_parked, sessions, desk, workers, gate,
+        rt, alloc, &ready, to_ready, &parked, to_parked, sessions, desk, workers, gate,
     ) {
         return Err(ServeFault::Thread);
     }
