@@ -19,7 +19,7 @@ const ROUND: u32 = 64;
 
 /// The two channels of a run, and the passes of one thread to them. Lines that were parked go
 /// through a channel of their own, so that a worker need not take and send all of them between two
-/// lines that can be answered. A worker that is alone keeps the others to itself, since a send and a
+/// lines that can be answered. A worker that is alone keeps its jobs to itself, since a send and a
 /// receive cost as much as a third of a line.
 #[derive(Drop)]
 pub(crate) struct Lanes<'a> {
@@ -27,7 +27,8 @@ pub(crate) struct Lanes<'a> {
     parked: &'a Channel,
     to_ready: Pass<Job, ()>,
     to_parked: Pass<Job, ()>,
-    own: OwnJobs,
+    own_ready: OwnJobs,
+    own_parked: OwnJobs,
     // How many lines were tried in a row.
     tried: u32,
     // How many were tried since all jobs were taken.
@@ -52,7 +53,8 @@ impl<'a> Lanes<'a> {
             parked,
             to_ready,
             to_parked,
-            own: OwnJobs::new(alloc),
+            own_ready: OwnJobs::new(alloc),
+            own_parked: OwnJobs::new(alloc),
             tried: 0,
             since: 0,
         }
@@ -72,26 +74,40 @@ impl<'a> Lanes<'a> {
     fn keep<R: Wait>(&mut self, rt: &R, job: Job)
         requires { IsJob job }
     {
-        if let Err(job) = self.own.put(job) {
+        let kept = match job {
+            Job::Line { parked: true, .. } => self.own_parked.put(job),
+            _ => self.own_ready.put(job),
+        };
+        if let Err(job) = kept {
             self.send(rt, job);
         }
     }
 
-    /// Puts a job behind all others of its kind. A worker that is alone keeps one that was not parked.
+    /// Puts a job behind all others of its kind. A worker that is alone keeps it.
     pub(crate) fn put<R: Wait>(&mut self, rt: &R, job: Job)
         requires { IsJob job }
     {
         match job {
-            Job::Line { parked: false, .. } if self.tried >= ALONE => self.keep(rt, job),
+            Job::Line { .. } if self.tried >= ALONE => self.keep(rt, job),
             _ => self.send(rt, job),
         }
     }
 
-    // Takes all jobs for itself that are there and were not parked. It answers whether there was a
-    // stop.
+    // The foremost job of either channel, if there is one.
+    fn take_one<R: Wait>(&mut self, rt: &R) -> Option<Job>
+        ensures { IfSome result IsJob }
+    {
+        let ready = self.ready.take(rt, &mut self.to_ready);
+        match ready {
+            Some(job) => Some(job),
+            None => self.parked.take(rt, &mut self.to_parked),
+        }
+    }
+
+    // Takes all jobs for itself that are there. It answers whether there was a stop.
     fn take_all<R: Wait>(&mut self, rt: &R) -> bool {
         for _ in 0..MOST_SESSIONS {
-            match self.ready.take(rt, &mut self.to_ready) {
+            match self.take_one(rt) {
                 Some(Job::Stop) => return true,
                 Some(job) => self.keep(rt, job),
                 None => return false,
@@ -115,7 +131,7 @@ impl<'a> Lanes<'a> {
                 return Some(Job::Stop);
             }
         }
-        match self.own.take() {
+        match self.own_ready.take() {
             Some(job) => Some(job),
             None => self.ready.take(rt, &mut self.to_ready),
         }
@@ -125,7 +141,20 @@ impl<'a> Lanes<'a> {
     pub(crate) fn take_parked<R: Wait>(&mut self, rt: &R) -> Option<Job>
         ensures { IfSome result IsJob }
     {
-        self.parked.take(rt, &mut self.to_parked)
+        match self.own_parked.take() {
+            Some(job) => Some(job),
+            None => self.parked.take(rt, &mut self.to_parked),
+        }
+    }
+
+    // The foremost job that it kept, if there is one.
+    fn take_kept(&mut self) -> Option<Job>
+        ensures { IfSome result IsJob }
+    {
+        match self.own_ready.take() {
+            Some(job) => Some(job),
+            None => self.own_parked.take(),
+        }
     }
 
     /// Counts a line that was tried.
@@ -138,7 +167,7 @@ impl<'a> Lanes<'a> {
     pub(crate) fn share<R: Wait>(&mut self, rt: &R) {
         self.tried = 0;
         for _ in 0..MOST_SESSIONS {
-            match self.own.take() {
+            match self.take_kept() {
                 Some(job) => self.send(rt, job),
                 None => return,
             }
