@@ -1,5 +1,5 @@
 -- Lines that are held before a writer is asked to take them.
-use Rattle.std.proofs.Common.{◌≡◌, ℕ, List, [], ◌++◌, length, take, Option, Some, Result, Ok, Err, OnOk, OnErr, false, append_assoc, append-nil, sym, ◌∙◌, ap, subst}
+use Rattle.std.proofs.Common.{◌≡◌, ℕ, List, [], ◌++◌, length, take, Option, Some, Result, Ok, Err, OnOk, OnErr, Bool, false, append_assoc, append-nil, sym, ◌∙◌, ap, subst}
 use Rattle.std.specs.Prelude.{is_ok}
 use Rattle.std.proofs.Math.Seq.{take-append_seam}
 use Rattle.std.specs.Io.KnownBytes.{Appends}
@@ -41,7 +41,8 @@ cut_off a b c left xs ys h k =
 -- ---- a line that was cut off
 
 -- what was held before it is held again
-pub cut_back : {T E : Type 0} (held mid bs : List ℕ) (r : Result T E) → is_ok r ≡ false → OnErr r (AppendsFront (Some held) (Some mid) bs)
-    → take (length held) mid ≡ held
-cut_back held mid bs (Ok x) failed h = absurd (cc)
-cut_back held mid bs (Err e) failed h = ap (take (length held)) h.written ∙ take-append_seam held h.front
+pub cut_back : {T E : Type 0} (held mid left bs : List ℕ) (n : ℕ) (r : Result T E) (b : Bool) → left ≡ take n mid → n ≡ length held → b ≡ is_ok r → b ≡ false
+    → OnErr r (AppendsFront (Some held) (Some mid) bs) → left ≡ held
+cut_back held mid left bs n (Ok x) b is count told failed h = absurd (cc)
+cut_back held mid left bs n (Err e) b is count told failed h =
+    is ∙ ap (λ k. take k mid) count ∙ ap (take (length held)) h.written ∙ take-append_seam held h.front
