@@ -14,18 +14,25 @@ fn copy_ends(to: &mut [u8], from: &[u8], size: usize)
     to[last..].copy_from_slice(&from[last..]);
 }
 
-/// Copies the bytes. A few, as most parts of lines are, are copied by two moves and without a call.
+/// Copies the bytes. A few, as most parts of lines are, are copied by two moves and without a call,
+/// and found by two or three compares.
 #[inline(always)]
 pub(crate) fn copy(to: &mut [u8], from: &[u8])
     requires { length to.old ≡ length from.now }
     ensures { to.new ≡ from.now }
 {
-    match from.len() {
-        0 => {}
-        1 => copy_ends(to, from, 1),
-        2..=3 => copy_ends(to, from, 2),
-        4..=7 => copy_ends(to, from, 4),
-        8..=16 => copy_ends(to, from, 8),
-        _ => to.copy_from_slice(from),
+    let len = from.len();
+    if len < 4 {
+        if len >= 2 {
+            copy_ends(to, from, 2);
+        } else if len == 1 {
+            copy_ends(to, from, 1);
+        }
+    } else if len < 8 {
+        copy_ends(to, from, 4);
+    } else if len <= 16 {
+        copy_ends(to, from, 8);
+    } else {
+        to.copy_from_slice(from);
     }
 }

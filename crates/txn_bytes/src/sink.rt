@@ -8,7 +8,9 @@ use crate::call::Sink;
 pub struct WriteFault;
 
 /// Writes the bytes. After a fault the writer has taken a beginning of them, and not all, and was
-/// asked to take more. So no bytes are written without a fault.
+/// asked to take more. So no bytes are written without a fault. It is part of its caller: to a buffer a
+/// part of a line, as a label or a key, goes by some fifteen instructions, and a call took as many.
+#[inline(always)]
 pub fn put<W: Sink>(out: &mut W, bytes: &[u8]) -> Result<(), WriteFault>
     ensures { Puts W.Sink out.old out.new bytes.now result }
 {
