@@ -44,7 +44,16 @@ pub enum KeyFault {
     Long,
 }
 
-// Whether each of eight bytes may stand in a key.
+// Whether each of four bytes may stand in a key.
+#[inline(always)]
+fn is_key_half(half: &[u8; 4]) -> bool
+    ensures { result ≡ list_all is_key_byte half.now }
+{
+    let [a, b, c, d] = *half;
+    is_key_byte(a) & is_key_byte(b) & is_key_byte(c) & is_key_byte(d)
+}
+
+// Whether each of eight bytes may.
 #[inline(always)]
 fn is_key_word(word: &[u8; 8]) -> bool
     ensures { result ≡ list_all is_key_byte word.now }
@@ -54,12 +63,17 @@ fn is_key_word(word: &[u8; 8]) -> bool
     front & is_key_byte(e) & is_key_byte(f) & is_key_byte(g) & is_key_byte(h)
 }
 
-// Whether each of a few bytes may.
+// Whether each of fewer bytes than a word has may: the first four are tested and the last four, which may
+// lap. Of fewer bytes than four each is.
 #[inline(always)]
 fn are_few_key_bytes(bytes: &[u8]) -> bool
+    requires { length bytes.now < 8 }
     ensures { result ≡ list_all is_key_byte bytes.now }
 {
-    bytes.iter().all(|b| is_key_byte(*b))
+    match (bytes.first_chunk::<4>(), bytes.last_chunk::<4>()) {
+        (Some(first), Some(last)) => is_key_half(first) & is_key_half(last),
+        _ => bytes.iter().all(|b| is_key_byte(*b)),
+    }
 }
 
 // Whether each of the bytes may. Eight are tested at once, which costs half of a test byte by byte.
