@@ -1,5 +1,5 @@
 //! A list of entries.
-ghost use Rattle.std.specs.Prelude.{◌≡◌, ◌+◌, ◌<◌, ◌≤◌, ◌↔◌, [], ◌∷◌, ◌++◌, length, slice_get, Some, OnOk, IsOk, IsTrue};
+ghost use Rattle.std.specs.Prelude.{◌≡◌, ◌+◌, ◌<◌, ◌≤◌, ◌↔◌, [], ◌∷◌, ◌++◌, length, slice_get, vec_capacity, vec_len, Some, OnOk, IsOk, IsTrue};
 ghost use Rattle.std.specs.Option.{option_map};
 ghost use Rattle.event_lists.specs.Lists.{IsNamed, Keeps, is_orphan, name_at};
 ghost use Rattle.event_lists.specs.Views.{answer_by, seen};
@@ -51,6 +51,23 @@ impl Model for Entries {
         AllByRecursion (HasNames e.names.items) e.notes.items
         × (vec_len e.notes + e.room ≤ vec_capacity e.notes)
         × (length e.names.items + (e.room + e.room) ≤ e.names.capacity) };
+}
+
+// Makes room for so many more notes, and at once for eight times as many as there are: so they are seldom
+// moved, and room that is not used is not touched. Where that is refused, it is made for those alone.
+fn make_room(notes: &mut Vec<Noted>, additional: usize) -> Result<(), NoMemory>
+    ensures items { notes.new.items ≡ notes.old.items }
+    ensures room { OnOk result (vec_len notes.new + additional ≤ vec_capacity notes.new) }
+    ensures capacity { vec_capacity notes.old ≤ vec_capacity notes.new }
+{
+    if additional <= notes.capacity() - notes.len() {
+        return Ok(());
+    }
+    let more = notes.len().saturating_mul(7).max(additional);
+    if notes.reserve(more).is_err() {
+        notes.reserve(additional)?;
+    }
+    Ok(())
 }
 
 // Whether an orphan is refused, which tells its aborted ancestor.
@@ -151,7 +168,7 @@ impl Entries {
         if additional <= self.room {
             return Ok(());
         }
-        self.notes.reserve(additional)?;
+        make_room(&mut self.notes, additional)?;
         // An entry has two names at most.
         let Some(names) = additional.checked_add(additional) else {
             return Err(AllocError);
