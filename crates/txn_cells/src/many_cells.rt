@@ -112,6 +112,7 @@ impl<V: Copy> ManyCells<V> {
     {
         let place = place_for(self.numbers.as_slice(), txn);
         self.numbers.insert(place, txn)?;
+        make_room(&mut self.contents);
         match self.contents.insert_full(txn, None) {
             Ok((index, _)) => Ok(index),
             Err(_) => {
@@ -153,6 +154,18 @@ impl<V: Copy> ManyCells<V> {
             }
             Err(_) => None,
         }
+    }
+}
+
+// Where there is no room for one more, makes room for four times as many as there are, so that they are
+// seldom hashed anew. Where that is refused, whoever puts one in asks for room for that one.
+#[inline(always)]
+fn make_room<V: Copy>(contents: &mut IndexMap<TxnNo, Option<V>>)
+    ensures { contents.new.entries ≡ contents.old.entries }
+{
+    let count = contents.len();
+    if count == contents.capacity() {
+        let _ = contents.reserve(count.saturating_mul(3));
     }
 }
 
