@@ -5,7 +5,8 @@ ghost use Rattle.std.specs.List.Sorted.{IsStrictlyIncreasing};
 
 use txn_tree::TxnNo;
 
-/// Where the number is, or else where it belongs.
+/// Where the number is, or else where it belongs. The first is looked at before the others, since those
+/// that began first mostly end first.
 pub(crate) fn find(numbers: &[TxnNo], txn: TxnNo) -> Result<usize, usize>
     requires { IsStrictlyIncreasing numbers.now }
     ensures there { IfOk result (λ i. slice_get numbers.now i ≡ Some txn) }
@@ -13,16 +14,26 @@ pub(crate) fn find(numbers: &[TxnNo], txn: TxnNo) -> Result<usize, usize>
     ensures within { IfErr result (λ i. i ≤ length numbers.now) }
     ensures rising { IfErr result (λ i. IsStrictlyIncreasing (insert numbers.now i txn)) }
 {
+    if let Some(first) = numbers.first() {
+        if *first == txn {
+            return Ok(0);
+        }
+    }
     numbers.binary_search(&txn)
 }
 
-/// Where the number belongs, which is not among them.
+/// Where the number belongs, which is not among them. That of one that began after all others is last.
 pub(crate) fn place_for(numbers: &[TxnNo], txn: TxnNo) -> usize
     requires rising { IsStrictlyIncreasing numbers.now }
     requires fresh { IsFalse (list_any (nat_eq txn) numbers.now) }
     ensures within { result ≤ length numbers.now }
     ensures rising { IsStrictlyIncreasing (insert numbers.now result txn) }
 {
+    if let Some(last) = numbers.last() {
+        if *last < txn {
+            return numbers.len();
+        }
+    }
     match find(numbers, txn) {
         Ok(place) => place,
         Err(place) => place,
