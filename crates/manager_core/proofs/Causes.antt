@@ -1,14 +1,15 @@
 -- The cause that the tables tell is the definitions' first.
 use Rattle.std.proofs.Common.{◌≡◌, ℕ, ◌<◌, Bool, true, false, not, length, Option, Some, None, is_some, refl, sym, ap, ap₂, ◌∙◌}
 use Rattle.std.proofs.lemmas.Bool.{false≢true, not-true, true≢false}
-use Rattle.std.specs.Prelude.{option_map}
+use Rattle.std.specs.Prelude.{nat_lt, option_map}
 use Rattle.std.specs.List.{list_any}
 use Rattle.txn_names.specs.Path.{top_of}
 use Rattle.txn_tree.specs.declared.status.Status.{Status}
 use Rattle.txn_tree.specs.declared.status.Status.TheVariants as state
-use Rattle.txn_tree.specs.States.{names, is_committed}
+use Rattle.txn_tree.specs.States.{States, names, is_committed}
 use Rattle.txn_tree.specs.Asked.{IsNumberOf, has_committed_in, is_absent_in, is_live_child_in}
-use Rattle.txn_tree.specs.Numbered.{is_active_at, is_active_named, status_at, status_named, top_aborted_at, top_aborted_named}
+use Rattle.txn_tree.specs.Numbered.{is_active_at, is_active_named, live_children_at, live_children_named, status_at, status_named, top_aborted_at, top_aborted_named}
+use Rattle.txn_tree.proofs.Exports.{any_counted}
 use Rattle.orphans.specs.Marked.{is_marked}
 use Rattle.serial_spec.specs.declared.target.Asked.{Asked}
 use Rattle.serial_spec.specs.declared.entry.By.{By}
@@ -21,12 +22,17 @@ use Rattle.serial_spec.specs.Allowed.{waits_elsewhere, is_full_for, has_live_chi
 use Rattle.serial_spec.specs.Causes.{when, why_ended}
 use Rattle.manager_core.specs.Kept.{AreTablesOf}
 use Rattle.manager_core.specs.Tables.{Tabled, cause_in}
-use Rattle.manager_core.proofs.Answers.{active_at_access}
+use Rattle.manager_core.proofs.Answers.{active_at_access, active_at_commit}
 use Rattle.manager_core.proofs.Locks.{name_at}
 use Rattle.manager_core.proofs.Trees.{active_in, same_at_end, same_children, top_by_marks, top_by_states}
 use Rattle.manager_core.proofs.Victims.{may_end}
 
 -- ---- by number
+
+-- whether a child is live, by the count that is kept for the number
+pub any_live : (tree : States) (t : Name) (n : ℕ) → IsNumberOf tree t n → nat_lt 0 (live_children_at tree n) ≡ list_any (is_live_child_in tree t) (names tree)
+any_live tree t n number =
+    ap (λ o. nat_lt 0 (live_children_named tree o)) (name_at tree t n number) ∙ sym (any_counted (is_live_child_in tree t) (names tree))
 
 not_committed : (s : Status) → (s ≡ state.Committed → ⊥) → is_committed s ≡ false
 not_committed state.Committed n = absurd (n refl)
@@ -70,6 +76,18 @@ module _ (rows : Rows) (h : History) (tables : Tabled) (allowed : AreAllowed row
           ∙ ap (is_active_named tables.tree) (sym (name_at tables.tree t n number)) ∙ sym inactive))
       go (Some r) same = refl
 
+  -- nor does it commit
+  pub uncommitted_by_inactivity : (n : ℕ) → IsNumberOf tables.tree t n
+      → false ≡ is_active_at tables.tree n → (by : By) → is_some (cause_at_commit h by t) ≡ true
+  uncommitted_by_inactivity n number inactive by = go (cause_at_commit h by t) refl
+    where
+      go : (o : Option Refusal) → o ≡ cause_at_commit h by t → is_some o ≡ true
+      go None none =
+          absurd (true≢false (sym (active_at_commit h by t none)
+          ∙ sym (active_in rows h tables.tree allowed are.in_tree t)
+          ∙ ap (is_active_named tables.tree) (sym (name_at tables.tree t n number)) ∙ sym inactive))
+      go (Some r) same = refl
+
   module _ (some : 0 < length t) (by : By) where
     at_end : (o : Option Refusal) → o ≡ cause_in tables t → o ≡ cause_at_end h t
     at_end o e = e ∙ same_at_end rows h tables allowed are t some
@@ -86,6 +104,10 @@ module _ (rows : Rows) (h : History) (tables : Tabled) (allowed : AreAllowed row
 
     pub commit_by_end : (r : Refusal) → Some r ≡ cause_in tables t → Some r ≡ cause_at_commit h by t
     commit_by_end r e = ap (λ o. or_else o (or_else (when (has_live_child h t) Children) (when (waits_elsewhere h by t) Waiting))) (at_end (Some r) e)
+
+    -- one that never began, too
+    pub uncommitted_by_absence : is_absent_in tables.tree t ≡ true → is_some (cause_at_commit h by t) ≡ true
+    uncommitted_by_absence absent = sym (ap is_some (commit_by_end Unknown (rw absent refl)))
 
     -- else come the others, in their order
     pub access_cause : (asked : Asked) → None ≡ cause_in tables t → (w f : Bool) → w ≡ waits_elsewhere h by t → f ≡ is_full_for rows h asked

@@ -158,6 +158,32 @@ impl Tables {
         }
     }
 
+    /// The number of a transaction whose commit nothing refuses; the store is left aside. It is none
+    /// where the commit is refused. `number_at_commit` tells the cause, so that this result is small.
+    pub(crate) fn number_to_commit(&self, log: &Log, by: By, name: &Name) -> Option<TxnNo>
+        requires allowed { AreAllowed log.now.rows log.now.entries }
+        requires are { AreTablesOf log.now.rows log.now.entries self.now }
+        ensures cause { IfSome result (λ txn. None ≡ cause_at_commit log.now.entries by name.now) }
+        ensures none { IfNone result
+            (IsTrue (is_some (cause_at_commit log.now.entries by name.now))) }
+        ensures number { IfSome result (IsNumberOf self.now.tree name.now) }
+        ensures rootless { IsRootless self.now.tree }
+    {
+        name.has_labels();
+        let likely = self.hints.of(by);
+        let txn = self.tree.no_by_hint(name, likely)?;
+        if !self.tree.is_active_at(txn) {
+            return None;
+        }
+        if self.tree.live_children_at(txn) > 0 {
+            return None;
+        }
+        if self.waits_elsewhere(txn, by) {
+            return None;
+        }
+        Some(txn)
+    }
+
     /// The number of a transaction that may commit, or why the commit is refused; the store is left
     /// aside.
     pub(crate) fn number_at_commit(&self, log: &Log, by: By, name: &Name) -> Result<TxnNo, Refusal>

@@ -171,7 +171,31 @@ impl<S: TopStore> Manager<S> {
         }
     }
 
-    fn refuse_commit(&mut self, by: By, name: &Name, refusal: Refusal) -> Result<Outcome, NoMemory>
+    // A commit that is refused, by the first cause that holds. Few are, and a cause has room for a name:
+    // so this is no part of the callers.
+    #[inline(never)]
+    fn refuse_commit(&mut self, by: By, name: &Name) -> Result<Outcome, NoMemory>
+        requires free { IsFree self.old.history by (Commit name.now) }
+        requires refused { IsTrue (is_some (cause_at_commit self.old.history by name.now)) }
+        ensures ok { IfOk result (λ outcome.
+            Committed S.TopStore self.old self.new by name.now outcome) }
+        ensures at_once { IfOk result (λ outcome. IsFalse (is_waits (answer_of outcome))) }
+        ensures err { OnErr result (self.new ≡ self.old) }
+        ensures sound { OnOk result (IsSound S.TopStore self.new) }
+    {
+        match self.tables.number_at_commit(&self.log, by, name) {
+            Ok(_) => unreachable!(),
+            Err(refusal) => self.refuse_commit_by(by, name, refusal),
+        }
+    }
+
+    // The same, by this cause.
+    fn refuse_commit_by(
+        &mut self,
+        by: By,
+        name: &Name,
+        refusal: Refusal,
+    ) -> Result<Outcome, NoMemory>
         requires free { IsFree self.old.history by (Commit name.now) }
         requires cause { Some refusal ≡ cause_at_commit self.old.history by name.now }
         ensures ok { IfOk result (λ outcome.
@@ -195,9 +219,8 @@ impl<S: TopStore> Manager<S> {
         ensures err { OnErr result (self.new ≡ self.old) }
         ensures sound { OnOk result (IsSound S.TopStore self.new) }
     {
-        let txn = match self.tables.number_at_commit(&self.log, by, name) {
-            Ok(txn) => txn,
-            Err(refusal) => return self.refuse_commit(by, name, refusal),
+        let Some(txn) = self.tables.number_to_commit(&self.log, by, name) else {
+            return self.refuse_commit(by, name);
         };
         self.log.reserve(1)?;
         let parent = self.tables.parent_number(name, txn);
@@ -218,9 +241,8 @@ impl<S: TopStore> Manager<S> {
         ensures err { OnErr result (self.new ≡ self.old) }
         ensures sound { OnOk result (IsSound S.TopStore self.new) }
     {
-        let txn = match self.tables.number_at_commit(&self.log, by, name) {
-            Ok(txn) => txn,
-            Err(refusal) => return self.refuse_commit(by, name, refusal),
+        let Some(txn) = self.tables.number_to_commit(&self.log, by, name) else {
+            return self.refuse_commit(by, name);
         };
         self.log.reserve(1)?;
         let changes = self.tables.changes(txn)?;

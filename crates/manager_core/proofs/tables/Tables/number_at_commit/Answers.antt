@@ -1,20 +1,9 @@
 use Rattle.std.proofs.Common.{◌≡◌, ◌<◌, ◌≤◌, ℕ, true, false, refl, sym, ap, ◌∙◌, arith, rules}
 use Rattle.std.specs.Prelude.{nat_lt}
-use Rattle.std.specs.List.{list_any}
 use Rattle.std.proofs.lemmas.Bool.{lt-ltb, le-ltb}
-use Rattle.txn_names.specs.Path.{Path}
-use Rattle.txn_tree.specs.States.{States, names}
-use Rattle.txn_tree.specs.Asked.{IsNumberOf, is_live_child_in}
-use Rattle.txn_tree.specs.Numbered.{live_children_at, live_children_named}
-use Rattle.txn_tree.proofs.Exports.{any_counted}
-use Rattle.manager_core.proofs.Causes.{commit_by_end, commit_cause}
-use Rattle.manager_core.proofs.Locks.{name_at}
+use Rattle.txn_tree.specs.Numbered.{live_children_at}
+use Rattle.manager_core.proofs.Causes.{any_live, commit_by_end, commit_cause}
 use Rattle.manager_core.proofs.tables.Tables.number_at_commit.Goals as goal
-
--- whether a child is live, by the count that is kept for the number
-any_live : (tree : States) (t : Path) (n : ℕ) → IsNumberOf tree t n → nat_lt 0 (live_children_at tree n) ≡ list_any (is_live_child_in tree t) (names tree)
-any_live tree t n number =
-    ap (λ o. nat_lt 0 (live_children_named tree o)) (name_at tree t n number) ∙ sym (any_counted (is_live_child_in tree t) (names tree))
 
 pub returns-in_err-txn-clause-cause : goal.returns-in_err-txn-clause-cause
 returns-in_err-txn-clause-cause c =
