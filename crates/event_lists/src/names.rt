@@ -1,5 +1,5 @@
 //! Names by number.
-ghost use Rattle.std.specs.Prelude.{◌≡◌, ◌+◌, ◌<◌, ◌≤◌, [], length, slice_get, Some, IfSome, IsTrue, OnErr, OnOk};
+ghost use Rattle.std.specs.Prelude.{◌≡◌, ◌+◌, ◌<◌, ◌≤◌, [], length, slice_get, vec_capacity, vec_len, Some, IfSome, IsTrue, OnErr, OnOk};
 ghost use Rattle.std.specs.Option.{option_map};
 ghost use Rattle.event_lists.specs.Lists.{IsSpelledAt, Keeps};
 ghost use Rattle.event_lists.specs.Words.{IsRead, named};
@@ -11,6 +11,10 @@ use serial_spec::NoMemory;
 use std::alloc::Global;
 use std::marker::Model;
 use txn_names::Name;
+
+/// Room is made for at least so many names at once: most lists have more than a few, and a name is large to
+/// move. Where that is refused, it is made for those that are asked for.
+const LEAST_ROOM: usize = 16;
 
 /// An event, its name by number.
 #[derive(Clone, Copy)]
@@ -44,6 +48,32 @@ pub(crate) fn is_spelled_at(names: &[Name], number: usize, spelled: &[u8]) -> bo
         Some(name) => name.is_spelled(spelled),
         None => false,
     }
+}
+
+// Makes room for so many more names.
+#[inline(always)]
+fn make_room(names: &mut Vec<Name>, additional: usize) -> Result<(), NoMemory>
+    ensures items { names.new.items ≡ names.old.items }
+    ensures room { OnOk result (vec_len names.new + additional ≤ vec_capacity names.new) }
+    ensures capacity { vec_capacity names.old ≤ vec_capacity names.new }
+{
+    if additional <= names.capacity() - names.len() {
+        return Ok(());
+    }
+    grow(names, additional)
+}
+
+// The same, where there is too little. It is no part of its caller, which mostly finds room.
+#[inline(never)]
+fn grow(names: &mut Vec<Name>, additional: usize) -> Result<(), NoMemory>
+    ensures items { names.new.items ≡ names.old.items }
+    ensures room { OnOk result (vec_len names.new + additional ≤ vec_capacity names.new) }
+    ensures capacity { vec_capacity names.old ≤ vec_capacity names.new }
+{
+    if names.reserve(additional.max(LEAST_ROOM)).is_err() {
+        names.reserve(additional)?;
+    }
+    Ok(())
 }
 
 impl Names {
@@ -112,7 +142,7 @@ impl Names {
         ensures room { OnOk result (length self.new.items + additional ≤ self.new.capacity) }
         ensures capacity { self.old.capacity ≤ self.new.capacity }
     {
-        self.names.reserve(additional)?;
+        make_room(&mut self.names, additional)?;
         self.index.reserve(self.names.capacity())
     }
 
