@@ -77,6 +77,7 @@ fn are_few_key_bytes(bytes: &[u8]) -> bool
 }
 
 // Whether each of the bytes may. Eight are tested at once, which costs half of a test byte by byte.
+#[inline(always)]
 pub(crate) fn are_key_bytes(bytes: &[u8]) -> bool
     ensures { result ≡ list_all is_key_byte bytes.now }
 {
