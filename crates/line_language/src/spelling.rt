@@ -60,6 +60,7 @@ pub fn put_size<W: Sink>(out: &mut W, size: usize) -> Result<(), WriteFault>
 }
 
 // A word with its space, and a name.
+#[inline(always)]
 pub(crate) fn put_named<W: Sink>(out: &mut W, word: &[u8], name: &Name) -> Result<(), WriteFault>
     ensures ok { PutsAll W.Sink out.old out.new (word.now ++ spelled_name name.now) result }
     ensures err { PutsFront W.Sink out.old out.new (word.now ++ spelled_name name.now) result }
@@ -70,6 +71,7 @@ pub(crate) fn put_named<W: Sink>(out: &mut W, word: &[u8], name: &Name) -> Resul
 }
 
 // A word with its space, a name and the bytes of a key or a group.
+#[inline(always)]
 fn put_spaced<W: Sink>(
     out: &mut W,
     word: &[u8],
@@ -88,6 +90,7 @@ fn put_spaced<W: Sink>(
 }
 
 // A word with its space, a name and a key.
+#[inline(always)]
 fn put_keyed<W: Sink>(out: &mut W, word: &[u8], name: &Name, key: &Key) -> Result<(), WriteFault>
     ensures ok { PutsAll W.Sink out.old out.new (word.now ++ spelled_name name.now ++ codes " " ++
         key.now) result }
@@ -119,6 +122,7 @@ fn put_valued<W: Sink>(
     put_number(out, number)
 }
 
+#[inline(always)]
 fn put_access<W: Sink>(out: &mut W, name: &Name, key: &Key, op: Op) -> Result<(), WriteFault>
     ensures ok { PutsAll W.Sink out.old out.new (spelled_access name.now key.now op) result }
     ensures err { PutsFront W.Sink out.old out.new (spelled_access name.now key.now op) result }

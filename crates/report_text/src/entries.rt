@@ -90,6 +90,21 @@ fn put_entry_parts<W: Sink>(
     put(out, b"\n")
 }
 
+// The same, for a line that finds no room among those that are held. Few do, so that this is no part of its
+// caller.
+#[inline(never)]
+fn put_entry_apart<W: Sink>(
+    out: &mut W,
+    labels: &[Label],
+    entry: &EntryView<'_>,
+) -> Result<(), WriteFault>
+    ensures ok { PutsAll W.Sink out.old out.new (entry_line labels.now (seen entry.now)) result }
+    ensures err { PutsFront W.Sink out.old out.new (entry_line labels.now (seen entry.now)) result }
+    ensures asked { OnErr result (IsStopped W.Sink out.new) }
+{
+    put_entry_parts(out, labels, entry)
+}
+
 // Hands on the lines that are held.
 fn hand_on<W: Sink>(out: &mut W, batch: &mut LineBatch) -> Result<(), WriteFault>
     ensures ok { PutsAll W.Sink out.old out.new batch.old result }
@@ -123,7 +138,7 @@ fn put_entry_line<W: Sink>(
     }
     batch.truncate(held);
     hand_on(out, batch)?;
-    put_entry_parts(out, labels, entry)
+    put_entry_apart(out, labels, entry)
 }
 
 // The line of the entry at this place, if there is one.

@@ -20,15 +20,15 @@ returns-clause-ok g c =
     let held : List ℕ = c.args.batch.now in
     let line : List ℕ = entry_line c.args.labels.now (seen c.args.entry.now) in
     let back = cut_back held _ c.truncate.new.self line _ _ _ c.truncate.ensures c.len-held.ensures c.is_ok.ensures.value c.if-is_ok.false c.put_entry_parts.ensures.err in
-    passed_on_ok _ _ _ held _ line c.put_entry_parts-2.result c.in_ok-hand_on.ensures.none
+    passed_on_ok _ _ _ held _ line c.put_entry_apart.result c.in_ok-hand_on.ensures.none
     (subst (λ bs. Appends (g.W.Write.contents c.args.out.now) (g.W.Write.contents c.hand_on.new.out) bs) back c.in_ok-hand_on.ensures.ok)
-    c.put_entry_parts-2.ensures.ok
+    c.put_entry_apart.ensures.ok
 
 pub returns-clause-err : goal.returns-clause-err
 returns-clause-err g c =
     let held : List ℕ = c.args.batch.now in
     let line : List ℕ = entry_line c.args.labels.now (seen c.args.entry.now) in
     let back = cut_back held _ c.truncate.new.self line _ _ _ c.truncate.ensures c.len-held.ensures c.is_ok.ensures.value c.if-is_ok.false c.put_entry_parts.ensures.err in
-    then_on_err _ _ _ held line c.put_entry_parts-2.result
+    then_on_err _ _ _ held line c.put_entry_apart.result
     (subst (λ bs. Appends (g.W.Write.contents c.args.out.now) (g.W.Write.contents c.hand_on.new.out) bs) back c.in_ok-hand_on.ensures.ok)
-    c.put_entry_parts-2.ensures.err
+    c.put_entry_apart.ensures.err
