@@ -62,7 +62,7 @@ impl Tables {
             estate: Estate::new(alloc, base),
             waits: Waits::new(alloc),
             looks: Looks::new(),
-            hints: Hints::new(),
+            hints: Hints::new(alloc),
         }
     }
 
